@@ -1,0 +1,15 @@
+pub mod InOrder
+pub mod Starts
+pub mod Outcomes
+pub mod Sections
+pub mod Contributions
+pub mod GlobalFunctions
+pub mod Pick
+pub mod Procedures
+pub mod Spans
+pub mod Lookup
+pub mod Function
+pub mod Sources
+pub mod Made
+pub mod Held
+pub mod Laws

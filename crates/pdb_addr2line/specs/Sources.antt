@@ -1,0 +1,50 @@
+-- What a context stands on, and what it answers.
+use Rattle.std.specs.Prelude.{ℕ, List, [], Option, Result, Ok, find, option_and_then, option_map}
+use Rattle.std.specs.Result.{result_unwrap_or}
+use Rattle.pdb_records.specs.Addresses.{internal_offset}
+use Rattle.pdb_records.specs.declared.error.Error.TheVariants.{Stream}
+use Rattle.pdb_records.specs.declared.addresses.AddressRange.{AddressRange}
+use Rattle.pdb_records.specs.declared.addresses.ImageSectionHeader.{ImageSectionHeader}
+use Rattle.pdb_records.specs.declared.debug_information.DebugInformation.{DebugInformation}
+use Rattle.pdb_records.specs.declared.debug_information.Module.{Module}
+use Rattle.pdb_records.specs.declared.debug_information.SymbolTable.{SymbolTable}
+use Rattle.pdb_signatures.specs.declared.error.Error.{Error}
+use Rattle.pdb_signatures.specs.declared.error.Error.TheVariants.{PdbError}
+use Rattle.pdb_addr2line.specs.declared.contributions.ModuleSectionContribution.{ModuleSectionContribution}
+use Rattle.pdb_addr2line.specs.Outcomes.{unless, and_then}
+use Rattle.pdb_addr2line.specs.Contributions.{merged_contributions}
+use Rattle.pdb_addr2line.specs.GlobalFunctions.{GlobalFunction, global_functions}
+use Rattle.pdb_addr2line.specs.Spans.{contribution_covers}
+use Rattle.pdb_addr2line.specs.Lookup.{Infos, function_over}
+use Rattle.pdb_addr2line.specs.Function.{Description, described}
+
+-- what a context was made of
+pub record Sources (P : Type 0) : Type 0 where
+  pub provider : P
+  pub sections : List ImageSectionHeader
+  pub address_map : List AddressRange
+  pub global_symbols : SymbolTable
+  pub debug_information : DebugInformation
+  pub modules : List Module
+
+-- the contributions of these records, merged; a context stands on none that are refused
+abbrev pub contributions_of : {P : Type 0} → Sources P → List ModuleSectionContribution
+contributions_of s = result_unwrap_or (merged_contributions s.sections s.debug_information) []
+
+-- the global functions of these records
+abbrev pub global_functions_of : {P : Type 0} → Sources P → List GlobalFunction
+global_functions_of s = global_functions s.sections s.global_symbols.symbols.items s.debug_information
+
+-- what these records are refused for: the fault of the global symbols, then their contributions
+abbrev pub accepted : {P : Type 0} → Sources P → Result (Sources P) Error
+accepted s = unless (option_map (λ fault. PdbError (Stream fault)) s.global_symbols.symbols.fault) (and_then (λ merged. Ok s) (merged_contributions s.sections s.debug_information))
+
+-- the contribution over an address
+abbrev pub contribution_at : {P : Type 0} → Sources P → ℕ → Option ModuleSectionContribution
+contribution_at s address = option_and_then (λ place. find (contribution_covers place) (contributions_of s)) (internal_offset s.address_map (record { 0 = address }))
+
+-- the function over an address, by a plain scan of the records
+abbrev pub function_at : {P : Type 0} → Sources P → Infos → ℕ → Option Description
+function_at s infos address =
+    option_and_then (λ place. option_and_then (described s.address_map (global_functions_of s)) (function_over infos s.modules (contributions_of s) (global_functions_of s) place))
+    (internal_offset s.address_map (record { 0 = address }))

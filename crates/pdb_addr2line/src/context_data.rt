@@ -1,0 +1,193 @@
+ghost use Rattle.std.specs.Prelude.{◌≡◌, None, Some, IfOk};
+ghost use Rattle.pdb_signatures.specs.Provided.{provided};
+ghost use Rattle.pdb_addr2line.specs.Outcomes.{Gives, Refuses};
+ghost use Rattle.pdb_addr2line.specs.Made.{records_refusal, formatter_refusal, sections_read, info_at, context_of};
+
+use crate::context::Context;
+use pdb_records::{DebugInformation, ImageSectionHeader, Module, ModuleInfo, PDB, StreamError};
+use pdb_signatures::{Error, ModuleProvider, Result};
+use std::alloc::{AllocError, Global};
+use std::marker::Model;
+
+/// The records, owned or lent.
+#[derive(Drop)]
+enum Held<'p> {
+    Owned(PDB),
+    Lent(&'p PDB),
+}
+
+/// Keeps the records of a program, and makes a [`Context`] over them.
+///
+/// What a context answers may borrow from the records, so they have an owner of their own.
+#[derive(Drop)]
+pub struct ContextPdbData<'p> {
+    alloc: Global,
+    held: Held<'p>,
+}
+
+impl<'p> Model for ContextPdbData<'p> {
+    ghost use Rattle.std.specs.Prelude.{◌≡◌, None};
+    ghost use Rattle.pdb_records.specs.Records.{Records};
+
+    ghost Value = { Records };
+
+    ghost use Rattle.pdb_addr2line.specs.Held.{records};
+    ghost use Rattle.pdb_addr2line.specs.Made.{records_refusal};
+
+    ghost view = { λ d. records d.held };
+
+    ghost invariant = { λ d. records_refusal (records d.held) ≡ None };
+}
+
+/// Refuses records of which a stream failed that a context can't do without.
+fn check_streams(pdb: &PDB) -> Result<()>
+    ensures { Refuses result (records_refusal pdb.now) }
+{
+    let failed = pdb
+        .global_symbols
+        .as_ref()
+        .err()
+        .or(pdb.debug_information.as_ref().err())
+        .or(pdb.type_information.as_ref().err())
+        .or(pdb.id_information.as_ref().err())
+        .or(pdb.address_map.as_ref().err());
+    match failed {
+        None => Ok(()),
+        Some(fault) => Err(Error::from(pdb_records::Error::Stream(*fault))),
+    }
+}
+
+impl<'p> ContextPdbData<'p> {
+    /// Keeps these records.
+    ///
+    /// # Errors
+    ///
+    /// [`Error::PdbError`] of the first stream that failed, in the order global symbols, debug
+    /// information, types, ids, address map. A failed string table counts as absent.
+    pub fn try_from_pdb(alloc: Global, pdb: PDB) -> Result<Self>
+        ensures kept { IfOk result (λ d. d ≡ pdb) }
+        ensures refused { Refuses result (records_refusal pdb) }
+    {
+        check_streams(&pdb)?;
+        Ok(ContextPdbData {
+            alloc,
+            held: Held::Owned(pdb),
+        })
+    }
+
+    /// Keeps a reference to these records, under the conditions of [`ContextPdbData::try_from_pdb`].
+    pub fn try_from_pdb_ref(alloc: Global, pdb: &'p mut PDB) -> Result<Self>
+        ensures kept { IfOk result (λ d. d ≡ pdb.old) }
+        ensures refused { Refuses result (records_refusal pdb.old) }
+    {
+        check_streams(pdb)?;
+        Ok(ContextPdbData {
+            alloc,
+            held: Held::Lent(pdb),
+        })
+    }
+
+    /// A context over these records.
+    ///
+    /// # Errors
+    ///
+    /// [`Error::PdbError`] for the fault of the list of modules, for a machine type that could not be
+    /// read, for sections that could not be read, and for the fault of the global symbols, in this
+    /// order; then the errors of
+    /// [`compute_section_contributions`](crate::parts::compute_section_contributions).
+    pub fn make_context(&self) -> Result<Context<'_, Self>>
+        ensures { Gives (λ c. c) result (context_of self.now) }
+    {
+        let pdb = self.pdb();
+        let (Ok(debug), Ok(symbols), Ok(address_map)) = (
+            &pdb.debug_information,
+            &pdb.global_symbols,
+            &pdb.address_map,
+        ) else {
+            unreachable!();
+        };
+        check_machine(debug)?;
+        let sections = sections_of(pdb)?;
+        let modules = copies_of(self.alloc, &debug.modules.items)?;
+        let context = Context::over(
+            self.alloc,
+            self,
+            sections,
+            address_map,
+            symbols,
+            debug,
+            modules,
+        )?;
+        Ok(context)
+    }
+
+    /// The records.
+    fn pdb(&self) -> &PDB
+        ensures is { result.now ≡ self.now }
+        ensures read { records_refusal self.now ≡ None }
+    {
+        match &self.held {
+            Held::Owned(pdb) => pdb,
+            Held::Lent(pdb) => pdb,
+        }
+    }
+}
+
+/// Refuses a list of modules with a fault, and then a machine type that could not be read.
+fn check_machine(debug: &DebugInformation) -> Result<()>
+    ensures { Refuses result (formatter_refusal debug.now) }
+{
+    if let Some(fault) = debug.modules.fault {
+        return Err(Error::from(pdb_records::Error::Stream(fault)));
+    }
+    match debug.machine_type {
+        Ok(_) => Ok(()),
+        Err(fault) => Err(Error::from(pdb_records::Error::Stream(fault))),
+    }
+}
+
+/// The headers of the sections. Records without any have an empty list.
+fn sections_of(pdb: &PDB) -> Result<&[ImageSectionHeader]>
+    ensures { Gives (λ s. s.now) result (sections_read pdb.now) }
+{
+    match &pdb.sections {
+        Ok(Some(sections)) => Ok(sections),
+        Ok(None) => Ok(&[]),
+        Err(fault) => Err(Error::from(pdb_records::Error::Stream(*fault))),
+    }
+}
+
+/// A copy of a module.
+fn copy_of(module: &Module) -> Result<Module, AllocError>
+    ensures { IfOk result (λ m. m ≡ «module».now) }
+{
+    module.clone()
+}
+
+/// A copy of the list of modules.
+fn copies_of(alloc: Global, modules: &[Module]) -> Result<Vec<Module>, AllocError>
+    ensures { IfOk result (λ v. v.items ≡ modules.now) }
+{
+    let mut copies = Vec::new(alloc);
+    for module in modules {
+        copies.push(copy_of(module)?)?;
+    }
+    Ok(copies)
+}
+
+impl<'p> ModuleProvider for ContextPdbData<'p> {
+    ghost info = { λ records index _. info_at records index };
+
+    /// What the records hold of the module at this position. The module itself isn't looked at.
+    fn get_module_info(
+        &self,
+        module_index: usize,
+        _module: &Module,
+    ) -> std::result::Result<Option<&ModuleInfo>, StreamError> {
+        match self.pdb().module_infos.get(module_index) {
+            None => Ok(None),
+            Some(Err(fault)) => Err(*fault),
+            Some(Ok(info)) => Ok(info.as_ref()),
+        }
+    }
+}

@@ -1,0 +1,62 @@
+//! Times reading, making a context and look-ups over generated records.
+//!
+//! `pdb_bench SYMBOLS ..` does so for each number of public symbols; with no number for a thousand.
+//! Counts go to standard output, and times, in milliseconds, to standard error.
+#![tactic(auto)]
+
+mod generate;
+
+use anyhow::Result;
+use generate::{ADDRESS_STEP, records_text};
+use pdb_addr2line::ContextPdbData;
+use pdb_json::read_records;
+use std::env;
+use std::rt::{Clock, Env};
+use std::time::Instant;
+
+/// How many addresses are looked up.
+const LOOK_UPS: u32 = 1000;
+
+fn main(rt: HostRuntime) -> Result<()> {
+    let words: Vec<String> = env::args(&rt)?.collect(rt.alloc())?;
+    let mut sizes = Vec::new(rt.alloc());
+    for word in words.iter().skip(1) {
+        sizes.push(word.as_str().parse::<u32>()?)?;
+    }
+    if sizes.is_empty() {
+        sizes.push(1000)?;
+    }
+    for size in &sizes {
+        measure(&rt, *size)?;
+    }
+    Ok(())
+}
+
+/// Reads records with so many public symbols, makes a context, and looks up addresses all over them.
+fn measure<R: Env + Clock + Print + Eprint + AllocGlobal>(rt: &R, symbols: u32) -> Result<()> {
+    let text = records_text(rt.alloc(), symbols)?;
+    let start = Instant::now(rt)?;
+    let records = read_records(rt.alloc(), text.as_bytes())?;
+    let reading = start.elapsed(rt)?.as_millis();
+    let start = Instant::now(rt)?;
+    let data = ContextPdbData::try_from_pdb(rt.alloc(), records)?;
+    let mut context = data.make_context()?;
+    let making = start.elapsed(rt)?.as_millis();
+    let start = Instant::now(rt)?;
+    let mut found = 0u32;
+    for number in 0..LOOK_UPS {
+        let place = u64::from(symbols) * u64::from(number) / u64::from(LOOK_UPS);
+        let address = (place & 0x0fff_ffff) as u32 * ADDRESS_STEP;
+        if context.find_function(address)?.is_some() {
+            found = found.saturating_add(1);
+        }
+    }
+    let looking = start.elapsed(rt)?.as_millis();
+    let functions = context.function_count();
+    println!(rt; "{symbols} symbols, {functions} functions, {found} of {LOOK_UPS} found")?;
+    let size = text.len();
+    eprintln!(rt;
+        "{size} bytes read in {reading}, context made in {making}, looked up in {looking}"
+    )?;
+    Ok(())
+}

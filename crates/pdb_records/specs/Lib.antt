@@ -1,0 +1,11 @@
+pub mod Readings
+pub mod Names
+pub mod Addresses
+pub mod LinePrograms
+pub mod Lines
+pub mod Strings
+pub mod Arrays
+pub mod Imports
+pub mod References
+pub mod Sections
+pub mod Records

@@ -1,0 +1,46 @@
+use crate::addresses::PdbInternalSectionOffset;
+use crate::error::StreamError;
+use crate::raw_string::RawString;
+use crate::reading::Reading;
+use crate::symbols::Symbol;
+
+/// The processor that a program runs on, as far as it decides the size of a pointer.
+#[derive(Clone, Copy, PartialEq, Eq)]
+pub enum MachineType {
+    Amd64,
+    Arm64,
+    Ia64,
+    RiscV64,
+    RiscV128,
+    Other,
+}
+
+/// The symbols of the whole program.
+#[derive(Drop)]
+pub struct SymbolTable {
+    pub symbols: Reading<Symbol>,
+}
+
+/// What was compiled into the program, and where it went.
+#[derive(Drop)]
+pub struct DebugInformation {
+    pub machine_type: Result<MachineType, StreamError>,
+    pub modules: Reading<Module>,
+    pub section_contributions: Reading<SectionContribution>,
+}
+
+/// A file that was linked into the program.
+#[derive(Clone, Drop)]
+pub struct Module {
+    pub name: RawString,
+}
+
+/// A run of a section that came from one module.
+#[derive(Clone, Copy)]
+pub struct SectionContribution {
+    pub offset: PdbInternalSectionOffset,
+    /// Its size in bytes.
+    pub size: u32,
+    /// The module's position in the list of modules.
+    pub module: usize,
+}

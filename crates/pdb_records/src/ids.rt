@@ -1,0 +1,74 @@
+use crate::raw_string::RawString;
+use crate::types::{ItemInformation, TypeIndex};
+use std::marker::Model;
+
+/// The number of an id. One with bit 31 set names an import of the module that asks.
+#[derive(Clone, Copy, PartialEq, Eq, PartialOrd, Ord, Hash)]
+pub struct IdIndex(pub u32);
+
+/// The ids of a program: functions that may be inlined, their scopes, and texts.
+pub type IdInformation = ItemInformation<IdIndex, IdData>;
+
+/// What an entry of the ids says.
+#[derive(Drop)]
+pub enum IdData {
+    MemberFunction(MemberFunctionId),
+    Function(FunctionId),
+    String(StringId),
+    StringList(StringListId),
+    /// A kind that is read and not printed.
+    Other(UnhandledId),
+}
+
+/// A function of a class.
+#[derive(Drop)]
+pub struct MemberFunctionId {
+    pub parent: TypeIndex,
+    pub function_type: TypeIndex,
+    pub name: RawString,
+}
+
+/// A function of no class.
+#[derive(Drop)]
+pub struct FunctionId {
+    /// The namespace that it stands in, where there is one.
+    pub scope: Option<IdIndex>,
+    pub function_type: TypeIndex,
+    pub name: RawString,
+}
+
+/// A text, as the name of a namespace.
+#[derive(Drop)]
+pub struct StringId {
+    pub name: RawString,
+}
+
+/// A text in pieces.
+#[derive(Drop)]
+pub struct StringListId {
+    pub substrings: Vec<TypeIndex>,
+}
+
+impl Model for StringListId {
+    ghost use Rattle.std.specs.Prelude.{List};
+    ghost use Rattle.pdb_records.specs.declared.types.TypeIndex.{TypeIndex};
+
+    ghost Value = { List TypeIndex };
+
+    ghost view = { λ l. l.substrings.items };
+}
+
+/// An id of a kind that is read and not printed.
+#[derive(Drop)]
+pub struct UnhandledId {
+    /// What the kind is called.
+    pub kind_name: String,
+}
+
+impl Model for UnhandledId {
+    ghost use Rattle.std.specs.Prelude.{List, ℕ, string_bytes};
+
+    ghost Value = { List ℕ };
+
+    ghost view = { λ i. string_bytes i.kind_name };
+}

@@ -1,0 +1,114 @@
+ghost use Rattle.std.specs.Prelude.{◌≡◌};
+ghost use Rattle.pdb_records.specs.References.{imported, exported};
+
+use crate::error::{Error, StreamError};
+use crate::ids::IdIndex;
+use crate::lines::LineProgram;
+use crate::reading::Reading;
+use crate::strings::StringRef;
+use crate::symbols::Symbol;
+use std::marker::Model;
+
+/// How many bits of an import's index are a position among a module's imports.
+const LOCAL_BITS: u32 = 20;
+
+/// How many bits above those are a position among the modules that are imported from.
+const MODULE_BITS: u32 = 11;
+
+/// What is known of one module.
+#[derive(Drop)]
+pub struct ModuleInfo {
+    pub symbols: Reading<Symbol>,
+    pub line_program: Result<LineProgram, StreamError>,
+    /// The functions whose bodies stand in the module's code.
+    pub inlinees: Reading<Inlinee>,
+    pub imports: Result<CrossModuleImports, StreamError>,
+    pub exports: Result<CrossModuleExports, StreamError>,
+}
+
+/// A function whose body stands in a module's code.
+#[derive(Clone, Copy)]
+pub struct Inlinee {
+    pub index: IdIndex,
+}
+
+/// What a module takes from others.
+#[derive(Drop)]
+pub struct CrossModuleImports {
+    pub modules: Vec<ImportedModule>,
+}
+
+impl Model for CrossModuleImports {
+    ghost use Rattle.std.specs.Prelude.{List};
+    ghost use Rattle.pdb_records.specs.Imports.{Imported};
+
+    ghost Value = { List Imported };
+
+    ghost view = { λ i. i.modules.items };
+}
+
+/// What a module takes from one other.
+#[derive(Drop)]
+pub struct ImportedModule {
+    /// Where the other module's name stands in the string table.
+    pub module: StringRef,
+    /// The numbers that the other module exports them under.
+    pub locals: Vec<u32>,
+}
+
+impl Model for ImportedModule {
+    ghost use Rattle.pdb_records.specs.Imports.{Imported};
+
+    ghost Value = { Imported };
+
+    ghost view = { λ i. record { module_name = i.«module»; locals = i.locals.items } };
+}
+
+/// What a module offers to others: a number of its own, and the index of the type or id.
+#[derive(Drop)]
+pub struct CrossModuleExports {
+    pub exports: Vec<(u32, u32)>,
+}
+
+impl Model for CrossModuleExports {
+    ghost use Rattle.std.specs.Prelude.{List, ℕ};
+
+    ghost Value = { List (ℕ × ℕ) };
+
+    ghost view = { λ e. e.exports.items };
+}
+
+impl CrossModuleImports {
+    /// The name of the module that this import comes from, and the number that it is exported under.
+    ///
+    /// Bits 20 to 30 of the index are a position in `modules`, and bits 0 to 19 one in its `locals`.
+    /// Where either is missing the answer is [`Error::CrossModuleRefNotFound`] of the whole index.
+    pub fn resolve_import(&self, index: u32) -> Result<(StringRef, u32), Error>
+        ensures { result ≡ imported self.now index }
+    {
+        let module = (index >> LOCAL_BITS) as usize % (1 << MODULE_BITS);
+        let local = index as usize % (1 << LOCAL_BITS);
+        let missing = Err(Error::CrossModuleRefNotFound(index));
+        let Some(from) = self.modules.get(module) else {
+            return missing;
+        };
+        match from.locals.get(local) {
+            Some(number) => Ok((from.module, *number)),
+            None => missing,
+        }
+    }
+}
+
+impl CrossModuleExports {
+    /// The index of the first export with this number.
+    pub fn resolve_import(&self, local: u32) -> Option<u32>
+        ensures { result ≡ exported local self.now }
+    {
+        for &(number, global) in &self.exports {
+            if number == local {
+                return Some(global);
+            }
+        }
+        None
+    }
+}

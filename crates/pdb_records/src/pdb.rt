@@ -1,0 +1,42 @@
+use crate::addresses::{AddressMap, ImageSectionHeader};
+use crate::debug_information::{DebugInformation, SymbolTable};
+use crate::error::StreamError;
+use crate::ids::IdInformation;
+use crate::modules::ModuleInfo;
+use crate::strings::StringTable;
+use crate::types::TypeInformation;
+use std::marker::Model;
+
+/// All records of a program, each stream read or failed on its own.
+#[derive(Drop)]
+pub struct PDB {
+    /// The headers of the sections, or `None` where the records hold none.
+    pub sections: Result<Option<Vec<ImageSectionHeader>>, StreamError>,
+    pub address_map: Result<AddressMap, StreamError>,
+    pub global_symbols: Result<SymbolTable, StreamError>,
+    pub debug_information: Result<DebugInformation, StreamError>,
+    pub type_information: Result<TypeInformation, StreamError>,
+    pub id_information: Result<IdInformation, StreamError>,
+    pub string_table: Result<StringTable, StreamError>,
+    /// What is known of each module, in the order of the list of modules.
+    pub module_infos: Vec<Result<Option<ModuleInfo>, StreamError>>,
+}
+
+impl Model for PDB {
+    ghost use Rattle.pdb_records.specs.Records.{Records};
+
+    ghost Value = { Records };
+
+    ghost use Rattle.pdb_records.specs.Sections.{listed};
+
+    ghost view = { λ p. record {
+      sections = listed p.sections;
+      address_map = p.address_map;
+      global_symbols = p.global_symbols;
+      debug_information = p.debug_information;
+      type_information = p.type_information;
+      id_information = p.id_information;
+      string_table = p.string_table;
+      module_infos = p.module_infos.items;
+    } };
+}

@@ -1,0 +1,19 @@
+use crate::error::StreamError;
+use std::marker::Model;
+
+/// What could be read of a list: its items in order and, where the reading stopped early, why.
+#[derive(Drop)]
+pub struct Reading<T> {
+    /// The items that were read.
+    pub items: Vec<T>,
+    /// Why nothing follows them, or `None` where the list ended.
+    pub fault: Option<StreamError>,
+}
+
+impl<T> Model for Reading<T> {
+    ghost use Rattle.pdb_records.specs.Readings.{Read};
+
+    ghost Value = { Read T };
+
+    ghost view = { λ r. record { items = r.items.items; fault = r.fault } };
+}

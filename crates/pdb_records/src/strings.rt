@@ -1,0 +1,39 @@
+ghost use Rattle.std.specs.Prelude.{◌≡◌};
+ghost use Rattle.std.specs.Option.{option_copied};
+ghost use Rattle.pdb_records.specs.Strings.{string_at};
+
+use crate::raw_string::RawString;
+use std::marker::Model;
+
+/// The key of a text in the string table.
+#[derive(Clone, Copy, PartialEq, Eq, PartialOrd, Ord, Hash)]
+pub struct StringRef(pub u32);
+
+/// The texts that several parts of the records share, as names of files and modules.
+#[derive(Drop)]
+pub struct StringTable {
+    pub strings: Vec<(StringRef, RawString)>,
+}
+
+impl Model for StringTable {
+    ghost use Rattle.std.specs.Prelude.{List, ℕ};
+    ghost use Rattle.pdb_records.specs.declared.strings.StringRef.{StringRef};
+
+    ghost Value = { List (StringRef × List ℕ) };
+
+    ghost view = { λ t. t.strings.items };
+}
+
+impl StringTable {
+    /// The text of the first entry with this key.
+    pub fn get(&self, reference: StringRef) -> Option<&RawString>
+        ensures { option_copied result ≡ string_at reference self.now }
+    {
+        for (key, text) in &self.strings {
+            if *key == reference {
+                return Some(text);
+            }
+        }
+        None
+    }
+}

@@ -1,0 +1,98 @@
+use crate::addresses::PdbInternalSectionOffset;
+use crate::ids::IdIndex;
+use crate::lines::FileIndex;
+use crate::raw_string::RawString;
+use crate::reading::Reading;
+use crate::types::TypeIndex;
+
+/// A position in a list of symbols, counted from 0.
+#[derive(Clone, Copy, PartialEq, Eq, PartialOrd, Ord, Hash)]
+pub struct SymbolIndex(pub usize);
+
+/// One symbol of a list. The kind decides whether it counts, and the content decides how.
+#[derive(Drop)]
+pub struct Symbol {
+    /// The number of its kind, as [`S_GPROC32`](crate::S_GPROC32).
+    pub raw_kind: u16,
+    /// What it holds, or `None` where that could not be read.
+    pub content: Option<SymbolData>,
+}
+
+/// What a symbol holds.
+#[derive(Drop)]
+pub enum SymbolData {
+    Public(PublicSymbol),
+    Procedure(ProcedureSymbol),
+    SeparatedCode(SeparatedCodeSymbol),
+    Thunk(ThunkSymbol),
+    InlineSite(InlineSiteSymbol),
+    /// Anything else.
+    Other,
+}
+
+/// A name that is visible outside its module.
+#[derive(Drop)]
+pub struct PublicSymbol {
+    pub offset: PdbInternalSectionOffset,
+    /// The name, mostly with its parameters encoded in it.
+    pub name: RawString,
+}
+
+/// A procedure.
+#[derive(Drop)]
+pub struct ProcedureSymbol {
+    pub offset: PdbInternalSectionOffset,
+    /// The size of its code in bytes.
+    pub len: u32,
+    /// Its name, without its parameters.
+    pub name: RawString,
+    /// The position of the symbol that closes it.
+    pub end: SymbolIndex,
+    /// Its type, or 0 where none is known.
+    pub type_index: TypeIndex,
+}
+
+/// Code of a procedure that stands apart from its body, as for an error that is seldom met.
+#[derive(Drop)]
+pub struct SeparatedCodeSymbol {
+    pub offset: PdbInternalSectionOffset,
+    /// The size of the code in bytes.
+    pub len: u32,
+    /// Where the procedure that it belongs to starts.
+    pub parent_offset: PdbInternalSectionOffset,
+    /// The position of the symbol that closes it.
+    pub end: SymbolIndex,
+}
+
+/// A short piece of code that leads to a procedure.
+#[derive(Drop)]
+pub struct ThunkSymbol {
+    pub offset: PdbInternalSectionOffset,
+    /// The size of the code in bytes.
+    pub len: u16,
+    pub name: RawString,
+    /// The position of the symbol that closes it.
+    pub end: SymbolIndex,
+}
+
+/// A place in a procedure where a call was replaced by the callee's body.
+#[derive(Drop)]
+pub struct InlineSiteSymbol {
+    /// What was called.
+    pub inlinee: IdIndex,
+    /// The position of the symbol that closes it.
+    pub end: SymbolIndex,
+    /// The code of the body, row by row.
+    pub rows: Reading<InlineRow>,
+}
+
+/// A run of an inlined body's code that comes from one line.
+#[derive(Clone, Copy)]
+pub struct InlineRow {
+    /// Bytes from the start of the procedure's section.
+    pub offset: u32,
+    /// The size of the code in bytes, where it is known.
+    pub length: Option<u32>,
+    pub file_index: FileIndex,
+    pub line_start: u32,
+}

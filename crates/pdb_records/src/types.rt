@@ -1,0 +1,252 @@
+use crate::error::Error;
+use crate::raw_string::RawString;
+use crate::reading::Reading;
+use std::marker::Model;
+
+/// The number of a type. One with bit 31 set names an import of the module that asks.
+#[derive(Clone, Copy, PartialEq, Eq, PartialOrd, Ord, Hash)]
+pub struct TypeIndex(pub u32);
+
+/// An entry of a list of types or ids.
+#[derive(Drop)]
+pub struct Item<I, D> {
+    pub index: I,
+    /// What the entry says, or why it could not be read.
+    pub content: Result<D, Error>,
+}
+
+/// A list of types or ids. Of several entries with one index, the first counts.
+#[derive(Drop)]
+pub struct ItemInformation<I, D> {
+    pub items: Reading<Item<I, D>>,
+}
+
+/// The types of a program.
+pub type TypeInformation = ItemInformation<TypeIndex, TypeData>;
+
+/// What an entry of the types says.
+#[derive(Drop)]
+pub enum TypeData {
+    Primitive(PrimitiveType),
+    Class(ClassType),
+    MemberFunction(MemberFunctionType),
+    Procedure(ProcedureType),
+    Pointer(PointerType),
+    Array(ArrayType),
+    Union(UnionType),
+    Enumeration(EnumerationType),
+    Enumerate(EnumerateType),
+    Modifier(ModifierType),
+    ArgumentList(ArgumentList),
+    /// A kind that is read and not printed.
+    Other(UnhandledType),
+}
+
+/// A type that the compiler brings, or a pointer to one.
+#[derive(Clone, Copy)]
+pub struct PrimitiveType {
+    pub kind: PrimitiveKind,
+    /// Whether it is a pointer to a value of the kind.
+    pub indirection: bool,
+}
+
+/// The types that the compiler brings.
+#[derive(Clone, Copy, PartialEq, Eq)]
+pub enum PrimitiveKind {
+    NoType,
+    Void,
+    Char,
+    UChar,
+    RChar,
+    WChar,
+    RChar16,
+    RChar32,
+    Char8,
+    I8,
+    U8,
+    Short,
+    UShort,
+    I16,
+    U16,
+    Long,
+    ULong,
+    I32,
+    U32,
+    Quad,
+    UQuad,
+    I64,
+    U64,
+    Octa,
+    UOcta,
+    I128,
+    U128,
+    F16,
+    F32,
+    F32PP,
+    F48,
+    F64,
+    F80,
+    F128,
+    Complex32,
+    Complex64,
+    Complex80,
+    Complex128,
+    Bool8,
+    Bool16,
+    Bool32,
+    Bool64,
+    HRESULT,
+}
+
+/// The word that a class was declared with.
+#[derive(Clone, Copy, PartialEq, Eq)]
+pub enum ClassKind {
+    Class,
+    Interface,
+    Struct,
+}
+
+/// A class, a struct or an interface.
+#[derive(Drop)]
+pub struct ClassType {
+    pub class_kind: ClassKind,
+    pub name: RawString,
+    /// The name under which definition and forward references find each other, where there is one.
+    pub unique_name: Option<RawString>,
+    /// Its size in bytes.
+    pub size: u64,
+    /// Whether only its name is known here.
+    pub forward_reference: bool,
+}
+
+/// The type of a function that belongs to a class.
+#[derive(Clone, Copy)]
+pub struct MemberFunctionType {
+    pub return_type: TypeIndex,
+    pub class_type: TypeIndex,
+    /// The type of `this`. A static function has none.
+    pub this_pointer_type: Option<TypeIndex>,
+    pub is_constructor: bool,
+    pub argument_list: TypeIndex,
+}
+
+/// The type of a function that belongs to no class.
+#[derive(Clone, Copy)]
+pub struct ProcedureType {
+    pub return_type: Option<TypeIndex>,
+    pub is_constructor: bool,
+    pub argument_list: TypeIndex,
+}
+
+/// How a pointer points.
+#[derive(Clone, Copy, PartialEq, Eq)]
+pub enum PointerMode {
+    Pointer,
+    LValueReference,
+    Member,
+    MemberFunction,
+    RValueReference,
+}
+
+/// A pointer or a reference.
+#[derive(Clone, Copy)]
+pub struct PointerType {
+    pub underlying_type: TypeIndex,
+    pub mode: PointerMode,
+    /// Whether the pointer itself is constant.
+    pub is_const: bool,
+    /// Its size in bytes.
+    pub size: u8,
+}
+
+/// An array. Its dimensions are sizes in bytes, and it has at least one.
+#[derive(Drop)]
+pub struct ArrayType {
+    pub element_type: TypeIndex,
+    pub first: u32,
+    pub rest: Vec<u32>,
+}
+
+impl Model for ArrayType {
+    ghost use Rattle.pdb_records.specs.Arrays.{Dimensions};
+
+    ghost Value = { Dimensions };
+
+    ghost view = { λ a. record { element_type = a.element_type; first = a.first; rest = a.rest.items } };
+}
+
+/// A union.
+#[derive(Drop)]
+pub struct UnionType {
+    pub name: RawString,
+    /// The name under which definition and forward references find each other, where there is one.
+    pub unique_name: Option<RawString>,
+    /// Its size in bytes.
+    pub size: u64,
+    /// Whether only its name is known here.
+    pub forward_reference: bool,
+}
+
+/// An enumeration of named values.
+#[derive(Drop)]
+pub struct EnumerationType {
+    pub name: RawString,
+    pub underlying_type: TypeIndex,
+}
+
+/// One named value of an enumeration.
+#[derive(Drop)]
+pub struct EnumerateType {
+    pub name: RawString,
+    pub value: Variant,
+}
+
+/// A number of the width and sign that it was declared with.
+#[derive(Clone, Copy)]
+pub enum Variant {
+    U8(u8),
+    U16(u16),
+    U32(u32),
+    U64(u64),
+    I8(i8),
+    I16(i16),
+    I32(i32),
+    I64(i64),
+}
+
+/// A type with `const` before it, or without.
+#[derive(Clone, Copy)]
+pub struct ModifierType {
+    pub underlying_type: TypeIndex,
+    pub constant: bool,
+}
+
+/// The types of a function's arguments, in order.
+#[derive(Drop)]
+pub struct ArgumentList {
+    pub arguments: Vec<TypeIndex>,
+}
+
+impl Model for ArgumentList {
+    ghost use Rattle.std.specs.Prelude.{List};
+    ghost use Rattle.pdb_records.specs.declared.types.TypeIndex.{TypeIndex};
+
+    ghost Value = { List TypeIndex };
+
+    ghost view = { λ l. l.arguments.items };
+}
+
+/// A type of a kind that is read and not printed.
+#[derive(Drop)]
+pub struct UnhandledType {
+    /// What the kind is called.
+    pub kind_name: String,
+}
+
+impl Model for UnhandledType {
+    ghost use Rattle.std.specs.Prelude.{List, ℕ, string_bytes};
+
+    ghost Value = { List ℕ };
+
+    ghost view = { λ t. string_bytes t.kind_name };
+}

@@ -1,0 +1,11 @@
+-- What a provider of modules answers.
+use Rattle.std.specs.Prelude.{Option, Result, Ok, Err}
+use Rattle.std.specs.Option.{option_copied}
+use Rattle.std.specs.Borrow.{Bor}
+use Rattle.pdb_records.specs.declared.error.StreamError.{StreamError}
+use Rattle.pdb_records.specs.declared.modules.ModuleInfo.{ModuleInfo}
+
+-- the records that an answer lends
+abbrev pub provided : Result (Option (Bor ModuleInfo)) StreamError → Result (Option ModuleInfo) StreamError
+provided (Ok info) = Ok (option_copied info)
+provided (Err fault) = Err fault

@@ -1,0 +1,107 @@
+//! Runs the report over the records files beside it, and compares what it writes with what is wanted.
+//!
+//! `runs.txt` has a line `$ pdb_report WORD ..` for each run, then the lines that are wanted on standard
+//! output and on standard error, and a line `status N`.
+#![tactic(auto)]
+
+mod runs;
+#[cfg(test)]
+mod tests;
+
+use pdb_addr2line::Error;
+use pdb_reporting::{Out, Stop, answer, parse};
+use runs::{Run, next_run};
+use std::alloc::{AllocError, Global};
+use std::process::ExitCode;
+use std::rt::Files;
+use std::{fs, io};
+
+/// The file with the runs.
+const RUNS: &str = "runs.txt";
+
+fn main(rt: HostRuntime) -> io::Result<ExitCode> {
+    let text = fs::read_to_string(&rt, RUNS)?;
+    let differing = compare(&rt, text.as_str())?;
+    Ok(if differing == 0 {
+        ExitCode::SUCCESS
+    } else {
+        ExitCode::FAILURE
+    })
+}
+
+/// Compares each run, prints those that differ and how many there are, and counts those that differ.
+fn compare<R: Files + Print + AllocGlobal>(rt: &R, text: &str) -> io::Result<u64> {
+    let mut rest = text;
+    let mut runs: u64 = 0;
+    let mut differing: u64 = 0;
+    for _ in 0..text.len() {
+        let Some((run, others)) = next_run(rest) else {
+            break;
+        };
+        rest = others;
+        runs = runs.saturating_add(1);
+        if !is_as_wanted(rt, &run)? {
+            differing = differing.saturating_add(1);
+        }
+    }
+    println!(rt; "{runs} runs, {differing} differ")?;
+    Ok(differing)
+}
+
+/// Whether a run writes what is wanted. One that differs is printed.
+fn is_as_wanted<R: Files + Print + AllocGlobal>(rt: &R, run: &Run<'_>) -> io::Result<bool> {
+    let (text, status) = outcome(rt, run.command)?;
+    if text.as_str() == run.wanted && status == run.status {
+        return Ok(true);
+    }
+    println!(rt; "{}", run.command)?;
+    println!(rt; "{text}status {status}")?;
+    Ok(false)
+}
+
+/// What a run writes on standard output and then on standard error, and its status.
+fn outcome<R: Files + AllocGlobal>(rt: &R, command: &str) -> io::Result<(String, u64)> {
+    let alloc = rt.alloc();
+    let words = words_of(alloc, command)?;
+    let mut sink = Out::new(Vec::new(alloc));
+    let ended = run_words(rt, &words, &mut sink);
+    let mut text = String::from_utf8_lossy(alloc, sink.into_inner().as_slice())?;
+    let mut status = 0;
+    if let Err(stop) = ended {
+        let line = format!(in alloc; "{stop}\n")?;
+        text.push_str(line.as_str())?;
+        status = u64::from(stop.status());
+    }
+    Ok((text, status))
+}
+
+/// The words of a command line.
+fn words_of(alloc: Global, command: &str) -> Result<Vec<String>, AllocError> {
+    let mut words = Vec::new(alloc);
+    for word in command.split_whitespace() {
+        words.push(String::from_str(alloc, word)?)?;
+    }
+    Ok(words)
+}
+
+/// Does what the program does with these words.
+fn run_words<R: Files + AllocGlobal>(
+    rt: &R,
+    words: &[String],
+    sink: &mut Out<Vec<u8>>,
+) -> Result<(), Stop> {
+    let alloc = rt.alloc();
+    let Ok(request) = parse(alloc, words) else {
+        return Err(Stop::Refused(Error::OutOfMemory));
+    };
+    let Some(request) = request else {
+        return Err(Stop::Usage);
+    };
+    match fs::read(rt, request.records) {
+        Ok(bytes) => answer(alloc, &request, &bytes, sink),
+        Err(_) => match String::from_str(alloc, request.records) {
+            Ok(path) => Err(Stop::CannotRead(path)),
+            Err(_) => Err(Stop::Refused(Error::OutOfMemory)),
+        },
+    }
+}

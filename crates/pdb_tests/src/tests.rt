@@ -1,0 +1,6 @@
+//! Tests over records that are made here: each public call once, with ample memory, and texts.
+
+mod contributions;
+mod records;
+mod reports;
+mod texts;

@@ -1,0 +1,48 @@
+use pdb_addr2line::ContextPdbData;
+use pdb_json::read_records;
+use pdb_reporting::{Command, Out, ReportFault, Sink, report};
+use std::io;
+use std::test::Fail;
+
+/// Records with no section, so that each address has a short line.
+const NOTHING: &[u8] = br#"{"sections":null,"address_map":[],"global_symbols":[],
+"debug_information":{"machine_type":"Amd64","modules":[],"section_contributions":[]},
+"type_information":[],"id_information":[],"string_table":[],"module_infos":[]}"#;
+
+/// Takes some bytes, and then refuses.
+#[derive(Drop)]
+struct Narrow {
+    room: usize,
+}
+
+impl io::Write for Narrow {
+    fn write(&mut self, bytes: &[u8]) -> io::Result<usize> {
+        if self.room == 0 {
+            return Err(io::Error::from(io::ErrorKind::WriteZero));
+        }
+        let taken = bytes.len().min(self.room);
+        self.room -= taken;
+        Ok(taken)
+    }
+
+    fn flush(&mut self) -> io::Result<()> {
+        Ok(())
+    }
+}
+
+#[test]
+fn writer_that_refuses(rt: HostRuntime) -> Result<(), Fail> {
+    let data = ContextPdbData::try_from_pdb(rt.alloc(), read_records(rt.alloc(), NOTHING)?)?;
+    let mut context = data.make_context()?;
+    for room in 0..=44usize {
+        let mut sink = Out::new(Narrow { room });
+        let told = report(rt.alloc(), &mut context, Command::Names, &[1, 2], &mut sink);
+        if room < 44 {
+            assert!(rt; matches!(&told, Err(ReportFault::Write)), "at {room}");
+        } else {
+            assert!(rt; told.is_ok());
+        }
+        assert_eq!(rt; sink.failed(), room < 44, "at {room}");
+    }
+    Ok(())
+}
