@@ -6,3 +6,13 @@ pub mod PickLemmas
 pub mod StartLemmas
 pub mod RunLemmas
 pub mod GlobalFunctionLemmas
+pub mod SiteLemmas
+pub mod MissingRunLemmas
+pub mod CoveredLemmas
+pub mod InlineRangeLemmas
+pub mod NestingLemmas
+pub mod InsideLemmas
+pub mod CoverLemmas
+pub mod InlineStackLemmas
+pub mod WellNestedLemmas
+pub mod DirectlyInsideLemmas

@@ -13,3 +13,10 @@ pub mod Sources
 pub mod Made
 pub mod Held
 pub mod Laws
+pub mod Sites
+pub mod Runs
+pub mod InlineRows
+pub mod InlineRanges
+pub mod CoveredRuns
+pub mod InlineStacks
+pub mod WellNested

@@ -16,6 +16,11 @@ ghost use Rattle.pdb_addr2line.specs.Pick.{pick};
 ghost use Rattle.pdb_addr2line.specs.Spans.{procedure_covers};
 ghost use Rattle.pdb_addr2line.specs.Laws.{AreApart, EndsInOneOf, StartsAscend, first_at, IsPicked};
 
+pub use crate::inline_laws::{
+    ranges_cover_deeper_sites, ranges_lie_in_ranges_above, stacks_have_all_levels,
+    stacks_lie_directly_inside, well_nested_sites_are_inside_by_position,
+};
+
 /// Merged contributions each have a byte, stand by section and start, and share no byte.
 pub fn merged_contributions_are_apart()
     ensures { (sections : List ImageSectionHeader) (debug : DebugInformation) (table : List ModuleSectionContribution)

@@ -22,13 +22,18 @@ mod context_data;
 mod contributions;
 mod function;
 mod global_functions;
+mod inline_laws;
+mod inline_ranges;
+mod inline_rows;
 pub mod laws;
 mod lookup;
+mod missing_rows;
 mod module_info;
 pub mod parts;
 mod pick;
 mod procedures;
 mod sections;
+mod sites;
 mod starts;
 
 pub use context::Context;

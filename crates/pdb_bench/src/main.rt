@@ -1,13 +1,16 @@
 //! Times reading, making a context and look-ups over generated records.
 //!
-//! `pdb_bench SYMBOLS ..` does so for each number of public symbols; with no number for a thousand.
+//! `pdb_bench NUMBER ..` does so for each number of public symbols, and of inline sites of a procedure; with
+//! no number for a thousand.
 //! Counts go to standard output, and times, in milliseconds, to standard error.
 #![tactic(auto)]
 
 mod generate;
+mod inline_sites;
 
 use anyhow::Result;
 use generate::{ADDRESS_STEP, records_text};
+use inline_sites::{Shape, count_ranges};
 use pdb_addr2line::ContextPdbData;
 use pdb_json::read_records;
 use std::env;
@@ -28,6 +31,8 @@ fn main(rt: HostRuntime) -> Result<()> {
     }
     for size in &sizes {
         measure(&rt, *size)?;
+        measure_sites(&rt, "nested", Shape::Nested, *size)?;
+        measure_sites(&rt, "side by side", Shape::SideBySide, *size)?;
     }
     Ok(())
 }
@@ -58,5 +63,20 @@ fn measure<R: Env + Clock + Print + Eprint + AllocGlobal>(rt: &R, symbols: u32) 
     eprintln!(rt;
         "{size} bytes read in {reading}, context made in {making}, looked up in {looking}"
     )?;
+    Ok(())
+}
+
+/// Finds the inline ranges of a procedure with so many sites.
+fn measure_sites<R: Clock + Print + Eprint + AllocGlobal>(
+    rt: &R,
+    name: &str,
+    shape: Shape,
+    sites: u32,
+) -> Result<()> {
+    let start = Instant::now(rt)?;
+    let ranges = count_ranges(rt.alloc(), shape, sites)?;
+    let walking = start.elapsed(rt)?.as_millis();
+    println!(rt; "{sites} sites {name}, {ranges} ranges")?;
+    eprintln!(rt; "sites made and ranges found in {walking}")?;
     Ok(())
 }

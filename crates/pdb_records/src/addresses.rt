@@ -11,7 +11,9 @@ pub struct Rva(pub u32);
 /// A place in a program: a section, counted from 1, and bytes from its start.
 #[derive(Clone, Copy, PartialEq, Eq, PartialOrd, Ord, Hash)]
 pub struct PdbInternalSectionOffset {
+    /// The section's number.
     pub section: u16,
+    /// Bytes from the section's start.
     pub offset: u32,
 }
 

@@ -33,6 +33,7 @@ pub enum SymbolData {
 /// A name that is visible outside its module.
 #[derive(Drop)]
 pub struct PublicSymbol {
+    /// Where what it names starts.
     pub offset: PdbInternalSectionOffset,
     /// The name, mostly with its parameters encoded in it.
     pub name: RawString,
@@ -41,6 +42,7 @@ pub struct PublicSymbol {
 /// A procedure.
 #[derive(Drop)]
 pub struct ProcedureSymbol {
+    /// Where it starts.
     pub offset: PdbInternalSectionOffset,
     /// The size of its code in bytes.
     pub len: u32,
@@ -55,6 +57,7 @@ pub struct ProcedureSymbol {
 /// Code of a procedure that stands apart from its body, as for an error that is seldom met.
 #[derive(Drop)]
 pub struct SeparatedCodeSymbol {
+    /// Where the code starts.
     pub offset: PdbInternalSectionOffset,
     /// The size of the code in bytes.
     pub len: u32,
@@ -67,6 +70,7 @@ pub struct SeparatedCodeSymbol {
 /// A short piece of code that leads to a procedure.
 #[derive(Drop)]
 pub struct ThunkSymbol {
+    /// Where it starts.
     pub offset: PdbInternalSectionOffset,
     /// The size of the code in bytes.
     pub len: u16,
