@@ -1,4 +1,4 @@
--- The context of a program's records.
+-- The context of a program's records, and the formatter of its types.
 use Rattle.std.specs.Prelude.{ℕ, List, [], Option, Some, None, Result, Ok, Err, slice_get, unwrap_or, option_map}
 use Rattle.pdb_records.specs.Records.{Records}
 use Rattle.pdb_records.specs.declared.error.Error.TheVariants.{Stream}
@@ -8,6 +8,8 @@ use Rattle.pdb_records.specs.declared.debug_information.DebugInformation.{DebugI
 use Rattle.pdb_records.specs.declared.modules.ModuleInfo.{ModuleInfo}
 use Rattle.pdb_signatures.specs.declared.error.Error.{Error}
 use Rattle.pdb_signatures.specs.declared.error.Error.TheVariants.{PdbError}
+use Rattle.pdb_signatures.specs.declared.flags.TypeFormatterFlags.{TypeFormatterFlags}
+use Rattle.pdb_signatures.specs.Formatters.{Standing, program_pointer_size}
 use Rattle.pdb_addr2line.specs.Outcomes.{unless, first_refusal, and_then}
 use Rattle.pdb_addr2line.specs.Sources.{Sources, accepted}
 
@@ -53,3 +55,23 @@ context_of r =
       modules = debug.modules.items;
     })) (sections_read r)))
     (read r.address_map)) (read r.global_symbols)) (read r.debug_information)
+
+-- what was read, if it was
+abbrev pub if_read : {A : Type 0} → Result A StreamError → Option A
+if_read (Ok content) = Some content
+if_read (Err fault) = None
+
+-- what the formatter of these records stands on: refused for the list of modules and the machine
+abbrev pub formatter_of : TypeFormatterFlags → Records → Result (Standing Records) Error
+formatter_of flags r =
+    and_then (λ debug. and_then (λ types. and_then (λ ids.
+    unless (formatter_refusal debug) (and_then (λ pointer_size. Ok (record {
+      provider = r;
+      modules = debug.modules.items;
+      strings = if_read r.string_table;
+      pointer_size = pointer_size;
+      types = types.items;
+      ids = ids.items;
+      flags = flags;
+    })) (program_pointer_size debug.machine_type)))
+    (read r.id_information)) (read r.type_information)) (read r.debug_information)

@@ -1,11 +1,12 @@
 ghost use Rattle.std.specs.Prelude.{◌≡◌, None, Some, IfOk};
 ghost use Rattle.pdb_signatures.specs.Provided.{provided};
 ghost use Rattle.pdb_addr2line.specs.Outcomes.{Gives, Refuses};
-ghost use Rattle.pdb_addr2line.specs.Made.{records_refusal, formatter_refusal, sections_read, info_at, context_of};
+ghost use Rattle.pdb_signatures.specs.FailedParts.{NoneFailed};
+ghost use Rattle.pdb_addr2line.specs.Made.{records_refusal, formatter_refusal, sections_read, info_at, context_of, formatter_of};
 
 use crate::context::Context;
 use pdb_records::{DebugInformation, ImageSectionHeader, Module, ModuleInfo, PDB, StreamError};
-use pdb_signatures::{Error, ModuleProvider, Result};
+use pdb_signatures::{Error, ModuleProvider, Result, TypeFormatter, TypeFormatterFlags};
 use std::alloc::{AllocError, Global};
 use std::marker::Model;
 
@@ -119,6 +120,54 @@ impl<'p> ContextPdbData<'p> {
             modules,
         )?;
         Ok(context)
+    }
+
+    /// A formatter of types over these records, with the default flags.
+    ///
+    /// # Errors
+    ///
+    /// As [`ContextPdbData::make_type_formatter_with_flags`].
+    pub fn make_type_formatter(&self) -> Result<TypeFormatter<'_, Self>>
+        ensures answer { Gives (λ f. f.standing) result (formatter_of (record { 0 = 23 }) self.now) }
+        ensures none_failed { IfOk result (λ f. NoneFailed f.failed) }
+    {
+        self.make_type_formatter_with_flags(TypeFormatterFlags::default())
+    }
+
+    /// A formatter of types over these records. A string table that failed counts as absent.
+    ///
+    /// # Errors
+    ///
+    /// [`Error::PdbError`] for the fault of the list of modules, and then for a machine type that could
+    /// not be read.
+    pub fn make_type_formatter_with_flags(
+        &self,
+        flags: TypeFormatterFlags,
+    ) -> Result<TypeFormatter<'_, Self>>
+        ensures answer { Gives (λ f. f.standing) result (formatter_of flags self.now) }
+        ensures none_failed { IfOk result (λ f. NoneFailed f.failed) }
+    {
+        let pdb = self.pdb();
+        let (Ok(debug_information), Ok(types), Ok(ids)) = (
+            &pdb.debug_information,
+            &pdb.type_information,
+            &pdb.id_information,
+        ) else {
+            unreachable!();
+        };
+        check_machine(debug_information)?;
+        let modules = copies_of(self.alloc, &debug_information.modules.items)?;
+        let strings = pdb.string_table.as_ref().ok();
+        TypeFormatter::new_from_parts(
+            self.alloc,
+            self,
+            modules,
+            debug_information,
+            types,
+            ids,
+            strings,
+            flags,
+        )
     }
 
     /// The records.

@@ -1,3 +1,12 @@
 pub use Rattle.pdb_records.specs.Readings
 pub use Rattle.pdb_records.specs.Records
 pub mod Provided
+pub mod Outcomes
+pub mod Items
+pub mod Sizes
+pub mod ForwardReferences
+pub mod Told
+pub mod Resolution
+pub mod TypeSizes
+pub mod FailedParts
+pub mod Formatters

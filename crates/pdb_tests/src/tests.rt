@@ -1,6 +1,7 @@
 //! Tests over records that are made here: each public call once, with ample memory, and texts.
 
 mod contributions;
+mod formatters;
 mod records;
 mod reports;
 mod texts;

@@ -18,6 +18,29 @@ const PROGRAM: &[u8] = br#"{"sections":[{"virtual_address":4096,"virtual_size":2
 "end":0,"type_index":0}}],"line_program":{"entries":[],"files":[]},"inlinees":[],"imports":[],
 "exports":[]}]}"#;
 
+/// A program with a public symbol behind the start of its contribution.
+const PUBLIC_SYMBOL: &[u8] = br#"{"sections":[{"virtual_address":4096,"virtual_size":256,
+"execute":true}],"address_map":[{"virtual_address":4096,"virtual_size":256}],"global_symbols":
+[{"raw_kind":4366,"data":{"kind":"Public","section":1,"offset":16,"name":"?f"}}],
+"debug_information":{"machine_type":"Amd64","modules":[{"name":"a.obj"}],
+"section_contributions":[{"section":1,"offset":0,"size":64,"module":0}]},
+"type_information":[],"id_information":[],"string_table":[],"module_infos":[null]}"#;
+
+/// A program with nothing in it.
+const NOTHING: &[u8] = br#"{"sections":[],"address_map":[],"global_symbols":[],
+"debug_information":{"machine_type":"Amd64","modules":[],"section_contributions":[]},
+"type_information":[],"id_information":[],"string_table":[],"module_infos":[]}"#;
+
+#[test]
+fn starts_and_section_ends_are_counted(rt: HostRuntime) -> Result<(), Fail> {
+    for (text, count) in [(PUBLIC_SYMBOL, 3usize), (NOTHING, 0)] {
+        let data = ContextPdbData::try_from_pdb(rt.alloc(), read_records(rt.alloc(), text)?)?;
+        let context = data.make_context()?;
+        assert_eq!(rt; context.function_count(), count);
+    }
+    Ok(())
+}
+
 #[test]
 fn contexts_of_owned_and_lent_records(rt: HostRuntime) -> Result<(), Fail> {
     let mut lent = read_records(rt.alloc(), PROGRAM)?;

@@ -1,0 +1,48 @@
+-- Classes and unions of which one entry has only the name, and another the size.
+use Rattle.std.specs.Prelude.{ℕ, ◌==◌, ◌&&◌, Bool, not, List, [], ◌∷◌, Option, Some, None, option_and_then, if◌then◌else◌}
+use Rattle.std.specs.Option.{unwrap_or, option_or}
+use Rattle.std.specs.Result.{result_ok}
+use Rattle.std.specs.Str.{bytes_eq}
+use Rattle.pdb_records.specs.declared.types.Item.{Item}
+use Rattle.pdb_records.specs.declared.types.TypeIndex.{TypeIndex}
+use Rattle.pdb_records.specs.declared.types.TypeData.{TypeData}
+use Rattle.pdb_records.specs.declared.types.TypeData.TheVariants.{Class, Union}
+use Rattle.pdb_signatures.specs.declared.forward_references.Aggregate as code
+
+-- what a class or a union tells of itself: what it goes by, its size, and whether it is a forward reference
+pub record Aggregate : Type 0 where
+  pub name : List ℕ
+  pub size : ℕ
+  pub forward_reference : Bool
+
+-- the same, as the code has it
+abbrev pub told_aggregate : code.Aggregate → Aggregate
+told_aggregate a = record { name = a.name.now; size = a.size; forward_reference = a.forward_reference }
+
+-- a class or a union goes by its unique name where it has one, else by its name
+abbrev pub aggregate : TypeData → Option Aggregate
+aggregate (Class c) = Some (record { name = unwrap_or c.unique_name c.name; size = c.size; forward_reference = c.forward_reference })
+aggregate (Union u) = Some (record { name = unwrap_or u.unique_name u.name; size = u.size; forward_reference = u.forward_reference })
+aggregate other = None
+
+-- the size that a class or a union gives to a name: its own, where it goes by that name and is no forward reference
+abbrev pub size_for : List ℕ → Aggregate → Option ℕ
+size_for name a = if (not a.forward_reference && bytes_eq a.name name) then Some a.size else None
+
+-- the size that an entry gives to a name
+abbrev pub definition_size : List ℕ → Item TypeIndex TypeData → Option ℕ
+definition_size name item = option_and_then (λ type. option_and_then (size_for name) (aggregate type)) (result_ok item.content)
+
+-- the size that the first definition of a name gives to it
+abbrev pub first_definition : List ℕ → List (Item TypeIndex TypeData) → Option ℕ
+first_definition name [] = None
+first_definition name (item ∷ items) = option_or (definition_size name item) (first_definition name items)
+
+-- the entries behind the first that has this index
+abbrev pub entries_behind : ℕ → List (Item TypeIndex TypeData) → List (Item TypeIndex TypeData)
+entries_behind number [] = []
+entries_behind number (item ∷ items) = if item.index.0 == number then items else entries_behind number items
+
+-- the size of a class or a union that is a forward reference at this index: its first definition behind that entry has it
+abbrev pub size_behind : ℕ → List ℕ → List (Item TypeIndex TypeData) → Option ℕ
+size_behind number name items = first_definition name (entries_behind number items)

@@ -1,0 +1,5 @@
+//! Worked examples, with the sizes that a reader of program databases expects.
+
+mod records;
+mod references;
+mod sizes;
