@@ -1,7 +1,7 @@
 -- What a call answers, beside the answer of its definition.
-use Rattle.std.specs.Prelude.{◌≡◌, ◌≢◌, Option, Some, None, Result, Ok, Err}
+use Rattle.std.specs.Prelude.{◌≡◌, Option, Some, None, Result, Ok, Err}
 use Rattle.pdb_signatures.specs.declared.error.Error.{Error}
-use Rattle.pdb_signatures.specs.declared.error.Error.TheVariants.{OutOfMemory}
+pub use Rattle.pdb_signatures.specs.Outcomes.{Gives, and_then}
 
 -- the first of two refusals
 abbrev pub first_refusal : Option Error → Option Error → Option Error
@@ -12,16 +12,6 @@ first_refusal (Some error) later = Some error
 abbrev pub unless : {A : Type 0} → Option Error → Result A Error → Result A Error
 unless None answer = answer
 unless (Some error) answer = Err error
-
--- what follows an answer; an error stays
-abbrev pub and_then : {A B : Type 0} → (A → Result B Error) → Result A Error → Result B Error
-and_then next (Ok answer) = next answer
-and_then next (Err error) = Err error
-
--- an answer is the definition's, and so is an error, but for want of memory
-abbrev pub Gives : {A B : Type 0} → (A → B) → Result A Error → Result B Error → Type 0
-Gives view (Ok answer) definition = definition ≡ Ok (view answer)
-Gives view (Err error) definition = error ≢ OutOfMemory → definition ≡ Err error
 
 -- a test passes where its definition refuses nothing, and else answers that refusal
 abbrev pub Refuses : {A : Type 0} → Result A Error → Option Error → Type 0

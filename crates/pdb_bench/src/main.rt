@@ -1,12 +1,13 @@
-//! Times reading, making a context and look-ups over generated records.
+//! Times reading, making a context, look-ups and sizes of types over generated records.
 //!
-//! `pdb_bench NUMBER ..` does so for each number of public symbols, and of inline sites of a procedure; with
-//! no number for a thousand.
+//! `pdb_bench NUMBER ..` does so for each number of public symbols, of inline sites of a procedure, and of
+//! types; with no number for a thousand.
 //! Counts go to standard output, and times, in milliseconds, to standard error.
 #![tactic(auto)]
 
 mod generate;
 mod inline_sites;
+mod types;
 
 use anyhow::Result;
 use generate::{ADDRESS_STEP, records_text};
@@ -16,6 +17,7 @@ use pdb_json::read_records;
 use std::env;
 use std::rt::{Clock, Env};
 use std::time::Instant;
+use types::measure_types;
 
 /// How many addresses are looked up.
 const LOOK_UPS: u32 = 1000;
@@ -33,6 +35,7 @@ fn main(rt: HostRuntime) -> Result<()> {
         measure(&rt, *size)?;
         measure_sites(&rt, "nested", Shape::Nested, *size)?;
         measure_sites(&rt, "side by side", Shape::SideBySide, *size)?;
+        measure_types(&rt, *size)?;
     }
     Ok(())
 }

@@ -1,6 +1,6 @@
 -- Entries that were read so far.
 use Rattle.std.proofs.Common.{true, false, cond, nat_eq, add-one, ◌≡◌, ℕ, ◌+◌, ◌<◌, ◌∙◌, List, [], ◌∷◌, ◌++◌, take, drop, length, get_or, sym, ap}
-use Rattle.std.specs.Prelude.{Bool, Some, None, Ok, option_map, find}
+use Rattle.std.specs.Prelude.{Bool, Some, None, option_map, find}
 use Rattle.std.specs.Option.{option_or}
 use Rattle.std.specs.Borrow.{Bor}
 use Rattle.std.specs.BTreeMap.{BTreeMap, get}
@@ -11,7 +11,7 @@ use Rattle.std.proofs.lemmas.List.{take-append-drop}
 use Rattle.std.proofs.lemmas.List.Folds.{find-append}
 use Rattle.pdb_records.specs.declared.types.Item.{Item}
 use Rattle.pdb_records.specs.Readings.{Read}
-use Rattle.pdb_signatures.specs.Items.{Knows, first_item, item_of, found_or_missing}
+use Rattle.pdb_signatures.specs.Items.{Knows, first_item}
 
 -- the entries read so far, with one more
 pub take-more : {A : Type 0} (xs : List A) (i : ℕ) (x : A) → i < length xs → x ≡ get_or xs i x → take (i + 1) xs ≡ take i xs ++ (x ∷ [])
@@ -55,9 +55,9 @@ pub knows_first : {I D : Type 0} (number_of : I → ℕ) (items : List (Item I D
 unfolding Knows
 knows_first number_of items i known number item knew got = first_item-take number_of items i number item (sym (knew number) ∙ got)
 
--- the answer of the first entry that was found
-pub item_of-found : {I D : Type 0} (number_of : I → ℕ) (inside read : Read (Item I D)) (n number i : ℕ) (known : BTreeMap ℕ (Bor (Item I D))) (item : Item I D) → inside ≡ read → n ≡ number → Knows number_of (take i inside.items) known → Some item ≡ option_map (λ entry. entry.now) (get nat_cmp known n) → item_of number_of read number ≡ Ok item
-item_of-found number_of inside read n number i known item same is knew got = rw (← same, ← is) (ap (λ found. found_or_missing inside.fault n found) (knows_first number_of inside.items i known n item knew (sym got)))
+-- what the map has under the number that is asked for is the answer
+pub first_item-known : {I D : Type 0} (number_of : I → ℕ) (inside read : Read (Item I D)) (n number i : ℕ) (known : BTreeMap ℕ (Bor (Item I D))) (item : Item I D) → inside ≡ read → n ≡ number → Knows number_of (take i inside.items) known → Some item ≡ option_map (λ entry. entry.now) (get nat_cmp known n) → Some item ≡ first_item number_of number read.items
+first_item-known number_of inside read n number i known item same is knew got = rw (← same, ← is) (sym (knows_first number_of inside.items i known n item knew (sym got)))
 
 -- what the map lacks is not among the entries that were read
 pub first_item-unknown : {I D : Type 0} (number_of : I → ℕ) (inside read : Read (Item I D)) (i : ℕ) (known : BTreeMap ℕ (Bor (Item I D))) (number : ℕ) → inside ≡ read → Knows number_of (take i read.items) known → None ≡ option_map (λ entry. entry.now) (get nat_cmp known number) → first_item number_of number (take i inside.items) ≡ None

@@ -6,7 +6,10 @@ pub mod Items
 pub mod Sizes
 pub mod ForwardReferences
 pub mod Told
+pub mod Texts
+pub mod ModuleNames
 pub mod Resolution
 pub mod TypeSizes
+pub mod SizeLaws
 pub mod FailedParts
 pub mod Formatters

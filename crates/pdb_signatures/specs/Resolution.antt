@@ -1,7 +1,6 @@
 -- Indices that lead to other modules.
-use Rattle.std.specs.Prelude.{ℕ, ◌+◌, ◌^◌, Bool, List, [], ◌∷◌, Option, Some, None, Result, Ok, Err, nat_lt, slice_get, if◌then◌else◌}
-use Rattle.std.specs.Option.{option_or, option_copied}
-use Rattle.std.specs.Str.{str_eq_ignore_ascii_case, str_to_ascii_lowercase}
+use Rattle.std.specs.Prelude.{ℕ, ◌^◌, List, Option, Some, None, Result, Ok, Err, nat_lt, slice_get, if◌then◌else◌}
+use Rattle.std.specs.Str.{str_to_ascii_lowercase}
 use Rattle.pdb_records.specs.Names.{lossy}
 use Rattle.pdb_records.specs.Imports.{Imported}
 use Rattle.pdb_records.specs.References.{imported, exported}
@@ -17,7 +16,9 @@ use Rattle.pdb_signatures.specs.declared.error.Error.TheVariants.{PdbError, OutO
 use Rattle.pdb_signatures.specs.declared.resolution.Part.{Part}
 use Rattle.pdb_signatures.specs.declared.resolution.Part.TheVariants.{Imports, Exports}
 use Rattle.pdb_signatures.specs.declared.resolution.Modules as code
-use Rattle.pdb_signatures.specs.Told.{Plain, NoModuleNamed, Trouble, Refused, Broken, and_then}
+use Rattle.pdb_signatures.specs.ModuleNames.{is_named, last_position_from}
+use Rattle.pdb_signatures.specs.Outcomes.{and_then}
+use Rattle.pdb_signatures.specs.Told.{Plain, NoModuleNamed, Trouble, Refused, Broken}
 
 -- what resolution stands on: what a provider answers for a position and a module, the list of modules, and the texts
 pub record Linked : Type 0 where
@@ -73,15 +74,6 @@ abbrev pub found_text : StringRef → Option (List ℕ) → Result (List ℕ) Tr
 found_text reference None = Err (Refused (Plain (PdbError (StringNotFound reference.0))))
 found_text reference (Some text) = Ok text
 
--- a module has this name: both are read as text, and the case of ASCII letters does not count
-abbrev pub is_named : List ℕ → Module → Bool
-is_named name m = str_eq_ignore_ascii_case (lossy m.name) (lossy name)
-
--- the greatest position, counted from here on, of those that pass the test
-abbrev pub last_position_from : {A : Type 0} → ℕ → (A → Bool) → List A → Option ℕ
-last_position_from position test [] = None
-last_position_from position test (x ∷ xs) = option_or (last_position_from (position + 1) test xs) (if test x then Some position else None)
-
 -- the module that was found by a name, or the name in lower case
 abbrev pub found_module : List ℕ → Option ℕ → Result ℕ Trouble
 found_module name None = Err (Refused (NoModuleNamed (str_to_ascii_lowercase (lossy name))))
@@ -115,4 +107,4 @@ resolved linked position index = if nat_lt index (2 ^ 31) then Ok index else acr
 
 -- what resolution stands on, as the code has it
 abbrev pub linked_by : {P : Type 0} → (P → ℕ → Module → Result (Option ModuleInfo) StreamError) → code.Modules P → Linked
-linked_by info m = record { info = info m.provider.now; modules = m.modules.items; strings = option_copied m.strings }
+linked_by info m = record { info = info m.provider.now; modules = m.modules; strings = m.strings }

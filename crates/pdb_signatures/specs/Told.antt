@@ -32,11 +32,6 @@ abbrev pub Tells : {A B : Type 0} → (A → B) → Result A Unread → Result B
 Tells view (Ok answer) definition = definition ≡ Ok (view answer)
 Tells view (Err e) definition = e ≢ code.Refused error.OutOfMemory → definition ≡ Err (trouble e)
 
--- what follows an answer; an error stays
-abbrev pub and_then : {A B E : Type 0} → (A → Result B E) → Result A E → Result B E
-and_then next (Ok answer) = next answer
-and_then next (Err e) = Err e
-
 -- what is lent, in place of the loan
 abbrev pub lent : {A E : Type 0} → Result (Bor A) E → Result A E
 lent (Ok loan) = Ok loan.now

@@ -11,7 +11,8 @@ use Rattle.pdb_signatures.specs.declared.resolution.Part.{Part}
 use Rattle.pdb_signatures.specs.declared.type_sizes.TypeSize.{TypeSize}
 use Rattle.pdb_signatures.specs.declared.type_sizes.Step.{Step}
 use Rattle.pdb_signatures.specs.declared.type_sizes.Step.TheVariants.{Ended, Next}
-use Rattle.pdb_signatures.specs.Told.{Trouble, Refused, Broken, told, and_then}
+use Rattle.pdb_signatures.specs.Outcomes.{and_then}
+use Rattle.pdb_signatures.specs.Told.{Trouble, Refused, Broken, told}
 use Rattle.pdb_signatures.specs.Items.{item_of}
 use Rattle.pdb_signatures.specs.Sizes.{own_size, underneath}
 use Rattle.pdb_signatures.specs.ForwardReferences.{Aggregate, aggregate, size_behind}
@@ -73,7 +74,7 @@ abbrev pub size_along : (ℕ → Step) → ℕ → ℕ → TypeSize
 size_along next zero index = ended (next index)
 size_along next (suc steps) index = onward (size_along next steps) (next index)
 
--- the size of a type, asked by the module at a position: a chain with more steps than there are entries comes back to one of
--- them, repeats for ever, and has no size
+-- the size of a type, asked by the module at a position: the size at the end of its chain, or none where the chain never ends,
+-- which as many steps as there are entries always settle: `laws`, over SizeLaws, says so
 abbrev pub type_size : Linked → Read (Item TypeIndex TypeData) → ℕ → ℕ → ℕ → TypeSize
 type_size linked types pointer position index = size_along (step linked types pointer position) (length types.items) index

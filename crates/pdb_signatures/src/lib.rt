@@ -1,19 +1,28 @@
-//! What the calls of the crates above stand on: their errors, and who hands in a module's records.
+//! Types and ids by their index, in one module or across modules, and the sizes of types.
+//!
+//! Here too are the errors of the crates above, and the provider who hands in a module's records.
 #![tactic(auto)]
 
+mod aggregates;
 mod error;
 mod failed_parts;
 mod flags;
 mod forward_references;
 mod items;
+mod keep_first;
+pub mod laws;
+mod module_list;
+mod own_sizes;
 mod provider;
 mod resolution;
 mod sizes;
 #[cfg(test)]
 mod tests;
+mod texts;
 mod type_formatter;
 mod type_sizes;
 
+pub use aggregates::{Aggregate, ItemData};
 pub use error::{Error, Result};
 pub use flags::TypeFormatterFlags;
 pub use forward_references::TypeSizeCache;

@@ -5,10 +5,12 @@ ghost use Rattle.std.specs.Cow.{cow_str_bytes};
 ghost use Rattle.pdb_records.specs.Names.{lossy};
 ghost use Rattle.pdb_signatures.specs.declared.error.Error.TheVariants.{OutOfMemory};
 ghost use Rattle.pdb_signatures.specs.Told.{Tells, told, lent};
-ghost use Rattle.pdb_signatures.specs.Resolution.{linked_by, streamed, module_info, imports, exports, is_named, last_position_from, module_named, export_of, import_target, across, resolved};
+ghost use Rattle.pdb_signatures.specs.Resolution.{linked_by, streamed, module_info, imports, exports, module_named, export_of, import_target, across, resolved};
 
 use crate::error::{Error, Result};
+use crate::module_list::{ModuleList, lower_case};
 use crate::provider::ModuleProvider;
+use crate::texts::Texts;
 use pdb_records::{
     CrossModuleExports, CrossModuleImports, Module, ModuleInfo, RawString, StreamError, StringRef,
     StringTable,
@@ -58,10 +60,10 @@ const CROSS_MODULE: u32 = 1 << 31;
 
 /// What indices that lead to other modules are resolved by.
 pub(crate) struct Modules<'a, P: ModuleProvider> {
-    pub(crate) alloc: Global,
-    pub(crate) provider: &'a P,
-    pub(crate) modules: Vec<Module>,
-    pub(crate) strings: Option<&'a StringTable>,
+    alloc: Global,
+    provider: &'a P,
+    modules: ModuleList,
+    strings: Option<Texts<'a>>,
 }
 
 impl<P: ModuleProvider> Drop for Modules<'_, P> {
@@ -85,48 +87,43 @@ fn streamed<A>(content: &Result<A, StreamError>) -> Result<&A>
     }
 }
 
-/// Whether a module has this name: both as text, and whatever the case of ASCII letters.
-fn is_named(alloc: Global, module: &Module, name: &RawString) -> Result<bool, AllocError>
-    ensures { IfOk result (λ same. same ≡ is_named name.now «module».now) }
-{
-    let own = module.name.to_string_lossy(alloc)?;
-    let other = name.to_string_lossy(alloc)?;
-    Ok(own.as_str().eq_ignore_ascii_case(other.as_str()))
-}
-
-/// The last position of a module with this name.
-fn last_named(
-    alloc: Global,
-    modules: &[Module],
-    name: &RawString,
-) -> Result<Option<usize>, AllocError>
-    ensures { IfOk result (λ found. found ≡ last_position_from 0 (is_named name.now) modules.now) }
-{
-    let mut found = None;
-    for (position, module) in modules.iter().enumerate() {
-        if is_named(alloc, module, name)? {
-            found = Some(position);
-        }
-    }
-    Ok(found)
-}
-
-/// A name as text, in lower case as far as its letters are ASCII.
-fn lower_case(alloc: Global, name: &RawString) -> Result<String, AllocError>
-    ensures { IfOk result (λ text. string_bytes text ≡ str_to_ascii_lowercase (lossy name.now)) }
-{
-    let mut text = name.to_string_lossy(alloc)?.into_owned(alloc)?;
-    text.make_ascii_lowercase();
-    Ok(text)
-}
-
 impl<'a, P: ModuleProvider> Modules<'a, P> {
+    /// What resolves indices by these records.
+    pub(crate) fn new(
+        alloc: Global,
+        provider: &'a P,
+        modules: Vec<Module>,
+        strings: Option<&'a StringTable>,
+    ) -> Result<Self, AllocError>
+        ensures provider { IfOk result (λ m. m.provider.now ≡ provider.now) }
+        ensures modules { IfOk result (λ m. m.modules ≡ modules.items) }
+        ensures strings { IfOk result (λ m. m.strings ≡ option_copied strings.entry) }
+    {
+        let strings = match strings {
+            Some(strings) => Some(Texts::new(alloc, strings)?),
+            None => None,
+        };
+        Ok(Modules {
+            alloc,
+            provider,
+            modules: ModuleList::new(alloc, modules)?,
+            strings,
+        })
+    }
+
+    /// The modules in their order.
+    pub(crate) fn modules(&self) -> &[Module]
+        ensures { result.now ≡ self.now.modules }
+    {
+        self.modules.modules()
+    }
+
     /// The records of the module at a position.
     pub(crate) fn module_info(&self, position: usize) -> Result<&'a ModuleInfo>
         ensures { lent result ≡ module_info (linked_by P.info self.now) position }
     {
         let provider = self.provider;
-        let Some(module) = self.modules.get(position) else {
+        let Some(module) = self.modules().get(position) else {
             return Err(Error::OutOfRangeModuleIndex(position));
         };
         match provider.get_module_info(position, module) {
@@ -152,14 +149,12 @@ impl<'a, P: ModuleProvider> Modules<'a, P> {
 
     /// The position of the module with this name.
     fn module_named(&self, name: &RawString) -> Result<usize, Unread>
-        ensures { Tells (λ position. position) result (module_named self.now.modules.items name.now) }
+        ensures { Tells (λ position. position) result (module_named self.now.modules name.now) }
     {
-        match last_named(self.alloc, &self.modules, name)? {
+        let lower_name = lower_case(self.alloc, name)?;
+        match self.modules.last_named(lower_name.as_str()) {
             Some(position) => Ok(position),
-            None => {
-                let text = lower_case(self.alloc, name)?;
-                Err(Unread::Refused(Error::ModuleNameNotFound(text)))
-            }
+            None => Err(Unread::Refused(Error::ModuleNameNotFound(lower_name))),
         }
     }
 
@@ -180,7 +175,7 @@ impl<'a, P: ModuleProvider> Modules<'a, P> {
     /// The index behind an import: the name of the other module, and the number there.
     fn import_target(
         &self,
-        strings: &StringTable,
+        strings: &Texts<'a>,
         reference: StringRef,
         local: u32,
     ) -> Result<u32, Unread>
@@ -198,7 +193,7 @@ impl<'a, P: ModuleProvider> Modules<'a, P> {
     fn across(&self, position: usize, index: u32) -> Result<u32, Unread>
         ensures { Tells (λ index. index) result (across (linked_by P.info self.now) position index) }
     {
-        let Some(strings) = self.strings else {
+        let Some(strings) = &self.strings else {
             let refusal = Error::CantResolveCrossModuleRefWithoutStringTable;
             return Err(Unread::Refused(refusal));
         };

@@ -1,8 +1,8 @@
 ghost use Rattle.std.specs.Prelude.{◌≡◌, None, IfOk, OnOk, OnErr, MatchResult};
 ghost use Rattle.std.specs.Option.{option_copied};
-ghost use Rattle.std.specs.Result.{result_map_both};
 ghost use Rattle.pdb_signatures.specs.declared.error.Error.TheVariants.{OutOfMemory};
 ghost use Rattle.pdb_signatures.specs.FailedParts.{NoneFailed, GrowsBy};
+ghost use Rattle.pdb_signatures.specs.Outcomes.{Gives};
 ghost use Rattle.pdb_signatures.specs.Formatters.{program_pointer_size, size_of};
 
 use crate::error::{Error, Result};
@@ -34,6 +34,7 @@ pub struct TypeFormatter<'a, P: ModuleProvider> {
 
 impl<'a, P: ModuleProvider> Model for TypeFormatter<'a, P> {
     ghost use Rattle.std.specs.Option.{option_copied};
+    ghost use Rattle.pdb_signatures.specs.Outcomes.{Gives};
     ghost use Rattle.pdb_signatures.specs.Formatters.{Formatter};
 
     ghost Value = { Formatter P };
@@ -41,8 +42,8 @@ impl<'a, P: ModuleProvider> Model for TypeFormatter<'a, P> {
     ghost view = { λ f. record {
       standing = record {
         provider = f.modules.provider.now;
-        modules = f.modules.modules.items;
-        strings = option_copied f.modules.strings;
+        modules = f.modules.modules;
+        strings = f.modules.strings;
         pointer_size = f.pointer_size;
         types = f.types;
         ids = f.ids;
@@ -91,7 +92,7 @@ impl<'a, P: ModuleProvider> TypeFormatter<'a, P> {
         string_table: Option<&'a StringTable>,
         flags: TypeFormatterFlags,
     ) -> Result<Self>
-        ensures pointer { result_map_both (λ f. f.standing.pointer_size) (λ e. e) result ≡ program_pointer_size debug_information.now.machine_type }
+        ensures pointer { Gives (λ f. f.standing.pointer_size) result (program_pointer_size debug_information.now.machine_type) }
         ensures standing { IfOk result (λ f. f.standing ≡ record {
           provider = provider.now;
           modules = modules.items;
@@ -105,12 +106,7 @@ impl<'a, P: ModuleProvider> TypeFormatter<'a, P> {
     {
         let pointer_size = program_pointer_size(&debug_information.machine_type)?;
         Ok(TypeFormatter {
-            modules: Modules {
-                alloc,
-                provider,
-                modules,
-                strings: string_table,
-            },
+            modules: Modules::new(alloc, provider, modules, string_table)?,
             pointer_size,
             flags,
             types: ItemMap::new(alloc, type_information),
@@ -123,7 +119,7 @@ impl<'a, P: ModuleProvider> TypeFormatter<'a, P> {
     pub fn modules(&self) -> &[Module]
         ensures { result.now ≡ self.now.standing.modules }
     {
-        &self.modules.modules
+        self.modules.modules()
     }
 
     /// The size of a type in bytes, for an index as the module at `module_index` writes it.

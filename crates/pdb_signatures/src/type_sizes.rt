@@ -5,8 +5,9 @@ ghost use Rattle.pdb_signatures.specs.Told.{Tells, trouble};
 ghost use Rattle.pdb_signatures.specs.Resolution.{linked_by};
 ghost use Rattle.pdb_signatures.specs.TypeSizes.{read_type, end_size, met_in, step, size_along, type_size};
 
+use crate::aggregates::ItemData;
 use crate::error::{Error, Result};
-use crate::forward_references::{TypeSizeCache, aggregate_of};
+use crate::forward_references::TypeSizeCache;
 use crate::items::TypeMap;
 use crate::provider::ModuleProvider;
 use crate::resolution::{Modules, Part, Unread};
@@ -51,7 +52,7 @@ fn end_size(
     ensures same { types.new ≡ types.old }
 {
     let own = own_size(pointer, type_data);
-    let Some(told) = aggregate_of(type_data) else {
+    let Some(told) = type_data.aggregate() else {
         return Ok(own);
     };
     if !told.forward_reference {

@@ -1,24 +1,36 @@
-ghost use Rattle.std.specs.Prelude.{Ok, slice_get};
+ghost use Rattle.std.specs.Prelude.{Ok, Err, nat_lt, slice_get, if◌then◌else◌};
 
 use crate::{ModuleProvider, Result, TypeFormatter, TypeFormatterFlags};
 use pdb_records::*;
 use std::alloc::{AllocError, Global};
 
-/// Hands in the records of modules by their position.
+/// Hands in the records of modules by their position, and from one position on a fault.
 #[derive(Drop)]
 pub(super) struct Listed {
     pub(super) infos: Vec<ModuleInfo>,
+    pub(super) fault_from: usize,
+}
+
+/// Hands in no records.
+pub(super) fn nothing_listed(alloc: Global) -> Listed {
+    Listed {
+        infos: Vec::new(alloc),
+        fault_from: 1,
+    }
 }
 
 impl ModuleProvider for Listed {
-    ghost info = { λ listed position _. Ok (slice_get listed.infos.items position) };
+    ghost info = { λ listed position _. if nat_lt position listed.fault_from then Ok (slice_get listed.infos.items position) else Err (record { 0 = 6 }) };
 
     fn get_module_info(
         &self,
         module_index: usize,
         _module: &Module,
     ) -> Result<Option<&ModuleInfo>, StreamError> {
-        Ok(self.infos.get(module_index))
+        if module_index < self.fault_from {
+            return Ok(self.infos.get(module_index));
+        }
+        Err(StreamError(6))
     }
 }
 
@@ -122,7 +134,22 @@ pub(super) fn info(
     }
 }
 
-/// A formatter for Amd64 with the default flags.
+/// A formatter for a machine, with the default flags.
+pub(super) fn formatter_for<'a>(
+    alloc: Global,
+    machine: MachineType,
+    provider: &'a Listed,
+    modules: Vec<Module>,
+    types: &'a TypeInformation,
+    ids: &'a IdInformation,
+    strings: Option<&'a StringTable>,
+) -> Result<TypeFormatter<'a, Listed>> {
+    let debug = debug_information(alloc, Ok(machine));
+    let flags = TypeFormatterFlags::default();
+    TypeFormatter::new_from_parts(alloc, provider, modules, &debug, types, ids, strings, flags)
+}
+
+/// A formatter for Amd64, with the default flags.
 pub(super) fn formatter<'a>(
     alloc: Global,
     provider: &'a Listed,
@@ -131,7 +158,6 @@ pub(super) fn formatter<'a>(
     ids: &'a IdInformation,
     strings: Option<&'a StringTable>,
 ) -> Result<TypeFormatter<'a, Listed>> {
-    let debug = debug_information(alloc, Ok(MachineType::Amd64));
-    let flags = TypeFormatterFlags::default();
-    TypeFormatter::new_from_parts(alloc, provider, modules, &debug, types, ids, strings, flags)
+    let machine = MachineType::Amd64;
+    formatter_for(alloc, machine, provider, modules, types, ids, strings)
 }

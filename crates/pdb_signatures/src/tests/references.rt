@@ -10,22 +10,22 @@ fn module(alloc: Global, text: &str) -> Result<Module, AllocError> {
     })
 }
 
-/// Takes the number 7 from the module whose name is the text 5, the number 8 from it too, and 7 from
-/// the modules whose names are the texts 6 and 9.
+fn imported(alloc: Global, module: u32, locals: &[u32]) -> Result<ImportedModule, AllocError> {
+    Ok(ImportedModule {
+        module: StringRef(module),
+        locals: Vec::from_slice(alloc, locals)?,
+    })
+}
+
+/// Takes the numbers 7 and 8 from the module whose name is the text 5, and 7 from those of other texts.
 fn imports(alloc: Global) -> Result<CrossModuleImports, AllocError> {
     let modules = vec![in alloc;
-        ImportedModule {
-            module: StringRef(5),
-            locals: vec![in alloc; 7, 8]?
-        },
-        ImportedModule {
-            module: StringRef(6),
-            locals: vec![in alloc; 7]?
-        },
-        ImportedModule {
-            module: StringRef(9),
-            locals: vec![in alloc; 7]?
-        },
+        imported(alloc, 5, &[7, 8])?,
+        imported(alloc, 6, &[7])?,
+        imported(alloc, 9, &[7])?,
+        imported(alloc, 10, &[7])?,
+        imported(alloc, 11, &[7])?,
+        imported(alloc, 12, &[7])?,
     ]?;
     Ok(CrossModuleImports { modules })
 }
@@ -42,23 +42,30 @@ fn no_imports(alloc: Global) -> Result<CrossModuleImports, StreamError> {
     })
 }
 
-/// The text 5 is the name `B.obj`, and the text 6 is `C.obj`.
+/// The names of modules by the references that imports use. The first text of a reference counts.
 fn strings(alloc: Global) -> Result<StringTable, AllocError> {
-    let strings = vec![in alloc;
-        (StringRef(5), name(alloc, "B.obj")?),
-        (StringRef(6), name(alloc, "C.OBJ")?),
-    ]?;
+    let mut strings = Vec::new(alloc);
+    for (reference, text) in [
+        (5, "B.obj"),
+        (6, "C.OBJ"),
+        (10, "D.obj"),
+        (11, "e.obj"),
+        (12, "f.obj"),
+        (5, "d.obj"),
+    ] {
+        strings.push((StringRef(reference), name(alloc, text)?))?;
+    }
     Ok(StringTable { strings })
 }
 
-/// `a.obj` imports, two modules of one name export, and the parts of `d.obj` are broken.
+/// `a.obj` imports, two modules of one name export, and the parts of `d.obj` are broken. `e.obj` has no
+/// records.
 fn infos(alloc: Global) -> Result<Vec<ModuleInfo>, AllocError> {
-    let nothing = Err(StreamError(0));
     Ok(vec![in alloc;
         info(alloc, Ok(imports(alloc)?), Err(StreamError(2))),
         info(alloc, no_imports(alloc), Ok(exports(alloc, 0x1002)?)),
         info(alloc, no_imports(alloc), Ok(exports(alloc, 0x1003)?)),
-        info(alloc, Err(StreamError(9)), nothing),
+        info(alloc, Err(StreamError(9)), Err(StreamError(4))),
     ]?)
 }
 
@@ -69,6 +76,7 @@ fn modules(alloc: Global) -> Result<Vec<Module>, AllocError> {
         module(alloc, "b.OBJ")?,
         module(alloc, "d.obj")?,
         module(alloc, "e.obj")?,
+        module(alloc, "f.obj")?,
     ]?)
 }
 
@@ -86,68 +94,69 @@ fn told(alloc: Global, answer: Result<u32, Unread>) -> Result<String, Fail> {
     })
 }
 
+/// What an index stands for, asked by the module at a position, in the order in which it is resolved.
+const RESOLVED: [(usize, u32, &str); 15] = [
+    (0, 0x7fff_ffff, "7fffffff"),
+    (9, 0x7fff_ffff, "7fffffff"),
+    (
+        9,
+        0x8000_0000,
+        "imports of 9: The module index 9 was out-of-range.",
+    ),
+    (5, 0x8000_0000, "imports of 5: PDB error: stream error 6"),
+    (
+        4,
+        0x8000_0000,
+        "imports of 4: Could not get the ModuleInfo for module index 4",
+    ),
+    (3, 0x8000_0000, "imports of 3: PDB error: stream error 9"),
+    (
+        0,
+        0x8060_0000,
+        "PDB error: cross module reference 0x80600000 not found",
+    ),
+    (
+        0,
+        0x8000_0002,
+        "PDB error: cross module reference 0x80000002 not found",
+    ),
+    (0, 0x8020_0000, "PDB error: string 9 not found"),
+    (0, 0x8010_0000, "Could not find the module with name c.obj"),
+    (0, 0x8050_0000, "exports of 5: PDB error: stream error 6"),
+    (
+        0,
+        0x8040_0000,
+        "exports of 4: Could not get the ModuleInfo for module index 4",
+    ),
+    (0, 0x8030_0000, "exports of 3: PDB error: stream error 4"),
+    (
+        0,
+        0x8000_0001,
+        "The local index 8 was not found in the module exports",
+    ),
+    (0, 0x8000_0000, "1003"),
+];
+
 #[test]
 fn indices_that_lead_to_other_modules_are_resolved(rt: HostRuntime) -> Result<(), Fail> {
     let alloc = rt.alloc();
     let listed = Listed {
         infos: infos(alloc)?,
+        fault_from: 5,
     };
     let strings = strings(alloc)?;
-    let mut linked = Modules {
-        alloc,
-        provider: &listed,
-        modules: modules(alloc)?,
-        strings: None,
-    };
-    for (position, index, wanted) in [
-        (0, 0x7fff_ffff, "7fffffff"),
-        (
-            9,
-            0x8000_0000,
-            "Could not resolve cross-module reference due to missing string table",
-        ),
-    ] {
-        assert_eq!(rt;
-            told(alloc, linked.resolve(position, index))?.as_str(),
-            wanted
-        );
+    let linked = Modules::new(alloc, &listed, modules(alloc)?, Some(&strings))?;
+    for (position, index, wanted) in RESOLVED {
+        let answer = told(alloc, linked.resolve(position, index))?;
+        assert_eq!(rt; answer.as_str(), wanted);
     }
-    linked.strings = Some(&strings);
-    for (position, index, wanted) in [
-        (0, 0x8000_0000, "1003"),
-        (
-            9,
-            0x8000_0000,
-            "imports of 9: The module index 9 was out-of-range.",
-        ),
-        (
-            4,
-            0x8000_0000,
-            "imports of 4: Could not get the ModuleInfo for module index 4",
-        ),
-        (3, 0x8000_0000, "imports of 3: PDB error: stream error 9"),
-        (
-            0,
-            0x8030_0000,
-            "PDB error: cross module reference 0x80300000 not found",
-        ),
-        (0, 0x8020_0000, "PDB error: string 9 not found"),
-        (0, 0x8010_0000, "Could not find the module with name c.obj"),
-        (
-            0,
-            0x8000_0001,
-            "The local index 8 was not found in the module exports",
-        ),
-    ] {
-        assert_eq!(rt;
-            told(alloc, linked.resolve(position, index))?.as_str(),
-            wanted
-        );
-    }
-    linked.modules.push(module(alloc, "c.obj")?)?;
+    let unnamed = Modules::new(alloc, &listed, modules(alloc)?, None)?;
+    let answer = told(alloc, unnamed.resolve(9, 0x7fff_ffff))?;
+    assert_eq!(rt; answer.as_str(), "7fffffff");
+    let answer = told(alloc, unnamed.resolve(9, 0x8000_0000))?;
     assert_eq!(rt;
-        told(alloc, linked.resolve(0, 0x8010_0000))?.as_str(),
-        "exports of 5: Could not get the ModuleInfo for module index 5"
+        answer.as_str(),
+        "Could not resolve cross-module reference due to missing string table"
     );
     Ok(())
 }
@@ -157,6 +166,7 @@ fn parts_that_are_met_broken_are_remembered(rt: HostRuntime) -> Result<(), Fail>
     let alloc = rt.alloc();
     let listed = Listed {
         infos: infos(alloc)?,
+        fault_from: 5,
     };
     let strings = strings(alloc)?;
     let types = types(vec![in alloc;
@@ -166,7 +176,7 @@ fn parts_that_are_met_broken_are_remembered(rt: HostRuntime) -> Result<(), Fail>
     let ids = ids(alloc);
     let modules = modules(alloc)?;
     let mut formatter = formatter(alloc, &listed, modules, &types, &ids, Some(&strings))?;
-    assert_eq!(rt; formatter.modules().len(), 5);
+    assert_eq!(rt; formatter.modules().len(), 6);
     for _ in 0..2 {
         assert_eq!(rt; formatter.get_type_size(0, TypeIndex(0x8000_0000))?, 4);
         assert_eq!(rt; formatter.get_type_size(0, TypeIndex(0x1004))?, 4);
@@ -178,6 +188,12 @@ fn parts_that_are_met_broken_are_remembered(rt: HostRuntime) -> Result<(), Fail>
         assert!(rt; formatter.failed.has(Part::Imports(3)));
         assert!(rt; !formatter.failed.has(Part::Exports(3)));
         assert_eq!(rt; formatter.get_type_size(0, TypeIndex(0x1004))?, 4);
+    }
+    for _ in 0..2 {
+        assert_eq!(rt; formatter.get_type_size(0, TypeIndex(0x8030_0000))?, 0);
+        assert!(rt; formatter.failed.has(Part::Exports(3)));
+        assert!(rt; !formatter.failed.has(Part::Imports(0)));
+        assert!(rt; !formatter.failed.has(Part::Exports(0)));
     }
     Ok(())
 }

@@ -7,9 +7,7 @@ use std::test::Fail;
 #[test]
 fn the_first_definition_behind_a_reference_has_the_size(rt: HostRuntime) -> Result<(), Fail> {
     let alloc = rt.alloc();
-    let listed = Listed {
-        infos: Vec::new(alloc),
-    };
+    let listed = nothing_listed(alloc);
     let types = types(vec![in alloc;
         class(alloc, 0xfff, "T", None, 9)?,
         class(alloc, 0x1000, "S", None, 0)?,
@@ -94,9 +92,7 @@ fn types_that_the_compiler_brings_have_the_sizes_of_the_table(rt: HostRuntime) {
 #[test]
 fn pointers_have_the_size_of_the_machine(rt: HostRuntime) -> Result<(), Fail> {
     let alloc = rt.alloc();
-    let listed = Listed {
-        infos: Vec::new(alloc),
-    };
+    let listed = nothing_listed(alloc);
     let types = types(vec![in alloc; primitive(0x74, PrimitiveKind::I32, true)]?);
     let ids = ids(alloc);
     let strings = no_strings(alloc);
@@ -109,17 +105,14 @@ fn pointers_have_the_size_of_the_machine(rt: HostRuntime) -> Result<(), Fail> {
         (MachineType::Other, 4),
     ];
     for (machine, size) in machines {
-        let debug = debug_information(alloc, Ok(machine));
-        let flags = TypeFormatterFlags::default();
-        let mut formatter = TypeFormatter::new_from_parts(
+        let mut formatter = formatter_for(
             alloc,
+            machine,
             &listed,
             Vec::new(alloc),
-            &debug,
             &types,
             &ids,
             Some(&strings),
-            flags,
         )?;
         assert_eq!(rt; formatter.get_type_size(0, TypeIndex(0x74))?, size);
     }
