@@ -8,7 +8,7 @@ use Rattle.std.specs.declared.cmp.Ordering.TheVariants.{Less, Equal, Greater}
 use Rattle.std.specs.Cmp.{IsTotalOrder, IsStrictWeakOrder}
 use Rattle.std.proofs.lemmas.Cmp.{then_total, on_total, nat_cmp_total, ranked}
 use Rattle.std.proofs.lemmas.List.Sorted.{ranks_by}
-use Rattle.pdb_signatures.specs.declared.error.Error.{Error}
+use Rattle.pdb_types.specs.declared.error.Error.{Error}
 use Rattle.pdb_addr2line.specs.declared.contributions.ModuleSectionContribution.{ModuleSectionContribution}
 use Rattle.pdb_addr2line.specs.Outcomes.{first_refusal}
 use Rattle.pdb_addr2line.specs.Contributions.{contribution_cmp, contribution_before, refused_overlap, overlap_after}

@@ -9,7 +9,7 @@ use Rattle.pdb_records.specs.declared.error.Error.TheVariants.{Stream}
 use Rattle.pdb_records.specs.declared.error.StreamError.{StreamError}
 use Rattle.pdb_records.specs.declared.ids.IdIndex.{IdIndex}
 use Rattle.pdb_records.specs.declared.symbols.Symbol.{Symbol}
-use Rattle.pdb_signatures.specs.declared.error.Error.TheVariants.{PdbError}
+use Rattle.pdb_types.specs.declared.error.Error.TheVariants.{PdbError}
 use Rattle.pdb_addr2line.specs.Outcomes.{unless}
 use Rattle.pdb_addr2line.specs.Sites.{Site, SiteAtDepth, Walk, at_depth, walk, unless_met}
 use Rattle.pdb_addr2line.specs.declared.inline_ranges.InlineRange.{InlineRange}

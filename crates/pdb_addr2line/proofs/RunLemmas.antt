@@ -6,7 +6,7 @@ use Rattle.std.proofs.lemmas.Bool.Decides.{nat_tests}
 use Rattle.pdb_records.specs.declared.addresses.ImageSectionHeader.{ImageSectionHeader}
 use Rattle.pdb_records.specs.declared.debug_information.SectionContribution.{SectionContribution}
 use Rattle.pdb_records.specs.declared.debug_information.DebugInformation.{DebugInformation}
-use Rattle.pdb_signatures.specs.declared.error.Error.{Error}
+use Rattle.pdb_types.specs.declared.error.Error.{Error}
 use Rattle.pdb_addr2line.specs.declared.contributions.ModuleSectionContribution.{ModuleSectionContribution}
 use Rattle.pdb_addr2line.specs.InOrder.{put, in_order}
 use Rattle.pdb_addr2line.specs.Outcomes.{first_refusal, unless}

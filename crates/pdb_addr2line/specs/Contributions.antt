@@ -7,8 +7,8 @@ use Rattle.pdb_records.specs.declared.addresses.ImageSectionHeader.{ImageSection
 use Rattle.pdb_records.specs.declared.addresses.PdbInternalSectionOffset.{PdbInternalSectionOffset}
 use Rattle.pdb_records.specs.declared.debug_information.SectionContribution.{SectionContribution}
 use Rattle.pdb_records.specs.declared.debug_information.DebugInformation.{DebugInformation}
-use Rattle.pdb_signatures.specs.declared.error.Error.{Error}
-use Rattle.pdb_signatures.specs.declared.error.Error.TheVariants.{PdbError, SectionContributionEndTooLarge, UnorderedSectionContributions, OverlappingSectionContributions}
+use Rattle.pdb_types.specs.declared.error.Error.{Error}
+use Rattle.pdb_types.specs.declared.error.Error.TheVariants.{PdbError, SectionContributionEndTooLarge, UnorderedSectionContributions, OverlappingSectionContributions}
 use Rattle.pdb_addr2line.specs.declared.contributions.ModuleSectionContribution.{ModuleSectionContribution}
 use Rattle.pdb_addr2line.specs.InOrder.{in_order}
 use Rattle.pdb_addr2line.specs.Outcomes.{first_refusal, unless}

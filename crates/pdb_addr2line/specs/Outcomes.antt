@@ -1,7 +1,7 @@
 -- What a call answers, beside the answer of its definition.
 use Rattle.std.specs.Prelude.{◌≡◌, Option, Some, None, Result, Ok, Err}
-use Rattle.pdb_signatures.specs.declared.error.Error.{Error}
-pub use Rattle.pdb_signatures.specs.Outcomes.{Gives, and_then}
+use Rattle.pdb_types.specs.declared.error.Error.{Error}
+pub use Rattle.pdb_types.specs.Outcomes.{Gives, and_then}
 
 -- the first of two refusals
 abbrev pub first_refusal : Option Error → Option Error → Option Error

@@ -7,8 +7,8 @@ use Rattle.pdb_records.specs.declared.symbols.Symbol.{Symbol}
 use Rattle.pdb_records.specs.declared.symbols.SymbolData.{SymbolData}
 use Rattle.pdb_records.specs.declared.symbols.SymbolData.TheVariants.{Public, Procedure, SeparatedCode, Thunk, InlineSite, Other}
 use Rattle.pdb_records.specs.declared.symbols.InlineSiteSymbol.{InlineSiteSymbol}
-use Rattle.pdb_signatures.specs.declared.error.Error.{Error}
-use Rattle.pdb_signatures.specs.declared.error.Error.TheVariants.{PdbError}
+use Rattle.pdb_types.specs.declared.error.Error.{Error}
+use Rattle.pdb_types.specs.declared.error.Error.TheVariants.{PdbError}
 use Rattle.pdb_addr2line.specs.declared.sites.Site as code
 use Rattle.pdb_addr2line.specs.Outcomes.{unless}
 

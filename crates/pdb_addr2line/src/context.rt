@@ -1,6 +1,6 @@
 ghost use Rattle.std.specs.Prelude.{◌≡◌, Ok, None, [], length, map, option_map, MatchResult};
 ghost use Rattle.std.specs.Option.{option_map_or};
-ghost use Rattle.pdb_signatures.specs.declared.error.Error.TheVariants.{OutOfMemory};
+ghost use Rattle.pdb_types.specs.declared.error.Error.TheVariants.{OutOfMemory};
 ghost use Rattle.pdb_addr2line.specs.Function.{description};
 
 use crate::contributions::{ModuleSectionContribution, compute_section_contributions};
@@ -16,7 +16,7 @@ use pdb_records::{
     AddressMap, DebugInformation, ImageSectionHeader, Module, PdbInternalSectionOffset, Rva,
     SymbolTable,
 };
-use pdb_signatures::{Error, ModuleProvider, Result};
+use pdb_types::{Error, ModuleProvider, Result};
 use std::alloc::Global;
 use std::marker::Model;
 

@@ -1,12 +1,12 @@
 ghost use Rattle.std.specs.Prelude.{◌≡◌, None, Some, IfOk};
-ghost use Rattle.pdb_signatures.specs.Provided.{provided};
+ghost use Rattle.pdb_types.specs.Provided.{provided};
 ghost use Rattle.pdb_addr2line.specs.Outcomes.{Gives, Refuses};
-ghost use Rattle.pdb_signatures.specs.FailedParts.{NoneFailed};
+ghost use Rattle.pdb_types.specs.FailedParts.{NoneFailed};
 ghost use Rattle.pdb_addr2line.specs.Made.{records_refusal, formatter_refusal, sections_read, info_at, context_of, formatter_of};
 
 use crate::context::Context;
 use pdb_records::{DebugInformation, ImageSectionHeader, Module, ModuleInfo, PDB, StreamError};
-use pdb_signatures::{Error, ModuleProvider, Result, TypeFormatter, TypeFormatterFlags};
+use pdb_types::{Error, ModuleProvider, Result, TypeFormatter, TypeFormatterFlags};
 use std::alloc::{AllocError, Global};
 use std::marker::Model;
 

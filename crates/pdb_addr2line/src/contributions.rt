@@ -1,5 +1,5 @@
 ghost use Rattle.std.specs.Prelude.{◌≡◌, ◌≢◌, ◌++◌, None, Some, map, IfOk, OnOk, MatchResult};
-ghost use Rattle.pdb_signatures.specs.declared.error.Error.TheVariants.{OutOfMemory};
+ghost use Rattle.pdb_types.specs.declared.error.Error.TheVariants.{OutOfMemory};
 ghost use Rattle.pdb_addr2line.specs.InOrder.{in_order};
 ghost use Rattle.pdb_addr2line.specs.Outcomes.{Gives, Refuses};
 ghost use Rattle.pdb_addr2line.specs.Contributions.{is_kept, claimed, claims, is_same_run, run_with, run_ended, runs_after, refused_end, refused_order, refusal_after, reading_refusal, contribution_before, ordered_runs, refused_overlap, overlap_after, merged_contributions, contribution_starts};
@@ -8,7 +8,7 @@ use crate::sections::is_executable_section;
 use pdb_records::{
     DebugInformation, ImageSectionHeader, PdbInternalSectionOffset, SectionContribution,
 };
-use pdb_signatures::{Error, Result};
+use pdb_types::{Error, Result};
 use std::alloc::{AllocError, Global};
 
 /// Bytes of a section that came from one module.

@@ -11,7 +11,7 @@ use crate::missing_rows::added_ranges;
 use crate::procedures::ProcedureSymbolFunction;
 use crate::sites::{Site, procedure_sites};
 use pdb_records::{FileIndex, IdIndex, InlineRow, ModuleInfo};
-use pdb_signatures::Result;
+use pdb_types::Result;
 use std::alloc::{AllocError, Global};
 use std::collections::BTreeSet;
 

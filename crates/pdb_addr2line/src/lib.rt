@@ -40,4 +40,4 @@ pub use context::Context;
 pub use context_data::ContextPdbData;
 pub use contributions::ModuleSectionContribution;
 pub use function::Function;
-pub use pdb_signatures::{Error, ModuleProvider, Result, TypeFormatter, TypeFormatterFlags};
+pub use pdb_types::{Error, ModuleProvider, Result, TypeFormatter, TypeFormatterFlags};

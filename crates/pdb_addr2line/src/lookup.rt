@@ -1,5 +1,5 @@
 ghost use Rattle.std.specs.Prelude.{◌≡◌, ℕ, Option, Some, None, map, option_map, find, slice_get, IfOk, MatchResult};
-ghost use Rattle.pdb_signatures.specs.declared.error.Error.TheVariants.{OutOfMemory};
+ghost use Rattle.pdb_types.specs.declared.error.Error.TheVariants.{OutOfMemory};
 ghost use Rattle.pdb_addr2line.specs.GlobalFunctions.{global_function};
 ghost use Rattle.pdb_addr2line.specs.Procedures.{module_procedure};
 ghost use Rattle.pdb_addr2line.specs.Pick.{pick};

@@ -1,11 +1,11 @@
 ghost use Rattle.std.specs.Prelude.{◌≡◌, ◌≢◌, None, Some, map, option_map, IfOk, MatchResult};
 ghost use Rattle.pdb_records.specs.declared.error.Error.TheVariants.{Stream};
-ghost use Rattle.pdb_signatures.specs.declared.error.Error.TheVariants.{PdbError, OutOfMemory};
+ghost use Rattle.pdb_types.specs.declared.error.Error.TheVariants.{PdbError, OutOfMemory};
 ghost use Rattle.pdb_addr2line.specs.Procedures.{module_procedure, info_procedures};
 
 use crate::procedures::{ProcedureSymbolFunction, compute_procedures};
 use pdb_records::ModuleInfo;
-use pdb_signatures::{Error, Result};
+use pdb_types::{Error, Result};
 use std::alloc::Global;
 use std::marker::Model;
 

@@ -3,7 +3,7 @@ ghost use Rattle.std.specs.Borrow.{Bor};
 ghost use Rattle.pdb_records.specs.declared.error.Error.TheVariants.{Stream};
 ghost use Rattle.pdb_records.specs.declared.symbols.Symbol.{Symbol};
 ghost use Rattle.pdb_records.specs.declared.symbols.SymbolData.{SymbolData};
-ghost use Rattle.pdb_signatures.specs.declared.error.Error.TheVariants.{PdbError, OutOfMemory};
+ghost use Rattle.pdb_types.specs.declared.error.Error.TheVariants.{PdbError, OutOfMemory};
 ghost use Rattle.pdb_addr2line.specs.Procedures.{module_procedure, is_procedure_kind, unless_empty, procedure_data, procedure_at, procedures_from, symbol_procedures};
 
 use crate::starts::{HasStart, first_of_each_start};

@@ -8,7 +8,7 @@ use pdb_records::{
     S_LPROC32, S_LPROC32_DPC, S_LPROC32_DPC_ID, S_LPROC32_ID, S_LPROC32_ST, StreamError, Symbol,
     SymbolData, SymbolIndex,
 };
-use pdb_signatures::{Error, Result};
+use pdb_types::{Error, Result};
 use std::alloc::{AllocError, Global};
 
 /// A place in a procedure where a call was replaced by the callee's body.

@@ -1,7 +1,7 @@
 -- From a file's records to what a sink takes.
 use Rattle.std.proofs.Common.{◌≡◌, ◌∙◌, ℕ, List, Option, None, Result, Ok, sym, ap, subst}
 use Rattle.pdb_records.specs.Records.{Records}
-use Rattle.pdb_signatures.specs.declared.error.Error.{Error}
+use Rattle.pdb_types.specs.declared.error.Error.{Error}
 use Rattle.pdb_addr2line.specs.Outcomes.{unless}
 use Rattle.pdb_addr2line.specs.Sources.{Sources, function_at}
 use Rattle.pdb_addr2line.specs.Made.{records_refusal, info_at, context_of}

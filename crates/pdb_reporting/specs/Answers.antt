@@ -1,8 +1,8 @@
 -- What the bytes of a records file and some addresses give.
 use Rattle.std.specs.Prelude.{◌≡◌, ◌≢◌, ℕ, List, Option, Result, Ok, Err}
 use Rattle.pdb_records.specs.Records.{Records}
-use Rattle.pdb_signatures.specs.declared.error.Error.{Error}
-use Rattle.pdb_signatures.specs.declared.error.Error.TheVariants.{OutOfMemory}
+use Rattle.pdb_types.specs.declared.error.Error.{Error}
+use Rattle.pdb_types.specs.declared.error.Error.TheVariants.{OutOfMemory}
 use Rattle.pdb_addr2line.specs.Outcomes.{unless}
 use Rattle.pdb_addr2line.specs.Sources.{Sources, function_at}
 use Rattle.pdb_addr2line.specs.Made.{records_refusal, info_at, context_of}

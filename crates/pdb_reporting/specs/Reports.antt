@@ -1,6 +1,6 @@
 -- Why a report ended early.
 use Rattle.std.specs.Prelude.{◌≡◌, ◌≤◌, ℕ, Bool, true, List, Option, length, take}
-use Rattle.pdb_signatures.specs.declared.error.Error.TheVariants.{OutOfMemory}
+use Rattle.pdb_types.specs.declared.error.Error.TheVariants.{OutOfMemory}
 use Rattle.pdb_addr2line.specs.Function.{Description}
 use Rattle.pdb_reporting.specs.declared.reports.ReportFault.{ReportFault}
 use Rattle.pdb_reporting.specs.declared.reports.ReportFault.TheVariants.{Lookup, Write}

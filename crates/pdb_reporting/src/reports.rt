@@ -1,5 +1,5 @@
 ghost use Rattle.std.specs.Prelude.{◌≡◌, OnOk, IfErr};
-ghost use Rattle.pdb_signatures.specs.declared.error.Error.TheVariants.{OutOfMemory};
+ghost use Rattle.pdb_types.specs.declared.error.Error.TheVariants.{OutOfMemory};
 ghost use Rattle.pdb_addr2line.specs.Sources.{function_at};
 ghost use Rattle.pdb_reporting.specs.declared.reports.ReportFault.TheVariants.{Lookup, Write};
 ghost use Rattle.pdb_reporting.specs.Sinks.{Takes};

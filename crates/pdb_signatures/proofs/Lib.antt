@@ -1,5 +1,6 @@
-pub mod ForwardLemmas
-pub mod ItemLemmas
-pub mod ModuleLemmas
-pub mod SizeLemmas
-pub mod ChainLemmas
+pub mod FreeLemmas
+pub mod RuleLemmas
+pub mod FallLemmas
+pub mod UnfoldingLemmas
+pub mod Expansion
+pub mod SignatureExamples

@@ -12,14 +12,14 @@ use Rattle.pdb_records.specs.declared.ids.IdData.{IdData}
 use Rattle.pdb_records.specs.declared.debug_information.MachineType.{MachineType}
 use Rattle.pdb_records.specs.declared.debug_information.Module.{Module}
 use Rattle.pdb_records.specs.declared.modules.ModuleInfo.{ModuleInfo}
-use Rattle.pdb_signatures.specs.declared.error.Error.{Error}
-use Rattle.pdb_signatures.specs.declared.error.Error.TheVariants.{PdbError}
-use Rattle.pdb_signatures.specs.declared.flags.TypeFormatterFlags.{TypeFormatterFlags}
-use Rattle.pdb_signatures.specs.declared.failed_parts.FailedParts.{FailedParts}
-use Rattle.pdb_signatures.specs.declared.type_sizes.TypeSize.{TypeSize}
-use Rattle.pdb_signatures.specs.Sizes.{pointer_size}
-use Rattle.pdb_signatures.specs.Resolution.{Linked}
-use Rattle.pdb_signatures.specs.TypeSizes.{type_size}
+use Rattle.pdb_types.specs.declared.error.Error.{Error}
+use Rattle.pdb_types.specs.declared.error.Error.TheVariants.{PdbError}
+use Rattle.pdb_types.specs.declared.flags.TypeFormatterFlags.{TypeFormatterFlags}
+use Rattle.pdb_types.specs.declared.failed_parts.FailedParts.{FailedParts}
+use Rattle.pdb_types.specs.declared.type_sizes.TypeSize.{TypeSize}
+use Rattle.pdb_types.specs.Sizes.{pointer_size}
+use Rattle.pdb_types.specs.Resolution.{Linked}
+use Rattle.pdb_types.specs.TypeSizes.{type_size}
 
 -- what a formatter stands on: a provider of modules' records, the list of modules, the texts that they share, the size of a
 -- pointer, the types and the ids, and how signatures are printed

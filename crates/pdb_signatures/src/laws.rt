@@ -1,27 +1,40 @@
-//! What follows from the definition of a type's size, in words of its own.
+//! What follows from the definitions of signatures, in words of its own.
 //!
 //! Each function here does nothing. Its contract is a law, for all records, and the check proves it.
 
-ghost use Rattle.std.specs.Prelude.{◌≡◌, ℕ, None};
+ghost use Rattle.std.specs.Prelude.{◌≡◌, ℕ, Bool, true, List, [], Some};
 ghost use Rattle.pdb_records.specs.Readings.{Read};
 ghost use Rattle.pdb_records.specs.declared.types.Item.{Item};
 ghost use Rattle.pdb_records.specs.declared.types.TypeIndex.{TypeIndex};
 ghost use Rattle.pdb_records.specs.declared.types.TypeData.{TypeData};
-ghost use Rattle.pdb_signatures.specs.declared.type_sizes.TypeSize.{TypeSize};
-ghost use Rattle.pdb_signatures.specs.Resolution.{Linked};
-ghost use Rattle.pdb_signatures.specs.TypeSizes.{step, type_size};
-ghost use Rattle.pdb_signatures.specs.SizeLaws.{EndsWith, NeverEnds};
+ghost use Rattle.pdb_types.specs.Resolution.{Linked};
+ghost use Rattle.pdb_types.specs.declared.flags.TypeFormatterFlags.{TypeFormatterFlags};
+ghost use Rattle.pdb_types.specs.declared.error.Error.TheVariants.{CircularTypeDefinition};
+ghost use Rattle.pdb_types.specs.declared.resolution.Part.{Part};
+ghost use Rattle.pdb_types.specs.Told.{Plain};
+ghost use Rattle.pdb_signatures.specs.Worlds.{Found, entry_at, world_of};
+ghost use Rattle.pdb_signatures.specs.Plans.{is_among};
+ghost use Rattle.pdb_signatures.specs.Unfolding.{HasOneUnfolding, Runs};
+ghost use Rattle.pdb_signatures.specs.Signatures.{signature, type_of_index};
 
-/// Where a chain of types ends, after however many steps, a type has the size at its end.
-pub fn chains_that_end_have_the_size_at_their_end()
-    ensures { (linked : Linked) (types : Read (Item TypeIndex TypeData)) (pointer position index steps : ℕ) (size : TypeSize)
-        → EndsWith (step linked types pointer position) steps index size
-        → type_size linked types pointer position index ≡ size }
+/// Every type has exactly one document, whatever the records say and whichever indices are open,
+/// although types may refer to each other in circles.
+pub fn every_type_has_one_unfolding()
+    ensures { (linked : Linked) (types : Read (Item TypeIndex TypeData)) (pointer : ℕ) (flags : TypeFormatterFlags) (position : ℕ) (inside : List ℕ) (index : ℕ)
+        → HasOneUnfolding (world_of linked types pointer flags position) (type_of_index inside index) }
 {}
 
-/// Where a chain of types never ends, a type has no size, and no part of the records is met broken.
-pub fn chains_that_never_end_have_no_size()
-    ensures { (linked : Linked) (types : Read (Item TypeIndex TypeData)) (pointer position index : ℕ)
-        → NeverEnds (step linked types pointer position) index
-        → type_size linked types pointer position index ≡ record { size = 0; met = None } }
+/// Every signature has exactly one document, whatever its name and type and whatever the records say.
+pub fn every_signature_has_one_unfolding()
+    ensures { (linked : Linked) (types : Read (Item TypeIndex TypeData)) (pointer : ℕ) (flags : TypeFormatterFlags) (position : ℕ) (name : List ℕ) (index : ℕ)
+        → HasOneUnfolding (world_of linked types pointer flags position) (signature (world_of linked types pointer flags position) name index) }
+{}
+
+/// An index that is printed while it is open is refused as circular, and nothing is printed of it.
+pub fn an_index_inside_itself_is_circular()
+    ensures { (linked : Linked) (types : Read (Item TypeIndex TypeData)) (pointer : ℕ) (flags : TypeFormatterFlags) (position : ℕ) (inside : List ℕ) (index : ℕ) (type : TypeData)
+        → entry_at linked types position index ≡ Found type
+        → is_among index inside ≡ true
+        → (failed : Part → Bool)
+        → Runs (world_of linked types pointer flags position) (type_of_index inside index) failed (record { text = []; fault = Some (Plain (CircularTypeDefinition index)); failed = failed }) }
 {}

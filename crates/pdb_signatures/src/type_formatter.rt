@@ -1,8 +1,8 @@
 ghost use Rattle.std.specs.Prelude.{◌≡◌, None, IfOk, OnOk, OnErr, MatchResult};
 ghost use Rattle.std.specs.Option.{option_copied};
-ghost use Rattle.pdb_signatures.specs.declared.error.Error.TheVariants.{OutOfMemory};
-ghost use Rattle.pdb_signatures.specs.FailedParts.{NoneFailed, GrowsBy};
-ghost use Rattle.pdb_signatures.specs.Outcomes.{Gives};
+ghost use Rattle.pdb_types.specs.declared.error.Error.TheVariants.{OutOfMemory};
+ghost use Rattle.pdb_types.specs.FailedParts.{NoneFailed, GrowsBy};
+ghost use Rattle.pdb_types.specs.Outcomes.{Gives};
 ghost use Rattle.pdb_signatures.specs.Formatters.{program_pointer_size, size_of};
 
 use crate::error::{Error, Result};
@@ -34,7 +34,7 @@ pub struct TypeFormatter<'a, P: ModuleProvider> {
 
 impl<'a, P: ModuleProvider> Model for TypeFormatter<'a, P> {
     ghost use Rattle.std.specs.Option.{option_copied};
-    ghost use Rattle.pdb_signatures.specs.Outcomes.{Gives};
+    ghost use Rattle.pdb_types.specs.Outcomes.{Gives};
     ghost use Rattle.pdb_signatures.specs.Formatters.{Formatter};
 
     ghost Value = { Formatter P };

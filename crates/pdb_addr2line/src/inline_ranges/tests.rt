@@ -4,7 +4,7 @@ use pdb_records::{
     InlineSiteSymbol, PdbInternalSectionOffset, ProcedureSymbol, RawString, Reading, S_GPROC32,
     S_INLINESITE, S_THUNK32, StreamError, Symbol, SymbolData, SymbolIndex, TypeIndex,
 };
-use pdb_signatures::Error;
+use pdb_types::Error;
 use std::test::Fail;
 
 const A: u32 = 0x1000;

@@ -1,0 +1,108 @@
+-- A plan unfolds to one document.
+use Rattle.std.proofs.Common.{◌≡◌, ◌^◌, ℕ, zero, suc, ◌<◌, ◌≤◌, inl, inr, true, false, cond, List, [], ◌∷◌, arith, refl, sym, ap, subst}
+use Rattle.std.specs.Prelude.{Bool, Some, nat_lt}
+use Rattle.std.proofs.lemmas.Bool.{ltb-true}
+use Rattle.pdb_records.specs.Readings.{Read}
+use Rattle.pdb_records.specs.declared.types.Item.{Item}
+use Rattle.pdb_records.specs.declared.types.TypeIndex.{TypeIndex}
+use Rattle.pdb_records.specs.declared.types.TypeData.{TypeData}
+use Rattle.pdb_types.specs.declared.flags.TypeFormatterFlags.{TypeFormatterFlags}
+use Rattle.pdb_types.specs.declared.error.Error.TheVariants.{CircularTypeDefinition}
+use Rattle.pdb_types.specs.declared.resolution.Part.{Part}
+use Rattle.pdb_types.specs.Told.{Plain}
+use Rattle.pdb_types.specs.Resolution.{Linked}
+use Rattle.pdb_types.specs.TypeSizes.{read_type}
+use Rattle.pdb_signatures.specs.Documents.{Document, run}
+use Rattle.pdb_signatures.specs.Documents as document
+use Rattle.pdb_signatures.specs.Worlds.{Entry, Found, Missing, World, entry_of, entry_at, world_of}
+use Rattle.pdb_signatures.specs.Plans.{Task, Index, OfType, Plan, Done, Later, Seq, Buffered, Catch, is_among, opened, on_printed, circular}
+use Rattle.pdb_signatures.specs.Rules.{rule}
+use Rattle.pdb_signatures.specs.Unfolding.{Unfolds, done, later, seq, buffered, catch, HasOneUnfolding, Runs}
+use Rattle.pdb_signatures.proofs.FreeLemmas.{free}
+use Rattle.pdb_signatures.proofs.RuleLemmas.{EachTask, IsBelow, Before, rank}
+use Rattle.pdb_signatures.proofs.FallLemmas.{rule-each}
+
+-- two documents that a plan unfolds to are one
+pub unfolds_once : {w : World} {p : Plan} {a b : Document} → Unfolds w p a → Unfolds w p b → a ≡ b
+unfolds_once done done = refl
+unfolds_once (later x) (later y) = unfolds_once x y
+unfolds_once (seq x y) (seq x' y') = cc (unfolds_once x x', unfolds_once y y')
+unfolds_once (buffered x) (buffered y) = cc (unfolds_once x y)
+unfolds_once (catch x) (catch y) = cc (unfolds_once x y)
+
+-- a plan unfolds to some document
+abbrev pub UnfoldsToSome : World → Plan → Type 0
+UnfoldsToSome w p = (d : Document) × Unfolds w p d
+
+-- a plan of two plans
+abbrev pub seq-some : (w : World) (p q : Plan) → UnfoldsToSome w p → UnfoldsToSome w q → UnfoldsToSome w (Seq p q)
+seq-some w p q (a, x) (b, y) = (document.Seq a b, seq x y)
+
+-- a plan whose text is kept back
+abbrev pub buffered-some : (w : World) (p : Plan) (after_sigil after_other : List ℕ) → UnfoldsToSome w p → UnfoldsToSome w (Buffered p after_sigil after_other)
+buffered-some w p after_sigil after_other (a, x) = (document.Buffered a after_sigil after_other, buffered x)
+
+-- a plan with a note of what is missing
+abbrev pub catch-some : (w : World) (p : Plan) → UnfoldsToSome w p → UnfoldsToSome w (Catch p)
+catch-some w p (a, x) = (document.Catch a, catch x)
+
+-- a task, by the plan of its rule
+abbrev pub later-some : (w : World) (inside : List ℕ) (task : Task) → UnfoldsToSome w (rule w inside task) → UnfoldsToSome w (Later inside task)
+later-some w inside task (d, x) = (d, later x)
+
+-- a plan unfolds where each task in it does
+pub plan-some : (w : World) (P : List ℕ → Task → Type 0) → ((inside : List ℕ) (task : Task) → P inside task → UnfoldsToSome w (Later inside task)) → (p : Plan) → EachTask P p → UnfoldsToSome w p
+plan-some w P some (Done d) each = (d, done)
+plan-some w P some (Later inside task) each = some inside task each
+plan-some w P some (Seq p q) each = seq-some w p q (plan-some w P some p each.0) (plan-some w P some q each.1)
+plan-some w P some (Buffered p after_sigil after_other) each = buffered-some w p after_sigil after_other (plan-some w P some p each)
+plan-some w P some (Catch p) each = catch-some w p (plan-some w P some p each)
+
+-- a task unfolds where those with less free do, by its rank
+pub ranked-some : (n : ℕ) (w : World) → IsBelow n w → (bound : ℕ) → ((inside : List ℕ) (task : Task) → free n inside < bound → UnfoldsToSome w (Later inside task)) → (ranks : ℕ) (inside : List ℕ) (task : Task) → free n inside ≤ bound → rank n task < ranks → UnfoldsToSome w (Later inside task)
+ranked-some n w below bound less zero inside task within lower = absurd (omega arith)
+ranked-some n w below bound less (suc ranks) inside task within lower =
+    later-some w inside task (plan-some w (Before n inside task) (λ inside' task' earlier. elim earlier [
+      | inl fewer ↦ less inside' task' (omega arith)
+      | inr as_many ↦ ranked-some n w below bound less ranks inside' task' (omega (arith, as_many.0)) (omega (arith, as_many.1))
+    ]) (rule w inside task) (rule-each n w below inside task))
+
+-- a task unfolds, by how many indices are free to open
+pub free-some : (n : ℕ) (w : World) → IsBelow n w → (bound : ℕ) (inside : List ℕ) (task : Task) → free n inside < bound → UnfoldsToSome w (Later inside task)
+free-some n w below zero inside task within = absurd (omega arith)
+free-some n w below (suc bound) inside task within = ranked-some n w below bound (free-some n w below bound) (suc (rank n task)) inside task (omega arith) (omega arith)
+
+-- nothing is claimed of any task
+pub each_unit : (p : Plan) → EachTask (λ inside task. Unit {0}) p
+each_unit (Done d) = tt
+each_unit (Later inside task) = tt
+each_unit (Seq p q) = (each_unit p, each_unit q)
+each_unit (Buffered p after_sigil after_other) = each_unit p
+each_unit (Catch p) = each_unit p
+
+-- every plan unfolds to one document, where only indices below a bound lead to types
+pub plan-one : (n : ℕ) (w : World) → IsBelow n w → (p : Plan) → HasOneUnfolding w p
+plan-one n w below p =
+    let some : UnfoldsToSome w p = plan-some w (λ inside task. Unit {0}) (λ inside task each. free-some n w below (suc (free n inside)) inside task (omega arith)) p (each_unit p) in
+    record { unfolded = some.0; unfolds = some.1; only = λ other unfolds. unfolds_once unfolds some.1 }
+
+-- only indices of 32 bits lead to types
+pub entry_at-below : (linked : Linked) (types : Read (Item TypeIndex TypeData)) (position i : ℕ) (type : TypeData) → entry_at linked types position i ≡ Found type → i < 2 ^ 32
+unfolding entry_at
+entry_at-below linked types position i type found =
+    (elim (nat_lt i (2 ^ 32)) as (λ b. nat_lt i (2 ^ 32) ≡ b → cond b (entry_of (read_type linked types position i)) (Missing i) ≡ Found type → i < 2 ^ 32) [ true ↦ λ e f. ltb-true i (2 ^ 32) e | false ↦ λ e f. cc ]) refl found
+
+-- every plan unfolds to one document, whatever the records say
+pub every_plan : (linked : Linked) (types : Read (Item TypeIndex TypeData)) (pointer : ℕ) (chosen : TypeFormatterFlags) (position : ℕ) (p : Plan) → HasOneUnfolding (world_of linked types pointer chosen position) p
+every_plan linked types pointer chosen position p = plan-one (2 ^ 32) (world_of linked types pointer chosen position) (entry_at-below linked types position) p
+
+-- an index that is printed while it is open has the document of that error
+pub inside-circular : (w : World) (inside : List ℕ) (index : ℕ) (type : TypeData) → w.read index ≡ Found type → is_among index inside ≡ true → Unfolds w (Later inside (Index index)) (document.Fail (Plain (CircularTypeDefinition index)))
+inside-circular w inside index type found open_already =
+    let fail : Document = document.Fail (Plain (CircularTypeDefinition index)) in
+    let step : Unfolds w (opened inside index (Later (index ∷ inside) (OfType type))) fail = subst (λ (b : Bool). Unfolds w (cond b (circular index) (Later (index ∷ inside) (OfType type))) fail) (sym open_already) done in
+    later (subst (λ (e : Entry). Unfolds w (on_printed e (λ type. opened inside index (Later (index ∷ inside) (OfType type)))) fail) (sym found) step)
+
+-- printing it does nothing but fail
+pub inside-refused : (w : World) (inside : List ℕ) (index : ℕ) (type : TypeData) → w.read index ≡ Found type → is_among index inside ≡ true → (failed : Part → Bool) → Runs w (Later inside (Index index)) failed (record { text = []; fault = Some (Plain (CircularTypeDefinition index)); failed = failed })
+inside-refused w inside index type found open_already failed d unfolds = ap (λ (e : Document). run e failed) (unfolds_once unfolds (inside-circular w inside index type found open_already))

@@ -1,6 +1,0 @@
-use Rattle.std.proofs.Common.{arith}
-use Rattle.pdb_signatures.proofs.ItemLemmas.{knows_nothing}
-use Rattle.pdb_signatures.proofs.items.ItemMap.new.Goals as goal
-
-pub invariant_of-result : goal.invariant_of-result
-invariant_of-result g c = (omega arith, knows_nothing _ _ c.new.ensures.empty, tt)

@@ -1,0 +1,97 @@
+-- Documents: what is to be printed, and what printing it does.
+use Rattle.std.specs.Prelude.{ℕ, ◌==◌, ◌-◌, ◌||◌, ◌++◌, Bool, false, List, [], Option, Some, None, length, slice_get, if◌then◌else◌}
+use Rattle.pdb_records.specs.declared.error.Error as records
+use Rattle.pdb_records.specs.declared.error.Error.TheVariants.{TypeNotFound}
+use Rattle.pdb_types.specs.declared.error.Error.{Error}
+use Rattle.pdb_types.specs.declared.error.Error.TheVariants.{PdbError, ModuleImportsUnsuccessful, ModuleExportsUnsuccessful}
+use Rattle.pdb_types.specs.declared.resolution.Part.{Part}
+use Rattle.pdb_types.specs.declared.resolution.Part.TheVariants.{Imports, Exports}
+use Rattle.pdb_types.specs.Told.{ToldError, Plain, NoModuleNamed}
+use Rattle.pdb_types.specs.FailedParts.{is_same_part}
+use Rattle.pdb_signatures.specs.Wording.{missing_text}
+
+-- what is to be printed
+pub data Document : Type 0 where
+  -- this text
+  Text : List ℕ → Document
+  -- one document, and then another, unless the first fails
+  Seq : Document → Document → Document
+  -- a document, or nothing of it where it fails; then the first text where the document's ends in `*` or `&`, else the second
+  Buffered : Document → List ℕ → List ℕ → Document
+  -- a document; where it fails for a type that is missing, a note of that follows what it printed
+  Catch : Document → Document
+  -- nothing: this error
+  Fail : ToldError → Document
+  -- nothing: this part of the records is broken, and tells this error where it is met for the first time
+  Ask : Part → ToldError → Document
+  -- nothing, and no error: this part of the records was met broken on the way
+  Met : Part → Document
+
+-- what printing a document does: the text that is written, the error where it fails, and the parts that failed by then
+pub record Run : Type 0 where
+  pub text : List ℕ
+  pub fault : Option ToldError
+  pub failed : Part → Bool
+
+-- the index that an error of the records says to be missing
+abbrev pub index_not_found : records.Error → Option ℕ
+index_not_found (TypeNotFound index) = Some index
+index_not_found other = None
+
+-- the type that an error says to be missing
+abbrev pub missing_type : Error → Option ℕ
+missing_type (PdbError e) = index_not_found e
+missing_type other = None
+
+-- the type that an error tells to be missing
+abbrev pub told_missing : ToldError → Option ℕ
+told_missing (Plain e) = missing_type e
+told_missing (NoModuleNamed name) = None
+
+-- the error of a part of the records that failed before
+abbrev pub unsuccessful : Part → ToldError
+unsuccessful (Imports position) = Plain ModuleImportsUnsuccessful
+unsuccessful (Exports position) = Plain ModuleExportsUnsuccessful
+
+-- these parts, and one more
+abbrev pub with_part : (Part → Bool) → Part → Part → Bool
+with_part failed met part = failed part || is_same_part met part
+
+-- a byte is `*`, which is 42, or `&`, which is 38
+abbrev pub is_sigil : Option ℕ → Bool
+is_sigil None = false
+is_sigil (Some byte) = byte == 42 || byte == 38
+
+-- a text ends in `*` or `&`
+abbrev pub ends_in_sigil : List ℕ → Bool
+ends_in_sigil text = is_sigil (slice_get text (length text - 1))
+
+-- a run, and then another with the parts that have failed by then, unless the first failed
+abbrev pub then_by : Option ToldError → Run → ((Part → Bool) → Run) → Run
+then_by (Some e) first second = first
+then_by None first second = record { text = first.text ++ (second first.failed).text; fault = (second first.failed).fault; failed = (second first.failed).failed }
+
+-- a run with one of two texts behind it, by what its text ends in, or without any text where it failed
+abbrev pub buffered_by : Option ToldError → Run → List ℕ → List ℕ → Run
+buffered_by (Some e) inner after_sigil after_other = record { text = []; fault = inner.fault; failed = inner.failed }
+buffered_by None inner after_sigil after_other = record { text = inner.text ++ (if ends_in_sigil inner.text then after_sigil else after_other); fault = None; failed = inner.failed }
+
+-- a run that failed for a type that is missing, with a note of that in place of the failure
+abbrev pub noted : Option ℕ → Run → Run
+noted None inner = inner
+noted (Some index) inner = record { text = inner.text ++ missing_text index; fault = None; failed = inner.failed }
+
+-- a run, with a note in place of its failure where a type is missing
+abbrev pub caught_by : Option ToldError → Run → Run
+caught_by None inner = inner
+caught_by (Some e) inner = noted (told_missing e) inner
+
+-- what printing a document does, where these parts of the records failed before
+abbrev pub run : Document → (Part → Bool) → Run
+run (Text written) failed = record { text = written; fault = None; failed = failed }
+run (Seq first second) failed = then_by (run first failed).fault (run first failed) (run second)
+run (Buffered inner after_sigil after_other) failed = buffered_by (run inner failed).fault (run inner failed) after_sigil after_other
+run (Catch inner) failed = caught_by (run inner failed).fault (run inner failed)
+run (Fail e) failed = record { text = []; fault = Some e; failed = failed }
+run (Ask part e) failed = record { text = []; fault = Some (if failed part then unsuccessful part else e); failed = with_part failed part }
+run (Met part) failed = record { text = []; fault = None; failed = with_part failed part }

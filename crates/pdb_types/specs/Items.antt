@@ -1,0 +1,33 @@
+-- Entries of a list of types or ids by their index.
+use Rattle.std.specs.Prelude.{◌≡◌, ℕ, ◌==◌, List, Option, Some, None, Result, Ok, Err, option_map, find}
+use Rattle.std.specs.Borrow.{Bor}
+use Rattle.std.specs.BTreeMap.{BTreeMap, get}
+use Rattle.std.specs.Ordering.{nat_cmp}
+use Rattle.pdb_records.specs.Readings.{Read}
+use Rattle.pdb_records.specs.declared.types.Item.{Item}
+use Rattle.pdb_records.specs.declared.error.StreamError.{StreamError}
+use Rattle.pdb_records.specs.declared.error.Error.TheVariants.{Stream, TypeNotFound}
+use Rattle.pdb_types.specs.declared.error.Error.{Error}
+use Rattle.pdb_types.specs.declared.error.Error.TheVariants.{PdbError}
+
+-- the first entry whose index has this number
+abbrev pub first_item : {I D : Type 0} → (I → ℕ) → ℕ → List (Item I D) → Option (Item I D)
+first_item number_of number items = find (λ item. number_of item.index == number) items
+
+-- why an index has no entry: the list could not be read to its end, or nothing has it
+abbrev pub missing : Option StreamError → ℕ → Error
+missing None number = PdbError (TypeNotFound number)
+missing (Some fault) number = PdbError (Stream fault)
+
+-- what was found, or why nothing was
+abbrev pub found_or_missing : {I D : Type 0} → Option StreamError → ℕ → Option (Item I D) → Result (Item I D) Error
+found_or_missing fault number None = Err (missing fault number)
+found_or_missing fault number (Some item) = Ok item
+
+-- the entry of an index: the first that has its number
+abbrev pub item_of : {I D : Type 0} → (I → ℕ) → Read (Item I D) → ℕ → Result (Item I D) Error
+item_of number_of read number = found_or_missing read.fault number (first_item number_of number read.items)
+
+-- a map knows each of these entries by its number
+unfoldable pub Knows : {I D : Type 0} → (I → ℕ) → List (Item I D) → BTreeMap ℕ (Bor (Item I D)) → Type 0
+Knows number_of items known = (number : ℕ) → option_map (λ entry. entry.now) (get nat_cmp known number) ≡ first_item number_of number items

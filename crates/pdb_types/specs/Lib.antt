@@ -1,0 +1,14 @@
+pub use Rattle.pdb_records.specs.Readings
+pub use Rattle.pdb_records.specs.Records
+pub mod Provided
+pub mod Outcomes
+pub mod Items
+pub mod Sizes
+pub mod ForwardReferences
+pub mod Told
+pub mod Texts
+pub mod ModuleNames
+pub mod Resolution
+pub mod TypeSizes
+pub mod SizeLaws
+pub mod FailedParts

@@ -1,0 +1,110 @@
+-- Indices that lead to other modules.
+use Rattle.std.specs.Prelude.{ℕ, ◌^◌, List, Option, Some, None, Result, Ok, Err, nat_lt, slice_get, if◌then◌else◌}
+use Rattle.std.specs.Str.{str_to_ascii_lowercase}
+use Rattle.pdb_records.specs.Names.{lossy}
+use Rattle.pdb_records.specs.Imports.{Imported}
+use Rattle.pdb_records.specs.References.{imported, exported}
+use Rattle.pdb_records.specs.Strings.{string_at}
+use Rattle.pdb_records.specs.declared.error.StreamError.{StreamError}
+use Rattle.pdb_records.specs.declared.error.Error as records
+use Rattle.pdb_records.specs.declared.error.Error.TheVariants.{Stream, StringNotFound}
+use Rattle.pdb_records.specs.declared.strings.StringRef.{StringRef}
+use Rattle.pdb_records.specs.declared.debug_information.Module.{Module}
+use Rattle.pdb_records.specs.declared.modules.ModuleInfo.{ModuleInfo}
+use Rattle.pdb_types.specs.declared.error.Error.{Error}
+use Rattle.pdb_types.specs.declared.error.Error.TheVariants.{PdbError, OutOfRangeModuleIndex, ModuleInfoNotFound, CantResolveCrossModuleRefWithoutStringTable, LocalIndexNotInExports}
+use Rattle.pdb_types.specs.declared.resolution.Part.{Part}
+use Rattle.pdb_types.specs.declared.resolution.Part.TheVariants.{Imports, Exports}
+use Rattle.pdb_types.specs.declared.resolution.Modules as code
+use Rattle.pdb_types.specs.ModuleNames.{is_named, last_position_from}
+use Rattle.pdb_types.specs.Outcomes.{and_then}
+use Rattle.pdb_types.specs.Told.{Plain, NoModuleNamed, Trouble, Refused, Broken}
+
+-- what resolution stands on: what a provider answers for a position and a module, the list of modules, and the texts
+pub record Linked : Type 0 where
+  pub info : ℕ → Module → Result (Option ModuleInfo) StreamError
+  pub modules : List Module
+  pub strings : Option (List (StringRef × List ℕ))
+
+-- a stream's content, or its fault as an error
+abbrev pub streamed : {A : Type 0} → Result A StreamError → Result A Error
+streamed (Ok content) = Ok content
+streamed (Err fault) = Err (PdbError (Stream fault))
+
+-- the records that a provider has of the module at a position
+abbrev pub provided_info : ℕ → Result (Option ModuleInfo) StreamError → Result ModuleInfo Error
+provided_info position (Ok (Some info)) = Ok info
+provided_info position (Ok None) = Err (ModuleInfoNotFound position)
+provided_info position (Err fault) = Err (PdbError (Stream fault))
+
+-- the records of a module, where the list has the position
+abbrev pub info_of : Linked → ℕ → Option Module → Result ModuleInfo Error
+info_of linked position None = Err (OutOfRangeModuleIndex position)
+info_of linked position (Some m) = provided_info position (linked.info position m)
+
+-- the records of the module at a position
+abbrev pub module_info : Linked → ℕ → Result ModuleInfo Error
+module_info linked position = info_of linked position (slice_get linked.modules position)
+
+-- what the module at a position imports
+abbrev pub imports : Linked → ℕ → Result (List Imported) Error
+imports linked position = and_then (λ info. streamed info.imports) (module_info linked position)
+
+-- what the module at a position exports
+abbrev pub exports : Linked → ℕ → Result (List (ℕ × ℕ)) Error
+exports linked position = and_then (λ info. streamed info.exports) (module_info linked position)
+
+-- a part of the records: where it answers an error it is broken
+abbrev pub unbroken : {A : Type 0} → Part → Result A Error → Result A Trouble
+unbroken part (Ok content) = Ok content
+unbroken part (Err e) = Err (Broken part (Plain e))
+
+-- an answer of the records, whose error is no part's
+abbrev pub answered : {A : Type 0} → Result A records.Error → Result A Trouble
+answered (Ok answer) = Ok answer
+answered (Err e) = Err (Refused (Plain (PdbError e)))
+
+-- the texts, without which no index leads to another module
+abbrev pub texts : Option (List (StringRef × List ℕ)) → Result (List (StringRef × List ℕ)) Trouble
+texts None = Err (Refused (Plain CantResolveCrossModuleRefWithoutStringTable))
+texts (Some strings) = Ok strings
+
+-- the text under a reference
+abbrev pub found_text : StringRef → Option (List ℕ) → Result (List ℕ) Trouble
+found_text reference None = Err (Refused (Plain (PdbError (StringNotFound reference.0))))
+found_text reference (Some text) = Ok text
+
+-- the module that was found by a name, or the name in lower case
+abbrev pub found_module : List ℕ → Option ℕ → Result ℕ Trouble
+found_module name None = Err (Refused (NoModuleNamed (str_to_ascii_lowercase (lossy name))))
+found_module name (Some position) = Ok position
+
+-- the module of this name; of several the one of greatest position
+abbrev pub module_named : List Module → List ℕ → Result ℕ Trouble
+module_named modules name = found_module name (last_position_from 0 (is_named name) modules)
+
+-- the index that was found under a number of a module's exports
+abbrev pub found_export : ℕ → Option ℕ → Result ℕ Trouble
+found_export local None = Err (Refused (Plain (LocalIndexNotInExports local)))
+found_export local (Some index) = Ok index
+
+-- the index that a module exports under a number
+abbrev pub export_of : Linked → ℕ → ℕ → Result ℕ Trouble
+export_of linked local position = and_then (λ list. found_export local (exported local list)) (unbroken (Exports position) (exports linked position))
+
+-- the index behind an import: the name of the other module, and the number there
+abbrev pub import_target : Linked → List (StringRef × List ℕ) → StringRef × ℕ → Result ℕ Trouble
+import_target linked strings (reference, local) = and_then (export_of linked local) (and_then (module_named linked.modules) (found_text reference (string_at reference strings)))
+
+-- what an index that leads to another module stands for, asked by the module at a position
+abbrev pub across : Linked → ℕ → ℕ → Result ℕ Trouble
+across linked position index =
+    and_then (λ strings. and_then (import_target linked strings) (and_then (λ list. answered (imported list index)) (unbroken (Imports position) (imports linked position)))) (texts linked.strings)
+
+-- what an index stands for: with bit 31 it leads to another module, else it is its own
+abbrev pub resolved : Linked → ℕ → ℕ → Result ℕ Trouble
+resolved linked position index = if nat_lt index (2 ^ 31) then Ok index else across linked position index
+
+-- what resolution stands on, as the code has it
+abbrev pub linked_by : {P : Type 0} → (P → ℕ → Module → Result (Option ModuleInfo) StreamError) → code.Modules P → Linked
+linked_by info m = record { info = info m.provider.now; modules = m.modules; strings = m.strings }

@@ -1,0 +1,105 @@
+ghost use Rattle.std.specs.Prelude.{◌≡◌};
+ghost use Rattle.pdb_types.specs.declared.error.Error.TheVariants.{FormatError, PdbError, OutOfMemory};
+
+use std::alloc::{AllocError, AllocFailed};
+use std::fmt;
+
+/// What a call answers, with this crate's error where none is named.
+pub type Result<V, E = Error> = std::result::Result<V, E>;
+
+/// Why a call has no answer.
+#[derive(Debug, Drop, thiserror::Error)]
+pub enum Error {
+    /// The writer refused a text.
+    #[error("Formatting error: {0}")]
+    FormatError(fmt::Error),
+    /// The records have no answer.
+    #[error("PDB error: {0}")]
+    PdbError(pdb_records::Error),
+    /// The index of a list of arguments names something else.
+    #[error("Unexpected type for argument list")]
+    ArgumentTypeNotArgumentList,
+    /// The id of a function names a type that is no procedure's.
+    #[error("Id of type Function doesn't have type of Procedure")]
+    FunctionIdIsNotProcedureType,
+    /// The id of a member function names a type that is no member function's.
+    #[error("Id of type MemberFunction doesn't have type of MemberFunction")]
+    MemberFunctionIdIsNotMemberFunctionType,
+    /// In the run of a module in a section, a contribution ends before the one ahead of it does.
+    #[error("There are consecutive section contributions for module {0} and section {1} which are not ordered by offset")]
+    UnorderedSectionContributions(usize, u16),
+    /// Two contributions to a section claim the same bytes.
+    #[error("Overlapping section contributions in section {0} from modules {1} and {2}")]
+    OverlappingSectionContributions(u16, usize, usize),
+    /// The lines of this function failed before.
+    #[error("Getting the procedure lines was unsuccessful")]
+    ProcedureLinesUnsuccessful,
+    /// The inline ranges of this procedure failed before.
+    #[error("Getting the procedure inline ranges was unsuccessful")]
+    ProcedureInlineRangesUnsuccessful,
+    /// The line program or the inlinees of this module failed before.
+    #[error("Getting the extended module info was unsuccessful")]
+    ExtendedModuleInfoUnsuccessful,
+    /// An index leads to another module, and there are no texts to find its name in.
+    #[error("Could not resolve cross-module reference due to missing string table")]
+    CantResolveCrossModuleRefWithoutStringTable,
+    /// The imports of this module failed before.
+    #[error("Getting the module imports was unsuccessful")]
+    ModuleImportsUnsuccessful,
+    /// No module has this name, which is given in lower case.
+    #[error("Could not find the module with name {0}")]
+    ModuleNameNotFound(String),
+    /// The exports of this module failed before.
+    #[error("Getting the module exports was unsuccessful")]
+    ModuleExportsUnsuccessful,
+    /// The module that is imported from exports nothing under this number.
+    #[error("The local index {0} was not found in the module exports")]
+    LocalIndexNotInExports(u32),
+    /// The list of modules has no such position.
+    #[error("The module index {0} was out-of-range.")]
+    OutOfRangeModuleIndex(usize),
+    /// The module has no records of its own.
+    #[error("Could not get the ModuleInfo for module index {0}")]
+    ModuleInfoNotFound(usize),
+    /// The type of this index contains itself.
+    #[error("Type with index {0} is circular")]
+    CircularTypeDefinition(u32),
+    /// There was no memory for the answer. The same call may succeed later.
+    #[error("Out of memory")]
+    OutOfMemory,
+    /// A contribution's end lies past 32 bits.
+    #[error("The end of a section contribution of module {0} in section {1} does not fit 32 bits")]
+    SectionContributionEndTooLarge(usize, u16),
+}
+
+impl From<pdb_records::Error> for Error {
+    ghost from_gives = { λ e r. r ≡ PdbError e };
+
+    fn from(error: pdb_records::Error) -> Error {
+        Error::PdbError(error)
+    }
+}
+
+impl From<fmt::Error> for Error {
+    ghost from_gives = { λ e r. r ≡ FormatError e };
+
+    fn from(error: fmt::Error) -> Error {
+        Error::FormatError(error)
+    }
+}
+
+impl From<AllocError> for Error {
+    ghost from_gives = { λ _ r. r ≡ OutOfMemory };
+
+    fn from(_error: AllocError) -> Error {
+        Error::OutOfMemory
+    }
+}
+
+impl<T: Drop> From<AllocFailed<T>> for Error {
+    ghost from_gives = { λ _ r. r ≡ OutOfMemory };
+
+    fn from(_error: AllocFailed<T>) -> Error {
+        Error::OutOfMemory
+    }
+}

@@ -1,0 +1,67 @@
+ghost use Rattle.std.specs.Prelude.{◌≡◌, IfOk, string_bytes};
+ghost use Rattle.std.specs.Str.{str_to_ascii_lowercase};
+ghost use Rattle.pdb_records.specs.Names.{lossy};
+ghost use Rattle.pdb_types.specs.ModuleNames.{has_lower_name, last_position_from};
+
+use pdb_records::{Module, RawString};
+use std::alloc::{AllocError, Global};
+use std::collections::BTreeMap;
+use std::marker::Model;
+
+/// The modules of a program, each found by its name in a table that is made once.
+#[derive(Drop)]
+pub(crate) struct ModuleList {
+    modules: Vec<Module>,
+    positions: BTreeMap<String, usize>,
+}
+
+impl Model for ModuleList {
+    ghost use Rattle.std.specs.Prelude.{List};
+    ghost use Rattle.pdb_records.specs.declared.debug_information.Module.{Module};
+    ghost use Rattle.pdb_types.specs.ModuleNames.{KnowsPositions};
+
+    ghost Value = { List Module };
+
+    ghost view = { λ l. l.modules.items };
+
+    ghost invariant = { λ l. KnowsPositions l.modules.items l.positions };
+}
+
+/// A name as text, in lower case as far as its letters are ASCII.
+pub(crate) fn lower_case(alloc: Global, name: &RawString) -> Result<String, AllocError>
+    ensures { IfOk result (λ text. string_bytes text ≡ str_to_ascii_lowercase (lossy name.now)) }
+{
+    let mut text = name.to_string_lossy(alloc)?.into_owned(alloc)?;
+    text.make_ascii_lowercase();
+    Ok(text)
+}
+
+impl ModuleList {
+    /// The modules, with a table of their names. Of several with one name the last is found.
+    pub(crate) fn new(alloc: Global, modules: Vec<Module>) -> Result<Self, AllocError>
+        ensures { IfOk result (λ list. list ≡ modules.items) }
+    {
+        let mut positions = BTreeMap::new(alloc);
+        for (position, module) in modules.iter().enumerate() {
+            positions.insert(lower_case(alloc, &module.name)?, position)?;
+        }
+        Ok(ModuleList { modules, positions })
+    }
+
+    /// The modules in their order.
+    pub(crate) fn modules(&self) -> &[Module]
+        ensures { result.now ≡ self.now }
+    {
+        &self.modules
+    }
+
+    /// The last position of a module that has this name in lower case.
+    pub(crate) fn last_named(&self, lower_name: &str) -> Option<usize>
+        ensures { result ≡ last_position_from 0 (has_lower_name lower_name.now) self.now }
+    {
+        match self.positions.get(lower_name) {
+            Some(position) => Some(*position),
+            None => None,
+        }
+    }
+}
