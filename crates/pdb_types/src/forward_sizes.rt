@@ -4,9 +4,8 @@ ghost use Rattle.std.specs.BTreeMap.{get};
 ghost use Rattle.std.specs.Ordering.{nat_cmp};
 ghost use Rattle.pdb_types.specs.ForwardReferences.{told_aggregate, size_for, referred_name, size_under, Tabulates};
 
-use crate::aggregates::{Aggregate, ItemData, told_by};
-use crate::items::ItemIndex;
-use pdb_records::{Item, RawString};
+use crate::aggregates::{Aggregate, told_by};
+use pdb_records::{Item, RawString, TypeData, TypeIndex};
 use std::alloc::{AllocError, Global};
 use std::collections::BTreeMap;
 
@@ -65,11 +64,11 @@ fn answer(sizes: &mut BTreeMap<u32, u64>, number: u32, size: Option<u64>) -> Res
 /// By the number of an index, the size that the own name of its forward reference is given behind it.
 ///
 /// The list is read once, from its end, with the first definition of each name that was met so far.
-pub(crate) fn own_sizes<I: ItemIndex, D: ItemData>(
+pub(crate) fn forward_sizes(
     alloc: Global,
-    items: &[Item<I, D>],
+    items: &[Item<TypeIndex, TypeData>],
 ) -> Result<BTreeMap<u32, u64>, AllocError>
-    ensures { IfOk result (Tabulates I.number_of D.tells items.now) }
+    ensures { IfOk result (Tabulates items.now) }
 {
     let mut by_name = BTreeMap::new(alloc);
     let mut sizes = BTreeMap::new(alloc);
@@ -79,7 +78,7 @@ pub(crate) fn own_sizes<I: ItemIndex, D: ItemData>(
         let item = &items[left];
         let told = told_by(item);
         let size = reference_size(&by_name, told);
-        answer(&mut sizes, item.index.number(), size)?;
+        answer(&mut sizes, item.index.0, size)?;
         define(&mut by_name, told)?;
     }
     Ok(sizes)

@@ -2,7 +2,7 @@ use Rattle.std.proofs.Common.{◌∙◌}
 use Rattle.std.proofs.lemmas.Map.Text.{btree_map_updates_str}
 use Rattle.pdb_types.specs.ForwardReferences.{told_aggregate, size_under}
 use Rattle.pdb_types.proofs.ForwardLemmas.{size_for-or}
-use Rattle.pdb_types.proofs.own_sizes.define.Goals as goal
+use Rattle.pdb_types.proofs.forward_sizes.define.Goals as goal
 
 pub returns-in-Ok : goal.returns-in-Ok
 returns-in-Ok c = λ name.
