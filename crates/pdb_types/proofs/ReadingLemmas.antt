@@ -1,7 +1,8 @@
 -- Entries that were read by an index.
-use Rattle.std.proofs.Common.{◌≡◌, ◌^◌, ℕ, true, false, cond, ap}
+use Rattle.std.proofs.Common.{◌≡◌, ◌^◌, ◌<◌, ℕ, true, false, cond, ap, refl}
 use Rattle.std.specs.Prelude.{Result, Ok, Err, nat_lt}
 use Rattle.std.specs.Result.{result_unwrap_or}
+use Rattle.std.proofs.lemmas.Bool.{ltb-true}
 use Rattle.pdb_records.specs.Readings.{Read}
 use Rattle.pdb_records.specs.declared.types.Item.{Item}
 use Rattle.pdb_types.specs.Outcomes.{and_then}
@@ -36,3 +37,11 @@ reading-entry number_of w list position index number content read =
       | true ↦ λ e. read_by-entry number_of list (resolved w position index) number content e
       | false ↦ λ e. cc
     ]) read
+
+-- only an index of 32 bits is read, whatever is made of it
+pub reading-below : {I D A : Type 0} (number_of : I → ℕ) (w : Linked) (list : Read (Item I D)) (position index : ℕ) (made : ℕ × D → Result A Trouble) (content : A) → and_then (reading number_of w list position index) made ≡ Ok content → index < 2 ^ 32
+reading-below number_of w list position index made content read =
+    (elim (nat_lt index (2 ^ 32)) as (λ b. nat_lt index (2 ^ 32) ≡ b → and_then (cond b (read_by number_of list (resolved w position index)) (Err (Missing index))) made ≡ Ok content → index < 2 ^ 32) [
+      | true ↦ λ e _. ltb-true index (2 ^ 32) e
+      | false ↦ λ _ e. cc
+    ]) refl read

@@ -1,4 +1,6 @@
-ghost use Rattle.std.specs.Prelude.{◌≡◌, [], IfOk};
+ghost use Rattle.std.specs.Prelude.{◌≡◌, [], IfOk, OnOk, OnErr};
+ghost use Rattle.pdb_types.specs.Errors.{told};
+ghost use Rattle.pdb_types.specs.FailedParts.{with_part, with_met, part_error};
 ghost use Rattle.std.specs.Option.{option_copied};
 ghost use Rattle.pdb_types.specs.Outcomes.{Gives};
 ghost use Rattle.pdb_types.specs.Standing.{program_pointer_size};
@@ -11,6 +13,7 @@ use crate::module_list::ModuleList;
 use crate::provider::ModuleProvider;
 use crate::sizes::pointer_size;
 use crate::texts::Texts;
+use crate::unread::Part;
 use pdb_records::{
     DebugInformation, IdInformation, MachineType, Module, StreamError, StringTable,
     TypeInformation,
@@ -147,5 +150,32 @@ impl<'a, P: ModuleProvider> Standing<'a, P> {
         ensures none_failed { result.failed ≡ [] }
     {
         Findings::new(self.alloc, self.types, self.ids)
+    }
+
+    /// Remembers the part of the records that was met broken, if one was.
+    pub fn remember(&self, findings: &mut Findings<'a>, met: Option<Part>) -> Result<(), AllocError>
+        requires fits { Fits P.info self.now findings.old }
+        ensures fits { Fits P.info self.now findings.new }
+        ensures remembered { OnOk result (findings.new.failed ≡ with_met findings.old.failed met) }
+        ensures unchanged { OnErr result (findings.new.failed ≡ findings.old.failed) }
+    {
+        findings.failed.add_met(met)
+    }
+
+    /// What a part that is met broken tells: its own error where it is new, and then it is remembered,
+    /// else that it failed before.
+    pub fn ask(
+        &self,
+        findings: &mut Findings<'a>,
+        part: Part,
+        error: Error,
+    ) -> Result<Error, AllocError>
+        requires fits { Fits P.info self.now findings.old }
+        ensures fits { Fits P.info self.now findings.new }
+        ensures told { IfOk result (λ e. told e ≡ part_error findings.old.failed part (told error)) }
+        ensures remembered { OnOk result (findings.new.failed ≡ with_part findings.old.failed part) }
+        ensures unchanged { OnErr result (findings.new.failed ≡ findings.old.failed) }
+    {
+        findings.failed.ask(part, error)
     }
 }
