@@ -1,7 +1,7 @@
 ghost use Rattle.std.specs.Prelude.{Ok, Err, nat_lt, slice_get, if◌then◌else◌};
 
-use crate::{ModuleProvider, Result, TypeFormatter, TypeFormatterFlags};
 use pdb_records::*;
+use pdb_signatures::{ModuleProvider, Result, Standing, TypeFormatter, TypeFormatterFlags};
 use std::alloc::{AllocError, Global};
 
 /// Hands in the records of modules by their position, and from one position on a fault.
@@ -160,4 +160,29 @@ pub(super) fn formatter<'a>(
 ) -> Result<TypeFormatter<'a, Listed>> {
     let machine = MachineType::Amd64;
     formatter_for(alloc, machine, provider, modules, types, ids, strings)
+}
+
+/// What answers stand on for Amd64, with the default flags.
+pub(super) fn standing<'a>(
+    alloc: Global,
+    provider: &'a Listed,
+    modules: Vec<Module>,
+    types: &'a TypeInformation,
+    ids: &'a IdInformation,
+    strings: Option<&'a StringTable>,
+) -> Result<Standing<'a, Listed>> {
+    let debug = debug_information(alloc, Ok(MachineType::Amd64));
+    let flags = TypeFormatterFlags::default();
+    Standing::new(alloc, provider, modules, &debug, types, ids, strings, flags)
+}
+
+/// The same, without texts.
+pub(super) fn standing_without_texts<'a>(
+    alloc: Global,
+    provider: &'a Listed,
+    modules: Vec<Module>,
+    types: &'a TypeInformation,
+    ids: &'a IdInformation,
+) -> Result<Standing<'a, Listed>> {
+    standing(alloc, provider, modules, types, ids, None)
 }

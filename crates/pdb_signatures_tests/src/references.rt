@@ -1,6 +1,6 @@
 use super::records::*;
-use crate::resolution::{Modules, Part, Unread};
 use pdb_records::*;
+use pdb_signatures::{Part, Standing, TypeSize, Unread};
 use std::alloc::{AllocError, Global};
 use std::test::Fail;
 
@@ -80,10 +80,15 @@ fn modules(alloc: Global) -> Result<Vec<Module>, AllocError> {
     ]?)
 }
 
-/// What is told of an index: the index that it stands for, or why there is none.
-fn told(alloc: Global, answer: Result<u32, Unread>) -> Result<String, Fail> {
+/// What is told of a type that is asked for: the index that it stands for, or why there is none.
+fn told(
+    alloc: Global,
+    answer: Result<(TypeIndex, &TypeData), Unread>,
+) -> Result<String, Fail> {
     Ok(match answer {
-        Ok(index) => format!(in alloc; "{index:x}")?,
+        Ok((index, _)) => format!(in alloc; "{0:x}", index.0)?,
+        Err(Unread::Missing(number)) => format!(in alloc; "{number:x} is missing")?,
+        Err(Unread::Unimplemented(kind)) => format!(in alloc; "kind {kind:x}")?,
         Err(Unread::Refused(error)) => format!(in alloc; "{error}")?,
         Err(Unread::Broken(Part::Imports(module), error)) => {
             format!(in alloc; "imports of {module}: {error}")?
@@ -91,13 +96,30 @@ fn told(alloc: Global, answer: Result<u32, Unread>) -> Result<String, Fail> {
         Err(Unread::Broken(Part::Exports(module), error)) => {
             format!(in alloc; "exports of {module}: {error}")?
         }
+        Err(Unread::OutOfMemory) => String::from_str(alloc, "out of memory")?,
     })
 }
 
+/// What is told of an index when it is asked for, and when it is asked for again.
+fn told_twice(
+    alloc: Global,
+    standing: &Standing<'_, Listed>,
+    position: usize,
+    index: u32,
+) -> Result<(String, String), Fail> {
+    let mut findings = standing.no_findings();
+    let index = TypeIndex(index);
+    let first = told(alloc, standing.read_type(&mut findings, position, index))?;
+    let second = told(alloc, standing.read_type(&mut findings, position, index))?;
+    Ok((first, second))
+}
+
 /// What an index stands for, asked by the module at a position, in the order in which it is resolved.
-const RESOLVED: [(usize, u32, &str); 15] = [
-    (0, 0x7fff_ffff, "7fffffff"),
-    (9, 0x7fff_ffff, "7fffffff"),
+const RESOLVED: [(usize, u32, &str); 17] = [
+    (0, 0x1003, "1003"),
+    (9, 0x1003, "1003"),
+    (0, 0x7fff_ffff, "7fffffff is missing"),
+    (0, 0x1005, "kind 1234"),
     (
         9,
         0x8000_0000,
@@ -137,42 +159,114 @@ const RESOLVED: [(usize, u32, &str); 15] = [
     (0, 0x8000_0000, "1003"),
 ];
 
+/// A number, a modifier that leads to another module, and a type of a kind that isn't known.
+fn types_of_all(alloc: Global) -> Result<TypeInformation, AllocError> {
+    Ok(types(vec![in alloc;
+        primitive(0x1003, PrimitiveKind::I32, false),
+        modifier(0x1004, 0x8000_0000),
+        Item {
+            index: TypeIndex(0x1005),
+            content: Err(Error::UnimplementedTypeKind(0x1234)),
+        },
+    ]?))
+}
+
+/// Hands in records, and a fault for modules from the sixth on.
+fn listed(alloc: Global) -> Result<Listed, AllocError> {
+    Ok(Listed {
+        infos: infos(alloc)?,
+        fault_from: 5,
+    })
+}
+
 #[test]
 fn indices_that_lead_to_other_modules_are_resolved(rt: HostRuntime) -> Result<(), Fail> {
     let alloc = rt.alloc();
-    let listed = Listed {
-        infos: infos(alloc)?,
-        fault_from: 5,
-    };
+    let listed = listed(alloc)?;
     let strings = strings(alloc)?;
-    let linked = Modules::new(alloc, &listed, modules(alloc)?, Some(&strings))?;
+    let types = types_of_all(alloc)?;
+    let ids = ids(alloc);
+    let standing = standing(
+        alloc,
+        &listed,
+        modules(alloc)?,
+        &types,
+        &ids,
+        Some(&strings),
+    )?;
     for (position, index, wanted) in RESOLVED {
-        let answer = told(alloc, linked.resolve(position, index))?;
-        assert_eq!(rt; answer.as_str(), wanted);
+        let (first, second) = told_twice(alloc, &standing, position, index)?;
+        assert_eq!(rt; first.as_str(), wanted);
+        assert_eq!(rt; second.as_str(), wanted);
     }
-    let unnamed = Modules::new(alloc, &listed, modules(alloc)?, None)?;
-    let answer = told(alloc, unnamed.resolve(9, 0x7fff_ffff))?;
-    assert_eq!(rt; answer.as_str(), "7fffffff");
-    let answer = told(alloc, unnamed.resolve(9, 0x8000_0000))?;
+    Ok(())
+}
+
+#[test]
+fn without_texts_no_index_leads_to_another_module(rt: HostRuntime) -> Result<(), Fail> {
+    let alloc = rt.alloc();
+    let listed = listed(alloc)?;
+    let types = types_of_all(alloc)?;
+    let ids = ids(alloc);
+    let standing = standing_without_texts(alloc, &listed, modules(alloc)?, &types, &ids)?;
+    let (own, _) = told_twice(alloc, &standing, 9, 0x1003)?;
+    assert_eq!(rt; own.as_str(), "1003");
+    let (other, _) = told_twice(alloc, &standing, 9, 0x8000_0000)?;
     assert_eq!(rt;
-        answer.as_str(),
+        other.as_str(),
         "Could not resolve cross-module reference due to missing string table"
     );
     Ok(())
 }
 
+/// The size of a type and the part that was met broken, asked for twice.
+fn size_twice(
+    standing: &Standing<'_, Listed>,
+    position: usize,
+    index: u32,
+) -> Result<[TypeSize; 2], Fail> {
+    let mut findings = standing.no_findings();
+    let first = standing.type_size(&mut findings, position, TypeIndex(index))?;
+    let second = standing.type_size(&mut findings, position, TypeIndex(index))?;
+    Ok([first, second])
+}
+
 #[test]
-fn parts_that_are_met_broken_are_remembered(rt: HostRuntime) -> Result<(), Fail> {
+fn parts_that_are_met_broken_are_told_each_time(rt: HostRuntime) -> Result<(), Fail> {
     let alloc = rt.alloc();
-    let listed = Listed {
-        infos: infos(alloc)?,
-        fault_from: 5,
-    };
+    let listed = listed(alloc)?;
     let strings = strings(alloc)?;
-    let types = types(vec![in alloc;
-        primitive(0x1003, PrimitiveKind::I32, false),
-        modifier(0x1004, 0x8000_0000),
-    ]?);
+    let types = types_of_all(alloc)?;
+    let ids = ids(alloc);
+    let standing = standing(
+        alloc,
+        &listed,
+        modules(alloc)?,
+        &types,
+        &ids,
+        Some(&strings),
+    )?;
+    for (position, index, size, met) in [
+        (0, 0x8000_0000, 4, None),
+        (0, 0x1004, 4, None),
+        (3, 0x1004, 0, Some(Part::Imports(3))),
+        (0, 0x8030_0000, 0, Some(Part::Exports(3))),
+        (0, 0x1005, 0, None),
+    ] {
+        for told in size_twice(&standing, position, index)? {
+            assert_eq!(rt; told.size, size);
+            assert!(rt; told.met == met, "{position} {index:x}");
+        }
+    }
+    Ok(())
+}
+
+#[test]
+fn a_formatter_tells_sizes_across_modules(rt: HostRuntime) -> Result<(), Fail> {
+    let alloc = rt.alloc();
+    let listed = listed(alloc)?;
+    let strings = strings(alloc)?;
+    let types = types_of_all(alloc)?;
     let ids = ids(alloc);
     let modules = modules(alloc)?;
     let mut formatter = formatter(alloc, &listed, modules, &types, &ids, Some(&strings))?;
@@ -180,20 +274,8 @@ fn parts_that_are_met_broken_are_remembered(rt: HostRuntime) -> Result<(), Fail>
     for _ in 0..2 {
         assert_eq!(rt; formatter.get_type_size(0, TypeIndex(0x8000_0000))?, 4);
         assert_eq!(rt; formatter.get_type_size(0, TypeIndex(0x1004))?, 4);
-    }
-    assert!(rt; !formatter.failed.has(Part::Imports(0)));
-    assert!(rt; !formatter.failed.has(Part::Imports(3)));
-    for _ in 0..2 {
         assert_eq!(rt; formatter.get_type_size(3, TypeIndex(0x1004))?, 0);
-        assert!(rt; formatter.failed.has(Part::Imports(3)));
-        assert!(rt; !formatter.failed.has(Part::Exports(3)));
-        assert_eq!(rt; formatter.get_type_size(0, TypeIndex(0x1004))?, 4);
-    }
-    for _ in 0..2 {
         assert_eq!(rt; formatter.get_type_size(0, TypeIndex(0x8030_0000))?, 0);
-        assert!(rt; formatter.failed.has(Part::Exports(3)));
-        assert!(rt; !formatter.failed.has(Part::Imports(0)));
-        assert!(rt; !formatter.failed.has(Part::Exports(0)));
     }
     Ok(())
 }

@@ -1,7 +1,6 @@
 use super::records::*;
-use crate::sizes::primitive_size;
-use crate::{ItemMap, TypeFormatter, TypeFormatterFlags, TypeSizeCache};
 use pdb_records::*;
+use pdb_signatures::{ItemIndex, ItemMap, TypeFormatter, TypeFormatterFlags, TypeSizeCache};
 use std::test::Fail;
 
 #[test]
@@ -56,8 +55,14 @@ fn the_first_definition_behind_a_reference_has_the_size(rt: HostRuntime) -> Resu
 }
 
 #[test]
-fn types_that_the_compiler_brings_have_the_sizes_of_the_table(rt: HostRuntime) {
+fn types_that_the_compiler_brings_have_the_sizes_of_the_table(
+    rt: HostRuntime,
+) -> Result<(), Fail> {
     use PrimitiveKind::*;
+    let alloc = rt.alloc();
+    let listed = nothing_listed(alloc);
+    let ids = ids(alloc);
+    let strings = no_strings(alloc);
     let table = [
         (0, [NoType, Void].as_slice()),
         (1, [Char, UChar, RChar, Char8, I8, U8, Bool8].as_slice()),
@@ -82,11 +87,22 @@ fn types_that_the_compiler_brings_have_the_sizes_of_the_table(rt: HostRuntime) {
     let mut count = 0;
     for (size, kinds) in &table {
         for kind in *kinds {
-            assert_eq!(rt; primitive_size(*kind), *size);
+            let types = types(vec![in alloc; primitive(1, *kind, false)]?);
+            let mut formatter =
+                formatter(
+                alloc,
+                &listed,
+                Vec::new(alloc),
+                &types,
+                &ids,
+                Some(&strings),
+            )?;
+            assert_eq!(rt; formatter.get_type_size(0, TypeIndex(1))?, *size);
         }
         count = count % 64 + kinds.len() % 64;
     }
     assert_eq!(rt; count, 43);
+    Ok(())
 }
 
 #[test]
@@ -170,6 +186,95 @@ fn the_first_item_of_an_index_is_found_and_a_fault_stays(rt: HostRuntime) -> Res
         assert_eq!(rt; size, Some(2));
         let size = cache.get_size_for_forward_reference(TypeIndex(0x2000), &other, &mut map)?;
         assert_eq!(rt; size, None);
+    }
+    Ok(())
+}
+
+#[test]
+fn types_that_are_underneath_themselves_have_no_size(rt: HostRuntime) -> Result<(), Fail> {
+    let alloc = rt.alloc();
+    let listed = nothing_listed(alloc);
+    let ids = ids(alloc);
+    let strings = no_strings(alloc);
+    let types = types(vec![in alloc;
+        modifier(0x1000, 0x1001),
+        modifier(0x1001, 0x1002),
+        modifier(0x1002, 0x1001),
+        modifier(0x1003, 0x1004),
+        primitive(0x1004, PrimitiveKind::I32, false),
+    ]?);
+    for first in [0x1000, 0x1001, 0x1002, 0x1003] {
+        let mut formatter = formatter(
+                alloc,
+                &listed,
+                Vec::new(alloc),
+                &types,
+                &ids,
+                Some(&strings),
+            )?;
+        formatter.get_type_size(0, TypeIndex(first))?;
+        for (index, size) in [(0x1000, 0), (0x1001, 0), (0x1002, 0), (0x1003, 4)] {
+            assert_eq!(rt; formatter.get_type_size(0, TypeIndex(index))?, size);
+        }
+    }
+    Ok(())
+}
+
+#[test]
+fn ids_are_found_by_their_index(rt: HostRuntime) -> Result<(), Fail> {
+    let alloc = rt.alloc();
+    let text = name(alloc, "text")?;
+    let string = IdData::String(StringId { name: text });
+    let ids = ItemInformation {
+        items: reading(vec![in alloc;
+            Item {
+                index: IdIndex(7),
+                content: Ok(string),
+            },
+        ]?),
+    };
+    let mut map = ItemMap::new(alloc, &ids);
+    for _ in 0..2 {
+        match &map.try_get(IdIndex(7))?.content {
+            Ok(IdData::String(string)) => assert_eq!(rt; string.name.0.as_slice(), b"text".as_slice()),
+            _ => assert!(rt; false, "a string was put in"),
+        }
+    }
+    assert_eq!(rt; IdIndex(7).number(), 7);
+    assert_eq!(rt; TypeIndex(8).number(), 8);
+    match map.try_get(IdIndex(8)) {
+        Err(error) => assert_eq!(rt;
+            format!(in alloc; "{error}")?.as_str(),
+            "PDB error: type 0x8 not found"
+        ),
+        Ok(_) => assert!(rt; false, "no item has this index"),
+    }
+    Ok(())
+}
+
+/// A list of thousands is found through, and a chain through all of it has its end's size.
+#[test]
+fn a_chain_of_five_thousand_has_the_size_of_its_end(rt: HostRuntime) -> Result<(), Fail> {
+    let alloc = rt.alloc();
+    let listed = nothing_listed(alloc);
+    let ids = ids(alloc);
+    let strings = no_strings(alloc);
+    let mut items = Vec::new(alloc);
+    for index in 0..5000u32 {
+        items.push(modifier(0x1000 + index, 0x1001 + index))?;
+    }
+    items.push(primitive(0x1000 + 5000, PrimitiveKind::I32, false))?;
+    let types = types(items);
+    let mut formatter = formatter(
+                alloc,
+                &listed,
+                Vec::new(alloc),
+                &types,
+                &ids,
+                Some(&strings),
+            )?;
+    for index in [2500, 0, 4999, 5000] {
+        assert_eq!(rt; formatter.get_type_size(0, TypeIndex(0x1000 + index))?, 4);
     }
     Ok(())
 }
