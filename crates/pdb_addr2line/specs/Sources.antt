@@ -7,15 +7,15 @@ use Rattle.pdb_records.specs.declared.addresses.AddressRange.{AddressRange}
 use Rattle.pdb_records.specs.declared.addresses.ImageSectionHeader.{ImageSectionHeader}
 use Rattle.pdb_records.specs.declared.debug_information.DebugInformation.{DebugInformation}
 use Rattle.pdb_records.specs.declared.debug_information.Module.{Module}
-use Rattle.pdb_records.specs.declared.debug_information.SymbolTable.{SymbolTable}
+use Rattle.pdb_records.specs.declared.symbols.SymbolTable.{SymbolTable}
 use Rattle.pdb_types.specs.declared.error.Error.{Error}
 use Rattle.pdb_types.specs.declared.error.Error.TheVariants.{PdbError}
-use Rattle.pdb_addr2line.specs.declared.contributions.ModuleSectionContribution.{ModuleSectionContribution}
-use Rattle.pdb_addr2line.specs.Outcomes.{unless, and_then}
-use Rattle.pdb_addr2line.specs.Contributions.{merged_contributions}
-use Rattle.pdb_addr2line.specs.GlobalFunctions.{GlobalFunction, global_functions}
-use Rattle.pdb_addr2line.specs.Spans.{contribution_covers}
-use Rattle.pdb_addr2line.specs.Lookup.{Infos, function_over}
+use Rattle.pdb_functions.specs.declared.contributions.ModuleSectionContribution.{ModuleSectionContribution}
+use Rattle.pdb_types.specs.Outcomes.{unless, and_then}
+use Rattle.pdb_functions.specs.Contributions.{merged_contributions}
+use Rattle.pdb_functions.specs.GlobalFunctions.{GlobalFunction, global_functions}
+use Rattle.pdb_functions.specs.Spans.{contribution_covers}
+use Rattle.pdb_functions.specs.Lookup.{Infos, function_over}
 use Rattle.pdb_addr2line.specs.Function.{Description, described}
 
 -- what a context was made of

@@ -1,18 +1,19 @@
 ghost use Rattle.std.specs.Prelude.{◌≡◌, None, Some, IfOk};
 ghost use Rattle.pdb_types.specs.Provided.{provided};
-ghost use Rattle.pdb_addr2line.specs.Outcomes.{Gives, Refuses};
+ghost use Rattle.pdb_types.specs.Outcomes.{Gives, Refuses};
 ghost use Rattle.pdb_types.specs.FailedParts.{NoneFailed};
-ghost use Rattle.pdb_addr2line.specs.Made.{records_refusal, formatter_refusal, sections_read, info_at, context_of, formatter_of};
+ghost use Rattle.pdb_addr2line.specs.ContextData.{records_refusal, formatter_refusal, sections_read, info_at, context_of, formatter_of};
 
 use crate::context::Context;
 use pdb_records::{DebugInformation, ImageSectionHeader, Module, ModuleInfo, PDB, StreamError};
-use pdb_types::{Error, ModuleProvider, Result, TypeFormatter, TypeFormatterFlags};
+use pdb_signatures::TypeFormatter;
+use pdb_types::{Error, ModuleProvider, Result, TypeFormatterFlags};
 use std::alloc::{AllocError, Global};
 use std::marker::Model;
 
 /// The records, owned or lent.
 #[derive(Drop)]
-enum Held<'p> {
+enum Keeper<'p> {
     Owned(PDB),
     Lent(&'p PDB),
 }
@@ -23,7 +24,7 @@ enum Held<'p> {
 #[derive(Drop)]
 pub struct ContextPdbData<'p> {
     alloc: Global,
-    held: Held<'p>,
+    keeper: Keeper<'p>,
 }
 
 impl<'p> Model for ContextPdbData<'p> {
@@ -32,12 +33,12 @@ impl<'p> Model for ContextPdbData<'p> {
 
     ghost Value = { Records };
 
-    ghost use Rattle.pdb_addr2line.specs.Held.{records};
-    ghost use Rattle.pdb_addr2line.specs.Made.{records_refusal};
+    ghost use Rattle.pdb_addr2line.specs.Keeper.{records};
+    ghost use Rattle.pdb_addr2line.specs.ContextData.{records_refusal};
 
-    ghost view = { λ d. records d.held };
+    ghost view = { λ d. records d.keeper };
 
-    ghost invariant = { λ d. records_refusal (records d.held) ≡ None };
+    ghost invariant = { λ d. records_refusal (records d.keeper) ≡ None };
 }
 
 /// Refuses records of which a stream failed that a context can't do without.
@@ -72,7 +73,7 @@ impl<'p> ContextPdbData<'p> {
         check_streams(&pdb)?;
         Ok(ContextPdbData {
             alloc,
-            held: Held::Owned(pdb),
+            keeper: Keeper::Owned(pdb),
         })
     }
 
@@ -84,7 +85,7 @@ impl<'p> ContextPdbData<'p> {
         check_streams(pdb)?;
         Ok(ContextPdbData {
             alloc,
-            held: Held::Lent(pdb),
+            keeper: Keeper::Lent(pdb),
         })
     }
 
@@ -175,9 +176,9 @@ impl<'p> ContextPdbData<'p> {
         ensures is { result.now ≡ self.now }
         ensures read { records_refusal self.now ≡ None }
     {
-        match &self.held {
-            Held::Owned(pdb) => pdb,
-            Held::Lent(pdb) => pdb,
+        match &self.keeper {
+            Keeper::Owned(pdb) => pdb,
+            Keeper::Lent(pdb) => pdb,
         }
     }
 }

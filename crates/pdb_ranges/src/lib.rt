@@ -5,7 +5,9 @@
 //! `lo` in it and `hi` out of it.
 #![tactic(auto)]
 
+mod pick;
 mod range_set;
 mod runs;
 
+pub use pick::{Span, pick_span};
 pub use range_set::{RangeSet, runs_are_determined};

@@ -1,5 +1,5 @@
 -- What a call answers, beside the answer of its definition.
-use Rattle.std.specs.Prelude.{◌≡◌, ◌≢◌, Result, Ok, Err}
+use Rattle.std.specs.Prelude.{◌≡◌, ◌≢◌, Option, Some, None, Result, Ok, Err}
 use Rattle.pdb_types.specs.declared.error.Error.{Error}
 use Rattle.pdb_types.specs.declared.error.Error.TheVariants.{OutOfMemory}
 
@@ -12,3 +12,18 @@ Gives view (Err error) definition = error ≢ OutOfMemory → definition ≡ Err
 abbrev pub and_then : {A B E : Type 0} → (A → Result B E) → Result A E → Result B E
 and_then next (Ok answer) = next answer
 and_then next (Err e) = Err e
+
+-- the first of two refusals
+abbrev pub first_refusal : Option Error → Option Error → Option Error
+first_refusal None later = later
+first_refusal (Some error) later = Some error
+
+-- what is answered where nothing refuses
+abbrev pub unless : {A : Type 0} → Option Error → Result A Error → Result A Error
+unless None answer = answer
+unless (Some error) answer = Err error
+
+-- a test passes where its definition refuses nothing, and else answers that refusal
+abbrev pub Refuses : {A : Type 0} → Result A Error → Option Error → Type 0
+Refuses (Ok passed) refusal = refusal ≡ None
+Refuses (Err error) refusal = refusal ≡ Some error
