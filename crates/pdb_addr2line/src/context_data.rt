@@ -3,6 +3,9 @@ ghost use Rattle.pdb_types.specs.Provided.{provided};
 ghost use Rattle.pdb_types.specs.Outcomes.{Gives, Refuses};
 ghost use Rattle.pdb_types.specs.FailedParts.{NoneFailed};
 ghost use Rattle.pdb_addr2line.specs.ContextData.{records_refusal, formatter_refusal, sections_read, info_at, context_of, formatter_of};
+ghost use Rattle.std.specs.Borrow.{sem};
+ghost use Rattle.std.specs.Io.BufRead.{Rests};
+ghost use Rattle.pdb_records.specs.contracts.pdb.PDB.{the_row};
 
 use crate::context::Context;
 use pdb_records::{DebugInformation, ImageSectionHeader, Module, ModuleInfo, PDB, StreamError};
@@ -41,6 +44,14 @@ impl<'p> Model for ContextPdbData<'p> {
     ghost invariant = { λ d. records_refusal (records d.keeper) ≡ None };
 }
 
+/// The records that are lent, from now on only to be read: they end as they were.
+fn shared<'p>(pdb: &'p mut PDB) -> &'p PDB
+    ensures is { result.now ≡ pdb.old }
+    ensures* unchanged { sem 𝓛 (Rests the_row pdb.entry (λ last. last ≡ pdb.old)) }
+{
+    pdb
+}
+
 /// Refuses records of which a stream failed that a context can't do without.
 fn check_streams(pdb: &PDB) -> Result<()>
     ensures { Refuses result (records_refusal pdb.now) }
@@ -77,10 +88,19 @@ impl<'p> ContextPdbData<'p> {
         })
     }
 
-    /// Keeps a reference to these records, under the conditions of [`ContextPdbData::try_from_pdb`].
+    /// Keeps a reference to these records, under the conditions of [`ContextPdbData::try_from_pdb`]. They
+    /// are only read, and stay as they are, also where they are refused.
     pub fn try_from_pdb_ref(alloc: Global, pdb: &'p mut PDB) -> Result<Self>
         ensures kept { IfOk result (λ d. d ≡ pdb.old) }
         ensures refused { Refuses result (records_refusal pdb.old) }
+    {
+        ContextPdbData::over(alloc, shared(pdb))
+    }
+
+    /// Keeps a reference to records that are only read.
+    fn over(alloc: Global, pdb: &'p PDB) -> Result<Self>
+        ensures kept { IfOk result (λ d. d ≡ pdb.now) }
+        ensures refused { Refuses result (records_refusal pdb.now) }
     {
         check_streams(pdb)?;
         Ok(ContextPdbData {

@@ -1,6 +1,6 @@
 -- Where sites are well nested, a site is inside another where it begins in it.
-use Rattle.std.proofs.Common.{◌≡◌, ◌∙◌, ℕ, zero, suc, ◌+◌, ◌<◌, ◌≤◌, true, false, eqb, ltb, ◌&&◌, List, [], ◌∷◌, map, drop, refl, sym, subst, arith, inl, inr, add-one}
-use Rattle.std.specs.List.{AllByRecursion, Contains, slice_get}
+use Rattle.std.proofs.Common.{◌≡◌, ◌∙◌, ℕ, zero, suc, ◌+◌, ◌<◌, ◌≤◌, true, false, eqb, ltb, ◌&&◌, List, [], ◌∷◌, map, drop, refl, sym, subst, arith, inl, inr}
+use Rattle.std.specs.List.{AllByRecursion, Contains}
 use Rattle.std.specs.Prelude.{Option, Some, None, option_map, IsTrue, ◌↔◌, ◌⊎◌}
 use Rattle.std.proofs.lemmas.Bool.{cases_lt, le-leb, lt-leb, lt-ltb, le-ltb, eq-eqb, ne_eqb, and_left, and_parts, and_from, ltb-true, or_right}
 use Rattle.pdb_records.specs.declared.error.StreamError.{StreamError}
@@ -8,45 +8,43 @@ use Rattle.pdb_records.specs.declared.symbols.Symbol.{Symbol}
 use Rattle.pdb_records.specs.declared.symbols.InlineSiteSymbol.{InlineSiteSymbol}
 use Rattle.pdb_inline.specs.Sites.{Site, OpenSite, Walk, walk_from, walk, innermost_end, after_close, found_first, opened_at, site_of, nested_end, through_after, open_after}
 use Rattle.pdb_inline.specs.InlineRanges.{is_inside}
-use Rattle.pdb_inline.specs.WellNested.{site_end, procedure_end, SiteStands, IsWellNested}
-use Rattle.pdb_inline.proofs.NestingLemmas.{AllBelow, AreNested, walk_nested}
+use Rattle.pdb_inline.specs.WellNested.{AreWellNested}
+use Rattle.pdb_inline.proofs.NestingLemmas.{AllBelow, AreNested, walk_nested, procedure_nested}
 use Rattle.pdb_inline.proofs.InsideLemmas.{is_among, not_among_lower, not_among_drop}
 
 -- the positions of open sites
 abbrev pub positions : List OpenSite → List ℕ
 positions outer = map (λ site. site.position) outer
 
--- the sites that are open at a position of a well nested procedure: they stand in it, the inner behind the outer, and end
--- there or later, the inner before the outer
-abbrev pub Opened : List Symbol → ℕ → ℕ → ℕ → List OpenSite → Type 0
-Opened all position end at [] = Unit {0}
-Opened all position end at (site ∷ outer) =
-    (position < site.position) × (site.position < at) × AllBelow site.position (positions outer) × (at ≤ site.end)
-    × (site.end < innermost_end end outer) × (site_end all site.position ≡ Some site.end) × Opened all position end at outer
+-- the innermost of these, where there is one, ends at a number or later
+abbrev pub EndsBy : ℕ → List OpenSite → Type 0
+EndsBy end [] = Unit {0}
+EndsBy end (site ∷ outer) = end ≤ site.end
 
--- open sites end before the procedure does
-opened_end : (all : List Symbol) (position end at : ℕ) (outer : List OpenSite) → Opened all position end at outer → innermost_end end outer ≤ end
-opened_end all position end at [] opened = omega arith
-opened_end all position end at (site ∷ outer) opened = let rest = opened_end all position end at outer opened.6 in omega (arith, opened.4)
+-- the sites that are open at a position: they begin before it, the inner behind the outer, and no inner one ends later
+abbrev pub Opened : ℕ → List OpenSite → Type 0
+Opened at [] = Unit {0}
+Opened at (site ∷ outer) = (site.position < at) × AllBelow site.position (positions outer) × EndsBy site.end outer × Opened at outer
 
--- those that end behind a position are open at the next
-opened_later : (all : List Symbol) (position end at : ℕ) (outer : List OpenSite) → Opened all position end at outer → at < innermost_end end outer
-    → Opened all position end (at + 1) outer
-opened_later all position end at [] opened before = tt
-opened_later all position end at (site ∷ outer) opened before = (
-  opened.0,
-  omega (arith, opened.1),
-  opened.2,
-  omega arith,
-  opened.4,
-  opened.5,
-  opened_later all position end at outer opened.6 (omega (arith, opened.4)),
-)
+-- what ends at a number or later ends at any lower one or later
+ends_earlier : (m n : ℕ) (outer : List OpenSite) → m ≤ n → EndsBy n outer → EndsBy m outer
+ends_earlier m n [] lower ends = tt
+ends_earlier m n (site ∷ outer) lower ends = omega arith
+
+-- where what is open ends behind a position, the innermost site does
+ends_behind : (end at : ℕ) (outer : List OpenSite) → at < innermost_end end outer → EndsBy (suc at) outer
+ends_behind end at [] before = tt
+ends_behind end at (site ∷ outer) before = omega arith
+
+-- sites that are open at a position are open at the next
+opened_later : (at : ℕ) (outer : List OpenSite) → Opened at outer → Opened (at + 1) outer
+opened_later at [] opened = tt
+opened_later at (site ∷ outer) opened = (omega (arith, opened.0), opened.1, opened.2, opened_later at outer opened.3)
 
 -- the positions of open sites are behind the walk
-opened_below : (all : List Symbol) (position end at : ℕ) (outer : List OpenSite) → Opened all position end at outer → AllBelow at (positions outer)
-opened_below all position end at [] opened = tt
-opened_below all position end at (site ∷ outer) opened = (opened.1, opened_below all position end at outer opened.6)
+opened_below : (at : ℕ) (outer : List OpenSite) → Opened at outer → AllBelow at (positions outer)
+opened_below at [] opened = tt
+opened_below at (site ∷ outer) opened = (opened.0, opened_below at outer opened.3)
 
 -- once sites have left a position behind, none of them is inside of it again
 left_behind : (q from : ℕ) (outer : List ℕ) (sites : List Site) → q < from → is_among q outer ≡ false → AreNested from outer sites
@@ -87,28 +85,53 @@ abbrev pub Spans : List Site → Type 0
 Spans [] = Unit {0}
 Spans (site ∷ sites) = BeginsIn site site × AllByRecursion (λ other. BeginsIn site other × BeginsIn other site) sites × Spans sites
 
+-- those of the sites found later that begin before a number end by it
+abbrev pub EndWithin : ℕ → List Site → Type 0
+EndWithin end sites = AllByRecursion (λ site. site.position < end → site.symbol.end.0 ≤ end) sites
+
+-- so it is for the end of each open site
+abbrev pub EndInOpen : List OpenSite → List Site → Type 0
+EndInOpen [] sites = Unit {0}
+EndInOpen (site ∷ outer) sites = EndWithin site.end sites × EndInOpen outer sites
+
+-- and for the end of each site and those found after it
+abbrev pub NestWell : List Site → Type 0
+NestWell [] = Unit {0}
+NestWell (site ∷ sites) = EndWithin site.symbol.end.0 sites × NestWell sites
+
+-- what is so for sites is so for those after the first
+end_in_later : (outer : List OpenSite) (site : Site) (sites : List Site) → EndInOpen outer (site ∷ sites) → EndInOpen outer sites
+end_in_later [] site sites ends = tt
+end_in_later (open_site ∷ outer) site sites ends = (ends.0.1, end_in_later outer site sites ends.1)
+
+-- a site that opens while others are open ends by the innermost one's end
+new_ends_by : (end : ℕ) (outer : List OpenSite) (site : Site) (sites : List Site) → site.position < innermost_end end outer
+    → EndInOpen outer (site ∷ sites) → EndsBy site.symbol.end.0 outer
+new_ends_by end [] site sites before ends = tt
+new_ends_by end (open_site ∷ outer) site sites before ends = ends.0.0 before
+
 -- no site is inside of one that was closed
-closed_spans : (all : List Symbol) (position end at : ℕ) (site : OpenSite) (outer : List OpenSite) (sites : List Site)
-    → Opened all position end at (site ∷ outer) → site.end ≤ at → AreNested (at + 1) (positions outer) sites
+closed_spans : (at : ℕ) (site : OpenSite) (outer : List OpenSite) (sites : List Site)
+    → Opened at (site ∷ outer) → site.end ≤ at → AreNested (at + 1) (positions outer) sites
     → AllByRecursion (λ inner. is_among site.position inner.outer ≡ ltb inner.position site.end) sites
-closed_spans all position end at site outer sites opened ended nested =
+closed_spans at site outer sites opened ended nested =
     all_both (λ inner. is_among site.position inner.outer ≡ false) (λ inner. at + 1 ≤ inner.position)
     (λ inner. is_among site.position inner.outer ≡ ltb inner.position site.end)
     (λ inner left later. left ∙ sym (le-ltb inner.position site.end (omega arith)))
     sites
-    (left_behind site.position (at + 1) (positions outer) sites (omega (arith, opened.1))
-    (not_among_lower site.position site.position (positions outer) (omega arith) opened.2) nested)
+    (left_behind site.position (at + 1) (positions outer) sites (omega (arith, opened.0))
+    (not_among_lower site.position site.position (positions outer) (omega arith) opened.1) nested)
     (nested_positions (at + 1) (positions outer) sites nested)
 
 -- a site that is opened is inside of all open ones
-opened_spans : (all : List Symbol) (position end at : ℕ) (outer : List OpenSite) (site : Site) (sites : List Site)
-    → Opened all position end at outer → at < innermost_end end outer → site.position ≡ at
+opened_spans : (at : ℕ) (outer : List OpenSite) (site : Site) (sites : List Site)
+    → Opened at outer → EndsBy (suc at) outer → site.position ≡ at
     → ((q : ℕ) → is_among q (positions outer) ≡ true → is_among q site.outer ≡ true) → SpansOpen outer sites → SpansOpen outer (site ∷ sites)
-opened_spans all position end at [] site sites opened before here among spans = tt
-opened_spans all position end at (open_site ∷ outer) site sites opened before here among spans =
+opened_spans at [] site sites opened behind here among spans = tt
+opened_spans at (open_site ∷ outer) site sites opened behind here among spans =
     let there : is_among open_site.position (open_site.position ∷ positions outer) ≡ true = rw (eq-eqb open_site.position open_site.position refl) refl in (
       (among open_site.position there ∙ sym (lt-ltb site.position open_site.end (omega arith)), spans.0),
-      opened_spans all position end at outer site sites opened.6 (omega (arith, opened.4)) here
+      opened_spans at outer site sites opened.3 (ends_earlier (suc at) open_site.end outer behind opened.2) here
           (λ q later. among q (or_right (eqb open_site.position q) (is_among q (positions outer)) later)) spans.1,
     )
 
@@ -130,36 +153,24 @@ first_spans site sites below inside later = (
       sites inside later,
 )
 
--- a list from a position on tells the element there, and the list from the next
-pub from_drop : {A : Type 0} (xs : List A) (at : ℕ) (x : A) (rest : List A) → drop at xs ≡ x ∷ rest → (slice_get xs at ≡ Some x) × (drop (at + 1) xs ≡ rest)
-from_drop [] zero x rest is = absurd cc
-from_drop [] (suc at) x rest is = absurd cc
-from_drop (y ∷ ys) zero x rest is = (cc, cc)
-from_drop (y ∷ ys) (suc at) x rest is =
-    let next = from_drop ys at x rest is in (next.0, rw (add-one (suc at)) (rw (add-one at) at next.1))
-
--- a site that begins in a well nested procedure ends before what is open there
-ends_before_open : (all : List Symbol) (position end at site_ends : ℕ) (outer : List OpenSite) → IsWellNested all position end
-    → Opened all position end at outer → at < innermost_end end outer → SiteStands all position end at site_ends → site_ends < innermost_end end outer
-ends_before_open all position end at site_ends [] well opened before stands = well.ends_before_procedure at site_ends stands
-ends_before_open all position end at site_ends (site ∷ outer) well opened before stands =
-    let bound = opened_end all position end at (site ∷ outer) opened in
-    well.ends_before_outer site.position site.end at site_ends (opened.0, omega (arith, opened.1), opened.5) stands opened.1 before
-
 -- what is said of open sites and of those found from a position on
 abbrev pub Said : List OpenSite → Walk → Type 0
 Said outer w = SpansOpen outer w.sites × Spans w.sites
 
+-- it is said where the ends nest
+abbrev pub SaidIf : List OpenSite → Walk → Type 0
+SaidIf outer w = EndInOpen outer w.sites → NestWell w.sites → Said outer w
+
 -- it can be said where a symbol closes something
-said_closed : (all : List Symbol) (fault : Option StreamError) (position end : ℕ) (symbols : List Symbol) (at through : ℕ) (outer : List OpenSite)
-    → Opened all position end at outer → innermost_end end outer ≤ at
-    → ((others : List OpenSite) → Opened all position end (at + 1) others → Said others (walk_from fault end symbols (at + 1) through others))
-    → Said outer (after_close outer (walk_from fault end symbols (at + 1) through (drop 1 outer)))
-said_closed all fault position end symbols at through [] opened closed rest = (tt, tt)
-said_closed all fault position end symbols at through (site ∷ outer) opened closed rest =
-    let later = rest outer (opened_later all position end at outer opened.6 (omega (arith, opened.3, opened.4))) in (
+said_closed : (fault : Option StreamError) (end : ℕ) (symbols : List Symbol) (at through : ℕ) (outer : List OpenSite)
+    → Opened at outer → innermost_end end outer ≤ at
+    → ((others : List OpenSite) → Opened (at + 1) others → SaidIf others (walk_from fault end symbols (at + 1) through others))
+    → SaidIf outer (after_close outer (walk_from fault end symbols (at + 1) through (drop 1 outer)))
+said_closed fault end symbols at through [] opened closed rest = λ ends nests. (tt, tt)
+said_closed fault end symbols at through (site ∷ outer) opened closed rest = λ ends nests.
+    let later = rest outer (opened_later at outer opened.3) ends.1 nests in (
       (
-        closed_spans all position end at site outer (walk_from fault end symbols (at + 1) through outer).sites opened closed
+        closed_spans at site outer (walk_from fault end symbols (at + 1) through outer).sites opened closed
             (walk_nested fault end symbols (at + 1) through outer),
         later.0,
       ),
@@ -167,73 +178,43 @@ said_closed all fault position end symbols at through (site ∷ outer) opened cl
     )
 
 -- it can be said where a symbol opens a site, or none
-said_found : (all : List Symbol) (fault : Option StreamError) (position end : ℕ) (symbols : List Symbol) (at through : ℕ) (outer : List OpenSite)
-    (symbol : Option InlineSiteSymbol) → IsWellNested all position end → position < at → Opened all position end at outer → at < innermost_end end outer
-    → site_end all at ≡ option_map (λ site. site.end.0) symbol
-    → ((others : List OpenSite) → Opened all position end (at + 1) others → Said others (walk_from fault end symbols (at + 1) through others))
-    → Said outer (found_first (option_map (opened_at at outer) symbol) (walk_from fault end symbols (at + 1) through (open_after at symbol outer)))
-said_found all fault position end symbols at through outer None well from opened before is rest =
-    rest outer (opened_later all position end at outer opened before)
-said_found all fault position end symbols at through outer (Some symbol) well from opened before is rest =
-    let bound = opened_end all position end at outer opened in
-    let stands : SiteStands all position end at symbol.end.0 = (from, omega arith, is) in
-    let below = opened_below all position end at outer opened in
+said_found : (fault : Option StreamError) (end : ℕ) (symbols : List Symbol) (at through : ℕ) (outer : List OpenSite)
+    (symbol : Option InlineSiteSymbol) → Opened at outer → at < innermost_end end outer
+    → ((others : List OpenSite) → Opened (at + 1) others → SaidIf others (walk_from fault end symbols (at + 1) through others))
+    → SaidIf outer (found_first (option_map (opened_at at outer) symbol) (walk_from fault end symbols (at + 1) through (open_after at symbol outer)))
+said_found fault end symbols at through outer None opened before rest = rest outer (opened_later at outer opened)
+said_found fault end symbols at through outer (Some symbol) opened before rest = λ ends nests.
+    let below = opened_below at outer opened in
     let open_here : OpenSite = record { position = at; end = symbol.end.0 } in
-    let later_opened : Opened all position end (at + 1) (open_here ∷ outer) = (
-      from,
-      omega arith,
-      below,
-      (let ends = well.ends_after_itself at symbol.end.0 stands in omega arith),
-      ends_before_open all position end at symbol.end.0 outer well opened before stands,
-      is,
-      opened_later all position end at outer opened before,
-    ) in
-    let later = rest (open_here ∷ outer) later_opened in
     let sites = (walk_from fault end symbols (at + 1) through (open_here ∷ outer)).sites in
+    let new_ends = new_ends_by end outer (opened_at at outer symbol) sites before ends in
+    let later_opened : Opened (at + 1) (open_here ∷ outer) = (omega arith, below, new_ends, opened_later at outer opened) in
+    let later = rest (open_here ∷ outer) later_opened (nests.0, end_in_later outer (opened_at at outer symbol) sites ends) nests.1 in
     let behind = nested_positions (at + 1) (positions (open_here ∷ outer)) sites (walk_nested fault end symbols (at + 1) through (open_here ∷ outer)) in
-    let first = first_spans (opened_at at outer symbol) sites below later.0.0 behind in
-    (opened_spans all position end at outer (opened_at at outer symbol) sites opened before refl (λ q among. among) later.0.1, (first.0, first.1, later.1))
+    let first = first_spans (opened_at at outer symbol) sites below later.0.0 behind in (
+      opened_spans at outer (opened_at at outer symbol) sites opened (ends_behind end at outer before) refl (λ q among. among) later.0.1,
+      (first.0, first.1, later.1),
+    )
 
--- a symbol that tells of no procedure that ends behind it passes nothing over
-passes_nothing : (at through : ℕ) (inner_end : Option ℕ) → ((e : ℕ) → inner_end ≡ Some e → e ≤ at) → through_after at inner_end through ≡ through
-passes_nothing at through None none = refl
-passes_nothing at through (Some e) none = rw (le-ltb at e (none e refl)) refl
-
--- it can be said of the walk of a well nested procedure, from behind its symbol on
-said_from : (all : List Symbol) (fault : Option StreamError) (position end : ℕ) → IsWellNested all position end → (symbols : List Symbol) (at through : ℕ)
-    (outer : List OpenSite) → drop at all ≡ symbols → through < at → position < at → Opened all position end at outer
-    → Said outer (walk_from fault end symbols at through outer)
-said_from all fault position end well [] at through outer here past from opened = (nothing outer, tt) where
+-- it can be said of a walk, from a position on
+said_from : (fault : Option StreamError) (end : ℕ) (symbols : List Symbol) (at through : ℕ) (outer : List OpenSite)
+    → Opened at outer → SaidIf outer (walk_from fault end symbols at through outer)
+said_from fault end [] at through outer opened = λ ends nests. (nothing outer, tt) where
   nothing : (outer : List OpenSite) → SpansOpen outer []
   nothing [] = tt
   nothing (site ∷ outer) = (tt, nothing outer)
-said_from all fault position end well (symbol ∷ symbols) at through outer here past from opened =
-    let next = from_drop all at symbol symbols here in
-    rw (lt-leb at through past) (elim (cases_lt at (innermost_end end outer)) [
-      | inl before ↦
-          let bound = opened_end all position end at outer opened in
-          let inner_is : procedure_end all at ≡ nested_end symbol = rw next.0 refl in
-          let site_is : site_end all at ≡ option_map (λ site. site.end.0) (site_of symbol) = rw next.0 refl in
-          let same : through_after at (nested_end symbol) through ≡ through = passes_nothing at through (nested_end symbol)
-          (λ e ends. well.passes_no_procedure at e from (omega arith) (inner_is ∙ ends)) in
-          rw (lt-leb (innermost_end end outer) at before, same)
-          (said_found all fault position end symbols at through outer (site_of symbol) well from opened before site_is
-          (λ others later. said_from all fault position end well symbols (at + 1) through others next.1 (omega arith) (omega arith) later))
-      | inr closed ↦ rw (le-leb (innermost_end end outer) at closed)
-          (said_closed all fault position end symbols at through outer opened closed
-          (λ others later. said_from all fault position end well symbols (at + 1) through others next.1 (omega arith) (omega arith) later))
-    ])
-
--- the sites of the walk of a well nested procedure are inside of one another where they begin in one another
-pub well_nested_spans : (symbols : List Symbol) (fault : Option StreamError) (position end : ℕ) → IsWellNested symbols position end
-    → Spans (walk symbols fault position end).sites
-well_nested_spans symbols fault position end well = by_rest (drop position symbols) refl where
-  by_rest : (rest : List Symbol) → drop position symbols ≡ rest → Spans (walk_from fault end rest position position []).sites
-  by_rest [] is = tt
-  by_rest (symbol ∷ rest) is =
-      let next = from_drop symbols position symbol rest is in
-      rw (le-leb position position (omega arith))
-      (said_from symbols fault position end well rest (position + 1) position [] next.1 (omega arith) (omega arith) tt).1
+said_from fault end (symbol ∷ symbols) at through outer opened =
+    elim (cases_lt through at) [
+      | inl from ↦ rw (lt-leb at through from) (elim (cases_lt at (innermost_end end outer)) [
+        | inl before ↦ rw (lt-leb (innermost_end end outer) at before)
+            (said_found fault end symbols at (through_after at (nested_end symbol) through) outer (site_of symbol) opened before
+            (λ others later. said_from fault end symbols (at + 1) (through_after at (nested_end symbol) through) others later))
+        | inr closed ↦ rw (le-leb (innermost_end end outer) at closed)
+            (said_closed fault end symbols at through outer opened closed
+            (λ others later. said_from fault end symbols (at + 1) through others later))
+      ])
+      | inr passed ↦ rw (le-leb at through passed) (said_from fault end symbols (at + 1) through outer (opened_later at outer opened))
+    ]
 
 -- an element is the first of a list, or one of the others
 pub contains_cases : {A : Type 0} (x : A) (xs : List A) (y : A) → Contains (x ∷ xs) y → (x ≡ y) ⊎ Contains xs y
@@ -261,8 +242,40 @@ spans_at (site ∷ sites) outer inner spans one other =
       ]
     ]
 
--- in a well nested procedure a site is inside another exactly where it begins in it
-pub inside_iff_begins_in : (symbols : List Symbol) (fault : Option StreamError) (position end : ℕ) (outer inner : Site) → IsWellNested symbols position end
+-- an element of a list is one of the list with one more in front
+later_in : {A : Type 0} (x : A) (xs : List A) (y : A) → Contains xs y → Contains (x ∷ xs) y
+later_in x xs y (k, within, is) = (suc k, omega arith, is)
+
+-- sites that stand behind another end by its end where they begin before it, if that is so of each
+end_within : (site : Site) (sites : List Site) → AllByRecursion (λ other. site.position + 1 ≤ other.position) sites
+    → ((other : Site) → Contains sites other → site.position < other.position → other.position < site.symbol.end.0 → other.symbol.end.0 ≤ site.symbol.end.0)
+    → EndWithin site.symbol.end.0 sites
+end_within site [] behind each = tt
+end_within site (other ∷ others) behind each = (
+  each other (zero, omega arith, refl) (omega (arith, behind.0)),
+  end_within site others behind.1 (λ t there. each t (later_in other others t there)),
+)
+
+-- sites that are well nested, in the order of their positions
+nest_well : (from : ℕ) (outer : List ℕ) (sites : List Site) → AreNested from outer sites → AreWellNested sites → NestWell sites
+nest_well from outer [] nested well = tt
+nest_well from outer (site ∷ sites) nested well = (
+  end_within site sites (nested_positions (site.position + 1) (site.position ∷ site.outer) sites nested.2)
+      (λ other there. well site other (zero, omega arith, refl) (later_in site sites other there)),
+  nest_well (site.position + 1) (site.position ∷ site.outer) sites nested.2
+      (λ a b one other. well a b (later_in site sites a one) (later_in site sites b other)),
+)
+
+-- well nested sites of a walk are inside of one another where they begin in one another
+well_nested_spans : (symbols : List Symbol) (fault : Option StreamError) (position end : ℕ) → AreWellNested (walk symbols fault position end).sites
+    → Spans (walk symbols fault position end).sites
+well_nested_spans symbols fault position end well =
+    (said_from fault end (drop position symbols) position position [] tt tt
+    (nest_well 0 [] (walk symbols fault position end).sites (procedure_nested symbols fault position end) well)).1
+
+-- of well nested sites one is inside another exactly where it begins in it
+pub inside_iff_begins_in : (symbols : List Symbol) (fault : Option StreamError) (position end : ℕ) (outer inner : Site)
+    → AreWellNested (walk symbols fault position end).sites
     → Contains (walk symbols fault position end).sites outer → Contains (walk symbols fault position end).sites inner
     → IsTrue (is_inside outer inner) ↔ ((outer.position < inner.position) × (inner.position < outer.symbol.end.0))
 inside_iff_begins_in symbols fault position end outer inner well one other =

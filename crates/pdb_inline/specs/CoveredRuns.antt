@@ -1,4 +1,5 @@
--- What sites cover together with the sites inside them, found from the last site to the first.
+-- What sites cover together with the sites inside them, as it is found from the last site to the first. These are steps of the
+-- code: its private functions cite them, and no public contract or law does.
 use Rattle.std.specs.Prelude.{ℕ, Bool, false, ◌||◌, ◌&&◌, List, [], ◌∷◌, ◌++◌, nat_lt, reverse, if◌then◌else◌}
 use Rattle.std.specs.List.{flat_map}
 use Rattle.pdb_records.specs.declared.ids.IdIndex.{IdIndex}
@@ -24,10 +25,14 @@ added_by_depth inlinees (site ∷ sites) =
     added_ranges inlinees site.depth site.symbol (missing_runs (deeper_ranges inlinees site.depth sites) (row_ranges inlinees site.symbol))
     ++ added_by_depth inlinees sites
 
--- the ranges of sites by depth and start, where those inside a site are the deeper ones that follow it at once
+-- the ranges of sites as they are read, where those inside a site are the deeper ones that follow it at once
+abbrev pub read_by_depth : List IdIndex → List SiteAtDepth → List InlineRange
+read_by_depth inlinees sites =
+    flat_map (λ site. own_ranges inlinees site.depth site.symbol) sites ++ added_by_depth inlinees sites
+
+-- the same by depth and start
 abbrev pub ranges_by_depth : List IdIndex → List SiteAtDepth → List InlineRange
-ranges_by_depth inlinees sites =
-    in_order range_before (flat_map (λ site. own_ranges inlinees site.depth site.symbol) sites ++ added_by_depth inlinees sites)
+ranges_by_depth inlinees sites = in_order range_before (read_by_depth inlinees sites)
 
 -- whether a number is in the runs at the top that are deeper, the top one first
 abbrev pub is_in_top : ℕ → List CoveredRun → ℕ → Bool

@@ -2,7 +2,7 @@ ghost use Rattle.std.specs.Prelude.{◌≡◌, ◌++◌, map, IfOk, OnOk, OnErr}
 ghost use Rattle.std.specs.List.{flat_map};
 ghost use Rattle.pdb_ranges.specs.InOrder.{in_order};
 ghost use Rattle.pdb_types.specs.Outcomes.{Gives};
-ghost use Rattle.pdb_inline.specs.CoveredRuns.{ranges_by_depth};
+ghost use Rattle.pdb_inline.specs.CoveredRuns.{read_by_depth, ranges_by_depth};
 ghost use Rattle.pdb_inline.specs.InlineRanges.{own_range, own_ranges, range_before, procedure_inline_ranges};
 ghost use Rattle.pdb_inline.specs.Sites.{kept_site};
 
@@ -76,6 +76,21 @@ fn sort(ranges: &mut Vec<InlineRange>) -> Result<(), AllocError>
     Ok(())
 }
 
+/// The ranges of sites as they are read: of their own rows, and then what is added for the rows of sites
+/// inside them.
+fn read_ranges(
+    alloc: Global,
+    inlinees: &BTreeSet<IdIndex>,
+    sites: &[Site<'_>],
+) -> Result<Vec<InlineRange>, AllocError>
+    ensures { IfOk result (λ v. v.items ≡ read_by_depth inlinees.now.keys (map kept_site sites.now)) }
+{
+    let mut ranges = own_ranges(alloc, inlinees, sites)?;
+    let added = ranges_added_to_sites(alloc, inlinees, sites)?;
+    ranges.extend_from_slice(&added)?;
+    Ok(ranges)
+}
+
 /// The ranges of sites, by depth and start.
 fn ranges_of_sites(
     alloc: Global,
@@ -84,9 +99,7 @@ fn ranges_of_sites(
 ) -> Result<Vec<InlineRange>, AllocError>
     ensures { IfOk result (λ v. v.items ≡ ranges_by_depth inlinees.now.keys (map kept_site sites.now)) }
 {
-    let mut ranges = own_ranges(alloc, inlinees, sites)?;
-    let added = ranges_added_to_sites(alloc, inlinees, sites)?;
-    ranges.extend_from_slice(&added)?;
+    let mut ranges = read_ranges(alloc, inlinees, sites)?;
     sort(&mut ranges)?;
     Ok(ranges)
 }

@@ -1,15 +1,17 @@
 //! Laws of inline ranges, for every list of symbols, badly nested ones too. They do nothing when they
 //! are called.
 
-ghost use Rattle.std.specs.Prelude.{◌≡◌, ℕ, ◌+◌, ◌≤◌, ◌<◌, ◌↔◌, true, false, IsTrue, Contains, List, Option, Some, length, slice_get};
+ghost use Rattle.std.specs.Prelude.{◌≡◌, ℕ, ◌+◌, ◌≤◌, ◌<◌, ◌↔◌, ◌&&◌, not, true, false, IsTrue, Contains, List, Option, Some, length, slice_get};
 ghost use Rattle.pdb_records.specs.declared.error.StreamError.{StreamError};
 ghost use Rattle.pdb_records.specs.declared.ids.IdIndex.{IdIndex};
 ghost use Rattle.pdb_records.specs.declared.symbols.Symbol.{Symbol};
 ghost use Rattle.pdb_inline.specs.declared.inline_ranges.InlineRange.{InlineRange};
+ghost use Rattle.pdb_ranges.specs.RangeSet.{has, IsRunsFrom};
+ghost use Rattle.pdb_inline.specs.InlineRows.{row_ranges};
 ghost use Rattle.pdb_inline.specs.Sites.{Site, depth, walk};
-ghost use Rattle.pdb_inline.specs.InlineRanges.{is_inside, inline_ranges};
+ghost use Rattle.pdb_inline.specs.InlineRanges.{is_inside, inline_ranges, inner_ranges, missing};
 ghost use Rattle.pdb_inline.specs.InlineStacks.{lies_over, has_range_over, is_covered, levels, inline_stack, site_ranges, IsSoleOver, IsDirectlyInside};
-ghost use Rattle.pdb_inline.specs.WellNested.{IsWellNested};
+ghost use Rattle.pdb_inline.specs.WellNested.{AreWellNested};
 
 /// The ranges of a depth together cover exactly what the rows of sites at least that deep cover.
 pub fn ranges_cover_deeper_sites()
@@ -37,10 +39,10 @@ pub fn ranges_lie_in_ranges_above()
 {}
 
 /// Where the sites of a procedure are well nested, a site is inside another exactly where its position
-/// lies between the other's position and end.
+/// lies between the other's position and end. Symbols that open no site don't matter.
 pub fn well_nested_sites_are_inside_by_position()
     ensures { (symbols : List Symbol) (fault : Option StreamError) (position end : ℕ) (outer inner : Site)
-        → IsWellNested symbols position end
+        → AreWellNested (walk symbols fault position end).sites
         → Contains (walk symbols fault position end).sites outer
         → Contains (walk symbols fault position end).sites inner
         → IsTrue (is_inside outer inner)
@@ -66,4 +68,13 @@ pub fn stacks_lie_directly_inside()
         → Contains (site_ranges inlinees (walk symbols fault position end).sites outer) range
         → Contains (site_ranges inlinees (walk symbols fault position end).sites inner) under
         → IsDirectlyInside outer inner }
+{}
+
+/// What is added for a site is for the maximal runs of what the rows of sites inside it cover and its own
+/// rows do not: runs that hold those numbers and no others, none of which touches the next.
+pub fn added_ranges_are_of_maximal_runs()
+    ensures maximal { (inlinees : List IdIndex) (sites : List Site) (site : Site) → IsRunsFrom 0 (missing inlinees sites site) }
+    ensures numbers { (inlinees : List IdIndex) (sites : List Site) (site : Site) (x : ℕ)
+        → has (missing inlinees sites site) x
+        ≡ (has (inner_ranges inlinees sites site) x && not (has (row_ranges inlinees site.symbol) x)) }
 {}

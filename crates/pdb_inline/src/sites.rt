@@ -1,4 +1,4 @@
-ghost use Rattle.std.specs.Prelude.{◌≡◌, ◌++◌, map, reverse, option_map, option_to_list, Option, Some, None, OnOk};
+ghost use Rattle.std.specs.Prelude.{◌≡◌, ◌+◌, ◌-◌, ◌^◌, ◌++◌, min, map, reverse, option_map, option_to_list, Option, Some, None, OnOk};
 ghost use Rattle.std.specs.Option.{option_copied};
 ghost use Rattle.pdb_types.specs.Outcomes.{Gives};
 ghost use Rattle.pdb_inline.specs.Sites.{site_of, nested_end, innermost_end, through_after, open_after, opened_at, walk, unless_met, at_depth, kept_site, open_site};
@@ -44,14 +44,15 @@ fn procedure_end(symbol: &Symbol) -> Option<SymbolIndex>
     }
 }
 
-/// The position through which the walk passes symbols over, after the symbol at a position.
-fn passed_through(at: usize, symbol: &Symbol, through: usize) -> usize
-    ensures { result ≡ through_after at (nested_end symbol.now) through }
+/// Where the walk goes on after the symbol at a position: behind the end of a procedure that it tells of.
+fn position_after(at: usize, symbol: &Symbol) -> usize
+    ensures { result ≡ min (through_after at (nested_end symbol.now) at + 1) (2 ^ 64 - 1) }
 {
-    match procedure_end(symbol) {
+    let through = match procedure_end(symbol) {
         Some(end) if at < end.0 => end.0,
-        _ => through,
-    }
+        _ => at,
+    };
+    through.saturating_add(1)
 }
 
 /// Where what is open ends first: the innermost site, or the procedure where no site is open.
@@ -101,20 +102,18 @@ pub(crate) fn procedure_sites(
 {
     let mut sites = Vec::new(alloc);
     let mut outer = Vec::new(alloc);
-    let mut through = position;
-    for at in position..symbols.len() {
-        if at <= through {
-            continue;
-        }
+    let mut at = position.saturating_add(1);
+    while at < symbols.len() {
         if first_end(end, &outer) <= at {
             if outer.pop().is_none() {
                 return Ok(sites);
             }
-            continue;
+            at += 1;
+        } else {
+            let symbol = &symbols[at];
+            open_at(at, symbol, &mut sites, &mut outer)?;
+            at = position_after(at, symbol);
         }
-        let symbol = &symbols[at];
-        open_at(at, symbol, &mut sites, &mut outer)?;
-        through = passed_through(at, symbol, through);
     }
     match fault {
         Some(fault) => Err(Error::from(pdb_records::Error::Stream(fault))),
