@@ -1,14 +1,13 @@
 -- What is told of a function.
-use Rattle.std.specs.Prelude.{ℕ, ◌+◌, ◌^◌, ◌==◌, Bool, false, List, [], ◌∷◌, length, codes, string_bytes, Option, Some, None, option_map, option_and_then, unwrap_or, find, nat_lt, if◌then◌else◌}
+use Rattle.std.specs.Prelude.{ℕ, ◌+◌, ◌^◌, ◌==◌, Bool, false, List, [], ◌∷◌, length, codes, string_bytes, Option, Some, None, option_map, option_and_then, unwrap_or, nat_lt, if◌then◌else◌}
 use Rattle.pdb_records.specs.Names.{lossy}
-use Rattle.pdb_records.specs.Lines.{is_same_place}
 use Rattle.pdb_records.specs.Addresses.{rva}
 use Rattle.pdb_records.specs.declared.addresses.AddressRange.{AddressRange}
 use Rattle.pdb_records.specs.declared.addresses.PdbInternalSectionOffset.{PdbInternalSectionOffset}
 use Rattle.pdb_addr2line.specs.declared.function.Function.{Function}
-use Rattle.pdb_addr2line.specs.GlobalFunctions.{GlobalFunction}
-use Rattle.pdb_addr2line.specs.Procedures.{ModuleProcedure}
-use Rattle.pdb_addr2line.specs.Lookup.{FoundFunction, found_procedure, found_global, next_global}
+use Rattle.pdb_functions.specs.GlobalFunctions.{GlobalFunction}
+use Rattle.pdb_functions.specs.Procedures.{ModuleProcedure}
+use Rattle.pdb_functions.specs.Lookup.{FoundFunction, found_procedure, found_global, global_at, next_global}
 
 -- a function's addresses and its name, as far as they are known
 pub record Description : Type 0 where
@@ -35,7 +34,7 @@ decorated_name f = option_and_then (λ name. if is_decorated name then Some (los
 
 -- the decorated name of the global function that starts at a place
 abbrev pub decorated_at : List GlobalFunction → PdbInternalSectionOffset → Option (List ℕ)
-decorated_at globals start = option_and_then decorated_name (find (λ f. is_same_place f.start start) globals)
+decorated_at globals start = option_and_then decorated_name (global_at start globals)
 
 -- the name of a procedure with no type: a decorated one at its start goes before its own, unless that is decorated too
 abbrev pub untyped_name : List GlobalFunction → ModuleProcedure → List ℕ

@@ -7,15 +7,15 @@ use Rattle.pdb_records.specs.declared.addresses.AddressRange.{AddressRange}
 use Rattle.pdb_records.specs.declared.addresses.ImageSectionHeader.{ImageSectionHeader}
 use Rattle.pdb_records.specs.declared.debug_information.DebugInformation.{DebugInformation}
 use Rattle.pdb_records.specs.declared.debug_information.Module.{Module}
-use Rattle.pdb_records.specs.declared.debug_information.SymbolTable.{SymbolTable}
+use Rattle.pdb_records.specs.declared.symbols.SymbolTable.{SymbolTable}
 use Rattle.pdb_types.specs.declared.error.Error.{Error}
 use Rattle.pdb_types.specs.declared.error.Error.TheVariants.{PdbError}
-use Rattle.pdb_addr2line.specs.declared.contributions.ModuleSectionContribution.{ModuleSectionContribution}
-use Rattle.pdb_addr2line.specs.Outcomes.{unless, and_then}
-use Rattle.pdb_addr2line.specs.Contributions.{merged_contributions}
-use Rattle.pdb_addr2line.specs.GlobalFunctions.{GlobalFunction, global_functions}
-use Rattle.pdb_addr2line.specs.Spans.{contribution_covers}
-use Rattle.pdb_addr2line.specs.Lookup.{Infos, function_over}
+use Rattle.pdb_functions.specs.declared.contributions.ModuleSectionContribution.{ModuleSectionContribution}
+use Rattle.pdb_types.specs.Outcomes.{unless, and_then}
+use Rattle.pdb_functions.specs.Contributions.{merged_contributions}
+use Rattle.pdb_functions.specs.GlobalFunctions.{GlobalFunction, global_functions}
+use Rattle.pdb_functions.specs.Spans.{contribution_covers}
+use Rattle.pdb_functions.specs.Lookup.{Infos, function_over}
 use Rattle.pdb_addr2line.specs.Function.{Description, described}
 
 -- what a context was made of
@@ -37,7 +37,10 @@ global_functions_of s = global_functions s.sections s.global_symbols.symbols.ite
 
 -- what these records are refused for: the fault of the global symbols, then their contributions
 abbrev pub accepted : {P : Type 0} → Sources P → Result (Sources P) Error
-accepted s = unless (option_map (λ fault. PdbError (Stream fault)) s.global_symbols.symbols.fault) (and_then (λ merged. Ok s) (merged_contributions s.sections s.debug_information))
+accepted s =
+    unless (option_map (λ fault. PdbError (Stream fault)) s.global_symbols.symbols.fault) (
+    and_then (merged_contributions s.sections s.debug_information) (λ merged.
+    Ok s))
 
 -- the contribution over an address
 abbrev pub contribution_at : {P : Type 0} → Sources P → ℕ → Option ModuleSectionContribution

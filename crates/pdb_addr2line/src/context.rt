@@ -3,15 +3,12 @@ ghost use Rattle.std.specs.Option.{option_map_or};
 ghost use Rattle.pdb_types.specs.declared.error.Error.TheVariants.{OutOfMemory};
 ghost use Rattle.pdb_addr2line.specs.Function.{description};
 
-use crate::contributions::{ModuleSectionContribution, compute_section_contributions};
 use crate::function::{Function, describe};
-use crate::global_functions::{PublicSymbolFunctionOrPlaceholder, compute_global_functions};
-use crate::lookup::{
-    PublicOrProcedureSymbol, contribution_over, global_function_in, global_function_over,
-    procedure_over,
+use pdb_functions::{
+    BasicModuleInfo, ModuleSectionContribution, ProcedureSymbolFunction, PublicOrProcedureSymbol,
+    PublicSymbolFunctionOrPlaceholder, compute_global_functions, compute_section_contributions,
+    contribution_over, global_function_in, global_function_over, procedure_over,
 };
-use crate::module_info::BasicModuleInfo;
-use crate::procedures::ProcedureSymbolFunction;
 use pdb_records::{
     AddressMap, DebugInformation, ImageSectionHeader, Module, PdbInternalSectionOffset, Rva,
     SymbolTable,
@@ -40,8 +37,8 @@ pub struct Context<'a, P: ModuleProvider> {
 impl<'a, P: ModuleProvider> Model for Context<'a, P> {
     ghost use Rattle.std.specs.Prelude.{◌≡◌, Ok, map};
     ghost use Rattle.pdb_addr2line.specs.Sources.{Sources};
-    ghost use Rattle.pdb_addr2line.specs.Contributions.{merged_contributions};
-    ghost use Rattle.pdb_addr2line.specs.GlobalFunctions.{global_function, global_functions as functions_told};
+    ghost use Rattle.pdb_functions.specs.Contributions.{merged_contributions};
+    ghost use Rattle.pdb_functions.specs.GlobalFunctions.{global_function, global_functions as functions_told};
 
     ghost Value = { Sources P };
 
@@ -62,12 +59,12 @@ impl<'a, P: ModuleProvider> Model for Context<'a, P> {
 
 impl<'a, P: ModuleProvider> Context<'a, P> {
     ghost use Rattle.pdb_addr2line.specs.Sources.{Sources, accepted, contributions_of, global_functions_of, contribution_at, function_at};
-    ghost use Rattle.pdb_addr2line.specs.Outcomes.{Gives};
-    ghost use Rattle.pdb_addr2line.specs.Procedures.{module_procedure, info_procedures};
-    ghost use Rattle.pdb_addr2line.specs.Pick.{pick};
-    ghost use Rattle.pdb_addr2line.specs.GlobalFunctions.{global_function};
-    ghost use Rattle.pdb_addr2line.specs.Spans.{procedure_covers};
-    ghost use Rattle.pdb_addr2line.specs.Lookup.{found_function, procedures_of_module, function_in_contribution};
+    ghost use Rattle.pdb_types.specs.Outcomes.{Gives};
+    ghost use Rattle.pdb_functions.specs.Procedures.{module_procedure, info_procedures};
+    ghost use Rattle.pdb_ranges.specs.Pick.{pick};
+    ghost use Rattle.pdb_functions.specs.GlobalFunctions.{global_function};
+    ghost use Rattle.pdb_functions.specs.Spans.{procedure_covers};
+    ghost use Rattle.pdb_functions.specs.Lookup.{found_function, procedures_of_module, function_in_contribution};
 
     /// A context over these records.
     ///

@@ -1,18 +1,21 @@
-ghost use Rattle.std.specs.Prelude.{◌≡◌, None, Some, IfOk};
+ghost use Rattle.std.specs.Prelude.{◌≡◌, [], None, Some, IfOk};
 ghost use Rattle.pdb_types.specs.Provided.{provided};
-ghost use Rattle.pdb_addr2line.specs.Outcomes.{Gives, Refuses};
-ghost use Rattle.pdb_types.specs.FailedParts.{NoneFailed};
-ghost use Rattle.pdb_addr2line.specs.Made.{records_refusal, formatter_refusal, sections_read, info_at, context_of, formatter_of};
+ghost use Rattle.pdb_types.specs.Outcomes.{Gives, Refuses};
+ghost use Rattle.pdb_addr2line.specs.ContextData.{records_refusal, formatter_refusal, sections_read, info_at, context_of, formatter_of};
+ghost use Rattle.std.specs.Borrow.{sem};
+ghost use Rattle.std.specs.Io.BufRead.{Rests};
+ghost use Rattle.pdb_records.specs.contracts.pdb.PDB.{the_row};
 
 use crate::context::Context;
 use pdb_records::{DebugInformation, ImageSectionHeader, Module, ModuleInfo, PDB, StreamError};
-use pdb_types::{Error, ModuleProvider, Result, TypeFormatter, TypeFormatterFlags};
+use pdb_signatures::TypeFormatter;
+use pdb_types::{Error, ModuleProvider, Result, TypeFormatterFlags};
 use std::alloc::{AllocError, Global};
 use std::marker::Model;
 
 /// The records, owned or lent.
 #[derive(Drop)]
-enum Held<'p> {
+enum Keeper<'p> {
     Owned(PDB),
     Lent(&'p PDB),
 }
@@ -23,7 +26,7 @@ enum Held<'p> {
 #[derive(Drop)]
 pub struct ContextPdbData<'p> {
     alloc: Global,
-    held: Held<'p>,
+    keeper: Keeper<'p>,
 }
 
 impl<'p> Model for ContextPdbData<'p> {
@@ -32,12 +35,20 @@ impl<'p> Model for ContextPdbData<'p> {
 
     ghost Value = { Records };
 
-    ghost use Rattle.pdb_addr2line.specs.Held.{records};
-    ghost use Rattle.pdb_addr2line.specs.Made.{records_refusal};
+    ghost use Rattle.pdb_addr2line.specs.Keeper.{records};
+    ghost use Rattle.pdb_addr2line.specs.ContextData.{records_refusal};
 
-    ghost view = { λ d. records d.held };
+    ghost view = { λ d. records d.keeper };
 
-    ghost invariant = { λ d. records_refusal (records d.held) ≡ None };
+    ghost invariant = { λ d. records_refusal (records d.keeper) ≡ None };
+}
+
+/// The records that are lent, from now on only to be read: they end as they were.
+fn shared<'p>(pdb: &'p mut PDB) -> &'p PDB
+    ensures is { result.now ≡ pdb.old }
+    ensures* unchanged { sem 𝓛 (Rests the_row pdb.entry (λ last. last ≡ pdb.old)) }
+{
+    pdb
 }
 
 /// Refuses records of which a stream failed that a context can't do without.
@@ -72,19 +83,28 @@ impl<'p> ContextPdbData<'p> {
         check_streams(&pdb)?;
         Ok(ContextPdbData {
             alloc,
-            held: Held::Owned(pdb),
+            keeper: Keeper::Owned(pdb),
         })
     }
 
-    /// Keeps a reference to these records, under the conditions of [`ContextPdbData::try_from_pdb`].
+    /// Keeps a reference to these records, under the conditions of [`ContextPdbData::try_from_pdb`]. They
+    /// are only read, and stay as they are, also where they are refused.
     pub fn try_from_pdb_ref(alloc: Global, pdb: &'p mut PDB) -> Result<Self>
         ensures kept { IfOk result (λ d. d ≡ pdb.old) }
         ensures refused { Refuses result (records_refusal pdb.old) }
     {
+        ContextPdbData::over(alloc, shared(pdb))
+    }
+
+    /// Keeps a reference to records that are only read.
+    fn over(alloc: Global, pdb: &'p PDB) -> Result<Self>
+        ensures kept { IfOk result (λ d. d ≡ pdb.now) }
+        ensures refused { Refuses result (records_refusal pdb.now) }
+    {
         check_streams(pdb)?;
         Ok(ContextPdbData {
             alloc,
-            held: Held::Lent(pdb),
+            keeper: Keeper::Lent(pdb),
         })
     }
 
@@ -129,7 +149,7 @@ impl<'p> ContextPdbData<'p> {
     /// As [`ContextPdbData::make_type_formatter_with_flags`].
     pub fn make_type_formatter(&self) -> Result<TypeFormatter<'_, Self>>
         ensures answer { Gives (λ f. f.standing) result (formatter_of (record { 0 = 23 }) self.now) }
-        ensures none_failed { IfOk result (λ f. NoneFailed f.failed) }
+        ensures none_failed { IfOk result (λ f. f.failed ≡ []) }
     {
         self.make_type_formatter_with_flags(TypeFormatterFlags::default())
     }
@@ -145,7 +165,7 @@ impl<'p> ContextPdbData<'p> {
         flags: TypeFormatterFlags,
     ) -> Result<TypeFormatter<'_, Self>>
         ensures answer { Gives (λ f. f.standing) result (formatter_of flags self.now) }
-        ensures none_failed { IfOk result (λ f. NoneFailed f.failed) }
+        ensures none_failed { IfOk result (λ f. f.failed ≡ []) }
     {
         let pdb = self.pdb();
         let (Ok(debug_information), Ok(types), Ok(ids)) = (
@@ -175,9 +195,9 @@ impl<'p> ContextPdbData<'p> {
         ensures is { result.now ≡ self.now }
         ensures read { records_refusal self.now ≡ None }
     {
-        match &self.held {
-            Held::Owned(pdb) => pdb,
-            Held::Lent(pdb) => pdb,
+        match &self.keeper {
+            Keeper::Owned(pdb) => pdb,
+            Keeper::Lent(pdb) => pdb,
         }
     }
 }

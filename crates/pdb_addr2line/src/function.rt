@@ -1,15 +1,15 @@
-ghost use Rattle.std.specs.Prelude.{◌≡◌, map, option_map, string_bytes, find, IfOk};
+ghost use Rattle.std.specs.Prelude.{◌≡◌, map, option_map, string_bytes, IfOk};
 ghost use Rattle.std.specs.Option.{option_copied};
 ghost use Rattle.pdb_records.specs.Names.{lossy};
-ghost use Rattle.pdb_addr2line.specs.GlobalFunctions.{global_function};
-ghost use Rattle.pdb_addr2line.specs.Procedures.{module_procedure};
-ghost use Rattle.pdb_addr2line.specs.Lookup.{found_function, next_global};
-ghost use Rattle.pdb_records.specs.Lines.{is_same_place};
+ghost use Rattle.pdb_functions.specs.GlobalFunctions.{global_function};
+ghost use Rattle.pdb_functions.specs.Procedures.{module_procedure};
+ghost use Rattle.pdb_functions.specs.Lookup.{found_function};
 ghost use Rattle.pdb_addr2line.specs.Function.{description, is_decorated, printed_name, decorated_at, untyped_name, procedure_name, global_end, described_global, described_procedure, described};
 
-use crate::global_functions::PublicSymbolFunctionOrPlaceholder;
-use crate::lookup::PublicOrProcedureSymbol;
-use crate::procedures::ProcedureSymbolFunction;
+use pdb_functions::{
+    ProcedureSymbolFunction, PublicOrProcedureSymbol, PublicSymbolFunctionOrPlaceholder,
+    global_function_at, next_function,
+};
 use pdb_records::{AddressMap, PdbInternalSectionOffset, RawString};
 use std::alloc::{AllocError, Global};
 
@@ -52,21 +52,6 @@ fn printed(alloc: Global, name: &RawString) -> Result<String, AllocError>
     text_of(alloc, name)
 }
 
-/// The global function that starts at a place.
-fn function_at<'a>(
-    functions: &[PublicSymbolFunctionOrPlaceholder<'a>],
-    start: PdbInternalSectionOffset,
-) -> Option<PublicSymbolFunctionOrPlaceholder<'a>>
-    ensures { option_map global_function result ≡ find (λ f. is_same_place f.start start) (map global_function functions.now) }
-{
-    for function in functions {
-        if function.start_offset == start {
-            return Some(*function);
-        }
-    }
-    None
-}
-
 /// The decorated name of the global function that starts at a place.
 fn mangled_name_at<'a>(
     functions: &[PublicSymbolFunctionOrPlaceholder<'a>],
@@ -74,7 +59,7 @@ fn mangled_name_at<'a>(
 ) -> Option<&'a RawString>
     ensures { option_map lossy (option_copied result) ≡ decorated_at (map global_function functions.now) start }
 {
-    let name = function_at(functions, start)?.name?;
+    let name = global_function_at(functions, start)?.name?;
     if is_mangled(name) { Some(name) } else { None }
 }
 
@@ -108,23 +93,6 @@ fn name_of_procedure(
     }
     let name = untyped_procedure_name(alloc, functions, procedure)?;
     Ok(Some(name))
-}
-
-/// The next global function of a section behind an offset, in a list by section and start.
-fn next_function<'a>(
-    functions: &[PublicSymbolFunctionOrPlaceholder<'a>],
-    place: PdbInternalSectionOffset,
-) -> Option<PublicSymbolFunctionOrPlaceholder<'a>>
-    ensures { option_map global_function result ≡ next_global place (map global_function functions.now) }
-{
-    for function in functions {
-        if function.start_offset.section == place.section
-            && place.offset < function.start_offset.offset
-        {
-            return Some(*function);
-        }
-    }
-    None
 }
 
 /// What is told of a procedure.

@@ -1,96 +1,12 @@
-ghost use Rattle.std.specs.Prelude.{◌≡◌, ◌++◌, map, IfOk, OnOk, OnErr};
-ghost use Rattle.std.specs.List.{flat_map};
-ghost use Rattle.pdb_addr2line.specs.InOrder.{in_order};
-ghost use Rattle.pdb_addr2line.specs.Outcomes.{Gives};
-ghost use Rattle.pdb_addr2line.specs.CoveredRuns.{ranges_by_depth};
-ghost use Rattle.pdb_addr2line.specs.InlineRanges.{own_range, own_ranges, range_before, procedure_inline_ranges};
-ghost use Rattle.pdb_addr2line.specs.Sites.{kept_site};
+ghost use Rattle.pdb_types.specs.Outcomes.{Gives};
+ghost use Rattle.pdb_inline.specs.InlineRanges.{procedure_inline_ranges};
 
-use crate::inline_rows::{kept_rows, row_end};
-use crate::missing_rows::added_ranges;
-use crate::procedures::ProcedureSymbolFunction;
-use crate::sites::{Site, procedure_sites};
-use pdb_records::{FileIndex, IdIndex, InlineRow, ModuleInfo};
+use pdb_functions::ProcedureSymbolFunction;
+use pdb_inline::{InlineRange, inline_ranges_of_procedure};
+use pdb_records::{IdIndex, ModuleInfo};
 use pdb_types::Result;
-use std::alloc::{AllocError, Global};
+use std::alloc::Global;
 use std::collections::BTreeSet;
-
-/// A range of a procedure's code that came from an inlined body.
-#[derive(Clone, Copy)]
-pub struct InlineRange {
-    /// Where it starts, in bytes from the start of the procedure's section.
-    pub start_offset: u64,
-    /// Where it ends: the offset of the first byte behind it.
-    pub end_offset: u64,
-    /// How many inlined bodies the body is inside of.
-    pub call_depth: usize,
-    /// What was called.
-    pub inlinee: IdIndex,
-    /// The file that it comes from, where that is known.
-    pub file_index: Option<FileIndex>,
-    /// The line that it comes from, where that is known.
-    pub line_start: Option<u32>,
-}
-
-/// Adds the ranges of rows, which a site has.
-fn push_own(
-    ranges: &mut Vec<InlineRange>,
-    site: Site<'_>,
-    rows: &[InlineRow],
-) -> Result<(), AllocError>
-    ensures { OnOk result (ranges.new.items ≡ ranges.old.items ++ map (own_range site.entry.depth site.entry.symbol.now) rows.now) }
-{
-    for row in rows {
-        ranges.push(InlineRange {
-            start_offset: u64::from(row.offset),
-            end_offset: row_end(row),
-            call_depth: site.depth,
-            inlinee: site.symbol.inlinee,
-            file_index: Some(row.file_index),
-            line_start: Some(row.line_start),
-        })?;
-    }
-    Ok(())
-}
-
-/// The ranges of the sites' own rows.
-fn own_ranges(
-    alloc: Global,
-    inlinees: &BTreeSet<IdIndex>,
-    sites: &[Site<'_>],
-) -> Result<Vec<InlineRange>, AllocError>
-    ensures { IfOk result (λ v. v.items ≡ flat_map (λ site. own_ranges inlinees.now.keys site.depth site.symbol) (map kept_site sites.now)) }
-{
-    let mut ranges = Vec::new(alloc);
-    for site in sites {
-        let rows = kept_rows(alloc, inlinees, site.symbol)?;
-        push_own(&mut ranges, *site, &rows)?;
-    }
-    Ok(ranges)
-}
-
-/// Puts ranges in order of their depths and starts. Those with one depth and start stay as they stood.
-fn sort(ranges: &mut Vec<InlineRange>) -> Result<(), AllocError>
-    ensures { OnOk result (ranges.new.items ≡ in_order range_before ranges.old.items) }
-{
-    ranges.sort_by_key(|range| (range.call_depth, range.start_offset))?;
-    Ok(())
-}
-
-/// The ranges of sites, by depth and start.
-fn ranges_of_sites(
-    alloc: Global,
-    inlinees: &BTreeSet<IdIndex>,
-    sites: &[Site<'_>],
-) -> Result<Vec<InlineRange>, AllocError>
-    ensures { IfOk result (λ v. v.items ≡ ranges_by_depth inlinees.now.keys (map kept_site sites.now)) }
-{
-    let mut ranges = own_ranges(alloc, inlinees, sites)?;
-    let added = added_ranges(alloc, inlinees, sites)?;
-    ranges.extend_from_slice(&added)?;
-    sort(&mut ranges)?;
-    Ok(ranges)
-}
 
 /// The ranges of a procedure's code that came from inlined bodies, by depth and start.
 ///
@@ -112,16 +28,7 @@ pub fn compute_procedure_inline_ranges(
     ensures { Gives (λ v. v.items) result
         (procedure_inline_ranges inlinees.now.keys module_info.now procedure.now.symbol_index.0 procedure.now.end_symbol_index.0) }
 {
-    let symbols = &module_info.symbols;
-    let sites = procedure_sites(
-        alloc,
-        &symbols.items,
-        symbols.fault,
-        procedure.symbol_index.0,
-        procedure.end_symbol_index.0,
-    )?;
-    Ok(ranges_of_sites(alloc, inlinees, &sites)?)
+    let position = procedure.symbol_index;
+    let end = procedure.end_symbol_index;
+    inline_ranges_of_procedure(alloc, module_info, position, end, inlinees)
 }
-
-#[cfg(test)]
-mod tests;

@@ -19,25 +19,18 @@ pub use pdb_records as pdb;
 
 mod context;
 mod context_data;
-mod contributions;
 mod function;
-mod global_functions;
-mod inline_laws;
 mod inline_ranges;
-mod inline_rows;
 pub mod laws;
-mod lookup;
-mod missing_rows;
-mod module_info;
 pub mod parts;
-mod pick;
-mod procedures;
-mod sections;
-mod sites;
-mod starts;
 
 pub use context::Context;
 pub use context_data::ContextPdbData;
-pub use contributions::ModuleSectionContribution;
 pub use function::Function;
-pub use pdb_types::{Error, ModuleProvider, Result, TypeFormatter, TypeFormatterFlags};
+pub use pdb_functions::ModuleSectionContribution;
+pub use pdb_ranges::RangeSet;
+pub use pdb_signatures::TypeFormatter;
+pub use pdb_types::{
+    Error, IdMap, ItemIndex, ItemMap, ModuleProvider, Result, TypeFormatterFlags, TypeMap,
+    TypeSizeCache,
+};

@@ -1,6 +1,10 @@
 //! The parts that a [`Context`](crate::Context) is made of, for callers who need one of them alone.
 
-pub use crate::contributions::{ModuleSectionContribution, compute_section_contributions};
-pub use crate::inline_ranges::{InlineRange, compute_procedure_inline_ranges};
-pub use crate::module_info::BasicModuleInfo;
-pub use crate::procedures::ProcedureSymbolFunction;
+pub use crate::inline_ranges::compute_procedure_inline_ranges;
+pub use pdb_functions::{
+    BasicModuleInfo, ModuleSectionContribution, ProcedureSymbolFunction,
+    compute_section_contributions,
+};
+pub use pdb_inline::InlineRange;
+pub use pdb_ranges::RangeSet;
+pub use pdb_types::{IdMap, ItemIndex, ItemMap, TypeMap, TypeSizeCache};

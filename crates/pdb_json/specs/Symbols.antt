@@ -4,7 +4,7 @@ use Rattle.serde_json.specs.Data.{Data}
 use Rattle.pdb_records.specs.declared.ids.IdIndex.{IdIndex}
 use Rattle.pdb_records.specs.declared.types.TypeIndex.{TypeIndex}
 use Rattle.pdb_records.specs.declared.lines.FileIndex.{FileIndex}
-use Rattle.pdb_records.specs.declared.debug_information.SymbolTable.{SymbolTable}
+use Rattle.pdb_records.specs.declared.symbols.SymbolTable.{SymbolTable}
 use Rattle.pdb_records.specs.declared.symbols.SymbolIndex.{SymbolIndex}
 use Rattle.pdb_records.specs.declared.symbols.Symbol.{Symbol}
 use Rattle.pdb_records.specs.declared.symbols.SymbolData.{SymbolData}

@@ -2,7 +2,8 @@
 use Rattle.std.proofs.Common.{◌≡◌, ℕ, ◌+◌, ◌<◌, ◌≤◌, true, leb, List, [], ◌∷◌, ◌↔◌, refl, ◌∙◌, arith, inl, inr}
 use Rattle.std.proofs.lemmas.Bool.{cases_lt, lt-leb, le-leb, or_cases, or_left, or_right, and_parts, and_from}
 use Rattle.std.proofs.lemmas.Bool.Decides.{nat_tests}
-use Rattle.pdb_ranges.specs.RangeSet.{is_within, has, IsRunsFrom, ending_after, starts_with_all, covers}
+use Rattle.pdb_ranges.specs.RangeSet.{is_within, has, IsRunsFrom}
+use Rattle.pdb_ranges.specs.Runs.{ending_after, starts_with_all, covers}
 use Rattle.pdb_ranges.proofs.HasLemmas.{within_yes, within_above, has_below, has_end}
 use Rattle.pdb_ranges.proofs.DifferenceLemmas.{IsRunsFrom-ending_after, has-ending_after}
 

@@ -2,7 +2,8 @@
 use Rattle.std.proofs.Common.{◌≡◌, ℕ, ◌+◌, ◌<◌, ◌≤◌, Bool, true, false, not, ◌||◌, ◌&&◌, List, [], ◌∷◌, ◌++◌, max, append_assoc, refl, sym, ◌∙◌, arith, inl, inr}
 use Rattle.std.proofs.lemmas.Bool.{cases_lt, lt-ltb, le-ltb, lt-leb, le-leb}
 use Rattle.std.proofs.lemmas.Bool.Decides.{nat_tests}
-use Rattle.pdb_ranges.specs.RangeSet.{is_within, has, IsRunsFrom, ending_after, one_or_none, pieces, difference}
+use Rattle.pdb_ranges.specs.RangeSet.{is_within, has, IsRunsFrom}
+use Rattle.pdb_ranges.specs.Runs.{ending_after, one_or_none, pieces, difference}
 use Rattle.pdb_ranges.proofs.HasLemmas.{within_yes, within_below, within_above, within_empty, has-append, has_below}
 use Rattle.pdb_ranges.proofs.RunLemmas.{runs_lower, runs_rest}
 

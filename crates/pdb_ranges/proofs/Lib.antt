@@ -4,3 +4,7 @@ pub mod SameRuns
 pub mod WithRangeLemmas
 pub mod DifferenceLemmas
 pub mod CoversLemmas
+pub mod MissingRunLemmas
+pub mod NumberLemmas
+pub mod SortLemmas
+pub mod PickLemmas

@@ -2,7 +2,8 @@
 use Rattle.std.proofs.Common.{◌≡◌, ℕ, ◌+◌, ◌<◌, ◌≤◌, false, ◌||◌, List, [], ◌∷◌, min, max, sym, arith, inl, inr}
 use Rattle.std.proofs.lemmas.Bool.{cases_lt, lt-ltb, le-ltb}
 use Rattle.std.proofs.Math.Bool.{or_assoc, or_comm}
-use Rattle.pdb_ranges.specs.RangeSet.{is_within, has, IsRunsFrom, with_range}
+use Rattle.pdb_ranges.specs.RangeSet.{is_within, has, IsRunsFrom}
+use Rattle.pdb_ranges.specs.Runs.{with_range}
 use Rattle.pdb_ranges.proofs.HasLemmas.{within_joined}
 use Rattle.pdb_ranges.proofs.RunLemmas.{runs_lower}
 

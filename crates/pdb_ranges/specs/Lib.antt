@@ -1,1 +1,4 @@
 pub mod RangeSet
+pub mod Runs
+pub mod InOrder
+pub mod Pick

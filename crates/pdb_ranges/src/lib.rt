@@ -5,7 +5,10 @@
 //! `lo` in it and `hi` out of it.
 #![tactic(auto)]
 
+pub mod laws;
+mod pick;
 mod range_set;
 mod runs;
 
-pub use range_set::{RangeSet, runs_are_determined};
+pub use pick::{Span, pick_span};
+pub use range_set::RangeSet;

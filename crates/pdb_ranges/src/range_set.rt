@@ -99,14 +99,5 @@ impl RangeSet {
     }
 }
 
-/// The law that a set of numbers has one list of runs: two lists of runs that hold the same numbers are equal.
-///
-/// So where the clauses of a call say which numbers are in a set, they also say what [`RangeSet::runs`] returns. It does
-/// nothing when it is called.
-pub fn runs_are_determined()
-    ensures { (m n : ℕ) (a b : List (ℕ × ℕ)) → IsRunsFrom m a → IsRunsFrom n b
-        → ((x : ℕ) → has a x ≡ has b x) → a ≡ b }
-{}
-
 #[cfg(test)]
 mod tests;

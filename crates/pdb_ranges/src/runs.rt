@@ -1,7 +1,8 @@
 // What a set does to its list of runs.
 
 ghost use Rattle.std.specs.Prelude.{◌≡◌, ℕ, ◌||◌, ◌&&◌, ◌++◌, not, IfOk, OnOk, OnErr};
-ghost use Rattle.pdb_ranges.specs.RangeSet.{is_within, has, IsRunsFrom, with_range, ending_after, pieces, covers};
+ghost use Rattle.pdb_ranges.specs.RangeSet.{is_within, has, IsRunsFrom};
+ghost use Rattle.pdb_ranges.specs.Runs.{with_range, ending_after, pieces, covers};
 
 use std::alloc::{AllocError, Global};
 

@@ -1,8 +1,12 @@
 -- Addresses, and places in sections.
-use Rattle.std.specs.Prelude.{ℕ, ◌+◌, ◌-◌, ◌^◌, ◌&&◌, Bool, List, [], ◌∷◌, Option, Some, None, nat_le, nat_lt, option_and_then, slice_get, if◌then◌else◌}
+use Rattle.std.specs.Prelude.{ℕ, ◌+◌, ◌-◌, ◌^◌, ◌&&◌, ◌==◌, Bool, List, [], ◌∷◌, Option, Some, None, nat_le, nat_lt, option_and_then, slice_get, if◌then◌else◌}
 use Rattle.pdb_records.specs.declared.addresses.Rva.{Rva}
 use Rattle.pdb_records.specs.declared.addresses.AddressRange.{AddressRange}
 use Rattle.pdb_records.specs.declared.addresses.PdbInternalSectionOffset.{PdbInternalSectionOffset}
+
+-- two places are one
+abbrev pub is_same_place : PdbInternalSectionOffset → PdbInternalSectionOffset → Bool
+is_same_place a b = (a.section == b.section) && (a.offset == b.offset)
 
 -- the section holds the address: it starts at or below it and ends above it
 abbrev pub holds : ℕ → AddressRange → Bool

@@ -7,5 +7,7 @@ pub mod Strings
 pub mod Arrays
 pub mod Imports
 pub mod References
+pub mod SymbolKinds
+pub mod Laws
 pub mod Sections
 pub mod Records

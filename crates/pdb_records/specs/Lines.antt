@@ -1,13 +1,10 @@
 -- Line rows by the place of their function.
-use Rattle.std.specs.Prelude.{List, Option, option_map, find, ◌==◌, ◌&&◌, Bool}
+use Rattle.std.specs.Prelude.{List, Option, option_map, find}
+use Rattle.pdb_records.specs.Addresses.{is_same_place}
 use Rattle.pdb_records.specs.Readings.{Read}
 use Rattle.pdb_records.specs.declared.addresses.PdbInternalSectionOffset.{PdbInternalSectionOffset}
 use Rattle.pdb_records.specs.declared.lines.SymbolLines.{SymbolLines}
 use Rattle.pdb_records.specs.declared.lines.LineInfo.{LineInfo}
-
--- two places are one
-abbrev pub is_same_place : PdbInternalSectionOffset → PdbInternalSectionOffset → Bool
-is_same_place a b = (a.section == b.section) && (a.offset == b.offset)
 
 -- the rows of the first entry for a place
 abbrev pub lines_at : PdbInternalSectionOffset → List SymbolLines → Option (Read LineInfo)

@@ -3,7 +3,7 @@ use Rattle.std.specs.Prelude.{ℕ, List, Option, Result}
 use Rattle.pdb_records.specs.declared.error.StreamError.{StreamError}
 use Rattle.pdb_records.specs.declared.addresses.AddressRange.{AddressRange}
 use Rattle.pdb_records.specs.declared.addresses.ImageSectionHeader.{ImageSectionHeader}
-use Rattle.pdb_records.specs.declared.debug_information.SymbolTable.{SymbolTable}
+use Rattle.pdb_records.specs.declared.symbols.SymbolTable.{SymbolTable}
 use Rattle.pdb_records.specs.declared.debug_information.DebugInformation.{DebugInformation}
 use Rattle.pdb_records.specs.declared.types.ItemInformation.{ItemInformation}
 use Rattle.pdb_records.specs.declared.types.TypeIndex.{TypeIndex}

@@ -2,7 +2,6 @@ use crate::addresses::PdbInternalSectionOffset;
 use crate::error::StreamError;
 use crate::raw_string::RawString;
 use crate::reading::Reading;
-use crate::symbols::Symbol;
 
 /// The processor that a program runs on, as far as it decides the size of a pointer.
 #[derive(Clone, Copy, PartialEq, Eq)]
@@ -13,12 +12,6 @@ pub enum MachineType {
     RiscV64,
     RiscV128,
     Other,
-}
-
-/// The symbols of the whole program.
-#[derive(Drop)]
-pub struct SymbolTable {
-    pub symbols: Reading<Symbol>,
 }
 
 /// What was compiled into the program, and where it went.

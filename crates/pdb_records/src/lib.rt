@@ -8,6 +8,7 @@ mod addresses;
 mod debug_information;
 mod error;
 mod ids;
+pub mod laws;
 mod lines;
 mod modules;
 mod pdb;
@@ -19,9 +20,7 @@ mod symbols;
 mod types;
 
 pub use addresses::{AddressMap, AddressRange, ImageSectionHeader, PdbInternalSectionOffset, Rva};
-pub use debug_information::{
-    DebugInformation, MachineType, Module, SectionContribution, SymbolTable,
-};
+pub use debug_information::{DebugInformation, MachineType, Module, SectionContribution};
 pub use error::{Error, StreamError};
 pub use ids::{
     FunctionId, IdData, IdIndex, IdInformation, MemberFunctionId, StringId, StringListId,
@@ -36,11 +35,11 @@ pub use strings::{StringRef, StringTable};
 pub use symbol_kinds::{
     S_GPROC32, S_GPROC32_ID, S_GPROC32_ST, S_INLINESITE, S_INLINESITE2, S_LPROC32, S_LPROC32_DPC,
     S_LPROC32_DPC_ID, S_LPROC32_ID, S_LPROC32_ST, S_PUB32, S_PUB32_ST, S_SEPCODE, S_THUNK32,
-    S_THUNK32_ST,
+    S_THUNK32_ST, is_code_kind, is_procedure_kind, is_public_kind, is_site_kind,
 };
 pub use symbols::{
     InlineRow, InlineSiteSymbol, ProcedureSymbol, PublicSymbol, SeparatedCodeSymbol, Symbol,
-    SymbolData, SymbolIndex, ThunkSymbol,
+    SymbolData, SymbolIndex, SymbolTable, ThunkSymbol,
 };
 pub use types::{
     ArgumentList, ArrayType, ClassKind, ClassType, EnumerateType, EnumerationType, Item,

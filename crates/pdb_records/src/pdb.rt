@@ -1,9 +1,10 @@
 use crate::addresses::{AddressMap, ImageSectionHeader};
-use crate::debug_information::{DebugInformation, SymbolTable};
+use crate::debug_information::DebugInformation;
 use crate::error::StreamError;
 use crate::ids::IdInformation;
 use crate::modules::ModuleInfo;
 use crate::strings::StringTable;
+use crate::symbols::SymbolTable;
 use crate::types::TypeInformation;
 use std::marker::Model;
 

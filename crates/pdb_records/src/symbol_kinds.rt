@@ -1,6 +1,9 @@
 //! The kinds of symbols that are looked at, by the numbers that stand in the records. A name that
 //! ends in `_ST` is the older form of the same symbol.
 
+ghost use Rattle.std.specs.Prelude.{◌≡◌};
+ghost use Rattle.pdb_records.specs.SymbolKinds.{is_public_kind, is_procedure_kind, is_code_kind, is_site_kind};
+
 /// A symbol that is visible outside its module.
 pub const S_PUB32: u16 = 0x110e;
 /// A symbol that is visible outside its module.
@@ -31,3 +34,43 @@ pub const S_SEPCODE: u16 = 0x1132;
 pub const S_INLINESITE: u16 = 0x114d;
 /// A place where a call was replaced by the callee's body, with a count of its calls.
 pub const S_INLINESITE2: u16 = 0x115d;
+
+/// Whether this is the kind of a public symbol.
+pub fn is_public_kind(raw_kind: u16) -> bool
+    ensures { result ≡ is_public_kind raw_kind }
+{
+    matches!(raw_kind, S_PUB32 | S_PUB32_ST)
+}
+
+/// Whether this is the kind of a procedure.
+pub fn is_procedure_kind(raw_kind: u16) -> bool
+    ensures { result ≡ is_procedure_kind raw_kind }
+{
+    matches!(
+        raw_kind,
+        S_LPROC32
+            | S_LPROC32_ST
+            | S_GPROC32
+            | S_GPROC32_ST
+            | S_LPROC32_ID
+            | S_GPROC32_ID
+            | S_LPROC32_DPC
+            | S_LPROC32_DPC_ID
+    )
+}
+
+/// Whether symbols of this kind tell of code with a size: procedures, short pieces that lead to one, and
+/// code apart from its body.
+pub fn is_code_kind(raw_kind: u16) -> bool
+    ensures { result ≡ is_code_kind raw_kind }
+{
+    is_procedure_kind(raw_kind) || matches!(raw_kind, S_THUNK32 | S_THUNK32_ST | S_SEPCODE)
+}
+
+/// Whether symbols of this kind count inside a procedure: procedures, and places where a call was
+/// replaced by the callee's body.
+pub fn is_site_kind(raw_kind: u16) -> bool
+    ensures { result ≡ is_site_kind raw_kind }
+{
+    is_procedure_kind(raw_kind) || matches!(raw_kind, S_INLINESITE | S_INLINESITE2)
+}

@@ -9,6 +9,12 @@ use crate::types::TypeIndex;
 #[derive(Clone, Copy, PartialEq, Eq, PartialOrd, Ord, Hash)]
 pub struct SymbolIndex(pub usize);
 
+/// The symbols of the whole program.
+#[derive(Drop)]
+pub struct SymbolTable {
+    pub symbols: Reading<Symbol>,
+}
+
 /// One symbol of a list. The kind decides whether it counts, and the content decides how.
 #[derive(Drop)]
 pub struct Symbol {

@@ -1,5 +1,5 @@
 use Rattle.std.proofs.Common.{◌≡◌, drop}
-use Rattle.pdb_ranges.specs.RangeSet.{covers}
+use Rattle.pdb_ranges.specs.Runs.{covers}
 use Rattle.pdb_ranges.proofs.runs.covers.Given as goal
 
 -- the test of what is left of both lists is the test of the lists

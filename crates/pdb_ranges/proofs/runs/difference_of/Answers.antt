@@ -1,6 +1,6 @@
 use Rattle.std.proofs.Common.{◌≡◌, arith}
 use Rattle.std.proofs.lemmas.Grind.{common_steps}
-use Rattle.pdb_ranges.specs.RangeSet.{difference}
+use Rattle.pdb_ranges.specs.Runs.{difference}
 use Rattle.pdb_ranges.proofs.DifferenceLemmas.{IsRunsFrom-difference, has-difference}
 use Rattle.pdb_ranges.proofs.runs.difference_of.Goals as goal
 

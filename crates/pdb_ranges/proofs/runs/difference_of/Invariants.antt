@@ -1,5 +1,5 @@
 use Rattle.std.proofs.Common.{◌≡◌, ◌++◌, drop}
-use Rattle.pdb_ranges.specs.RangeSet.{difference}
+use Rattle.pdb_ranges.specs.Runs.{difference}
 use Rattle.pdb_ranges.proofs.runs.difference_of.Given as goal
 
 -- what is kept so far, and what the others leave of the runs from here on, are the answer

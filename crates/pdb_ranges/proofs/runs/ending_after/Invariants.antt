@@ -1,5 +1,5 @@
 use Rattle.std.proofs.Common.{◌≡◌, drop}
-use Rattle.pdb_ranges.specs.RangeSet.{ending_after}
+use Rattle.pdb_ranges.specs.Runs.{ending_after}
 use Rattle.pdb_ranges.proofs.runs.ending_after.Given as goal
 
 -- what the runs from here on leave is what all runs leave

@@ -1,5 +1,5 @@
 use Rattle.std.proofs.Common.{◌≡◌, ◌++◌, drop}
-use Rattle.pdb_ranges.specs.RangeSet.{pieces}
+use Rattle.pdb_ranges.specs.Runs.{pieces}
 use Rattle.pdb_ranges.proofs.runs.push_pieces.Given as goal
 
 -- the pieces so far, and those that the others from here on leave from `from` on, are all pieces

@@ -1,5 +1,5 @@
 use Rattle.std.proofs.Common.{◌≡◌, ◌++◌, drop}
-use Rattle.pdb_ranges.specs.RangeSet.{with_range}
+use Rattle.pdb_ranges.specs.Runs.{with_range}
 use Rattle.pdb_ranges.proofs.runs.with_range.Given as goal
 
 -- the runs so far, and the runs from here on with the grown range put in, are the answer

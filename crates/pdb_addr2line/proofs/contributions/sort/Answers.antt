@@ -1,6 +1,0 @@
-use Rattle.pdb_addr2line.proofs.SortLemmas.{sorted_is_in_order}
-use Rattle.pdb_addr2line.proofs.ContributionLemmas.{contributions_rank}
-use Rattle.pdb_addr2line.proofs.contributions.sort.Goals as goal
-
-pub returns : goal.returns
-returns c = sorted_is_in_order contributions_rank c.args.runs.now.items c.sort.new.self.items c.in_ok-sort.ensures.sorted c.sort.ensures.stable

@@ -1,5 +1,0 @@
-use Rattle.pdb_addr2line.proofs.RunLemmas.{merged_apart}
-use Rattle.pdb_addr2line.proofs.laws.merged_contributions_are_apart.Goals as goal
-
-pub returns : goal.returns
-returns c = merged_apart

@@ -1,5 +1,0 @@
-use Rattle.pdb_addr2line.proofs.RunLemmas.{merged_hold_claims}
-use Rattle.pdb_addr2line.proofs.laws.merged_contributions_hold_all.Goals as goal
-
-pub returns : goal.returns
-returns c = merged_hold_claims

@@ -1,9 +1,0 @@
-use Rattle.std.proofs.Common.{ap, ◌∙◌, List}
-use Rattle.pdb_addr2line.specs.Starts.{first_of_each_start}
-use Rattle.pdb_addr2line.specs.Procedures.{ModuleProcedure, module_procedure}
-use Rattle.pdb_addr2line.proofs.StartLemmas.{map-first_of_each_start}
-use Rattle.pdb_addr2line.proofs.procedures.compute_procedures.Goals as goal
-
-pub returns : goal.returns
-returns c = rw c.in_ok-kept.ensures (map-first_of_each_start module_procedure (λ p. p.offset) c.in_ok-procedures.procedures.items
-    ∙ ap (λ (ps : List ModuleProcedure). first_of_each_start (λ p. p.offset) ps) c.in_ok-procedures.ensures)

@@ -1,0 +1,81 @@
+-- The context of a program's records, and the formatter of its types.
+use Rattle.std.specs.Prelude.{ℕ, List, [], Option, Some, None, Result, Ok, Err, slice_get, unwrap_or, option_map}
+use Rattle.pdb_records.specs.Records.{Records}
+use Rattle.pdb_records.specs.declared.error.Error.TheVariants.{Stream}
+use Rattle.pdb_records.specs.declared.error.StreamError.{StreamError}
+use Rattle.pdb_records.specs.declared.addresses.ImageSectionHeader.{ImageSectionHeader}
+use Rattle.pdb_records.specs.declared.debug_information.DebugInformation.{DebugInformation}
+use Rattle.pdb_records.specs.declared.modules.ModuleInfo.{ModuleInfo}
+use Rattle.pdb_types.specs.declared.error.Error.{Error}
+use Rattle.pdb_types.specs.declared.error.Error.TheVariants.{PdbError}
+use Rattle.pdb_types.specs.declared.flags.TypeFormatterFlags.{TypeFormatterFlags}
+use Rattle.pdb_types.specs.Resolution.{streamed}
+use Rattle.pdb_types.specs.Standing.{Basis, program_pointer_size}
+use Rattle.pdb_types.specs.Outcomes.{unless, first_refusal, and_then}
+use Rattle.pdb_addr2line.specs.Sources.{Sources, accepted}
+
+-- a stream's fault, where it failed
+abbrev pub stream_refusal : {A : Type 0} → Result A StreamError → Option Error
+stream_refusal (Ok content) = None
+stream_refusal (Err fault) = Some (PdbError (Stream fault))
+
+-- the first stream that failed of those that a context can't do without
+abbrev pub records_refusal : Records → Option Error
+records_refusal r =
+    first_refusal (stream_refusal r.global_symbols) (first_refusal (stream_refusal r.debug_information)
+    (first_refusal (stream_refusal r.type_information) (first_refusal (stream_refusal r.id_information) (stream_refusal r.address_map))))
+
+-- what the records hold of the module at a position; past the list there is nothing
+abbrev pub info_at : Records → ℕ → Result (Option ModuleInfo) StreamError
+info_at r index = unwrap_or (slice_get r.module_infos index) (Ok None)
+
+-- the headers of the sections; records without any have an empty list
+abbrev pub sections_read : Records → Result (List ImageSectionHeader) Error
+sections_read r =
+    and_then (streamed r.sections) (λ sections.
+    Ok (unwrap_or sections []))
+
+-- what signatures can't be told for: a fault of the list of modules, and then a machine that could not be read
+abbrev pub formatter_refusal : DebugInformation → Option Error
+formatter_refusal debug = first_refusal (option_map (λ fault. PdbError (Stream fault)) debug.modules.fault) (stream_refusal debug.machine_type)
+
+-- the context of these records: refused for the list of modules, the machine and the sections, and then as a context over
+-- their contents is
+abbrev pub context_of : Records → Result (Sources Records) Error
+context_of r =
+    and_then (streamed r.debug_information) (λ debug.
+    and_then (streamed r.global_symbols) (λ symbols.
+    and_then (streamed r.address_map) (λ ranges.
+    unless (formatter_refusal debug) (
+    and_then (sections_read r) (λ sections.
+    accepted (record {
+      provider = r;
+      sections = sections;
+      address_map = ranges;
+      global_symbols = symbols;
+      debug_information = debug;
+      modules = debug.modules.items;
+    }))))))
+
+-- what was read, if it was
+abbrev pub if_read : {A : Type 0} → Result A StreamError → Option A
+if_read (Ok content) = Some content
+if_read (Err fault) = None
+
+-- what the formatter of these records stands on: refused for the list of modules and the machine
+abbrev pub formatter_of : TypeFormatterFlags → Records → Result (Basis Records) Error
+formatter_of flags r =
+    and_then (streamed r.debug_information) (λ debug.
+    and_then (streamed r.type_information) (λ types.
+    and_then (streamed r.id_information) (λ ids.
+    unless (formatter_refusal debug) (
+    and_then (program_pointer_size debug.machine_type) (λ pointer_size.
+    Ok (record {
+      provider = r;
+      modules = debug.modules.items;
+      strings = if_read r.string_table;
+      pointer_size = pointer_size;
+      types = types.items;
+      ids = ids.items;
+      flags = flags;
+    }))))))

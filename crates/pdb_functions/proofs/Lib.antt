@@ -1,0 +1,5 @@
+pub mod PlaceLemmas
+pub mod ContributionLemmas
+pub mod StartLemmas
+pub mod RunLemmas
+pub mod GlobalFunctionLemmas

@@ -1,0 +1,8 @@
+use Rattle.std.proofs.Common.{◌≡◌, drop}
+use Rattle.std.specs.Prelude.{None}
+use Rattle.pdb_functions.specs.Contributions.{overlap_after}
+use Rattle.pdb_functions.proofs.contributions.check_overlap.Given as goal
+
+-- what overlaps in what is left is what overlaps in all
+abbrev pub invariant-loop-run : goal.invariant-loop-run
+invariant-loop-run l = overlap_after l.before (drop l.run-index l.runs) ≡ overlap_after None l.runs

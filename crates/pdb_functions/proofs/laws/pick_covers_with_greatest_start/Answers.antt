@@ -1,0 +1,6 @@
+use Rattle.pdb_functions.specs.Spans.{procedure_covers}
+use Rattle.pdb_ranges.proofs.PickLemmas.{pick_is_picked}
+use Rattle.pdb_functions.proofs.laws.pick_covers_with_greatest_start.Goals as goal
+
+pub returns : goal.returns
+returns c = λ place procedures. pick_is_picked (procedure_covers place) (λ p. p.offset.offset) procedures

@@ -1,0 +1,52 @@
+-- The functions that the whole program's symbols tell of.
+use Rattle.std.specs.Prelude.{ℕ, List, ◌++◌, Option, Some, None, map, if◌then◌else◌}
+use Rattle.std.specs.Option.{option_copied}
+use Rattle.std.specs.List.{filter_map}
+use Rattle.pdb_records.specs.SymbolKinds.{is_public_kind}
+use Rattle.pdb_records.specs.declared.addresses.ImageSectionHeader.{ImageSectionHeader}
+use Rattle.pdb_records.specs.declared.addresses.PdbInternalSectionOffset.{PdbInternalSectionOffset}
+use Rattle.pdb_records.specs.declared.debug_information.DebugInformation.{DebugInformation}
+use Rattle.pdb_records.specs.declared.symbols.Symbol.{Symbol}
+use Rattle.pdb_records.specs.declared.symbols.SymbolData.{SymbolData}
+use Rattle.pdb_records.specs.declared.symbols.SymbolData.TheVariants.{Public, Procedure, SeparatedCode, Thunk, InlineSite, Other}
+use Rattle.pdb_functions.specs.declared.global_functions.PublicSymbolFunctionOrPlaceholder.{PublicSymbolFunctionOrPlaceholder}
+use Rattle.pdb_functions.specs.Sections.{is_executable, section_ends}
+use Rattle.pdb_functions.specs.Contributions.{contribution_starts}
+use Rattle.pdb_functions.specs.Starts.{first_of_each_start}
+
+-- where a function starts, and its name where it has one
+pub record GlobalFunction : Type 0 where
+  pub start : PdbInternalSectionOffset
+  pub name : Option (List ℕ)
+
+-- the same, as the code keeps it
+abbrev pub global_function : PublicSymbolFunctionOrPlaceholder → GlobalFunction
+global_function f = record { start = f.start_offset; name = option_copied f.name }
+
+-- the function of a public symbol in a section that holds code
+abbrev pub public_data : List ImageSectionHeader → Option SymbolData → Option GlobalFunction
+public_data sections (Some (Public symbol)) = if is_executable sections symbol.offset.section then Some (record { start = symbol.offset; name = Some symbol.name }) else None
+public_data sections (Some (Procedure symbol)) = None
+public_data sections (Some (SeparatedCode symbol)) = None
+public_data sections (Some (Thunk symbol)) = None
+public_data sections (Some (InlineSite symbol)) = None
+public_data sections (Some Other) = None
+public_data sections None = None
+
+-- the function that a symbol tells of, where it is a public one
+abbrev pub public_function : List ImageSectionHeader → Symbol → Option GlobalFunction
+public_function sections symbol = if is_public_kind symbol.raw_kind then public_data sections symbol.content else None
+
+-- a start with no name
+abbrev pub placeholder : PdbInternalSectionOffset → GlobalFunction
+placeholder start = record { start = start; name = None }
+
+-- all starts that are told of: public symbols first, then contributions that count, then ends of sections
+abbrev pub told_functions : List ImageSectionHeader → List Symbol → DebugInformation → List GlobalFunction
+told_functions sections symbols debug =
+    filter_map (public_function sections) symbols
+    ++ map placeholder (contribution_starts sections debug.section_contributions.items ++ section_ends sections)
+
+-- by section and start, of each start the first that is told: the first public symbol, else one with no name
+abbrev pub global_functions : List ImageSectionHeader → List Symbol → DebugInformation → List GlobalFunction
+global_functions sections symbols debug = first_of_each_start (λ f. f.start) (told_functions sections symbols debug)

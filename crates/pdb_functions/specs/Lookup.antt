@@ -1,0 +1,68 @@
+-- The function over a place of the program.
+use Rattle.std.specs.Prelude.{ℕ, List, [], Option, Some, None, Result, slice_get, find, nat_le, nat_lt, ◌==◌, ◌&&◌, option_and_then, if◌then◌else◌}
+use Rattle.pdb_records.specs.Addresses.{is_same_place}
+use Rattle.pdb_records.specs.declared.addresses.PdbInternalSectionOffset.{PdbInternalSectionOffset}
+use Rattle.pdb_records.specs.declared.debug_information.Module.{Module}
+use Rattle.pdb_records.specs.declared.error.StreamError.{StreamError}
+use Rattle.pdb_records.specs.declared.modules.ModuleInfo.{ModuleInfo}
+use Rattle.pdb_functions.specs.declared.contributions.ModuleSectionContribution.{ModuleSectionContribution}
+use Rattle.pdb_functions.specs.GlobalFunctions.{GlobalFunction}
+use Rattle.pdb_functions.specs.Procedures.{ModuleProcedure, provided_procedures}
+use Rattle.pdb_ranges.specs.Pick.{pick}
+use Rattle.pdb_functions.specs.Spans.{contribution_covers, procedure_covers, global_function_covers}
+use Rattle.pdb_functions.specs.declared.lookup.PublicOrProcedureSymbol.{PublicOrProcedureSymbol}
+use Rattle.pdb_functions.specs.declared.lookup.PublicOrProcedureSymbol.TheVariants as code
+use Rattle.pdb_functions.specs.GlobalFunctions.{global_function}
+use Rattle.pdb_functions.specs.Procedures.{module_procedure}
+
+-- what a provider answers for a position and a module
+abbrev pub Infos : Type 0
+Infos = ℕ → Module → Result (Option ModuleInfo) StreamError
+
+-- the procedures of the module at a position
+abbrev pub procedures_of_module : Infos → List Module → ℕ → List ModuleProcedure
+procedures_of_module infos modules index = provided_of (slice_get modules index) where
+  provided_of : Option Module → List ModuleProcedure
+  provided_of None = []
+  provided_of (Some m) = provided_procedures (infos index m)
+
+-- what lies over a place: a procedure of the module at a position, or a global function
+pub data FoundFunction : Type 0 where
+  found_procedure : ℕ → ModuleProcedure → FoundFunction
+  found_global : ℕ → GlobalFunction → FoundFunction
+
+-- the same, as the code has it
+abbrev pub found_function : PublicOrProcedureSymbol → FoundFunction
+found_function (code.Procedure m p) = found_procedure m (module_procedure p)
+found_function (code.Public m f) = found_global m (global_function f)
+
+-- a global function counts where it doesn't start below the contribution
+abbrev pub global_in : ModuleSectionContribution → Option GlobalFunction → Option FoundFunction
+global_in c None = None
+global_in c (Some f) = if nat_le c.start_offset f.start.offset then Some (found_global c.module_index f) else None
+
+-- the procedure of a contribution's module, else the global function
+abbrev pub found_or_global : ModuleSectionContribution → Option GlobalFunction → Option ModuleProcedure → Option FoundFunction
+found_or_global c global (Some p) = Some (found_procedure c.module_index p)
+found_or_global c global None = global_in c global
+
+-- what lies over a place in a contribution: of the procedures of its module over the place the one of greatest start, else the
+-- global function of greatest start at or below it in the section
+abbrev pub function_in_contribution : Infos → List Module → List GlobalFunction → PdbInternalSectionOffset → ModuleSectionContribution → Option FoundFunction
+function_in_contribution infos modules globals place c =
+    found_or_global c
+    (pick (global_function_covers place) (λ f. f.start.offset) globals)
+    (pick (procedure_covers place) (λ p. p.offset.offset) (procedures_of_module infos modules c.module_index))
+
+-- what lies over a place: nothing outside the contributions
+abbrev pub function_over : Infos → List Module → List ModuleSectionContribution → List GlobalFunction → PdbInternalSectionOffset → Option FoundFunction
+function_over infos modules contributions globals place =
+    option_and_then (function_in_contribution infos modules globals place) (find (contribution_covers place) contributions)
+
+-- the first global function of a list that starts at a place
+abbrev pub global_at : PdbInternalSectionOffset → List GlobalFunction → Option GlobalFunction
+global_at place globals = find (λ f. is_same_place f.start place) globals
+
+-- the next global function of a section behind an offset, in a list that ascends
+abbrev pub next_global : PdbInternalSectionOffset → List GlobalFunction → Option GlobalFunction
+next_global place globals = find (λ f. (f.start.section == place.section) && nat_lt place.offset f.start.offset) globals

@@ -1,0 +1,79 @@
+-- The procedures of a module.
+use Rattle.std.specs.Prelude.{ℕ, ◌+◌, List, [], ◌∷◌, ◌++◌, Option, Some, None, Result, Ok, Err, nat_lt, option_and_then, option_to_list, if◌then◌else◌}
+use Rattle.pdb_records.specs.Addresses.{is_same_place}
+use Rattle.pdb_records.specs.SymbolKinds.{is_code_kind}
+use Rattle.pdb_records.specs.declared.addresses.PdbInternalSectionOffset.{PdbInternalSectionOffset}
+use Rattle.pdb_records.specs.declared.error.StreamError.{StreamError}
+use Rattle.pdb_records.specs.declared.symbols.Symbol.{Symbol}
+use Rattle.pdb_records.specs.declared.symbols.SymbolIndex.{SymbolIndex}
+use Rattle.pdb_records.specs.declared.symbols.SymbolData.{SymbolData}
+use Rattle.pdb_records.specs.declared.symbols.SymbolData.TheVariants.{Public, Procedure, SeparatedCode, Thunk, InlineSite, Other}
+use Rattle.pdb_records.specs.declared.types.TypeIndex.{TypeIndex}
+use Rattle.pdb_records.specs.declared.modules.ModuleInfo.{ModuleInfo}
+use Rattle.pdb_functions.specs.declared.procedures.ProcedureSymbolFunction.{ProcedureSymbolFunction}
+use Rattle.pdb_functions.specs.Starts.{first_of_each_start}
+
+-- a procedure of a module
+pub record ModuleProcedure : Type 0 where
+  pub offset : PdbInternalSectionOffset
+  pub len : ℕ
+  pub name : List ℕ
+  pub symbol_index : SymbolIndex
+  pub end_symbol_index : SymbolIndex
+  pub type_index : TypeIndex
+
+-- the same, as the code keeps it
+abbrev pub module_procedure : ProcedureSymbolFunction → ModuleProcedure
+module_procedure p = record { offset = p.offset; len = p.len; name = p.name.now; symbol_index = p.symbol_index; end_symbol_index = p.end_symbol_index; type_index = p.type_index }
+
+-- what is there, where it isn't empty
+abbrev pub unless_empty : ModuleProcedure → Option ModuleProcedure
+unless_empty procedure = if nat_lt 0 procedure.len then Some procedure else None
+
+-- what a symbol holds, as a procedure behind the last one kept: code apart from its body takes the name and the type of
+-- that one, where it starts at the parent's place
+abbrev pub procedure_data : ℕ → Option ModuleProcedure → Option SymbolData → Option ModuleProcedure
+procedure_data at last (Some (Procedure s)) =
+    unless_empty (record { offset = s.offset; len = s.len; name = s.name; symbol_index = record { 0 = at }; end_symbol_index = s.end; type_index = s.type_index })
+procedure_data at last (Some (SeparatedCode s)) = option_and_then (λ parent.
+    if is_same_place parent.offset s.parent_offset
+    then unless_empty (record { offset = s.offset; len = s.len; name = parent.name; symbol_index = record { 0 = at }; end_symbol_index = s.end; type_index = parent.type_index })
+    else None) last
+procedure_data at last (Some (Thunk s)) =
+    unless_empty (record { offset = s.offset; len = s.len; name = s.name; symbol_index = record { 0 = at }; end_symbol_index = s.end; type_index = record { 0 = 0 } })
+procedure_data at last (Some (Public s)) = None
+procedure_data at last (Some (InlineSite s)) = None
+procedure_data at last (Some Other) = None
+procedure_data at last None = None
+
+-- the procedure that a symbol at a position tells of, behind the last one kept
+abbrev pub procedure_at : ℕ → Option ModuleProcedure → Symbol → Option ModuleProcedure
+procedure_at at last symbol = if is_code_kind symbol.raw_kind then procedure_data at last symbol.content else None
+
+-- the last procedure kept, after one that may be there
+abbrev pub last_kept : Option ModuleProcedure → Option ModuleProcedure → Option ModuleProcedure
+last_kept last None = last
+last_kept last (Some procedure) = Some procedure
+
+-- the procedures that symbols from a position on tell of, in reading order, behind the last one kept
+abbrev pub procedures_from : ℕ → Option ModuleProcedure → List Symbol → List ModuleProcedure
+procedures_from at last [] = []
+procedures_from at last (symbol ∷ symbols) =
+    option_to_list (procedure_at at last symbol) ++ procedures_from (at + 1) (last_kept last (procedure_at at last symbol)) symbols
+
+-- the procedures that symbols tell of, by section and start, of each start the first
+abbrev pub symbol_procedures : List Symbol → List ModuleProcedure
+symbol_procedures symbols = first_of_each_start (λ p. p.offset) (procedures_from 0 None symbols)
+
+-- the procedures of a module's records; a fault in its symbols leaves none
+abbrev pub info_procedures : ModuleInfo → List ModuleProcedure
+info_procedures info = procedures_before info.symbols.fault info where
+  procedures_before : Option StreamError → ModuleInfo → List ModuleProcedure
+  procedures_before None info = symbol_procedures info.symbols.items
+  procedures_before (Some fault) info = []
+
+-- the procedures of what a provider answers
+abbrev pub provided_procedures : Result (Option ModuleInfo) StreamError → List ModuleProcedure
+provided_procedures (Ok (Some info)) = info_procedures info
+provided_procedures (Ok None) = []
+provided_procedures (Err fault) = []

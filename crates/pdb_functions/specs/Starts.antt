@@ -1,0 +1,29 @@
+-- What starts at a place of the program.
+use Rattle.std.specs.Prelude.{Bool, List, [], ◌∷◌, Option, Some, None, if◌then◌else◌, false}
+use Rattle.std.specs.Ordering.{nat_cmp, ordering_then, is_lt}
+use Rattle.std.specs.declared.cmp.Ordering.{Ordering}
+use Rattle.pdb_records.specs.declared.addresses.PdbInternalSectionOffset.{PdbInternalSectionOffset}
+use Rattle.pdb_records.specs.Addresses.{is_same_place}
+use Rattle.pdb_ranges.specs.InOrder.{in_order}
+
+-- by section, and then by offset
+abbrev pub place_cmp : PdbInternalSectionOffset → PdbInternalSectionOffset → Ordering
+place_cmp a b = ordering_then (nat_cmp a.section b.section) (nat_cmp a.offset b.offset)
+
+-- one starts before the other
+abbrev pub starts_before : {T : Type 0} → (T → PdbInternalSectionOffset) → T → T → Bool
+starts_before start a b = is_lt (place_cmp (start a) (start b))
+
+-- what stands in front starts at this place too
+abbrev pub is_at : Option PdbInternalSectionOffset → PdbInternalSectionOffset → Bool
+is_at None place = false
+is_at (Some before) place = is_same_place before place
+
+-- of neighbours with one start the first, where this place stands in front
+abbrev pub firsts_after : {T : Type 0} → (T → PdbInternalSectionOffset) → Option PdbInternalSectionOffset → List T → List T
+firsts_after start before [] = []
+firsts_after start before (x ∷ xs) = if is_at before (start x) then firsts_after start before xs else x ∷ firsts_after start (Some (start x)) xs
+
+-- by section and start, of each start the first in reading order
+abbrev pub first_of_each_start : {T : Type 0} → (T → PdbInternalSectionOffset) → List T → List T
+first_of_each_start start xs = firsts_after start None (in_order (starts_before start) xs)

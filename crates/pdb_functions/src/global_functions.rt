@@ -1,0 +1,106 @@
+ghost use Rattle.std.specs.Prelude.{◌≡◌, ◌++◌, map, option_map, IfOk, OnOk};
+ghost use Rattle.std.specs.List.{filter_map};
+ghost use Rattle.pdb_functions.specs.GlobalFunctions.{global_function, public_function, placeholder};
+ghost use Rattle.pdb_functions.specs.Sections.{section_ends};
+ghost use Rattle.pdb_functions.specs.Starts.{first_of_each_start};
+
+use crate::sections::{executable_section_ends, is_executable_section};
+use crate::starts::{HasStart, first_of_each_start};
+use pdb_records::{
+    ImageSectionHeader, PdbInternalSectionOffset, RawString, Symbol, SymbolData, is_public_kind,
+};
+use std::alloc::{AllocError, Global};
+
+/// Where a function starts, as the whole program's symbols and contributions tell it.
+#[derive(Clone, Copy)]
+pub struct PublicSymbolFunctionOrPlaceholder<'a> {
+    /// Where it starts.
+    pub start_offset: PdbInternalSectionOffset,
+    /// The public symbol's name. A placeholder has none.
+    pub name: Option<&'a RawString>,
+}
+
+impl HasStart for PublicSymbolFunctionOrPlaceholder<'_> {
+    ghost start_of = { λ f. f.start_offset };
+
+    fn start(&self) -> PdbInternalSectionOffset {
+        self.start_offset
+    }
+}
+
+/// The function that a symbol tells of, where it is a public one in a section that holds code.
+fn public_symbol_function<'a>(
+    sections: &[ImageSectionHeader],
+    symbol: &'a Symbol,
+) -> Option<PublicSymbolFunctionOrPlaceholder<'a>>
+    ensures { option_map global_function result ≡ public_function sections.now symbol.now }
+{
+    if !is_public_kind(symbol.raw_kind) {
+        return None;
+    }
+    match &symbol.content {
+        Some(SymbolData::Public(public))
+            if is_executable_section(sections, public.offset.section) => {
+            Some(PublicSymbolFunctionOrPlaceholder {
+                start_offset: public.offset,
+                name: Some(&public.name),
+            })
+        }
+        _ => None,
+    }
+}
+
+/// The functions that public symbols tell of, in reading order.
+fn public_symbol_functions<'a>(
+    alloc: Global,
+    sections: &[ImageSectionHeader],
+    symbols: &'a [Symbol],
+) -> Result<Vec<PublicSymbolFunctionOrPlaceholder<'a>>, AllocError>
+    ensures { IfOk result (λ v. map global_function v.items ≡ filter_map (public_function sections.now) symbols.now) }
+{
+    let mut functions = Vec::new(alloc);
+    for symbol in symbols {
+        if let Some(function) = public_symbol_function(sections, symbol) {
+            functions.push(function)?;
+        }
+    }
+    Ok(functions)
+}
+
+/// Adds a start with no name for each place.
+fn add_placeholders(
+    functions: &mut Vec<PublicSymbolFunctionOrPlaceholder<'_>>,
+    starts: &[PdbInternalSectionOffset],
+) -> Result<(), AllocError>
+    ensures { OnOk result (map global_function functions.new.items ≡ map global_function functions.old.items ++ map placeholder starts.now) }
+{
+    for start in starts {
+        functions.push(PublicSymbolFunctionOrPlaceholder {
+            start_offset: *start,
+            name: None,
+        })?;
+    }
+    Ok(())
+}
+
+/// The functions that the whole program's symbols and contributions tell of, by section and start. Of
+/// each start the first public symbol stays, else one placeholder. The end of each section that holds
+/// code is there too, as where its last function ends.
+///
+/// `contribution_starts` is where the contributions that count start.
+pub fn compute_global_functions<'a>(
+    alloc: Global,
+    sections: &[ImageSectionHeader],
+    symbols: &'a [Symbol],
+    contribution_starts: &[PdbInternalSectionOffset],
+) -> Result<Vec<PublicSymbolFunctionOrPlaceholder<'a>>, AllocError>
+    ensures { IfOk result (λ v. map global_function v.items
+        ≡ first_of_each_start (λ f. f.start) (filter_map (public_function sections.now) symbols.now ++ map placeholder (contribution_starts.now ++ section_ends sections.now))) }
+{
+    let mut functions = public_symbol_functions(alloc, sections, symbols)?;
+    add_placeholders(&mut functions, contribution_starts)?;
+    let ends = executable_section_ends(alloc, sections)?;
+    add_placeholders(&mut functions, &ends)?;
+    let kept = first_of_each_start(alloc, functions)?;
+    Ok(kept)
+}

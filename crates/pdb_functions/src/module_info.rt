@@ -1,0 +1,68 @@
+ghost use Rattle.std.specs.Prelude.{◌≡◌, ◌≢◌, None, Some, map, option_map, IfOk, MatchResult};
+ghost use Rattle.pdb_records.specs.declared.error.Error.TheVariants.{Stream};
+ghost use Rattle.pdb_types.specs.declared.error.Error.TheVariants.{PdbError, OutOfMemory};
+ghost use Rattle.pdb_functions.specs.Procedures.{module_procedure, info_procedures};
+
+use crate::procedures::{ProcedureSymbolFunction, compute_procedures};
+use pdb_records::ModuleInfo;
+use pdb_types::{Error, Result};
+use std::alloc::Global;
+use std::marker::Model;
+
+/// The records of a module, and the procedures that its symbols tell of.
+#[derive(Drop)]
+pub struct BasicModuleInfo<'a> {
+    module_info: &'a ModuleInfo,
+    procedures: Vec<ProcedureSymbolFunction<'a>>,
+}
+
+impl<'a> Model for BasicModuleInfo<'a> {
+    ghost use Rattle.std.specs.Prelude.{◌≡◌, map, None};
+    ghost use Rattle.pdb_records.specs.declared.modules.ModuleInfo.{ModuleInfo};
+
+    ghost Value = { ModuleInfo };
+
+    ghost use Rattle.pdb_functions.specs.Procedures.{module_procedure, info_procedures};
+
+    ghost view = { λ b. b.module_info.now };
+
+    ghost invariant = { λ b. map module_procedure b.procedures.items ≡ info_procedures b.module_info.now };
+}
+
+impl<'a> BasicModuleInfo<'a> {
+    /// Reads the procedures of a module.
+    ///
+    /// # Errors
+    ///
+    /// [`Error::PdbError`] where the list of the module's symbols has a fault: what comes behind it may
+    /// change which procedures there are.
+    pub fn try_from_module_info(alloc: Global, module_info: &'a ModuleInfo) -> Result<Self>
+        ensures read { IfOk result (λ b. b ≡ module_info.now) }
+        ensures refused { MatchResult result
+            (λ _. module_info.now.symbols.fault ≡ None)
+            (λ e. e ≢ OutOfMemory → option_map (λ fault. PdbError (Stream fault)) module_info.now.symbols.fault ≡ Some e) }
+    {
+        if let Some(fault) = module_info.symbols.fault {
+            return Err(Error::from(pdb_records::Error::Stream(fault)));
+        }
+        let procedures = compute_procedures(alloc, &module_info.symbols.items)?;
+        Ok(BasicModuleInfo {
+            module_info,
+            procedures,
+        })
+    }
+
+    /// The module's procedures, by section and start.
+    pub fn procedures(&self) -> &[ProcedureSymbolFunction<'a>]
+        ensures { map module_procedure result.now ≡ info_procedures self.now }
+    {
+        &self.procedures
+    }
+
+    /// The records that were read.
+    pub fn module_info(&self) -> &'a ModuleInfo
+        ensures { result.now ≡ self.now }
+    {
+        self.module_info
+    }
+}

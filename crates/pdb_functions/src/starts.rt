@@ -1,0 +1,52 @@
+ghost use Rattle.std.specs.Prelude.{◌≡◌, OnOk, OnErr, IfOk};
+ghost use Rattle.pdb_records.specs.declared.addresses.PdbInternalSectionOffset.{PdbInternalSectionOffset};
+ghost use Rattle.pdb_ranges.specs.InOrder.{in_order};
+ghost use Rattle.pdb_functions.specs.Starts.{starts_before, firsts_after, first_of_each_start};
+
+use pdb_records::PdbInternalSectionOffset;
+use std::alloc::{AllocError, Global};
+
+/// What starts at a place of the program.
+pub(crate) trait HasStart: Copy {
+    /// The place.
+    ghost start_of: { Self → PdbInternalSectionOffset };
+
+    fn start(&self) -> PdbInternalSectionOffset
+        ensures { result ≡ start_of self.now };
+}
+
+/// Puts the entries in order of their starts. Entries with one start stay in the order that they had.
+fn sort_by_start<T: HasStart>(entries: &mut Vec<T>) -> Result<(), AllocError>
+    ensures ok { OnOk result (entries.new.items ≡ in_order (starts_before T.start_of) entries.old.items) }
+    ensures err { OnErr result (entries.new.items ≡ entries.old.items) }
+{
+    entries.sort_by_key(|entry| entry.start())?;
+    Ok(())
+}
+
+/// Of neighbours with one start, the first.
+fn first_neighbours<T: HasStart>(alloc: Global, entries: &[T]) -> Result<Vec<T>, AllocError>
+    ensures { IfOk result (λ v. v.items ≡ firsts_after T.start_of None entries.now) }
+{
+    let mut kept: Vec<T> = Vec::new(alloc);
+    let mut before = None;
+    for entry in entries {
+        let start = entry.start();
+        if before != Some(start) {
+            kept.push(*entry)?;
+            before = Some(start);
+        }
+    }
+    Ok(kept)
+}
+
+/// The entries by section and start, of each start the first.
+pub(crate) fn first_of_each_start<T: HasStart>(
+    alloc: Global,
+    mut entries: Vec<T>,
+) -> Result<Vec<T>, AllocError>
+    ensures { IfOk result (λ v. v.items ≡ first_of_each_start T.start_of entries.items) }
+{
+    sort_by_start(&mut entries)?;
+    first_neighbours(alloc, &entries)
+}

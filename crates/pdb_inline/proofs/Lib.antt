@@ -1,0 +1,9 @@
+pub mod SiteLemmas
+pub mod CoveredLemmas
+pub mod NestingLemmas
+pub mod InsideLemmas
+pub mod InlineRangeLemmas
+pub mod CoverLemmas
+pub mod InlineStackLemmas
+pub mod WellNestedLemmas
+pub mod DirectlyInsideLemmas

@@ -1,0 +1,86 @@
+-- The ranges of a procedure's code that came from inlined bodies.
+use Rattle.std.specs.Prelude.{ℕ, ◌==◌, Bool, List, ◌++◌, Option, Some, None, Result, map, filter, option_map, slice_get}
+use Rattle.std.specs.List.{list_any, flat_map}
+use Rattle.std.specs.Ordering.{nat_cmp, ordering_then, is_lt}
+use Rattle.std.specs.declared.cmp.Ordering.{Ordering}
+use Rattle.pdb_records.specs.declared.ids.IdIndex.{IdIndex}
+use Rattle.pdb_records.specs.declared.lines.FileIndex.{FileIndex}
+use Rattle.pdb_records.specs.declared.modules.ModuleInfo.{ModuleInfo}
+use Rattle.pdb_records.specs.declared.symbols.InlineRow.{InlineRow}
+use Rattle.pdb_records.specs.declared.symbols.InlineSiteSymbol.{InlineSiteSymbol}
+use Rattle.pdb_types.specs.declared.error.Error.{Error}
+use Rattle.pdb_inline.specs.declared.inline_ranges.InlineRange.{InlineRange}
+use Rattle.pdb_ranges.specs.InOrder.{in_order}
+use Rattle.pdb_inline.specs.InlineRows.{kept_rows, row_end, row_ranges}
+use Rattle.pdb_ranges.specs.Runs.{missing_runs}
+use Rattle.pdb_inline.specs.Sites.{Site, depth, walk, unless_met}
+
+-- the range of a row, which a site at a depth has
+abbrev pub own_range : ℕ → InlineSiteSymbol → InlineRow → InlineRange
+own_range depth symbol row = record {
+  start_offset = row.offset;
+  end_offset = row_end row;
+  call_depth = depth;
+  inlinee = symbol.inlinee;
+  file_index = Some row.file_index;
+  line_start = Some row.line_start;
+}
+
+-- the ranges of a site's own rows
+abbrev pub own_ranges : List IdIndex → ℕ → InlineSiteSymbol → List InlineRange
+own_ranges inlinees depth symbol = map (own_range depth symbol) (kept_rows inlinees symbol)
+
+-- the file of the first row of a site, where one counts
+abbrev pub first_file : List IdIndex → InlineSiteSymbol → Option FileIndex
+first_file inlinees symbol = option_map (λ row. row.file_index) (slice_get (kept_rows inlinees symbol) 0)
+
+-- the range of a run that no row of a site covers, though it lies inside the site
+abbrev pub added_range : ℕ → InlineSiteSymbol → Option FileIndex → ℕ × ℕ → InlineRange
+added_range depth symbol file run = record {
+  start_offset = run.0;
+  end_offset = run.1;
+  call_depth = depth;
+  inlinee = symbol.inlinee;
+  file_index = file;
+  line_start = None;
+}
+
+-- the ranges of such runs
+abbrev pub added_ranges : List IdIndex → ℕ → InlineSiteSymbol → List (ℕ × ℕ) → List InlineRange
+added_ranges inlinees depth symbol runs = map (added_range depth symbol (first_file inlinees symbol)) runs
+
+-- one site is inside another
+abbrev pub is_inside : Site → Site → Bool
+is_inside outer inner = list_any (λ position. position == outer.position) inner.outer
+
+-- what the rows of the sites inside a site cover
+abbrev pub inner_ranges : List IdIndex → List Site → Site → List (ℕ × ℕ)
+inner_ranges inlinees sites site = flat_map (λ inner. row_ranges inlinees inner.symbol) (filter (is_inside site) sites)
+
+-- the runs of what the rows of sites inside a site cover and its own rows don't
+abbrev pub missing : List IdIndex → List Site → Site → List (ℕ × ℕ)
+missing inlinees sites site = missing_runs (inner_ranges inlinees sites site) (row_ranges inlinees site.symbol)
+
+-- the ranges of sites as they are read: of their own rows, and then what is added for the rows of sites inside them
+abbrev pub read_ranges : List IdIndex → List Site → List InlineRange
+read_ranges inlinees sites =
+    flat_map (λ site. own_ranges inlinees (depth site) site.symbol) sites
+    ++ flat_map (λ site. added_ranges inlinees (depth site) site.symbol (missing inlinees sites site)) sites
+
+-- by depth, and then by start
+abbrev pub range_cmp : InlineRange → InlineRange → Ordering
+range_cmp a b = ordering_then (nat_cmp a.call_depth b.call_depth) (nat_cmp a.start_offset b.start_offset)
+
+-- one stands before another
+abbrev pub range_before : InlineRange → InlineRange → Bool
+range_before a b = is_lt (range_cmp a b)
+
+-- the ranges of sites by depth and start; those of one depth and start stand as they are read
+abbrev pub inline_ranges : List IdIndex → List Site → List InlineRange
+inline_ranges inlinees sites = in_order range_before (read_ranges inlinees sites)
+
+-- the ranges of the procedure whose symbol stands at a position, and whose end at another; refused where its walk meets the
+-- fault of the module's symbols
+abbrev pub procedure_inline_ranges : List IdIndex → ModuleInfo → ℕ → ℕ → Result (List InlineRange) Error
+procedure_inline_ranges inlinees info position end =
+    let w = walk info.symbols.items info.symbols.fault position end in unless_met w (inline_ranges inlinees w.sites)

@@ -1,0 +1,6 @@
+pub mod Sites
+pub mod InlineRows
+pub mod InlineRanges
+pub mod InlineStacks
+pub mod WellNested
+pub mod CoveredRuns

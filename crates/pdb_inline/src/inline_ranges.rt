@@ -1,0 +1,132 @@
+ghost use Rattle.std.specs.Prelude.{◌≡◌, ◌++◌, map, IfOk, OnOk, OnErr};
+ghost use Rattle.std.specs.List.{flat_map};
+ghost use Rattle.pdb_ranges.specs.InOrder.{in_order};
+ghost use Rattle.pdb_types.specs.Outcomes.{Gives};
+ghost use Rattle.pdb_inline.specs.CoveredRuns.{read_by_depth, ranges_by_depth};
+ghost use Rattle.pdb_inline.specs.InlineRanges.{own_range, own_ranges, range_before, procedure_inline_ranges};
+ghost use Rattle.pdb_inline.specs.Sites.{kept_site};
+
+use crate::inline_rows::{kept_rows, row_end};
+use crate::missing_rows::ranges_added_to_sites;
+use crate::sites::{Site, procedure_sites};
+use pdb_records::{FileIndex, IdIndex, InlineRow, ModuleInfo, SymbolIndex};
+use pdb_types::Result;
+use std::alloc::{AllocError, Global};
+use std::collections::BTreeSet;
+
+/// A range of a procedure's code that came from an inlined body.
+#[derive(Clone, Copy)]
+pub struct InlineRange {
+    /// Where it starts, in bytes from the start of the procedure's section.
+    pub start_offset: u64,
+    /// Where it ends: the offset of the first byte behind it.
+    pub end_offset: u64,
+    /// How many inlined bodies the body is inside of.
+    pub call_depth: usize,
+    /// What was called.
+    pub inlinee: IdIndex,
+    /// The file that it comes from, where that is known.
+    pub file_index: Option<FileIndex>,
+    /// The line that it comes from, where that is known.
+    pub line_start: Option<u32>,
+}
+
+/// Adds the ranges of rows, which a site has.
+fn push_own(
+    ranges: &mut Vec<InlineRange>,
+    site: Site<'_>,
+    rows: &[InlineRow],
+) -> Result<(), AllocError>
+    ensures { OnOk result (ranges.new.items ≡ ranges.old.items ++ map (own_range site.entry.depth site.entry.symbol.now) rows.now) }
+{
+    for row in rows {
+        ranges.push(InlineRange {
+            start_offset: u64::from(row.offset),
+            end_offset: row_end(row),
+            call_depth: site.depth,
+            inlinee: site.symbol.inlinee,
+            file_index: Some(row.file_index),
+            line_start: Some(row.line_start),
+        })?;
+    }
+    Ok(())
+}
+
+/// The ranges of the sites' own rows.
+fn own_ranges(
+    alloc: Global,
+    inlinees: &BTreeSet<IdIndex>,
+    sites: &[Site<'_>],
+) -> Result<Vec<InlineRange>, AllocError>
+    ensures { IfOk result (λ v. v.items ≡ flat_map (λ site. own_ranges inlinees.now.keys site.depth site.symbol) (map kept_site sites.now)) }
+{
+    let mut ranges = Vec::new(alloc);
+    for site in sites {
+        let rows = kept_rows(alloc, inlinees, site.symbol)?;
+        push_own(&mut ranges, *site, &rows)?;
+    }
+    Ok(ranges)
+}
+
+/// Puts ranges in order of their depths and starts. Those with one depth and start stay as they stood.
+fn sort(ranges: &mut Vec<InlineRange>) -> Result<(), AllocError>
+    ensures { OnOk result (ranges.new.items ≡ in_order range_before ranges.old.items) }
+{
+    ranges.sort_by_key(|range| (range.call_depth, range.start_offset))?;
+    Ok(())
+}
+
+/// The ranges of sites as they are read: of their own rows, and then what is added for the rows of sites
+/// inside them.
+fn read_ranges(
+    alloc: Global,
+    inlinees: &BTreeSet<IdIndex>,
+    sites: &[Site<'_>],
+) -> Result<Vec<InlineRange>, AllocError>
+    ensures { IfOk result (λ v. v.items ≡ read_by_depth inlinees.now.keys (map kept_site sites.now)) }
+{
+    let mut ranges = own_ranges(alloc, inlinees, sites)?;
+    let added = ranges_added_to_sites(alloc, inlinees, sites)?;
+    ranges.extend_from_slice(&added)?;
+    Ok(ranges)
+}
+
+/// The ranges of sites, by depth and start.
+fn ranges_of_sites(
+    alloc: Global,
+    inlinees: &BTreeSet<IdIndex>,
+    sites: &[Site<'_>],
+) -> Result<Vec<InlineRange>, AllocError>
+    ensures { IfOk result (λ v. v.items ≡ ranges_by_depth inlinees.now.keys (map kept_site sites.now)) }
+{
+    let mut ranges = read_ranges(alloc, inlinees, sites)?;
+    sort(&mut ranges)?;
+    Ok(ranges)
+}
+
+/// The ranges of a procedure's code that came from inlined bodies, by depth and start. The procedure's
+/// symbol stands at `position`, and the symbol that closes it at `end`.
+///
+/// At a depth each site has the ranges of its own rows, and one for each run of code that rows of sites
+/// inside it cover and its own do not; such a range has the file of the site's first row, and no line. Of
+/// one depth and start, ranges of rows stand before added ones, and sites in the order of their symbols.
+/// Rows count where the site's id is among the inlinees.
+///
+/// # Errors
+///
+/// [`Error::PdbError`](pdb_types::Error::PdbError) where the procedure's symbols go on to the end of the
+/// list, and that has a fault.
+pub fn inline_ranges_of_procedure(
+    alloc: Global,
+    module_info: &ModuleInfo,
+    position: SymbolIndex,
+    end: SymbolIndex,
+    inlinees: &BTreeSet<IdIndex>,
+) -> Result<Vec<InlineRange>>
+    ensures { Gives (λ v. v.items) result
+        (procedure_inline_ranges inlinees.now.keys module_info.now position.0 end.0) }
+{
+    let symbols = &module_info.symbols;
+    let sites = procedure_sites(alloc, &symbols.items, symbols.fault, position.0, end.0)?;
+    Ok(ranges_of_sites(alloc, inlinees, &sites)?)
+}

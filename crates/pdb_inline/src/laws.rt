@@ -1,0 +1,80 @@
+//! Laws of inline ranges, for every list of symbols, badly nested ones too. They do nothing when they
+//! are called.
+
+ghost use Rattle.std.specs.Prelude.{◌≡◌, ℕ, ◌+◌, ◌≤◌, ◌<◌, ◌↔◌, ◌&&◌, not, true, false, IsTrue, Contains, List, Option, Some, length, slice_get};
+ghost use Rattle.pdb_records.specs.declared.error.StreamError.{StreamError};
+ghost use Rattle.pdb_records.specs.declared.ids.IdIndex.{IdIndex};
+ghost use Rattle.pdb_records.specs.declared.symbols.Symbol.{Symbol};
+ghost use Rattle.pdb_inline.specs.declared.inline_ranges.InlineRange.{InlineRange};
+ghost use Rattle.pdb_ranges.specs.RangeSet.{has, IsRunsFrom};
+ghost use Rattle.pdb_inline.specs.InlineRows.{row_ranges};
+ghost use Rattle.pdb_inline.specs.Sites.{Site, depth, walk};
+ghost use Rattle.pdb_inline.specs.InlineRanges.{is_inside, inline_ranges, inner_ranges, missing};
+ghost use Rattle.pdb_inline.specs.InlineStacks.{lies_over, has_range_over, is_covered, levels, inline_stack, site_ranges, IsSoleOver, IsDirectlyInside};
+ghost use Rattle.pdb_inline.specs.WellNested.{AreWellNested};
+
+/// The ranges of a depth together cover exactly what the rows of sites at least that deep cover.
+pub fn ranges_cover_deeper_sites()
+    ensures { (inlinees : List IdIndex) (symbols : List Symbol) (fault : Option StreamError) (position end depth x : ℕ)
+        → has_range_over (inline_ranges inlinees (walk symbols fault position end).sites) depth x
+        ≡ is_covered inlinees (walk symbols fault position end).sites depth x }
+{}
+
+/// The stack over a number has an entry for each depth at which the number is covered, and none is
+/// missing; past the number of sites no depth is left out.
+pub fn stacks_have_all_levels()
+    ensures all { (inlinees : List IdIndex) (symbols : List Symbol) (fault : Option StreamError) (position end x : ℕ)
+        → length (inline_stack (inline_ranges inlinees (walk symbols fault position end).sites) x)
+        ≡ levels inlinees (walk symbols fault position end).sites x }
+    ensures no_more { (inlinees : List IdIndex) (symbols : List Symbol) (fault : Option StreamError) (position end depth x : ℕ)
+        → length (walk symbols fault position end).sites ≤ depth
+        → is_covered inlinees (walk symbols fault position end).sites depth x ≡ false }
+{}
+
+/// Every number in a range of a depth lies in a range of the depth above it.
+pub fn ranges_lie_in_ranges_above()
+    ensures { (inlinees : List IdIndex) (symbols : List Symbol) (fault : Option StreamError) (position end depth x : ℕ)
+        → has_range_over (inline_ranges inlinees (walk symbols fault position end).sites) (depth + 1) x ≡ true
+        → has_range_over (inline_ranges inlinees (walk symbols fault position end).sites) depth x ≡ true }
+{}
+
+/// Where the sites of a procedure are well nested, a site is inside another exactly where its position
+/// lies between the other's position and end. Symbols that open no site don't matter.
+pub fn well_nested_sites_are_inside_by_position()
+    ensures { (symbols : List Symbol) (fault : Option StreamError) (position end : ℕ) (outer inner : Site)
+        → AreWellNested (walk symbols fault position end).sites
+        → Contains (walk symbols fault position end).sites outer
+        → Contains (walk symbols fault position end).sites inner
+        → IsTrue (is_inside outer inner)
+        ↔ ((outer.position < inner.position) × (inner.position < outer.symbol.end.0)) }
+{}
+
+/// Each entry of the stack over a number is a range of a site of its depth, over the number. Where for
+/// each depth one site alone has ranges over the number, each of these sites lies directly inside the
+/// next outer one.
+pub fn stacks_lie_directly_inside()
+    ensures of_sites { (inlinees : List IdIndex) (symbols : List Symbol) (fault : Option StreamError) (position end x level : ℕ) (range : InlineRange)
+        → slice_get (inline_stack (inline_ranges inlinees (walk symbols fault position end).sites) x) level ≡ Some range
+        → (site : Site) × Contains (walk symbols fault position end).sites site
+        × Contains (site_ranges inlinees (walk symbols fault position end).sites site) range
+        × (depth site ≡ level) × IsTrue (lies_over level x range) }
+    ensures directly { (inlinees : List IdIndex) (symbols : List Symbol) (fault : Option StreamError) (position end x level : ℕ)
+        (outer inner : Site) (range under : InlineRange)
+        → IsSoleOver inlinees (walk symbols fault position end).sites x
+        → Contains (walk symbols fault position end).sites outer
+        → Contains (walk symbols fault position end).sites inner
+        → slice_get (inline_stack (inline_ranges inlinees (walk symbols fault position end).sites) x) level ≡ Some range
+        → slice_get (inline_stack (inline_ranges inlinees (walk symbols fault position end).sites) x) (level + 1) ≡ Some under
+        → Contains (site_ranges inlinees (walk symbols fault position end).sites outer) range
+        → Contains (site_ranges inlinees (walk symbols fault position end).sites inner) under
+        → IsDirectlyInside outer inner }
+{}
+
+/// What is added for a site is for the maximal runs of what the rows of sites inside it cover and its own
+/// rows do not: runs that hold those numbers and no others, none of which touches the next.
+pub fn added_ranges_are_of_maximal_runs()
+    ensures maximal { (inlinees : List IdIndex) (sites : List Site) (site : Site) → IsRunsFrom 0 (missing inlinees sites site) }
+    ensures numbers { (inlinees : List IdIndex) (sites : List Site) (site : Site) (x : ℕ)
+        → has (missing inlinees sites site) x
+        ≡ (has (inner_ranges inlinees sites site) x && not (has (row_ranges inlinees site.symbol) x)) }
+{}
