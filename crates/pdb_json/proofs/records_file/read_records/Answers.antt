@@ -1,6 +1,6 @@
 use Rattle.pdb_json.specs.RecordsFile.{records_of_file}
 use Rattle.pdb_json.proofs.JsonLemmas.{json_of-read, json_of-none}
-use Rattle.pdb_json.proofs.records.read_records.Goals as goal
+use Rattle.pdb_json.proofs.records_file.read_records.Goals as goal
 
 pub returns-in-Ok : goal.returns-in-Ok
 unfolding records_of_file

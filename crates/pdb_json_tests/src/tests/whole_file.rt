@@ -1,5 +1,5 @@
 use super::texts::WHOLE;
-use crate::read_records;
+use pdb_json::read_records;
 use pdb_records::{
     ClassKind, Error, IdData, Item, MachineType, PDB, PdbInternalSectionOffset, PointerMode,
     PrimitiveKind, RawString, StreamError, SymbolData, TypeData, TypeIndex, Variant,
@@ -368,19 +368,24 @@ fn check_faults_of_a_module(rt: &impl Abort, pdb: &PDB) -> Result<(), Fail> {
     Ok(())
 }
 
+/// Compares all that the file holds.
+fn check_whole_file(rt: &impl Abort, pdb: &PDB) -> Result<(), Fail> {
+    check_sections_and_strings(rt, pdb)?;
+    check_debug_information(rt, pdb)?;
+    check_symbol_kinds(rt, pdb)?;
+    check_procedures(rt, pdb)?;
+    check_other_code(rt, pdb)?;
+    check_site(rt, pdb)?;
+    check_types_of_values(rt, pdb)?;
+    check_types_of_functions(rt, pdb)?;
+    check_other_types(rt, pdb)?;
+    check_ids(rt, pdb)?;
+    check_module_infos(rt, pdb)?;
+    check_faults_of_a_module(rt, pdb)
+}
+
 #[test]
 fn the_whole_file_is_read(rt: HostRuntime) -> Result<(), Fail> {
     let pdb = read_records(rt.alloc(), WHOLE.as_bytes())?;
-    check_sections_and_strings(&rt, &pdb)?;
-    check_debug_information(&rt, &pdb)?;
-    check_symbol_kinds(&rt, &pdb)?;
-    check_procedures(&rt, &pdb)?;
-    check_other_code(&rt, &pdb)?;
-    check_site(&rt, &pdb)?;
-    check_types_of_values(&rt, &pdb)?;
-    check_types_of_functions(&rt, &pdb)?;
-    check_other_types(&rt, &pdb)?;
-    check_ids(&rt, &pdb)?;
-    check_module_infos(&rt, &pdb)?;
-    check_faults_of_a_module(&rt, &pdb)
+    check_whole_file(&rt, &pdb)
 }

@@ -4,7 +4,7 @@ mod texts;
 mod variants;
 mod whole_file;
 
-use crate::{RecordFault, read_records};
+use pdb_json::{RecordFault, read_records};
 use std::alloc::{AllocError, Global};
 use std::process::Abort;
 use std::test::Fail;

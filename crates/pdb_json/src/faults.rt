@@ -1,6 +1,6 @@
 ghost use Rattle.std.specs.Prelude.{◌≡◌, [], Result, IfOk, string_bytes};
-ghost use Rattle.pdb_json.specs.declared.fault.RecordFault.TheVariants.{OutOfMemory};
-ghost use Rattle.pdb_json.specs.Faults.{Fault, Gives, shape, out_of_range, through, read_inside};
+ghost use Rattle.pdb_json.specs.declared.faults.RecordFault.TheVariants.{OutOfMemory};
+ghost use Rattle.pdb_json.specs.Faults.{Fault, Agrees, shape, out_of_range, through, read_inside};
 
 use std::alloc::{AllocError, AllocFailed, Global};
 use thiserror::Error;
@@ -43,7 +43,7 @@ impl<T: Drop> From<AllocFailed<T>> for RecordFault {
 
 /// The answer of a reader whose value is of another sort than it wants.
 pub(crate) fn wanted<T>(alloc: Global, sort: &str) -> Result<T, RecordFault>
-    ensures { Gives result (Err (shape [] sort.now)) }
+    ensures { Agrees result (Err (shape [] sort.now)) }
 {
     Err(RecordFault::Shape {
         path: String::new(alloc),
@@ -53,7 +53,7 @@ pub(crate) fn wanted<T>(alloc: Global, sort: &str) -> Result<T, RecordFault>
 
 /// The answer of a reader whose number doesn't fit.
 pub(crate) fn out_of_range<T>(alloc: Global) -> Result<T, RecordFault>
-    ensures { Gives result (Err (out_of_range [])) }
+    ensures { Agrees result (Err (out_of_range [])) }
 {
     Err(RecordFault::NumberOutOfRange {
         path: String::new(alloc),
@@ -73,7 +73,7 @@ pub(crate) fn inside<T>(
     name: &str,
     answer: Result<T, RecordFault>,
 ) -> Result<T, RecordFault>
-    ensures { (read : Result T Fault) → Gives answer read → Gives result (read_inside name.now read) }
+    ensures { (read : Result T Fault) → Agrees answer read → Agrees result (read_inside name.now read) }
 {
     match answer {
         Err(RecordFault::Shape { path, wanted }) => Err(RecordFault::Shape {

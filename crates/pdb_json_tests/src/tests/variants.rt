@@ -1,7 +1,7 @@
 use super::answer;
 use super::texts::EXAMPLE;
-use crate::read_records;
-use pdb_records::{Item, TypeData};
+use pdb_json::read_records;
+use pdb_records::{Item, PDB, TypeData};
 use std::alloc::{AllocError, Global};
 use std::process::Abort;
 use std::test::Fail;
@@ -59,7 +59,13 @@ fn with_type(alloc: Global, members: &str) -> Result<String, Fail> {
 
 /// The number of the variant that the one type's name stands for.
 fn variant_number(alloc: Global, members: &str) -> Result<u8, Fail> {
-    let pdb = read_records(alloc, with_type(alloc, members)?.as_bytes())?;
+    let text = with_type(alloc, members)?;
+    let pdb = read_records(alloc, text.as_bytes())?;
+    variant_of_type(&pdb)
+}
+
+/// The number of the variant in the one type of records.
+fn variant_of_type(pdb: &PDB) -> Result<u8, Fail> {
     let Ok(types) = &pdb.type_information else {
         return Err(Fail::from("the stream failed"));
     };
@@ -122,6 +128,11 @@ fn machine_number(alloc: Global, name: &str) -> Result<u8, Fail> {
     let (before, after) = EXAMPLE.split_once("Amd64").ok_or("no such name")?;
     let text = format!(in alloc; "{before}{name}{after}")?;
     let pdb = read_records(alloc, text.as_bytes())?;
+    machine_of(&pdb)
+}
+
+/// The number of the variant of a machine.
+fn machine_of(pdb: &PDB) -> Result<u8, Fail> {
     match &pdb.debug_information {
         Ok(debug) => Ok(debug.machine_type.ok().ok_or("no machine")? as u8),
         Err(_) => Err(Fail::from("the stream failed")),
