@@ -23,10 +23,13 @@ end_text (Some address) = codes "0x" ++ hex address
 
 -- the line of an address: the function there, or that there is none
 abbrev pub names_line : ℕ → Option Description → List ℕ
-names_line address (Some f) = codes "0x" ++ (hex address ++ (codes " - " ++ (name_text f.name ++ (codes " 0x" ++ (hex f.start_rva ++ (codes ".." ++ (end_text f.end_rva ++ codes "\n")))))))
+names_line address (Some f) =
+    codes "0x" ++ (hex address ++ (codes " - " ++ (name_text f.name
+    ++ (codes " 0x" ++ (hex f.start_rva ++ (codes ".." ++ (end_text f.end_rva ++ codes "\n")))))))
 names_line address None = hex address ++ codes " - no function found\n"
 
 -- the lines of addresses, in order
 abbrev pub names_text : (ℕ → Option Description) → List ℕ → List ℕ
-names_text function_at [] = []
-names_text function_at (address ∷ addresses) = names_line address (function_at address) ++ names_text function_at addresses
+names_text function_there [] = []
+names_text function_there (address ∷ addresses) =
+    names_line address (function_there address) ++ names_text function_there addresses

@@ -1,6 +1,6 @@
 ghost use Rattle.std.specs.Prelude.{◌≡◌, Some, option_map, string_bytes, IfOk};
 ghost use Rattle.pdb_addr2line.specs.Function.{description};
-ghost use Rattle.pdb_reporting.specs.Texts.{name_text, end_text, names_line};
+ghost use Rattle.pdb_reporting.specs.PrintedLines.{name_text, end_text, names_line};
 
 use pdb_addr2line::Function;
 use std::alloc::{AllocError, Global};
@@ -44,7 +44,8 @@ pub(crate) fn line_of(
     address: u32,
     function: &Option<Function>,
 ) -> Result<String, AllocError>
-    ensures { IfOk result (λ s. string_bytes s ≡ names_line address (option_map description function.now)) }
+    ensures { IfOk result
+        (λ s. string_bytes s ≡ names_line address (option_map description function.now)) }
 {
     match function {
         Some(function) => function_line(alloc, address, function),
