@@ -2,7 +2,7 @@
 use Rattle.std.proofs.Common.{◌≡◌, ◌∙◌, ℕ, List, Option, None, Result, Ok, inr, sym, ap}
 use Rattle.pdb_records.specs.Records.{Records}
 use Rattle.pdb_types.specs.declared.error.Error.{Error}
-use Rattle.pdb_addr2line.specs.Outcomes.{unless}
+use Rattle.pdb_types.specs.Outcomes.{unless}
 use Rattle.pdb_addr2line.specs.Sources.{Sources}
 use Rattle.pdb_addr2line.specs.Made.{records_refusal, context_of}
 use Rattle.pdb_reporting.specs.declared.reports.ReportFault.{ReportFault}

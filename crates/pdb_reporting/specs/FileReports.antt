@@ -4,7 +4,7 @@ use Rattle.pdb_records.specs.Records.{Records}
 use Rattle.pdb_types.specs.declared.error.Error.{Error}
 use Rattle.pdb_types.specs.declared.error.Error.TheVariants.{OutOfMemory}
 use Rattle.pdb_addr2line.specs.Function.{Description}
-use Rattle.pdb_addr2line.specs.Outcomes.{unless}
+use Rattle.pdb_types.specs.Outcomes.{unless}
 use Rattle.pdb_addr2line.specs.Sources.{Sources, function_at}
 use Rattle.pdb_addr2line.specs.Made.{records_refusal, info_at, context_of}
 use Rattle.pdb_reporting.specs.declared.reports.ReportFault.{ReportFault}
