@@ -4,7 +4,7 @@ use Rattle.pdb_records.specs.Records.{Records}
 use Rattle.pdb_types.specs.declared.error.Error.{Error}
 use Rattle.pdb_types.specs.Outcomes.{unless}
 use Rattle.pdb_addr2line.specs.Sources.{Sources}
-use Rattle.pdb_addr2line.specs.Made.{records_refusal, context_of}
+use Rattle.pdb_addr2line.specs.ContextData.{records_refusal, context_of}
 use Rattle.pdb_reporting.specs.declared.reports.ReportFault.{ReportFault}
 use Rattle.pdb_reporting.specs.declared.reports.ReportFault.TheVariants.{Lookup, Write}
 use Rattle.pdb_reporting.specs.Sinks.{SinkState}

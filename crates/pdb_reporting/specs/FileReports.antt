@@ -6,7 +6,7 @@ use Rattle.pdb_types.specs.declared.error.Error.TheVariants.{OutOfMemory}
 use Rattle.pdb_addr2line.specs.Function.{Description}
 use Rattle.pdb_types.specs.Outcomes.{unless}
 use Rattle.pdb_addr2line.specs.Sources.{Sources, function_at}
-use Rattle.pdb_addr2line.specs.Made.{records_refusal, info_at, context_of}
+use Rattle.pdb_addr2line.specs.ContextData.{records_refusal, info_at, context_of}
 use Rattle.pdb_reporting.specs.declared.reports.ReportFault.{ReportFault}
 use Rattle.pdb_reporting.specs.declared.reports.ReportFault.TheVariants.{Lookup, Write}
 use Rattle.pdb_reporting.specs.Sinks.{SinkState, Takes}
