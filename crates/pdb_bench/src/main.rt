@@ -1,15 +1,17 @@
 //! Times reading, making a context, look-ups and sizes of types over generated records.
 //!
-//! `pdb_bench NUMBER ..` does so for each number of public symbols, of inline sites of a procedure, and of
-//! types; with no number for a thousand.
+//! `pdb_bench NUMBER ..` does so for each number of public symbols, of inline sites of a procedure, of
+//! types, and of types in a chain; with no number for a thousand.
 //! Counts go to standard output, and times, in milliseconds, to standard error.
 #![tactic(auto)]
 
+mod chains;
 mod generate;
 mod inline_sites;
 mod types;
 
 use anyhow::Result;
+use chains::measure_chains;
 use generate::{ADDRESS_STEP, records_text};
 use inline_sites::{Shape, count_ranges};
 use pdb_addr2line::pdb::PDB;
@@ -37,6 +39,7 @@ fn main(rt: HostRuntime) -> Result<()> {
         measure_sites(&rt, "nested", Shape::Nested, *size)?;
         measure_sites(&rt, "side by side", Shape::SideBySide, *size)?;
         measure_types(&rt, *size)?;
+        measure_chains(&rt, *size)?;
     }
     Ok(())
 }

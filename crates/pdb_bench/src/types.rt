@@ -89,7 +89,7 @@ fn ask<R: Clock, P: ModuleProvider>(
 }
 
 /// The index of the type at a position.
-fn index(position: u32) -> TypeIndex {
+pub(crate) fn index(position: u32) -> TypeIndex {
     TypeIndex(FIRST_INDEX.saturating_add(position))
 }
 
@@ -135,28 +135,39 @@ fn reference_positions(alloc: Global, types: u32) -> Result<Vec<u32>, AllocError
 
 /// Records of a program with so many types and nothing else.
 fn records(alloc: Global, types: u32) -> Result<PDB, AllocError> {
-    Ok(PDB {
+    let types = type_information(alloc, types)?;
+    Ok(records_of(alloc, types))
+}
+
+/// Records of a program with these types and nothing else.
+pub(crate) fn records_of(alloc: Global, types: TypeInformation) -> PDB {
+    PDB {
         sections: Ok(None),
         address_map: Ok(AddressMap {
             sections: Vec::new(alloc),
         }),
         global_symbols: Ok(SymbolTable {
-            symbols: reading(Vec::new(alloc)),
+            symbols: empty_reading(alloc),
         }),
         debug_information: Ok(DebugInformation {
             machine_type: Ok(MachineType::Amd64),
-            modules: reading(Vec::new(alloc)),
-            section_contributions: reading(Vec::new(alloc)),
+            modules: empty_reading(alloc),
+            section_contributions: empty_reading(alloc),
         }),
-        type_information: Ok(type_information(alloc, types)?),
+        type_information: Ok(types),
         id_information: Ok(ItemInformation {
-            items: reading(Vec::new(alloc)),
+            items: empty_reading(alloc),
         }),
         string_table: Ok(StringTable {
             strings: Vec::new(alloc),
         }),
         module_infos: Vec::new(alloc),
-    })
+    }
+}
+
+/// A list of nothing, which was read to its end.
+pub(crate) fn empty_reading<T>(alloc: Global) -> Reading<T> {
+    reading(Vec::new(alloc))
 }
 
 /// A list that was read to its end.

@@ -5,6 +5,8 @@
 //! questions over a file are asked by as many formatters as there are, each of them another one first.
 #![tactic(auto)]
 
+#[cfg(test)]
+mod parts;
 mod questions;
 
 use pdb_addr2line::{ContextPdbData, TypeFormatter};
@@ -27,7 +29,10 @@ struct Tally {
 
 fn main(rt: HostRuntime) -> io::Result<()> {
     let text = fs::read_to_string(&rt, SIZES)?;
-    let mut tally = Tally { asked: 0, differ: 0 };
+    let mut tally = Tally {
+        asked: 0,
+        differ: 0,
+    };
     for part in text.as_str().split("file ") {
         if !part.is_empty() {
             tally = over_file(&rt, part, tally)?;
