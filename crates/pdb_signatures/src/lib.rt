@@ -7,7 +7,7 @@ pub mod laws;
 mod type_formatter;
 
 pub use pdb_types::{
-    Error, FailedParts, Findings, IdMap, ItemIndex, ItemMap, ModuleProvider, Part, Result, Standing,
-    TypeFormatterFlags, TypeMap, TypeSize, TypeSizeCache, Unread,
+    Error, IdMap, ItemIndex, ItemMap, ModuleProvider, Result, TypeFormatterFlags, TypeMap,
+    TypeSizeCache,
 };
 pub use type_formatter::TypeFormatter;
