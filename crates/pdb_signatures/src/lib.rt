@@ -4,6 +4,7 @@
 #![tactic(auto)]
 
 pub mod laws;
+pub mod seen;
 mod type_formatter;
 
 pub use pdb_types::{
