@@ -1,4 +1,4 @@
-ghost use Rattle.std.specs.Prelude.{◌≡◌, ◌+◌, ◌-◌, ◌^◌, ◌++◌, min, map, reverse, option_map, option_to_list, Option, Some, None, OnOk};
+ghost use Rattle.std.specs.Prelude.{◌≡◌, ◌+◌, ◌-◌, ◌^◌, ◌++◌, drop, length, min, nat_lt, map, reverse, option_map, option_to_list, Option, Some, None, OnOk};
 ghost use Rattle.std.specs.Option.{option_copied};
 ghost use Rattle.pdb_types.specs.Outcomes.{Gives};
 ghost use Rattle.pdb_inline.specs.Sites.{site_of, nested_end, innermost_end, through_after, open_after, opened_at, walk, unless_met, at_depth, kept_site, open_site};
@@ -89,6 +89,15 @@ fn open_at<'a>(
     Ok(())
 }
 
+/// Closes the innermost of what is open. `false` where no site is: that closes the procedure.
+#[tactic(auto, using(crate::proofs::SiteLemmas::closed_rest))]
+fn close_innermost(outer: &mut Vec<Site<'_>>) -> bool
+    ensures open { result ≡ nat_lt 0 (length outer.old.items) }
+    ensures rest { reverse (map open_site outer.new.items) ≡ drop 1 (reverse (map open_site outer.old.items)) }
+{
+    outer.pop().is_some()
+}
+
 /// The sites of a procedure by the positions of its symbol and its end, in the order of their symbols.
 pub(crate) fn procedure_sites(
     alloc: Global,
@@ -105,7 +114,7 @@ pub(crate) fn procedure_sites(
     let mut at = position.saturating_add(1);
     while at < symbols.len() {
         if first_end(end, &outer) <= at {
-            if outer.pop().is_none() {
+            if !close_innermost(&mut outer) {
                 return Ok(sites);
             }
             at += 1;
