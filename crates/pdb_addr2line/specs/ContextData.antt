@@ -9,14 +9,10 @@ use Rattle.pdb_records.specs.declared.modules.ModuleInfo.{ModuleInfo}
 use Rattle.pdb_types.specs.declared.error.Error.{Error}
 use Rattle.pdb_types.specs.declared.error.Error.TheVariants.{PdbError}
 use Rattle.pdb_types.specs.declared.flags.TypeFormatterFlags.{TypeFormatterFlags}
-use Rattle.pdb_signatures.specs.Formatters.{Standing, program_pointer_size}
+use Rattle.pdb_types.specs.Resolution.{streamed}
+use Rattle.pdb_types.specs.Standing.{Basis, program_pointer_size}
 use Rattle.pdb_types.specs.Outcomes.{unless, first_refusal, and_then}
 use Rattle.pdb_addr2line.specs.Sources.{Sources, accepted}
-
--- a stream that was read, or its fault
-abbrev pub read : {A : Type 0} → Result A StreamError → Result A Error
-read (Ok content) = Ok content
-read (Err fault) = Err (PdbError (Stream fault))
 
 -- a stream's fault, where it failed
 abbrev pub stream_refusal : {A : Type 0} → Result A StreamError → Option Error
@@ -35,7 +31,9 @@ info_at r index = unwrap_or (slice_get r.module_infos index) (Ok None)
 
 -- the headers of the sections; records without any have an empty list
 abbrev pub sections_read : Records → Result (List ImageSectionHeader) Error
-sections_read r = and_then (λ sections. Ok (unwrap_or sections [])) (read r.sections)
+sections_read r =
+    and_then (streamed r.sections) (λ sections.
+    Ok (unwrap_or sections []))
 
 -- what signatures can't be told for: a fault of the list of modules, and then a machine that could not be read
 abbrev pub formatter_refusal : DebugInformation → Option Error
@@ -45,16 +43,19 @@ formatter_refusal debug = first_refusal (option_map (λ fault. PdbError (Stream 
 -- their contents is
 abbrev pub context_of : Records → Result (Sources Records) Error
 context_of r =
-    and_then (λ debug. and_then (λ symbols. and_then (λ ranges.
-    unless (formatter_refusal debug) (and_then (λ sections. accepted (record {
+    and_then (streamed r.debug_information) (λ debug.
+    and_then (streamed r.global_symbols) (λ symbols.
+    and_then (streamed r.address_map) (λ ranges.
+    unless (formatter_refusal debug) (
+    and_then (sections_read r) (λ sections.
+    accepted (record {
       provider = r;
       sections = sections;
       address_map = ranges;
       global_symbols = symbols;
       debug_information = debug;
       modules = debug.modules.items;
-    })) (sections_read r)))
-    (read r.address_map)) (read r.global_symbols)) (read r.debug_information)
+    }))))))
 
 -- what was read, if it was
 abbrev pub if_read : {A : Type 0} → Result A StreamError → Option A
@@ -62,10 +63,14 @@ if_read (Ok content) = Some content
 if_read (Err fault) = None
 
 -- what the formatter of these records stands on: refused for the list of modules and the machine
-abbrev pub formatter_of : TypeFormatterFlags → Records → Result (Standing Records) Error
+abbrev pub formatter_of : TypeFormatterFlags → Records → Result (Basis Records) Error
 formatter_of flags r =
-    and_then (λ debug. and_then (λ types. and_then (λ ids.
-    unless (formatter_refusal debug) (and_then (λ pointer_size. Ok (record {
+    and_then (streamed r.debug_information) (λ debug.
+    and_then (streamed r.type_information) (λ types.
+    and_then (streamed r.id_information) (λ ids.
+    unless (formatter_refusal debug) (
+    and_then (program_pointer_size debug.machine_type) (λ pointer_size.
+    Ok (record {
       provider = r;
       modules = debug.modules.items;
       strings = if_read r.string_table;
@@ -73,5 +78,4 @@ formatter_of flags r =
       types = types.items;
       ids = ids.items;
       flags = flags;
-    })) (program_pointer_size debug.machine_type)))
-    (read r.id_information)) (read r.type_information)) (read r.debug_information)
+    }))))))

@@ -37,7 +37,10 @@ global_functions_of s = global_functions s.sections s.global_symbols.symbols.ite
 
 -- what these records are refused for: the fault of the global symbols, then their contributions
 abbrev pub accepted : {P : Type 0} → Sources P → Result (Sources P) Error
-accepted s = unless (option_map (λ fault. PdbError (Stream fault)) s.global_symbols.symbols.fault) (and_then (λ merged. Ok s) (merged_contributions s.sections s.debug_information))
+accepted s =
+    unless (option_map (λ fault. PdbError (Stream fault)) s.global_symbols.symbols.fault) (
+    and_then (merged_contributions s.sections s.debug_information) (λ merged.
+    Ok s))
 
 -- the contribution over an address
 abbrev pub contribution_at : {P : Type 0} → Sources P → ℕ → Option ModuleSectionContribution

@@ -1,7 +1,6 @@
-ghost use Rattle.std.specs.Prelude.{◌≡◌, None, Some, IfOk};
+ghost use Rattle.std.specs.Prelude.{◌≡◌, [], None, Some, IfOk};
 ghost use Rattle.pdb_types.specs.Provided.{provided};
 ghost use Rattle.pdb_types.specs.Outcomes.{Gives, Refuses};
-ghost use Rattle.pdb_types.specs.FailedParts.{NoneFailed};
 ghost use Rattle.pdb_addr2line.specs.ContextData.{records_refusal, formatter_refusal, sections_read, info_at, context_of, formatter_of};
 ghost use Rattle.std.specs.Borrow.{sem};
 ghost use Rattle.std.specs.Io.BufRead.{Rests};
@@ -150,7 +149,7 @@ impl<'p> ContextPdbData<'p> {
     /// As [`ContextPdbData::make_type_formatter_with_flags`].
     pub fn make_type_formatter(&self) -> Result<TypeFormatter<'_, Self>>
         ensures answer { Gives (λ f. f.standing) result (formatter_of (record { 0 = 23 }) self.now) }
-        ensures none_failed { IfOk result (λ f. NoneFailed f.failed) }
+        ensures none_failed { IfOk result (λ f. f.failed ≡ []) }
     {
         self.make_type_formatter_with_flags(TypeFormatterFlags::default())
     }
@@ -166,7 +165,7 @@ impl<'p> ContextPdbData<'p> {
         flags: TypeFormatterFlags,
     ) -> Result<TypeFormatter<'_, Self>>
         ensures answer { Gives (λ f. f.standing) result (formatter_of flags self.now) }
-        ensures none_failed { IfOk result (λ f. NoneFailed f.failed) }
+        ensures none_failed { IfOk result (λ f. f.failed ≡ []) }
     {
         let pdb = self.pdb();
         let (Ok(debug_information), Ok(types), Ok(ids)) = (

@@ -12,10 +12,11 @@ mod types;
 use anyhow::Result;
 use generate::{ADDRESS_STEP, records_text};
 use inline_sites::{Shape, count_ranges};
-use pdb_addr2line::ContextPdbData;
+use pdb_addr2line::pdb::PDB;
+use pdb_addr2line::{Context, ContextPdbData, ModuleProvider};
 use pdb_json::read_records;
 use std::env;
-use std::rt::{Clock, Env};
+use std::rt::Clock;
 use std::time::Instant;
 use types::measure_types;
 
@@ -40,17 +41,63 @@ fn main(rt: HostRuntime) -> Result<()> {
     Ok(())
 }
 
-/// Reads records with so many public symbols, makes a context, and looks up addresses all over them.
-fn measure<R: Env + Clock + Print + Eprint + AllocGlobal>(rt: &R, symbols: u32) -> Result<()> {
+/// Reads records with so many public symbols, and measures a context over them.
+fn measure<R: Clock + Print + Eprint + AllocGlobal>(rt: &R, symbols: u32) -> Result<()> {
     let text = records_text(rt.alloc(), symbols)?;
+    let size = text.len();
     let start = Instant::now(rt)?;
     let records = read_records(rt.alloc(), text.as_bytes())?;
+    tell_reading(rt, start, size)?;
+    measure_records(rt, records, symbols)
+}
+
+/// Prints how long it took to read so many bytes.
+fn tell_reading<R: Clock + Eprint>(rt: &R, start: Instant, size: usize) -> Result<()> {
     let reading = start.elapsed(rt)?.as_millis();
-    let start = Instant::now(rt)?;
+    eprintln!(rt; "{size} bytes read in {reading}")?;
+    Ok(())
+}
+
+/// Keeps records, and measures a context over them.
+fn measure_records<R: Clock + Print + Eprint + AllocGlobal>(
+    rt: &R,
+    records: PDB,
+    symbols: u32,
+) -> Result<()> {
     let data = ContextPdbData::try_from_pdb(rt.alloc(), records)?;
-    let mut context = data.make_context()?;
-    let making = start.elapsed(rt)?.as_millis();
+    measure_context(rt, &data, symbols)
+}
+
+/// Makes a context, and measures it.
+fn measure_context<R: Clock + Print + Eprint>(
+    rt: &R,
+    data: &ContextPdbData<'_>,
+    symbols: u32,
+) -> Result<()> {
     let start = Instant::now(rt)?;
+    let mut context = data.make_context()?;
+    measure_look_ups(rt, &mut context, start, symbols)
+}
+
+/// Looks up addresses all over the symbols. The context was begun at this time.
+fn measure_look_ups<R: Clock + Print + Eprint, P: ModuleProvider>(
+    rt: &R,
+    context: &mut Context<'_, P>,
+    begun: Instant,
+    symbols: u32,
+) -> Result<()> {
+    let making = begun.elapsed(rt)?.as_millis();
+    let start = Instant::now(rt)?;
+    let found = count_found(context, symbols)?;
+    let looking = start.elapsed(rt)?.as_millis();
+    let functions = context.function_count();
+    println!(rt; "{symbols} symbols, {functions} functions, {found} of {LOOK_UPS} found")?;
+    eprintln!(rt; "context made in {making}, looked up in {looking}")?;
+    Ok(())
+}
+
+/// How many of some addresses all over the symbols lie in a function.
+fn count_found<P: ModuleProvider>(context: &mut Context<'_, P>, symbols: u32) -> Result<u32> {
     let mut found = 0u32;
     for number in 0..LOOK_UPS {
         let place = u64::from(symbols) * u64::from(number) / u64::from(LOOK_UPS);
@@ -59,14 +106,7 @@ fn measure<R: Env + Clock + Print + Eprint + AllocGlobal>(rt: &R, symbols: u32) 
             found = found.saturating_add(1);
         }
     }
-    let looking = start.elapsed(rt)?.as_millis();
-    let functions = context.function_count();
-    println!(rt; "{symbols} symbols, {functions} functions, {found} of {LOOK_UPS} found")?;
-    let size = text.len();
-    eprintln!(rt;
-        "{size} bytes read in {reading}, context made in {making}, looked up in {looking}"
-    )?;
-    Ok(())
+    Ok(found)
 }
 
 /// Finds the inline ranges of a procedure with so many sites.

@@ -19,31 +19,42 @@ const FIRST_INDEX: u32 = 0x1000;
 /// modifier.
 const GROUP: u32 = 4;
 
-/// Makes a formatter over so many types, and asks it for sizes: first of ordinary types, and then of
-/// forward references.
+/// Asks for sizes over records with so many types: first of ordinary types, and then of forward references.
 pub(crate) fn measure_types<R: Clock + Print + Eprint + AllocGlobal>(
     rt: &R,
     types: u32,
 ) -> Result<()> {
     let data = ContextPdbData::try_from_pdb(rt.alloc(), records(rt.alloc(), types)?)?;
+    measure_formatter(rt, &data, types)
+}
+
+/// Makes a formatter, and measures it.
+fn measure_formatter<R: Clock + Print + Eprint + AllocGlobal>(
+    rt: &R,
+    data: &ContextPdbData<'_>,
+    types: u32,
+) -> Result<()> {
     let start = Instant::now(rt)?;
     let mut formatter = data.make_type_formatter()?;
-    let making = start.elapsed(rt)?.as_millis();
+    measure_questions(rt, &mut formatter, start, types)
+}
+
+/// Asks a formatter for sizes. It was begun at this time.
+fn measure_questions<R: Clock + Print + Eprint + AllocGlobal, P: ModuleProvider>(
+    rt: &R,
+    formatter: &mut TypeFormatter<'_, P>,
+    begun: Instant,
+    types: u32,
+) -> Result<()> {
+    let making = begun.elapsed(rt)?.as_millis();
     eprintln!(rt; "formatter made in {making}")?;
     let positions = ordinary_positions(rt.alloc(), types)?;
     let last = types.saturating_sub(1);
-    measure_sizes(rt, &mut formatter, "types", types, last, &positions)?;
+    measure_sizes(rt, formatter, "types", types, last, &positions)?;
     let count = reference_count(types);
     let positions = reference_positions(rt.alloc(), types)?;
     let last = reference(count.saturating_sub(1));
-    measure_sizes(
-        rt,
-        &mut formatter,
-        "forward references",
-        count,
-        last,
-        &positions,
-    )
+    measure_sizes(rt, formatter, "forward references", count, last, &positions)
 }
 
 /// Asks for the size of the last of so many types, and then for sizes all over the list.

@@ -2,37 +2,38 @@
 use Rattle.std.specs.Prelude.{ℕ, List, [], ◌∷◌, Result, Ok, unwrap_or, codes}
 use Rattle.serde_json.specs.Data.{Data}
 use Rattle.pdb_records.specs.declared.debug_information.MachineType.{MachineType}
-use Rattle.pdb_records.specs.declared.debug_information.MachineType.TheVariants.{Amd64, Arm64, Ia64, RiscV64, RiscV128, Other}
+use Rattle.pdb_records.specs.declared.debug_information.MachineType.TheVariants as machine
 use Rattle.pdb_records.specs.declared.debug_information.DebugInformation.{DebugInformation}
 use Rattle.pdb_records.specs.declared.debug_information.Module.{Module}
 use Rattle.pdb_records.specs.declared.debug_information.SectionContribution.{SectionContribution}
 use Rattle.pdb_json.specs.Faults.{Fault, ◌>>=◌}
-use Rattle.pdb_json.specs.Values.{object_of, text_of, u32_of}
-use Rattle.pdb_json.specs.Names.{variant_named}
+use Rattle.pdb_json.specs.Values.{object_of, text_of}
+use Rattle.pdb_json.specs.Numbers.{u32_of}
+use Rattle.pdb_json.specs.Names.{name_of, variant_named}
 use Rattle.pdb_json.specs.Members.{member_of, reading_of, stream_of}
 use Rattle.pdb_json.specs.Sections.{place_of}
 
 -- the processors that have names
 abbrev pub machines : List (List ℕ × MachineType)
 machines =
-    (codes "Amd64", Amd64)
-    ∷ (codes "Arm64", Arm64)
-    ∷ (codes "Ia64", Ia64)
-    ∷ (codes "RiscV64", RiscV64)
-    ∷ (codes "RiscV128", RiscV128)
+    (codes "Amd64", machine.Amd64)
+    ∷ (codes "Arm64", machine.Arm64)
+    ∷ (codes "Ia64", machine.Ia64)
+    ∷ (codes "RiscV64", machine.RiscV64)
+    ∷ (codes "RiscV128", machine.RiscV128)
     ∷ []
 
 -- a processor; a text that names none of these is another one
 unfoldable pub machine_of : Data → Result MachineType Fault
 machine_of d = do
   name ← text_of d
-  Ok (unwrap_or (variant_named name machines) Other)
+  Ok (unwrap_or (variant_named name machines) machine.Other)
 
 -- a file that was linked into the program
-unfoldable pub module_of : Data → Result Module Fault
-module_of d = do
+unfoldable pub module_of : ℕ → Data → Result Module Fault
+module_of version d = do
   linked ← object_of d
-  name ← member_of (codes "name") text_of linked
+  name ← member_of (codes "name") (name_of version) linked
   Ok (record { name = name })
 
 -- a run of a section that came from one module
@@ -45,10 +46,10 @@ contribution_of d = do
   Ok (record { offset = offset; size = size; «module» = from })
 
 -- the processor, the modules, and what came from them
-unfoldable pub debug_information_of : Data → Result DebugInformation Fault
-debug_information_of d = do
+unfoldable pub debug_information_of : ℕ → Data → Result DebugInformation Fault
+debug_information_of version d = do
   debug ← object_of d
-  machine ← member_of (codes "machine_type") (stream_of machine_of) debug
-  modules ← member_of (codes "modules") (reading_of module_of) debug
+  processor ← member_of (codes "machine_type") (stream_of machine_of) debug
+  modules ← member_of (codes "modules") (reading_of (module_of version)) debug
   contributions ← member_of (codes "section_contributions") (reading_of contribution_of) debug
-  Ok (record { machine_type = machine; modules = modules; section_contributions = contributions })
+  Ok (record { machine_type = processor; modules = modules; section_contributions = contributions })

@@ -1,9 +1,9 @@
 -- What is wrong with a records file, and where.
 use Rattle.std.specs.Prelude.{◌≡◌, ℕ, List, ◌++◌, Result, Ok, Err, string_bytes, codes}
-use Rattle.pdb_json.specs.declared.fault.RecordFault.{RecordFault}
-use Rattle.pdb_json.specs.declared.fault.RecordFault.TheVariants as told
+use Rattle.pdb_json.specs.declared.faults.RecordFault.{RecordFault}
+use Rattle.pdb_json.specs.declared.faults.RecordFault.TheVariants as told
 
--- the text is no JSON, or a value at a path is of another sort than is wanted there, or the number there is out of range
+-- the text is no JSON; or at a path a value is of another sort than is wanted, or a number is out of range
 pub data Fault : Type 0 where
   not_json : Fault
   shape : (path wanted : List ℕ) → Fault
@@ -31,18 +31,18 @@ abbrev pub ◌>>=◌ : {X Y : Type 0} → Result X Fault → (X → Result Y Fau
 (Err fault) >>= next = Err fault
 
 -- the fault that a program tells is the fault of the definition. Want of memory may come at any time
-abbrev pub Tells : {X : Type 0} → RecordFault → Result X Fault → Type 0
-Tells told.NotJson read = read ≡ Err not_json
-Tells (told.Shape path wanted) read = read ≡ Err (shape (string_bytes path) (string_bytes wanted))
-Tells (told.NumberOutOfRange path) read = read ≡ Err (out_of_range (string_bytes path))
-Tells told.OutOfMemory read = Unit {0}
+abbrev pub IsFaultOf : {X : Type 0} → RecordFault → Result X Fault → Type 0
+IsFaultOf told.NotJson read = read ≡ Err not_json
+IsFaultOf (told.Shape path wanted) read = read ≡ Err (shape (string_bytes path) (string_bytes wanted))
+IsFaultOf (told.NumberOutOfRange path) read = read ≡ Err (out_of_range (string_bytes path))
+IsFaultOf told.OutOfMemory read = Unit {0}
 
 -- a program's answer is what the definition reads, unless memory ran out
-abbrev pub Gives : {X : Type 0} → Result X RecordFault → Result X Fault → Type 0
-Gives (Ok x) read = read ≡ Ok x
-Gives (Err fault) read = Tells fault read
+abbrev pub Agrees : {X : Type 0} → Result X RecordFault → Result X Fault → Type 0
+Agrees (Ok x) read = read ≡ Ok x
+Agrees (Err fault) read = IsFaultOf fault read
 
 -- the same, where the answer is seen in another way, as by what it points to
-abbrev pub GivesAs : {X Y : Type 0} → (X → Y) → Result X RecordFault → Result Y Fault → Type 0
-GivesAs seen (Ok x) read = read ≡ Ok (seen x)
-GivesAs seen (Err fault) read = Tells fault read
+abbrev pub AgreesBy : {X Y : Type 0} → (X → Y) → Result X RecordFault → Result Y Fault → Type 0
+AgreesBy seen (Ok x) read = read ≡ Ok (seen x)
+AgreesBy seen (Err fault) read = IsFaultOf fault read

@@ -6,7 +6,8 @@ use Rattle.pdb_records.specs.declared.error.Error.TheVariants.{Stream, Unimpleme
 use Rattle.pdb_records.specs.declared.types.Item.{Item}
 use Rattle.pdb_records.specs.declared.types.ItemInformation.{ItemInformation}
 use Rattle.pdb_json.specs.Faults.{Fault, shape, ◌>>=◌}
-use Rattle.pdb_json.specs.Values.{object_of, u16_of}
+use Rattle.pdb_json.specs.Values.{object_of}
+use Rattle.pdb_json.specs.Numbers.{u16_of}
 use Rattle.pdb_json.specs.Members.{has, member_of, reading_of, stream_error_of}
 
 -- a stream that failed
@@ -48,7 +49,8 @@ module _ {I D : Type 0} where
     Ok (record { index = index; content = content })
 
   -- a list of types or ids
-  unfoldable pub items_of : (Data → Result I Fault) → (Data → Result D Fault) → Data → Result (ItemInformation I D) Fault
+  unfoldable pub items_of : (Data → Result I Fault) → (Data → Result D Fault)
+      → Data → Result (ItemInformation I D) Fault
   items_of number read d = do
     items ← reading_of (item_of number read) d
     Ok (record { items = items })

@@ -7,6 +7,7 @@ pub use Rattle.pdb_records.specs.Arrays
 pub use Rattle.pdb_records.specs.Imports
 pub mod Faults
 pub mod Values
+pub mod Numbers
 pub mod Names
 pub mod Members
 pub mod Sections

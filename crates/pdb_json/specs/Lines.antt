@@ -6,7 +6,8 @@ use Rattle.pdb_records.specs.declared.lines.LineInfo.{LineInfo}
 use Rattle.pdb_records.specs.declared.lines.SymbolLines.{SymbolLines}
 use Rattle.pdb_records.specs.declared.lines.FileInfo.{FileInfo}
 use Rattle.pdb_json.specs.Faults.{Fault, ◌>>=◌}
-use Rattle.pdb_json.specs.Values.{object_of, u32_of}
+use Rattle.pdb_json.specs.Values.{object_of}
+use Rattle.pdb_json.specs.Numbers.{u32_of}
 use Rattle.pdb_json.specs.Members.{member_of, list_of, reading_of}
 use Rattle.pdb_json.specs.Sections.{place_of}
 use Rattle.pdb_json.specs.Symbols.{file_index_of}

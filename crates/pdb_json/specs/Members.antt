@@ -1,11 +1,13 @@
 -- Members of objects, lists, readings and streams.
-use Rattle.std.specs.Prelude.{ℕ, ◌+◌, List, [], ◌∷◌, Bool, Option, Some, None, Result, Ok, Err, is_some, unwrap_or, decimal, if◌then◌else◌, codes}
+use Rattle.std.specs.Prelude.{ℕ, ◌+◌, List, [], ◌∷◌, Bool, Option, Some, None, Result, Ok, Err}
+use Rattle.std.specs.Prelude.{is_some, unwrap_or, decimal, if◌then◌else◌, codes}
 use Rattle.serde_json.specs.Data.{Data, null, Items, no_items, item}
 use Rattle.serde_json.specs.Find.{get, as_null, as_object}
 use Rattle.pdb_records.specs.Readings.{Read}
 use Rattle.pdb_records.specs.declared.error.StreamError.{StreamError}
 use Rattle.pdb_json.specs.Faults.{Fault, ◌>>=◌, read_inside}
-use Rattle.pdb_json.specs.Values.{array_of, u32_of}
+use Rattle.pdb_json.specs.Values.{array_of}
+use Rattle.pdb_json.specs.Numbers.{u32_of}
 
 -- whether an object has a member of this name, whatever its value
 abbrev pub has : List ℕ → Data → Bool

@@ -5,7 +5,8 @@ use Rattle.pdb_records.specs.Imports.{Imported}
 use Rattle.pdb_records.specs.declared.modules.Inlinee.{Inlinee}
 use Rattle.pdb_records.specs.declared.modules.ModuleInfo.{ModuleInfo}
 use Rattle.pdb_json.specs.Faults.{Fault, ◌>>=◌}
-use Rattle.pdb_json.specs.Values.{object_of, u32_of}
+use Rattle.pdb_json.specs.Values.{object_of}
+use Rattle.pdb_json.specs.Numbers.{u32_of}
 use Rattle.pdb_json.specs.Members.{member_of, list_of, reading_of, stream_of}
 use Rattle.pdb_json.specs.Symbols.{symbol_of, id_index_of}
 use Rattle.pdb_json.specs.Lines.{lines_of}
@@ -34,12 +35,18 @@ export_of d = do
   Ok (own, global)
 
 -- what is known of a module
-unfoldable pub info_of : Data → Result ModuleInfo Fault
-info_of d = do
+unfoldable pub info_of : ℕ → Data → Result ModuleInfo Fault
+info_of version d = do
   info ← object_of d
-  symbols ← member_of (codes "symbols") (reading_of symbol_of) info
+  symbols ← member_of (codes "symbols") (reading_of (symbol_of version)) info
   line_program ← member_of (codes "line_program") (stream_of lines_of) info
   inlinees ← member_of (codes "inlinees") (reading_of inlinee_of) info
   imports ← member_of (codes "imports") (stream_of (list_of import_of)) info
   exports ← member_of (codes "exports") (stream_of (list_of export_of)) info
-  Ok (record { symbols = symbols; line_program = line_program; inlinees = inlinees; imports = imports; exports = exports })
+  Ok (record {
+    symbols = symbols;
+    line_program = line_program;
+    inlinees = inlinees;
+    imports = imports;
+    exports = exports;
+  })

@@ -1,9 +1,21 @@
 -- Names of variants.
-use Rattle.std.specs.Prelude.{ℕ, nat_eq, List, [], Option, Some, None, Result, Ok, Err, find, option_map, codes}
+use Rattle.std.specs.Prelude.{ℕ, nat_eq, Bool, List, [], Option, Some, None, Result, Ok, Err, find, option_map, codes}
 use Rattle.std.specs.Cmp.Lexicographic.{pointwise}
 use Rattle.serde_json.specs.Data.{Data}
 use Rattle.pdb_json.specs.Faults.{Fault, shape, ◌>>=◌}
 use Rattle.pdb_json.specs.Values.{text_of}
+
+-- a name: in the first version of the format, a text
+unfoldable pub name_of : ℕ → Data → Result (List ℕ) Fault
+name_of version d = text_of d
+
+-- what is wrong with a kind whose name is not known
+abbrev pub unknown_kind : Fault
+unknown_kind = shape (codes "/kind") (codes "kind")
+
+-- whether a name is this one
+abbrev pub is_name : List ℕ → List ℕ → Bool
+is_name known name = pointwise nat_eq name known
 
 module _ {X : Type 0} where
   -- what the first entry of this name stands for

@@ -5,7 +5,8 @@ use Rattle.pdb_records.specs.declared.addresses.ImageSectionHeader.{ImageSection
 use Rattle.pdb_records.specs.declared.addresses.AddressRange.{AddressRange}
 use Rattle.pdb_records.specs.declared.addresses.PdbInternalSectionOffset.{PdbInternalSectionOffset}
 use Rattle.pdb_json.specs.Faults.{Fault, ◌>>=◌}
-use Rattle.pdb_json.specs.Values.{object_of, u16_of, u32_of, boolean_of}
+use Rattle.pdb_json.specs.Values.{object_of, boolean_of}
+use Rattle.pdb_json.specs.Numbers.{u16_of, u32_of}
 use Rattle.pdb_json.specs.Members.{member_of}
 
 -- a section: where it starts, its size, and whether its bytes are code

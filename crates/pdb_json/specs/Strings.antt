@@ -3,7 +3,9 @@ use Rattle.std.specs.Prelude.{ℕ, List, Result, Ok, codes}
 use Rattle.serde_json.specs.Data.{Data}
 use Rattle.pdb_records.specs.declared.strings.StringRef.{StringRef}
 use Rattle.pdb_json.specs.Faults.{Fault, ◌>>=◌}
-use Rattle.pdb_json.specs.Values.{object_of, text_of, u32_of}
+use Rattle.pdb_json.specs.Values.{object_of}
+use Rattle.pdb_json.specs.Numbers.{u32_of}
+use Rattle.pdb_json.specs.Names.{name_of}
 use Rattle.pdb_json.specs.Members.{member_of}
 
 -- the key of a text
@@ -13,9 +15,9 @@ string_ref_of d = do
   Ok (record { 0 = n })
 
 -- a text with its key
-unfoldable pub string_of : Data → Result (StringRef × List ℕ) Fault
-string_of d = do
+unfoldable pub string_of : ℕ → Data → Result (StringRef × List ℕ) Fault
+string_of version d = do
   entry ← object_of d
   key ← member_of (codes "ref") string_ref_of entry
-  text ← member_of (codes "text") text_of entry
+  text ← member_of (codes "text") (name_of version) entry
   Ok (key, text)

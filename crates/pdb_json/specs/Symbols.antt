@@ -1,5 +1,5 @@
 -- Symbols.
-use Rattle.std.specs.Prelude.{ℕ, List, [], ◌∷◌, Result, Ok, codes}
+use Rattle.std.specs.Prelude.{ℕ, List, Result, Ok, Err, if◌then◌else◌, codes}
 use Rattle.serde_json.specs.Data.{Data}
 use Rattle.pdb_records.specs.declared.ids.IdIndex.{IdIndex}
 use Rattle.pdb_records.specs.declared.types.TypeIndex.{TypeIndex}
@@ -15,24 +15,12 @@ use Rattle.pdb_records.specs.declared.symbols.SeparatedCodeSymbol.{SeparatedCode
 use Rattle.pdb_records.specs.declared.symbols.ThunkSymbol.{ThunkSymbol}
 use Rattle.pdb_records.specs.declared.symbols.InlineSiteSymbol.{InlineSiteSymbol}
 use Rattle.pdb_records.specs.declared.symbols.InlineRow.{InlineRow}
-use Rattle.pdb_json.specs.declared.symbols.SymbolKind.{SymbolKind}
-use Rattle.pdb_json.specs.declared.symbols.SymbolKind.TheVariants as kind
 use Rattle.pdb_json.specs.Faults.{Fault, ◌>>=◌}
-use Rattle.pdb_json.specs.Values.{object_of, text_of, u16_of, u32_of}
-use Rattle.pdb_json.specs.Names.{variant_of}
+use Rattle.pdb_json.specs.Values.{object_of, text_of}
+use Rattle.pdb_json.specs.Numbers.{u16_of, u32_of}
+use Rattle.pdb_json.specs.Names.{name_of, unknown_kind, is_name}
 use Rattle.pdb_json.specs.Members.{member_of, optional_of, reading_of}
 use Rattle.pdb_json.specs.Sections.{place_of}
-
--- the names of the kinds
-abbrev pub symbol_kinds : List (List ℕ × SymbolKind)
-symbol_kinds =
-    (codes "Public", kind.Public)
-    ∷ (codes "Procedure", kind.Procedure)
-    ∷ (codes "SeparatedCode", kind.SeparatedCode)
-    ∷ (codes "Thunk", kind.Thunk)
-    ∷ (codes "InlineSite", kind.InlineSite)
-    ∷ (codes "Other", kind.Other)
-    ∷ []
 
 -- the number of a type
 unfoldable pub type_index_of : Data → Result TypeIndex Fault
@@ -59,18 +47,18 @@ position_of d = do
   Ok (record { 0 = n })
 
 -- a name that is visible outside its module
-unfoldable pub public_of : Data → Result PublicSymbol Fault
-public_of d = do
+unfoldable pub public_of : ℕ → Data → Result PublicSymbol Fault
+public_of version d = do
   offset ← place_of (codes "section") (codes "offset") d
-  name ← member_of (codes "name") text_of d
+  name ← member_of (codes "name") (name_of version) d
   Ok (record { offset = offset; name = name })
 
 -- a procedure
-unfoldable pub procedure_of : Data → Result ProcedureSymbol Fault
-procedure_of d = do
+unfoldable pub procedure_of : ℕ → Data → Result ProcedureSymbol Fault
+procedure_of version d = do
   offset ← place_of (codes "section") (codes "offset") d
   len ← member_of (codes "len") u32_of d
-  name ← member_of (codes "name") text_of d
+  name ← member_of (codes "name") (name_of version) d
   end ← member_of (codes "end") position_of d
   type_index ← member_of (codes "type_index") type_index_of d
   Ok (record { offset = offset; len = len; name = name; end = end; type_index = type_index })
@@ -85,11 +73,11 @@ separated_code_of d = do
   Ok (record { offset = offset; len = len; parent_offset = parent_offset; end = end })
 
 -- a short piece of code that leads to a procedure
-unfoldable pub thunk_of : Data → Result ThunkSymbol Fault
-thunk_of d = do
+unfoldable pub thunk_of : ℕ → Data → Result ThunkSymbol Fault
+thunk_of version d = do
   offset ← place_of (codes "section") (codes "offset") d
   len ← member_of (codes "len") u16_of d
-  name ← member_of (codes "name") text_of d
+  name ← member_of (codes "name") (name_of version) d
   end ← member_of (codes "end") position_of d
   Ok (record { offset = offset; len = len; name = name; end = end })
 
@@ -111,32 +99,34 @@ inline_site_of d = do
   rows ← member_of (codes "rows") (reading_of row_of) d
   Ok (record { inlinee = inlinee; end = end; rows = rows })
 
--- what a symbol of this kind holds
-unfoldable pub data_of_kind : SymbolKind → Data → Result SymbolData Fault
-data_of_kind kind.Public d = public_of d >>= λ symbol. Ok (held.Public symbol)
-data_of_kind kind.Procedure d = procedure_of d >>= λ symbol. Ok (held.Procedure symbol)
-data_of_kind kind.SeparatedCode d = separated_code_of d >>= λ symbol. Ok (held.SeparatedCode symbol)
-data_of_kind kind.Thunk d = thunk_of d >>= λ symbol. Ok (held.Thunk symbol)
-data_of_kind kind.InlineSite d = inline_site_of d >>= λ symbol. Ok (held.InlineSite symbol)
-data_of_kind kind.Other d = Ok held.Other
+-- what a symbol holds whose kind has this name
+unfoldable pub data_named : ℕ → List ℕ → Data → Result SymbolData Fault
+data_named version kind d =
+    if is_name (codes "Public") kind then (public_of version d >>= λ symbol. Ok (held.Public symbol))
+    else if is_name (codes "Procedure") kind then (procedure_of version d >>= λ symbol. Ok (held.Procedure symbol))
+    else if is_name (codes "SeparatedCode") kind then (separated_code_of d >>= λ symbol. Ok (held.SeparatedCode symbol))
+    else if is_name (codes "Thunk") kind then (thunk_of version d >>= λ symbol. Ok (held.Thunk symbol))
+    else if is_name (codes "InlineSite") kind then (inline_site_of d >>= λ symbol. Ok (held.InlineSite symbol))
+    else if is_name (codes "Other") kind then Ok held.Other
+    else Err unknown_kind
 
 -- what a symbol holds: its kind, and the members of that kind
-unfoldable pub data_of : Data → Result SymbolData Fault
-data_of d = do
+unfoldable pub data_of : ℕ → Data → Result SymbolData Fault
+data_of version d = do
   symbol ← object_of d
-  which ← member_of (codes "kind") (variant_of symbol_kinds) symbol
-  data_of_kind which symbol
+  kind ← member_of (codes "kind") text_of symbol
+  data_named version kind symbol
 
 -- a symbol: the number of its kind, and what it holds, where that could be read
-unfoldable pub symbol_of : Data → Result Symbol Fault
-symbol_of d = do
+unfoldable pub symbol_of : ℕ → Data → Result Symbol Fault
+symbol_of version d = do
   symbol ← object_of d
   raw_kind ← member_of (codes "raw_kind") u16_of symbol
-  content ← member_of (codes "data") (optional_of data_of) symbol
+  content ← member_of (codes "data") (optional_of (data_of version)) symbol
   Ok (record { raw_kind = raw_kind; content = content })
 
 -- the symbols of the whole program
-unfoldable pub symbol_table_of : Data → Result SymbolTable Fault
-symbol_table_of d = do
-  symbols ← reading_of symbol_of d
+unfoldable pub symbol_table_of : ℕ → Data → Result SymbolTable Fault
+symbol_table_of version d = do
+  symbols ← reading_of (symbol_of version) d
   Ok (record { symbols = symbols })

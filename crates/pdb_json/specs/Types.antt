@@ -1,5 +1,5 @@
 -- Types.
-use Rattle.std.specs.Prelude.{ℕ, List, [], ◌∷◌, Result, Ok, codes}
+use Rattle.std.specs.Prelude.{ℕ, List, [], ◌∷◌, Result, Ok, Err, if◌then◌else◌, codes}
 use Rattle.serde_json.specs.Data.{Data}
 use Rattle.pdb_records.specs.Arrays.{Dimensions}
 use Rattle.pdb_records.specs.declared.types.PrimitiveKind.{PrimitiveKind}
@@ -22,32 +22,12 @@ use Rattle.pdb_records.specs.declared.types.ClassKind.TheVariants as class
 use Rattle.pdb_records.specs.declared.types.PointerMode.TheVariants as mode
 use Rattle.pdb_records.specs.declared.types.Variant.TheVariants as variant
 use Rattle.pdb_records.specs.declared.types.TypeData.TheVariants as held
-use Rattle.pdb_json.specs.declared.types.TypeKind.{TypeKind}
-use Rattle.pdb_json.specs.declared.types.TypeKind.TheVariants as kind
-use Rattle.pdb_json.specs.declared.types.VariantKind.{VariantKind}
-use Rattle.pdb_json.specs.declared.types.VariantKind.TheVariants as width
 use Rattle.pdb_json.specs.Faults.{Fault, ◌>>=◌}
-use Rattle.pdb_json.specs.Values.{object_of, boolean_of, text_of, u8_of, u16_of, u32_of, u64_of, i8_of, i16_of, i32_of, i64_of}
-use Rattle.pdb_json.specs.Names.{variant_of}
+use Rattle.pdb_json.specs.Values.{object_of, boolean_of, text_of}
+use Rattle.pdb_json.specs.Numbers.{u8_of, u16_of, u32_of, u64_of, i8_of, i16_of, i32_of, i64_of}
+use Rattle.pdb_json.specs.Names.{name_of, variant_of, unknown_kind, is_name}
 use Rattle.pdb_json.specs.Members.{member_of, optional_of, list_of}
 use Rattle.pdb_json.specs.Symbols.{type_index_of}
-
--- the names of the kinds of types
-abbrev pub type_kinds : List (List ℕ × TypeKind)
-type_kinds =
-    (codes "Primitive", kind.Primitive)
-    ∷ (codes "Class", kind.Class)
-    ∷ (codes "MemberFunction", kind.MemberFunction)
-    ∷ (codes "Procedure", kind.Procedure)
-    ∷ (codes "Pointer", kind.Pointer)
-    ∷ (codes "Array", kind.Array)
-    ∷ (codes "Union", kind.Union)
-    ∷ (codes "Enumeration", kind.Enumeration)
-    ∷ (codes "Enumerate", kind.Enumerate)
-    ∷ (codes "Modifier", kind.Modifier)
-    ∷ (codes "ArgumentList", kind.ArgumentList)
-    ∷ (codes "Other", kind.Other)
-    ∷ []
 
 -- the names of the types that the compiler brings
 abbrev pub primitive_kinds : List (List ℕ × PrimitiveKind)
@@ -115,19 +95,6 @@ pointer_modes =
     ∷ (codes "RValueReference", mode.RValueReference)
     ∷ []
 
--- the names of the widths of a value
-abbrev pub variant_kinds : List (List ℕ × VariantKind)
-variant_kinds =
-    (codes "U8", width.U8)
-    ∷ (codes "U16", width.U16)
-    ∷ (codes "U32", width.U32)
-    ∷ (codes "U64", width.U64)
-    ∷ (codes "I8", width.I8)
-    ∷ (codes "I16", width.I16)
-    ∷ (codes "I32", width.I32)
-    ∷ (codes "I64", width.I64)
-    ∷ []
-
 -- a type that the compiler brings, or a pointer to one
 unfoldable pub primitive_of : Data → Result PrimitiveType Fault
 primitive_of d = do
@@ -136,14 +103,20 @@ primitive_of d = do
   Ok (record { kind = kind; indirection = indirection })
 
 -- a class, a struct or an interface
-unfoldable pub class_of : Data → Result ClassType Fault
-class_of d = do
+unfoldable pub class_of : ℕ → Data → Result ClassType Fault
+class_of version d = do
   class_kind ← member_of (codes "class_kind") (variant_of class_kinds) d
-  name ← member_of (codes "name") text_of d
-  unique_name ← member_of (codes "unique_name") (optional_of text_of) d
+  name ← member_of (codes "name") (name_of version) d
+  unique_name ← member_of (codes "unique_name") (optional_of (name_of version)) d
   size ← member_of (codes "size") u64_of d
   forward_reference ← member_of (codes "forward_reference") boolean_of d
-  Ok (record { class_kind = class_kind; name = name; unique_name = unique_name; size = size; forward_reference = forward_reference })
+  Ok (record {
+    class_kind = class_kind;
+    name = name;
+    unique_name = unique_name;
+    size = size;
+    forward_reference = forward_reference;
+  })
 
 -- the type of a function that belongs to a class
 unfoldable pub member_function_of : Data → Result MemberFunctionType Fault
@@ -153,7 +126,13 @@ member_function_of d = do
   this_pointer_type ← member_of (codes "this_pointer_type") (optional_of type_index_of) d
   is_constructor ← member_of (codes "is_constructor") boolean_of d
   argument_list ← member_of (codes "argument_list") type_index_of d
-  Ok (record { return_type = return_type; class_type = class_type; this_pointer_type = this_pointer_type; is_constructor = is_constructor; argument_list = argument_list })
+  Ok (record {
+    return_type = return_type;
+    class_type = class_type;
+    this_pointer_type = this_pointer_type;
+    is_constructor = is_constructor;
+    argument_list = argument_list;
+  })
 
 -- the type of a function that belongs to no class
 unfoldable pub procedure_type_of : Data → Result ProcedureType Fault
@@ -181,43 +160,45 @@ dimensions_of d = do
   Ok (record { element_type = element_type; first = first; rest = rest })
 
 -- a union
-unfoldable pub union_of : Data → Result UnionType Fault
-union_of d = do
-  name ← member_of (codes "name") text_of d
-  unique_name ← member_of (codes "unique_name") (optional_of text_of) d
+unfoldable pub union_of : ℕ → Data → Result UnionType Fault
+union_of version d = do
+  name ← member_of (codes "name") (name_of version) d
+  unique_name ← member_of (codes "unique_name") (optional_of (name_of version)) d
   size ← member_of (codes "size") u64_of d
   forward_reference ← member_of (codes "forward_reference") boolean_of d
   Ok (record { name = name; unique_name = unique_name; size = size; forward_reference = forward_reference })
 
 -- an enumeration of named values
-unfoldable pub enumeration_of : Data → Result EnumerationType Fault
-enumeration_of d = do
-  name ← member_of (codes "name") text_of d
+unfoldable pub enumeration_of : ℕ → Data → Result EnumerationType Fault
+enumeration_of version d = do
+  name ← member_of (codes "name") (name_of version) d
   underlying_type ← member_of (codes "underlying_type") type_index_of d
   Ok (record { name = name; underlying_type = underlying_type })
 
--- a number of this width
-unfoldable pub number_of_width : VariantKind → Data → Result Variant Fault
-number_of_width width.U8 d = member_of (codes "value") u8_of d >>= λ n. Ok (variant.U8 n)
-number_of_width width.U16 d = member_of (codes "value") u16_of d >>= λ n. Ok (variant.U16 n)
-number_of_width width.U32 d = member_of (codes "value") u32_of d >>= λ n. Ok (variant.U32 n)
-number_of_width width.U64 d = member_of (codes "value") u64_of d >>= λ n. Ok (variant.U64 n)
-number_of_width width.I8 d = member_of (codes "value") i8_of d >>= λ n. Ok (variant.I8 n)
-number_of_width width.I16 d = member_of (codes "value") i16_of d >>= λ n. Ok (variant.I16 n)
-number_of_width width.I32 d = member_of (codes "value") i32_of d >>= λ n. Ok (variant.I32 n)
-number_of_width width.I64 d = member_of (codes "value") i64_of d >>= λ n. Ok (variant.I64 n)
+-- a number whose width and sign have this name
+unfoldable pub number_named : List ℕ → Data → Result Variant Fault
+number_named kind d =
+    if is_name (codes "U8") kind then (member_of (codes "value") u8_of d >>= λ n. Ok (variant.U8 n))
+    else if is_name (codes "U16") kind then (member_of (codes "value") u16_of d >>= λ n. Ok (variant.U16 n))
+    else if is_name (codes "U32") kind then (member_of (codes "value") u32_of d >>= λ n. Ok (variant.U32 n))
+    else if is_name (codes "U64") kind then (member_of (codes "value") u64_of d >>= λ n. Ok (variant.U64 n))
+    else if is_name (codes "I8") kind then (member_of (codes "value") i8_of d >>= λ n. Ok (variant.I8 n))
+    else if is_name (codes "I16") kind then (member_of (codes "value") i16_of d >>= λ n. Ok (variant.I16 n))
+    else if is_name (codes "I32") kind then (member_of (codes "value") i32_of d >>= λ n. Ok (variant.I32 n))
+    else if is_name (codes "I64") kind then (member_of (codes "value") i64_of d >>= λ n. Ok (variant.I64 n))
+    else Err unknown_kind
 
 -- a number with the width and sign that it was declared with
 unfoldable pub number_of : Data → Result Variant Fault
 number_of d = do
   number ← object_of d
-  width ← member_of (codes "kind") (variant_of variant_kinds) number
-  number_of_width width number
+  width ← member_of (codes "kind") text_of number
+  number_named width number
 
 -- one named value of an enumeration
-unfoldable pub enumerate_of : Data → Result EnumerateType Fault
-enumerate_of d = do
-  name ← member_of (codes "name") text_of d
+unfoldable pub enumerate_of : ℕ → Data → Result EnumerateType Fault
+enumerate_of version d = do
+  name ← member_of (codes "name") (name_of version) d
   value ← member_of (codes "value") number_of d
   Ok (record { name = name; value = value })
 
@@ -236,24 +217,26 @@ arguments_of d = member_of (codes "arguments") (list_of type_index_of) d
 unfoldable pub kind_name_of : Data → Result (List ℕ) Fault
 kind_name_of d = member_of (codes "kind_name") text_of d
 
--- what a type of this kind says
-unfoldable pub type_of_kind : TypeKind → Data → Result TypeData Fault
-type_of_kind kind.Primitive d = primitive_of d >>= λ said. Ok (held.Primitive said)
-type_of_kind kind.Class d = class_of d >>= λ said. Ok (held.Class said)
-type_of_kind kind.MemberFunction d = member_function_of d >>= λ said. Ok (held.MemberFunction said)
-type_of_kind kind.Procedure d = procedure_type_of d >>= λ said. Ok (held.Procedure said)
-type_of_kind kind.Pointer d = pointer_of d >>= λ said. Ok (held.Pointer said)
-type_of_kind kind.Array d = dimensions_of d >>= λ said. Ok (held.Array said)
-type_of_kind kind.Union d = union_of d >>= λ said. Ok (held.Union said)
-type_of_kind kind.Enumeration d = enumeration_of d >>= λ said. Ok (held.Enumeration said)
-type_of_kind kind.Enumerate d = enumerate_of d >>= λ said. Ok (held.Enumerate said)
-type_of_kind kind.Modifier d = modifier_of d >>= λ said. Ok (held.Modifier said)
-type_of_kind kind.ArgumentList d = arguments_of d >>= λ said. Ok (held.ArgumentList said)
-type_of_kind kind.Other d = kind_name_of d >>= λ said. Ok (held.Other said)
+-- what a type says whose kind has this name
+unfoldable pub type_named : ℕ → List ℕ → Data → Result TypeData Fault
+type_named version kind d =
+    if is_name (codes "Primitive") kind then (primitive_of d >>= λ said. Ok (held.Primitive said))
+    else if is_name (codes "Class") kind then (class_of version d >>= λ said. Ok (held.Class said))
+    else if is_name (codes "MemberFunction") kind then (member_function_of d >>= λ said. Ok (held.MemberFunction said))
+    else if is_name (codes "Procedure") kind then (procedure_type_of d >>= λ said. Ok (held.Procedure said))
+    else if is_name (codes "Pointer") kind then (pointer_of d >>= λ said. Ok (held.Pointer said))
+    else if is_name (codes "Array") kind then (dimensions_of d >>= λ said. Ok (held.Array said))
+    else if is_name (codes "Union") kind then (union_of version d >>= λ said. Ok (held.Union said))
+    else if is_name (codes "Enumeration") kind then (enumeration_of version d >>= λ said. Ok (held.Enumeration said))
+    else if is_name (codes "Enumerate") kind then (enumerate_of version d >>= λ said. Ok (held.Enumerate said))
+    else if is_name (codes "Modifier") kind then (modifier_of d >>= λ said. Ok (held.Modifier said))
+    else if is_name (codes "ArgumentList") kind then (arguments_of d >>= λ said. Ok (held.ArgumentList said))
+    else if is_name (codes "Other") kind then (kind_name_of d >>= λ said. Ok (held.Other said))
+    else Err unknown_kind
 
 -- what a type says: its kind, and the members of that kind
-unfoldable pub type_of : Data → Result TypeData Fault
-type_of d = do
+unfoldable pub type_of : ℕ → Data → Result TypeData Fault
+type_of version d = do
   entry ← object_of d
-  which ← member_of (codes "kind") (variant_of type_kinds) entry
-  type_of_kind which entry
+  kind ← member_of (codes "kind") text_of entry
+  type_named version kind entry

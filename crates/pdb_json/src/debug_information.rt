@@ -1,13 +1,13 @@
 ghost use Rattle.pdb_json.specs.DebugInformation.{machine_of, module_of, contribution_of, debug_information_of};
 
-use crate::fault::RecordFault;
+use crate::faults::RecordFault;
+use crate::members::{FromJson, member};
 use crate::names::named;
-use crate::reader::{FromJson, member};
+use crate::reader::Reader;
 use crate::sections::place;
 use crate::values::{object, text};
 use pdb_records::{DebugInformation, MachineType, Module, SectionContribution};
 use serde_json::Value;
-use std::alloc::Global;
 
 const MACHINES: [(&str, MachineType); 5] = [
     ("Amd64", MachineType::Amd64),
@@ -18,11 +18,11 @@ const MACHINES: [(&str, MachineType); 5] = [
 ];
 
 impl FromJson for MachineType {
-    ghost read = { machine_of };
+    ghost read = { λ _. machine_of };
 
     #[tactic(auto, unfolding(crate::specs::DebugInformation::machine_of))]
-    fn from_json(alloc: Global, value: Option<&Value>) -> Result<MachineType, RecordFault> {
-        let name = text(alloc, value)?;
+    fn from_json(reader: Reader, value: Option<&Value>) -> Result<MachineType, RecordFault> {
+        let name = text(reader, value)?;
         Ok(named(name, &MACHINES).unwrap_or(MachineType::Other))
     }
 }
@@ -31,24 +31,27 @@ impl FromJson for Module {
     ghost read = { module_of };
 
     #[tactic(auto, unfolding(crate::specs::DebugInformation::module_of))]
-    fn from_json(alloc: Global, value: Option<&Value>) -> Result<Module, RecordFault> {
-        let module = object(alloc, value)?;
+    fn from_json(reader: Reader, value: Option<&Value>) -> Result<Module, RecordFault> {
+        let module = object(reader, value)?;
         Ok(Module {
-            name: member(alloc, module, "name")?,
+            name: member(reader, module, "name")?,
         })
     }
 }
 
 impl FromJson for SectionContribution {
-    ghost read = { contribution_of };
+    ghost read = { λ _. contribution_of };
 
     #[tactic(auto, unfolding(crate::specs::DebugInformation::contribution_of))]
-    fn from_json(alloc: Global, value: Option<&Value>) -> Result<SectionContribution, RecordFault> {
-        let contribution = object(alloc, value)?;
+    fn from_json(
+        reader: Reader,
+        value: Option<&Value>,
+    ) -> Result<SectionContribution, RecordFault> {
+        let contribution = object(reader, value)?;
         Ok(SectionContribution {
-            offset: place(alloc, contribution, "section", "offset")?,
-            size: member(alloc, contribution, "size")?,
-            module: member(alloc, contribution, "module")?,
+            offset: place(reader, contribution, "section", "offset")?,
+            size: member(reader, contribution, "size")?,
+            module: member(reader, contribution, "module")?,
         })
     }
 }
@@ -57,11 +60,11 @@ impl FromJson for DebugInformation {
     ghost read = { debug_information_of };
 
     #[tactic(auto, unfolding(crate::specs::DebugInformation::debug_information_of))]
-    fn from_json(alloc: Global, value: Option<&Value>) -> Result<DebugInformation, RecordFault> {
-        let debug = object(alloc, value)?;
-        let machine_type = member(alloc, debug, "machine_type")?;
-        let modules = member(alloc, debug, "modules")?;
-        let section_contributions = member(alloc, debug, "section_contributions")?;
+    fn from_json(reader: Reader, value: Option<&Value>) -> Result<DebugInformation, RecordFault> {
+        let debug = object(reader, value)?;
+        let machine_type = member(reader, debug, "machine_type")?;
+        let modules = member(reader, debug, "modules")?;
+        let section_contributions = member(reader, debug, "section_contributions")?;
         Ok(DebugInformation {
             machine_type,
             modules,

@@ -1,103 +1,78 @@
 ghost use Rattle.serde_json.specs.View.{view};
-ghost use Rattle.pdb_json.specs.Faults.{Gives};
-ghost use Rattle.pdb_json.specs.Names.{variant_of};
-ghost use Rattle.pdb_json.specs.Ids.{id_kinds, member_function_id_of, function_id_of, string_id_of, substrings_of, id_of_kind, id_of};
+ghost use Rattle.pdb_json.specs.Faults.{Agrees};
+ghost use Rattle.pdb_json.specs.Ids.{member_function_id_of, function_id_of, string_id_of, substrings_of};
+ghost use Rattle.pdb_json.specs.Ids.{id_named, id_of};
 
-use crate::fault::RecordFault;
-use crate::names::variant;
-use crate::reader::{Elements, FromJson, member};
+use crate::faults::RecordFault;
+use crate::members::{Elements, FromJson, member};
+use crate::names::{Text, unknown_kind};
+use crate::reader::Reader;
 use crate::types::kind_name;
 use crate::values::object;
 use pdb_records::{
     FunctionId, IdData, MemberFunctionId, StringId, StringListId, TypeIndex, UnhandledId,
 };
 use serde_json::Value;
-use std::alloc::Global;
-
-/// What an id can be.
-#[derive(Clone, Copy)]
-enum IdKind {
-    MemberFunction,
-    Function,
-    String,
-    StringList,
-    Other,
-}
-
-const ID_KINDS: [(&str, IdKind); 5] = [
-    ("MemberFunction", IdKind::MemberFunction),
-    ("Function", IdKind::Function),
-    ("String", IdKind::String),
-    ("StringList", IdKind::StringList),
-    ("Other", IdKind::Other),
-];
-
-impl FromJson for IdKind {
-    ghost read = { variant_of id_kinds };
-
-    fn from_json(alloc: Global, value: Option<&Value>) -> Result<IdKind, RecordFault> {
-        variant(alloc, value, &ID_KINDS)
-    }
-}
 
 /// Reads a function of a class.
 #[tactic(auto, unfolding(crate::specs::Ids::member_function_id_of))]
-fn member_function(alloc: Global, object: &Value) -> Result<MemberFunctionId, RecordFault>
-    ensures { Gives result (member_function_id_of (view object.now)) }
+fn member_function(reader: Reader, object: &Value) -> Result<MemberFunctionId, RecordFault>
+    ensures { Agrees result (member_function_id_of reader.version (view object.now)) }
 {
     Ok(MemberFunctionId {
-        parent: member(alloc, object, "parent")?,
-        function_type: member(alloc, object, "function_type")?,
-        name: member(alloc, object, "name")?,
+        parent: member(reader, object, "parent")?,
+        function_type: member(reader, object, "function_type")?,
+        name: member(reader, object, "name")?,
     })
 }
 
 /// Reads a function of no class.
 #[tactic(auto, unfolding(crate::specs::Ids::function_id_of))]
-fn function(alloc: Global, object: &Value) -> Result<FunctionId, RecordFault>
-    ensures { Gives result (function_id_of (view object.now)) }
+fn function(reader: Reader, object: &Value) -> Result<FunctionId, RecordFault>
+    ensures { Agrees result (function_id_of reader.version (view object.now)) }
 {
     Ok(FunctionId {
-        scope: member(alloc, object, "scope")?,
-        function_type: member(alloc, object, "function_type")?,
-        name: member(alloc, object, "name")?,
+        scope: member(reader, object, "scope")?,
+        function_type: member(reader, object, "function_type")?,
+        name: member(reader, object, "name")?,
     })
 }
 
 /// Reads a text, as the name of a namespace.
 #[tactic(auto, unfolding(crate::specs::Ids::string_id_of))]
-fn string(alloc: Global, object: &Value) -> Result<StringId, RecordFault>
-    ensures { Gives result (string_id_of (view object.now)) }
+fn string(reader: Reader, object: &Value) -> Result<StringId, RecordFault>
+    ensures { Agrees result (string_id_of reader.version (view object.now)) }
 {
     Ok(StringId {
-        name: member(alloc, object, "name")?,
+        name: member(reader, object, "name")?,
     })
 }
 
 /// Reads a text in pieces.
 #[tactic(auto, unfolding(crate::specs::Ids::substrings_of))]
-fn string_list(alloc: Global, object: &Value) -> Result<StringListId, RecordFault>
-    ensures { Gives result (substrings_of (view object.now)) }
+fn string_list(reader: Reader, object: &Value) -> Result<StringListId, RecordFault>
+    ensures { Agrees result (substrings_of (view object.now)) }
 {
-    let substrings: Elements<TypeIndex> = member(alloc, object, "substrings")?;
+    let substrings: Elements<TypeIndex> = member(reader, object, "substrings")?;
     Ok(StringListId {
         substrings: substrings.items,
     })
 }
 
-/// Reads what an id of this kind says.
-#[tactic(auto, unfolding(crate::specs::Ids::id_of_kind))]
-fn id_data(alloc: Global, kind: IdKind, object: &Value) -> Result<IdData, RecordFault>
-    ensures { Gives result (id_of_kind kind (view object.now)) }
+/// Reads what an id says whose kind has this name.
+#[tactic(auto, unfolding(crate::specs::Ids::id_named))]
+fn id_data(reader: Reader, kind: &str, object: &Value) -> Result<IdData, RecordFault>
+    ensures { Agrees result (id_named reader.version kind.now (view object.now)) }
 {
     Ok(match kind {
-        IdKind::MemberFunction => IdData::MemberFunction(member_function(alloc, object)?),
-        IdKind::Function => IdData::Function(function(alloc, object)?),
-        IdKind::String => IdData::String(string(alloc, object)?),
-        IdKind::StringList => IdData::StringList(string_list(alloc, object)?),
-        IdKind::Other => IdData::Other(UnhandledId {
-            kind_name: kind_name(alloc, object)?.text,
+        "MemberFunction" => IdData::MemberFunction(member_function(reader, object)?),
+        "Function" => IdData::Function(function(reader, object)?),
+        "String" => IdData::String(string(reader, object)?),
+        "StringList" => IdData::StringList(string_list(reader, object)?),
+        "Other" => IdData::Other(UnhandledId {
+            kind_name: kind_name(reader, object)?.text,
         }),
+        _ => return unknown_kind(reader),
     })
 }
 
@@ -105,9 +80,9 @@ impl FromJson for IdData {
     ghost read = { id_of };
 
     #[tactic(auto, unfolding(crate::specs::Ids::id_of))]
-    fn from_json(alloc: Global, value: Option<&Value>) -> Result<IdData, RecordFault> {
-        let entry = object(alloc, value)?;
-        let kind = member(alloc, entry, "kind")?;
-        id_data(alloc, kind, entry)
+    fn from_json(reader: Reader, value: Option<&Value>) -> Result<IdData, RecordFault> {
+        let entry = object(reader, value)?;
+        let kind: Text = member(reader, entry, "kind")?;
+        id_data(reader, &kind.text, entry)
     }
 }

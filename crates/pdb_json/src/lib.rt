@@ -6,23 +6,21 @@
 #![tactic(auto)]
 
 mod debug_information;
-mod fault;
+mod faults;
 mod ids;
 mod items;
 mod lines;
+mod members;
 mod modules;
 mod names;
 mod numbers;
 mod reader;
-mod records;
+mod records_file;
 mod sections;
 mod strings;
 mod symbols;
 mod types;
 mod values;
 
-pub use fault::RecordFault;
-pub use records::read_records;
-
-#[cfg(test)]
-mod tests;
+pub use faults::RecordFault;
+pub use records_file::read_records;

@@ -1,14 +1,14 @@
 ghost use Rattle.std.specs.Prelude.{◌≡◌, map};
-ghost use Rattle.pdb_json.specs.Faults.{Gives};
+ghost use Rattle.pdb_json.specs.Faults.{Agrees};
 ghost use Rattle.pdb_json.specs.Values.{found, text_of};
-ghost use Rattle.pdb_json.specs.Names.{variant_named, variant_of};
+ghost use Rattle.pdb_json.specs.Names.{name_of, variant_named, variant_of, unknown_kind};
 
-use crate::fault::{RecordFault, wanted};
-use crate::reader::FromJson;
+use crate::faults::{RecordFault, inside, wanted};
+use crate::members::FromJson;
+use crate::reader::Reader;
 use crate::values::text;
 use pdb_records::RawString;
 use serde_json::Value;
-use std::alloc::Global;
 use std::marker::Model;
 
 /// The variant of this name.
@@ -26,25 +26,33 @@ pub(crate) fn named<T: Copy>(name: &str, names: &[(&str, T)]) -> Option<T>
 /// Reads a text that names a variant.
 #[tactic(auto, unfolding(crate::specs::Names::variant_of))]
 pub(crate) fn variant<T: Copy>(
-    alloc: Global,
+    reader: Reader,
     value: Option<&Value>,
     names: &[(&str, T)],
 ) -> Result<T, RecordFault>
-    ensures { Gives result (variant_of (map (λ entry. (entry.0.now, entry.1)) names.now) (found value.entry)) }
+    ensures { Agrees result (variant_of (map (λ entry. (entry.0.now, entry.1)) names.now) (found value.entry)) }
 {
-    let name = text(alloc, value)?;
+    let name = text(reader, value)?;
     match named(name, names) {
         Some(variant) => Ok(variant),
-        None => wanted(alloc, "kind"),
+        None => wanted(reader.alloc, "kind"),
     }
 }
 
-impl FromJson for RawString {
-    ghost read = { text_of };
+/// The answer to a kind whose name isn't known.
+pub(crate) fn unknown_kind<T: Drop>(reader: Reader) -> Result<T, RecordFault>
+    ensures { Agrees result (Err unknown_kind) }
+{
+    inside(reader.alloc, "kind", wanted(reader.alloc, "kind"))
+}
 
-    fn from_json(alloc: Global, value: Option<&Value>) -> Result<RawString, RecordFault> {
-        let name = text(alloc, value)?;
-        Ok(RawString(Vec::from_slice(alloc, name.as_bytes())?))
+impl FromJson for RawString {
+    ghost read = { name_of };
+
+    #[tactic(auto, unfolding(crate::specs::Names::name_of))]
+    fn from_json(reader: Reader, value: Option<&Value>) -> Result<RawString, RecordFault> {
+        let name = text(reader, value)?;
+        Ok(RawString(Vec::from_slice(reader.alloc, name.as_bytes())?))
     }
 }
 
@@ -63,10 +71,10 @@ impl Model for Text {
 }
 
 impl FromJson for Text {
-    ghost read = { text_of };
+    ghost read = { λ _. text_of };
 
-    fn from_json(alloc: Global, value: Option<&Value>) -> Result<Text, RecordFault> {
-        let text = String::from_str(alloc, text(alloc, value)?)?;
+    fn from_json(reader: Reader, value: Option<&Value>) -> Result<Text, RecordFault> {
+        let text = String::from_str(reader.alloc, text(reader, value)?)?;
         Ok(Text { text })
     }
 }

@@ -1,118 +1,154 @@
-ghost use Rattle.pdb_json.specs.Values.{boolean_of, u8_of, u16_of, u32_of, u64_of, i8_of, i16_of, i32_of, i64_of};
+ghost use Rattle.pdb_json.specs.Faults.{Agrees};
+ghost use Rattle.pdb_json.specs.Values.{found, boolean_of};
+ghost use Rattle.pdb_json.specs.Numbers.{u8_of, u16_of, u32_of, u64_of, i8_of, i16_of, i32_of, i64_of};
 
-use crate::fault::{RecordFault, out_of_range};
-use crate::reader::FromJson;
-use crate::values::{boolean, signed, unsigned};
+use crate::faults::{RecordFault, out_of_range, wanted};
+use crate::members::FromJson;
+use crate::reader::Reader;
+use crate::values::boolean;
 use serde_json::Value;
-use std::alloc::Global;
+
+/// Reads a whole number from 0 on.
+#[tactic(auto, unfolding(crate::specs::Numbers::u64_of))]
+pub(crate) fn unsigned(reader: Reader, value: Option<&Value>) -> Result<u64, RecordFault>
+    ensures { Agrees result (u64_of (found value.entry)) }
+{
+    if let Some(value) = value
+        && let Some(number) = value.as_number()
+    {
+        match number.as_u64() {
+            Some(number) => Ok(number),
+            None => out_of_range(reader.alloc),
+        }
+    } else {
+        wanted(reader.alloc, "number")
+    }
+}
+
+/// Reads a whole number, which may be below 0.
+#[tactic(auto, unfolding(crate::specs::Numbers::i64_of))]
+pub(crate) fn signed(reader: Reader, value: Option<&Value>) -> Result<i64, RecordFault>
+    ensures { Agrees result (i64_of (found value.entry)) }
+{
+    if let Some(value) = value
+        && let Some(number) = value.as_number()
+    {
+        match number.as_i64() {
+            Some(number) => Ok(number),
+            None => out_of_range(reader.alloc),
+        }
+    } else {
+        wanted(reader.alloc, "number")
+    }
+}
 
 impl FromJson for bool {
-    ghost read = { boolean_of };
+    ghost read = { λ _. boolean_of };
 
-    fn from_json(alloc: Global, value: Option<&Value>) -> Result<bool, RecordFault> {
-        boolean(alloc, value)
+    fn from_json(reader: Reader, value: Option<&Value>) -> Result<bool, RecordFault> {
+        boolean(reader, value)
     }
 }
 
 impl FromJson for u8 {
-    ghost read = { u8_of };
+    ghost read = { λ _. u8_of };
 
-    #[tactic(auto, unfolding(crate::specs::Values::u8_of))]
-    fn from_json(alloc: Global, value: Option<&Value>) -> Result<u8, RecordFault> {
-        match u8::try_from(unsigned(alloc, value)?) {
+    #[tactic(auto, unfolding(crate::specs::Numbers::u8_of))]
+    fn from_json(reader: Reader, value: Option<&Value>) -> Result<u8, RecordFault> {
+        match u8::try_from(unsigned(reader, value)?) {
             Ok(number) => Ok(number),
-            Err(_) => out_of_range(alloc),
+            Err(_) => out_of_range(reader.alloc),
         }
     }
 }
 
 impl FromJson for u16 {
-    ghost read = { u16_of };
+    ghost read = { λ _. u16_of };
 
-    #[tactic(auto, unfolding(crate::specs::Values::u16_of))]
-    fn from_json(alloc: Global, value: Option<&Value>) -> Result<u16, RecordFault> {
-        match u16::try_from(unsigned(alloc, value)?) {
+    #[tactic(auto, unfolding(crate::specs::Numbers::u16_of))]
+    fn from_json(reader: Reader, value: Option<&Value>) -> Result<u16, RecordFault> {
+        match u16::try_from(unsigned(reader, value)?) {
             Ok(number) => Ok(number),
-            Err(_) => out_of_range(alloc),
+            Err(_) => out_of_range(reader.alloc),
         }
     }
 }
 
 impl FromJson for u32 {
-    ghost read = { u32_of };
+    ghost read = { λ _. u32_of };
 
-    #[tactic(auto, unfolding(crate::specs::Values::u32_of))]
-    fn from_json(alloc: Global, value: Option<&Value>) -> Result<u32, RecordFault> {
-        match u32::try_from(unsigned(alloc, value)?) {
+    #[tactic(auto, unfolding(crate::specs::Numbers::u32_of))]
+    fn from_json(reader: Reader, value: Option<&Value>) -> Result<u32, RecordFault> {
+        match u32::try_from(unsigned(reader, value)?) {
             Ok(number) => Ok(number),
-            Err(_) => out_of_range(alloc),
+            Err(_) => out_of_range(reader.alloc),
         }
     }
 }
 
 impl FromJson for i8 {
-    ghost read = { i8_of };
+    ghost read = { λ _. i8_of };
 
-    #[tactic(auto, unfolding(crate::specs::Values::i8_of))]
-    fn from_json(alloc: Global, value: Option<&Value>) -> Result<i8, RecordFault> {
-        match i8::try_from(signed(alloc, value)?) {
+    #[tactic(auto, unfolding(crate::specs::Numbers::i8_of))]
+    fn from_json(reader: Reader, value: Option<&Value>) -> Result<i8, RecordFault> {
+        match i8::try_from(signed(reader, value)?) {
             Ok(number) => Ok(number),
-            Err(_) => out_of_range(alloc),
+            Err(_) => out_of_range(reader.alloc),
         }
     }
 }
 
 impl FromJson for i16 {
-    ghost read = { i16_of };
+    ghost read = { λ _. i16_of };
 
-    #[tactic(auto, unfolding(crate::specs::Values::i16_of))]
-    fn from_json(alloc: Global, value: Option<&Value>) -> Result<i16, RecordFault> {
-        match i16::try_from(signed(alloc, value)?) {
+    #[tactic(auto, unfolding(crate::specs::Numbers::i16_of))]
+    fn from_json(reader: Reader, value: Option<&Value>) -> Result<i16, RecordFault> {
+        match i16::try_from(signed(reader, value)?) {
             Ok(number) => Ok(number),
-            Err(_) => out_of_range(alloc),
+            Err(_) => out_of_range(reader.alloc),
         }
     }
 }
 
 impl FromJson for i32 {
-    ghost read = { i32_of };
+    ghost read = { λ _. i32_of };
 
-    #[tactic(auto, unfolding(crate::specs::Values::i32_of))]
-    fn from_json(alloc: Global, value: Option<&Value>) -> Result<i32, RecordFault> {
-        match i32::try_from(signed(alloc, value)?) {
+    #[tactic(auto, unfolding(crate::specs::Numbers::i32_of))]
+    fn from_json(reader: Reader, value: Option<&Value>) -> Result<i32, RecordFault> {
+        match i32::try_from(signed(reader, value)?) {
             Ok(number) => Ok(number),
-            Err(_) => out_of_range(alloc),
+            Err(_) => out_of_range(reader.alloc),
         }
     }
 }
 
 impl FromJson for u64 {
-    ghost read = { u64_of };
+    ghost read = { λ _. u64_of };
 
-    fn from_json(alloc: Global, value: Option<&Value>) -> Result<u64, RecordFault> {
-        unsigned(alloc, value)
+    fn from_json(reader: Reader, value: Option<&Value>) -> Result<u64, RecordFault> {
+        unsigned(reader, value)
     }
 }
 
 impl FromJson for i64 {
-    ghost read = { i64_of };
+    ghost read = { λ _. i64_of };
 
-    fn from_json(alloc: Global, value: Option<&Value>) -> Result<i64, RecordFault> {
-        signed(alloc, value)
+    fn from_json(reader: Reader, value: Option<&Value>) -> Result<i64, RecordFault> {
+        signed(reader, value)
     }
 }
 
 // A position in a list. It fits 32 bits.
 impl FromJson for usize {
-    ghost read = { u32_of };
+    ghost read = { λ _. u32_of };
 
-    #[tactic(auto, unfolding(crate::specs::Values::u32_of))]
-    fn from_json(alloc: Global, value: Option<&Value>) -> Result<usize, RecordFault> {
-        let position = unsigned(alloc, value)?;
+    #[tactic(auto, unfolding(crate::specs::Numbers::u32_of))]
+    fn from_json(reader: Reader, value: Option<&Value>) -> Result<usize, RecordFault> {
+        let position = unsigned(reader, value)?;
         if position <= u64::from(u32::MAX) {
             Ok(position as usize)
         } else {
-            out_of_range(alloc)
+            out_of_range(reader.alloc)
         }
     }
 }

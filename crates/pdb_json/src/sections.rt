@@ -1,48 +1,48 @@
 ghost use Rattle.std.specs.Prelude.{◌≡◌};
 ghost use Rattle.serde_json.specs.View.{view};
-ghost use Rattle.pdb_json.specs.Faults.{Gives};
+ghost use Rattle.pdb_json.specs.Faults.{Agrees};
 ghost use Rattle.pdb_json.specs.Members.{list_of};
 ghost use Rattle.pdb_json.specs.Sections.{section_of, range_of, place_of};
 
-use crate::fault::RecordFault;
-use crate::reader::{Elements, FromJson, member};
+use crate::faults::RecordFault;
+use crate::members::{Elements, FromJson, member};
+use crate::reader::Reader;
 use crate::values::object;
 use pdb_records::{AddressMap, AddressRange, ImageSectionHeader, PdbInternalSectionOffset};
 use serde_json::Value;
-use std::alloc::Global;
 
 impl FromJson for ImageSectionHeader {
-    ghost read = { section_of };
+    ghost read = { λ _. section_of };
 
     #[tactic(auto, unfolding(crate::specs::Sections::section_of))]
-    fn from_json(alloc: Global, value: Option<&Value>) -> Result<ImageSectionHeader, RecordFault> {
-        let section = object(alloc, value)?;
+    fn from_json(reader: Reader, value: Option<&Value>) -> Result<ImageSectionHeader, RecordFault> {
+        let section = object(reader, value)?;
         Ok(ImageSectionHeader {
-            virtual_address: member(alloc, section, "virtual_address")?,
-            virtual_size: member(alloc, section, "virtual_size")?,
-            execute: member(alloc, section, "execute")?,
+            virtual_address: member(reader, section, "virtual_address")?,
+            virtual_size: member(reader, section, "virtual_size")?,
+            execute: member(reader, section, "execute")?,
         })
     }
 }
 
 impl FromJson for AddressRange {
-    ghost read = { range_of };
+    ghost read = { λ _. range_of };
 
     #[tactic(auto, unfolding(crate::specs::Sections::range_of))]
-    fn from_json(alloc: Global, value: Option<&Value>) -> Result<AddressRange, RecordFault> {
-        let range = object(alloc, value)?;
+    fn from_json(reader: Reader, value: Option<&Value>) -> Result<AddressRange, RecordFault> {
+        let range = object(reader, value)?;
         Ok(AddressRange {
-            virtual_address: member(alloc, range, "virtual_address")?,
-            virtual_size: member(alloc, range, "virtual_size")?,
+            virtual_address: member(reader, range, "virtual_address")?,
+            virtual_size: member(reader, range, "virtual_size")?,
         })
     }
 }
 
 impl FromJson for AddressMap {
-    ghost read = { list_of range_of };
+    ghost read = { λ _. list_of range_of };
 
-    fn from_json(alloc: Global, value: Option<&Value>) -> Result<AddressMap, RecordFault> {
-        let ranges = Elements::<AddressRange>::from_json(alloc, value)?;
+    fn from_json(reader: Reader, value: Option<&Value>) -> Result<AddressMap, RecordFault> {
+        let ranges = Elements::<AddressRange>::from_json(reader, value)?;
         Ok(AddressMap {
             sections: ranges.items,
         })
@@ -52,15 +52,15 @@ impl FromJson for AddressMap {
 /// Reads a place, whose section and offset the object has under these names.
 #[tactic(auto, unfolding(crate::specs::Sections::place_of))]
 pub(crate) fn place(
-    alloc: Global,
+    reader: Reader,
     object: &Value,
     section: &str,
     offset: &str,
 ) -> Result<PdbInternalSectionOffset, RecordFault>
-    ensures { Gives result (place_of section.now offset.now (view object.now)) }
+    ensures { Agrees result (place_of section.now offset.now (view object.now)) }
 {
     Ok(PdbInternalSectionOffset {
-        section: member(alloc, object, section)?,
-        offset: member(alloc, object, offset)?,
+        section: member(reader, object, section)?,
+        offset: member(reader, object, offset)?,
     })
 }

@@ -1,19 +1,19 @@
 ghost use Rattle.pdb_json.specs.Members.{list_of};
 ghost use Rattle.pdb_json.specs.Strings.{string_ref_of, string_of};
 
-use crate::fault::RecordFault;
-use crate::reader::{Elements, FromJson, member};
+use crate::faults::RecordFault;
+use crate::members::{Elements, FromJson, member};
+use crate::reader::Reader;
 use crate::values::object;
 use pdb_records::{RawString, StringRef, StringTable};
 use serde_json::Value;
-use std::alloc::Global;
 
 impl FromJson for StringRef {
-    ghost read = { string_ref_of };
+    ghost read = { λ _. string_ref_of };
 
     #[tactic(auto, unfolding(crate::specs::Strings::string_ref_of))]
-    fn from_json(alloc: Global, value: Option<&Value>) -> Result<StringRef, RecordFault> {
-        Ok(StringRef(FromJson::from_json(alloc, value)?))
+    fn from_json(reader: Reader, value: Option<&Value>) -> Result<StringRef, RecordFault> {
+        Ok(StringRef(FromJson::from_json(reader, value)?))
     }
 }
 
@@ -23,19 +23,22 @@ impl FromJson for (StringRef, RawString) {
 
     #[tactic(auto, unfolding(crate::specs::Strings::string_of))]
     fn from_json(
-        alloc: Global,
+        reader: Reader,
         value: Option<&Value>,
     ) -> Result<(StringRef, RawString), RecordFault> {
-        let entry = object(alloc, value)?;
-        Ok((member(alloc, entry, "ref")?, member(alloc, entry, "text")?))
+        let entry = object(reader, value)?;
+        Ok((
+            member(reader, entry, "ref")?,
+            member(reader, entry, "text")?,
+        ))
     }
 }
 
 impl FromJson for StringTable {
-    ghost read = { list_of string_of };
+    ghost read = { λ version. list_of (string_of version) };
 
-    fn from_json(alloc: Global, value: Option<&Value>) -> Result<StringTable, RecordFault> {
-        let texts = Elements::<(StringRef, RawString)>::from_json(alloc, value)?;
+    fn from_json(reader: Reader, value: Option<&Value>) -> Result<StringTable, RecordFault> {
+        let texts = Elements::<(StringRef, RawString)>::from_json(reader, value)?;
         Ok(StringTable {
             strings: texts.items,
         })

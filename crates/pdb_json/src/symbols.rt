@@ -1,11 +1,13 @@
 ghost use Rattle.serde_json.specs.View.{view};
-ghost use Rattle.pdb_json.specs.Faults.{Gives};
-ghost use Rattle.pdb_json.specs.Names.{variant_of};
-ghost use Rattle.pdb_json.specs.Symbols.{symbol_kinds, type_index_of, id_index_of, file_index_of, position_of, public_of, procedure_of, separated_code_of, thunk_of, row_of, inline_site_of, data_of_kind, data_of, symbol_of, symbol_table_of};
+ghost use Rattle.pdb_json.specs.Faults.{Agrees};
+ghost use Rattle.pdb_json.specs.Symbols.{type_index_of, id_index_of, file_index_of, position_of, public_of};
+ghost use Rattle.pdb_json.specs.Symbols.{procedure_of, separated_code_of, thunk_of, row_of, inline_site_of};
+ghost use Rattle.pdb_json.specs.Symbols.{data_named, data_of, symbol_of, symbol_table_of};
 
-use crate::fault::RecordFault;
-use crate::names::variant;
-use crate::reader::{FromJson, member};
+use crate::faults::RecordFault;
+use crate::members::{FromJson, member};
+use crate::names::{Text, unknown_kind};
+use crate::reader::Reader;
 use crate::sections::place;
 use crate::values::object;
 use pdb_records::{
@@ -13,162 +15,134 @@ use pdb_records::{
     SeparatedCodeSymbol, Symbol, SymbolData, SymbolIndex, SymbolTable, ThunkSymbol, TypeIndex,
 };
 use serde_json::Value;
-use std::alloc::Global;
-
-/// What a symbol can hold.
-#[derive(Clone, Copy)]
-enum SymbolKind {
-    Public,
-    Procedure,
-    SeparatedCode,
-    Thunk,
-    InlineSite,
-    Other,
-}
-
-const SYMBOL_KINDS: [(&str, SymbolKind); 6] = [
-    ("Public", SymbolKind::Public),
-    ("Procedure", SymbolKind::Procedure),
-    ("SeparatedCode", SymbolKind::SeparatedCode),
-    ("Thunk", SymbolKind::Thunk),
-    ("InlineSite", SymbolKind::InlineSite),
-    ("Other", SymbolKind::Other),
-];
-
-impl FromJson for SymbolKind {
-    ghost read = { variant_of symbol_kinds };
-
-    fn from_json(alloc: Global, value: Option<&Value>) -> Result<SymbolKind, RecordFault> {
-        variant(alloc, value, &SYMBOL_KINDS)
-    }
-}
 
 impl FromJson for TypeIndex {
-    ghost read = { type_index_of };
+    ghost read = { λ _. type_index_of };
 
     #[tactic(auto, unfolding(crate::specs::Symbols::type_index_of))]
-    fn from_json(alloc: Global, value: Option<&Value>) -> Result<TypeIndex, RecordFault> {
-        Ok(TypeIndex(FromJson::from_json(alloc, value)?))
+    fn from_json(reader: Reader, value: Option<&Value>) -> Result<TypeIndex, RecordFault> {
+        Ok(TypeIndex(FromJson::from_json(reader, value)?))
     }
 }
 
 impl FromJson for IdIndex {
-    ghost read = { id_index_of };
+    ghost read = { λ _. id_index_of };
 
     #[tactic(auto, unfolding(crate::specs::Symbols::id_index_of))]
-    fn from_json(alloc: Global, value: Option<&Value>) -> Result<IdIndex, RecordFault> {
-        Ok(IdIndex(FromJson::from_json(alloc, value)?))
+    fn from_json(reader: Reader, value: Option<&Value>) -> Result<IdIndex, RecordFault> {
+        Ok(IdIndex(FromJson::from_json(reader, value)?))
     }
 }
 
 impl FromJson for FileIndex {
-    ghost read = { file_index_of };
+    ghost read = { λ _. file_index_of };
 
     #[tactic(auto, unfolding(crate::specs::Symbols::file_index_of))]
-    fn from_json(alloc: Global, value: Option<&Value>) -> Result<FileIndex, RecordFault> {
-        Ok(FileIndex(FromJson::from_json(alloc, value)?))
+    fn from_json(reader: Reader, value: Option<&Value>) -> Result<FileIndex, RecordFault> {
+        Ok(FileIndex(FromJson::from_json(reader, value)?))
     }
 }
 
 impl FromJson for SymbolIndex {
-    ghost read = { position_of };
+    ghost read = { λ _. position_of };
 
     #[tactic(auto, unfolding(crate::specs::Symbols::position_of))]
-    fn from_json(alloc: Global, value: Option<&Value>) -> Result<SymbolIndex, RecordFault> {
-        Ok(SymbolIndex(FromJson::from_json(alloc, value)?))
+    fn from_json(reader: Reader, value: Option<&Value>) -> Result<SymbolIndex, RecordFault> {
+        Ok(SymbolIndex(FromJson::from_json(reader, value)?))
     }
 }
 
 /// Reads a name that is visible outside its module.
 #[tactic(auto, unfolding(crate::specs::Symbols::public_of))]
-fn public(alloc: Global, object: &Value) -> Result<PublicSymbol, RecordFault>
-    ensures { Gives result (public_of (view object.now)) }
+fn public(reader: Reader, object: &Value) -> Result<PublicSymbol, RecordFault>
+    ensures { Agrees result (public_of reader.version (view object.now)) }
 {
     Ok(PublicSymbol {
-        offset: place(alloc, object, "section", "offset")?,
-        name: member(alloc, object, "name")?,
+        offset: place(reader, object, "section", "offset")?,
+        name: member(reader, object, "name")?,
     })
 }
 
 /// Reads a procedure.
 #[tactic(auto, unfolding(crate::specs::Symbols::procedure_of))]
-fn procedure(alloc: Global, object: &Value) -> Result<ProcedureSymbol, RecordFault>
-    ensures { Gives result (procedure_of (view object.now)) }
+fn procedure(reader: Reader, object: &Value) -> Result<ProcedureSymbol, RecordFault>
+    ensures { Agrees result (procedure_of reader.version (view object.now)) }
 {
     Ok(ProcedureSymbol {
-        offset: place(alloc, object, "section", "offset")?,
-        len: member(alloc, object, "len")?,
-        name: member(alloc, object, "name")?,
-        end: member(alloc, object, "end")?,
-        type_index: member(alloc, object, "type_index")?,
+        offset: place(reader, object, "section", "offset")?,
+        len: member(reader, object, "len")?,
+        name: member(reader, object, "name")?,
+        end: member(reader, object, "end")?,
+        type_index: member(reader, object, "type_index")?,
     })
 }
 
 /// Reads code of a procedure that stands apart from its body.
 #[tactic(auto, unfolding(crate::specs::Symbols::separated_code_of))]
-fn separated_code(alloc: Global, object: &Value) -> Result<SeparatedCodeSymbol, RecordFault>
-    ensures { Gives result (separated_code_of (view object.now)) }
+fn separated_code(reader: Reader, object: &Value) -> Result<SeparatedCodeSymbol, RecordFault>
+    ensures { Agrees result (separated_code_of (view object.now)) }
 {
     Ok(SeparatedCodeSymbol {
-        offset: place(alloc, object, "section", "offset")?,
-        len: member(alloc, object, "len")?,
-        parent_offset: place(alloc, object, "parent_section", "parent_offset")?,
-        end: member(alloc, object, "end")?,
+        offset: place(reader, object, "section", "offset")?,
+        len: member(reader, object, "len")?,
+        parent_offset: place(reader, object, "parent_section", "parent_offset")?,
+        end: member(reader, object, "end")?,
     })
 }
 
 /// Reads a short piece of code that leads to a procedure.
 #[tactic(auto, unfolding(crate::specs::Symbols::thunk_of))]
-fn thunk(alloc: Global, object: &Value) -> Result<ThunkSymbol, RecordFault>
-    ensures { Gives result (thunk_of (view object.now)) }
+fn thunk(reader: Reader, object: &Value) -> Result<ThunkSymbol, RecordFault>
+    ensures { Agrees result (thunk_of reader.version (view object.now)) }
 {
     Ok(ThunkSymbol {
-        offset: place(alloc, object, "section", "offset")?,
-        len: member(alloc, object, "len")?,
-        name: member(alloc, object, "name")?,
-        end: member(alloc, object, "end")?,
+        offset: place(reader, object, "section", "offset")?,
+        len: member(reader, object, "len")?,
+        name: member(reader, object, "name")?,
+        end: member(reader, object, "end")?,
     })
 }
 
 impl FromJson for InlineRow {
-    ghost read = { row_of };
+    ghost read = { λ _. row_of };
 
     #[tactic(auto, unfolding(crate::specs::Symbols::row_of))]
-    fn from_json(alloc: Global, value: Option<&Value>) -> Result<InlineRow, RecordFault> {
-        let row = object(alloc, value)?;
+    fn from_json(reader: Reader, value: Option<&Value>) -> Result<InlineRow, RecordFault> {
+        let row = object(reader, value)?;
         Ok(InlineRow {
-            offset: member(alloc, row, "offset")?,
-            length: member(alloc, row, "length")?,
-            file_index: member(alloc, row, "file_index")?,
-            line_start: member(alloc, row, "line_start")?,
+            offset: member(reader, row, "offset")?,
+            length: member(reader, row, "length")?,
+            file_index: member(reader, row, "file_index")?,
+            line_start: member(reader, row, "line_start")?,
         })
     }
 }
 
 /// Reads a place where a call was replaced by the callee's body.
 #[tactic(auto, unfolding(crate::specs::Symbols::inline_site_of))]
-fn inline_site(alloc: Global, object: &Value) -> Result<InlineSiteSymbol, RecordFault>
-    ensures { Gives result (inline_site_of (view object.now)) }
+fn inline_site(reader: Reader, object: &Value) -> Result<InlineSiteSymbol, RecordFault>
+    ensures { Agrees result (inline_site_of (view object.now)) }
 {
     Ok(InlineSiteSymbol {
-        inlinee: member(alloc, object, "inlinee")?,
-        end: member(alloc, object, "end")?,
-        rows: member(alloc, object, "rows")?,
+        inlinee: member(reader, object, "inlinee")?,
+        end: member(reader, object, "end")?,
+        rows: member(reader, object, "rows")?,
     })
 }
 
-/// Reads what a symbol of this kind holds.
-#[tactic(auto, unfolding(crate::specs::Symbols::data_of_kind))]
-fn data_of(alloc: Global, kind: SymbolKind, object: &Value) -> Result<SymbolData, RecordFault>
-    ensures { Gives result (data_of_kind kind (view object.now)) }
+/// Reads what a symbol holds whose kind has this name.
+#[tactic(auto, unfolding(crate::specs::Symbols::data_named))]
+fn symbol_data(reader: Reader, kind: &str, object: &Value) -> Result<SymbolData, RecordFault>
+    ensures { Agrees result (data_named reader.version kind.now (view object.now)) }
 {
     Ok(match kind {
-        SymbolKind::Public => SymbolData::Public(public(alloc, object)?),
-        SymbolKind::Procedure => SymbolData::Procedure(procedure(alloc, object)?),
-        SymbolKind::SeparatedCode => SymbolData::SeparatedCode(separated_code(alloc, object)?),
-        SymbolKind::Thunk => SymbolData::Thunk(thunk(alloc, object)?),
-        SymbolKind::InlineSite => SymbolData::InlineSite(inline_site(alloc, object)?),
-        SymbolKind::Other => SymbolData::Other,
+        "Public" => SymbolData::Public(public(reader, object)?),
+        "Procedure" => SymbolData::Procedure(procedure(reader, object)?),
+        "SeparatedCode" => SymbolData::SeparatedCode(separated_code(reader, object)?),
+        "Thunk" => SymbolData::Thunk(thunk(reader, object)?),
+        "InlineSite" => SymbolData::InlineSite(inline_site(reader, object)?),
+        "Other" => SymbolData::Other,
+        _ => return unknown_kind(reader),
     })
 }
 
@@ -176,10 +150,10 @@ impl FromJson for SymbolData {
     ghost read = { data_of };
 
     #[tactic(auto, unfolding(crate::specs::Symbols::data_of))]
-    fn from_json(alloc: Global, value: Option<&Value>) -> Result<SymbolData, RecordFault> {
-        let symbol = object(alloc, value)?;
-        let kind = member(alloc, symbol, "kind")?;
-        data_of(alloc, kind, symbol)
+    fn from_json(reader: Reader, value: Option<&Value>) -> Result<SymbolData, RecordFault> {
+        let symbol = object(reader, value)?;
+        let kind: Text = member(reader, symbol, "kind")?;
+        symbol_data(reader, &kind.text, symbol)
     }
 }
 
@@ -187,11 +161,11 @@ impl FromJson for Symbol {
     ghost read = { symbol_of };
 
     #[tactic(auto, unfolding(crate::specs::Symbols::symbol_of))]
-    fn from_json(alloc: Global, value: Option<&Value>) -> Result<Symbol, RecordFault> {
-        let symbol = object(alloc, value)?;
+    fn from_json(reader: Reader, value: Option<&Value>) -> Result<Symbol, RecordFault> {
+        let symbol = object(reader, value)?;
         Ok(Symbol {
-            raw_kind: member(alloc, symbol, "raw_kind")?,
-            content: member(alloc, symbol, "data")?,
+            raw_kind: member(reader, symbol, "raw_kind")?,
+            content: member(reader, symbol, "data")?,
         })
     }
 }
@@ -200,9 +174,9 @@ impl FromJson for SymbolTable {
     ghost read = { symbol_table_of };
 
     #[tactic(auto, unfolding(crate::specs::Symbols::symbol_table_of))]
-    fn from_json(alloc: Global, value: Option<&Value>) -> Result<SymbolTable, RecordFault> {
+    fn from_json(reader: Reader, value: Option<&Value>) -> Result<SymbolTable, RecordFault> {
         Ok(SymbolTable {
-            symbols: FromJson::from_json(alloc, value)?,
+            symbols: FromJson::from_json(reader, value)?,
         })
     }
 }

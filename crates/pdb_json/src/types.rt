@@ -1,11 +1,15 @@
 ghost use Rattle.serde_json.specs.View.{view};
-ghost use Rattle.pdb_json.specs.Faults.{Gives};
+ghost use Rattle.pdb_json.specs.Faults.{Agrees};
 ghost use Rattle.pdb_json.specs.Names.{variant_of};
-ghost use Rattle.pdb_json.specs.Types.{type_kinds, primitive_kinds, class_kinds, pointer_modes, variant_kinds, primitive_of, class_of, member_function_of, procedure_type_of, pointer_of, dimensions_of, union_of, enumeration_of, number_of_width, number_of, enumerate_of, modifier_of, arguments_of, kind_name_of, type_of_kind, type_of};
+ghost use Rattle.pdb_json.specs.Types.{primitive_kinds, class_kinds, pointer_modes, primitive_of, class_of};
+ghost use Rattle.pdb_json.specs.Types.{member_function_of, procedure_type_of, pointer_of, dimensions_of};
+ghost use Rattle.pdb_json.specs.Types.{union_of, enumeration_of, number_named, number_of, enumerate_of};
+ghost use Rattle.pdb_json.specs.Types.{modifier_of, arguments_of, kind_name_of, type_named, type_of};
 
-use crate::fault::RecordFault;
-use crate::names::{Text, variant};
-use crate::reader::{Elements, FromJson, member};
+use crate::faults::RecordFault;
+use crate::members::{Elements, FromJson, member};
+use crate::names::{Text, unknown_kind, variant};
+use crate::reader::Reader;
 use crate::values::object;
 use pdb_records::{
     ArgumentList, ArrayType, ClassKind, ClassType, EnumerateType, EnumerationType,
@@ -13,47 +17,6 @@ use pdb_records::{
     ProcedureType, TypeData, TypeIndex, UnhandledType, UnionType, Variant,
 };
 use serde_json::Value;
-use std::alloc::Global;
-
-/// What a type can be.
-#[derive(Clone, Copy)]
-enum TypeKind {
-    Primitive,
-    Class,
-    MemberFunction,
-    Procedure,
-    Pointer,
-    Array,
-    Union,
-    Enumeration,
-    Enumerate,
-    Modifier,
-    ArgumentList,
-    Other,
-}
-
-const TYPE_KINDS: [(&str, TypeKind); 12] = [
-    ("Primitive", TypeKind::Primitive),
-    ("Class", TypeKind::Class),
-    ("MemberFunction", TypeKind::MemberFunction),
-    ("Procedure", TypeKind::Procedure),
-    ("Pointer", TypeKind::Pointer),
-    ("Array", TypeKind::Array),
-    ("Union", TypeKind::Union),
-    ("Enumeration", TypeKind::Enumeration),
-    ("Enumerate", TypeKind::Enumerate),
-    ("Modifier", TypeKind::Modifier),
-    ("ArgumentList", TypeKind::ArgumentList),
-    ("Other", TypeKind::Other),
-];
-
-impl FromJson for TypeKind {
-    ghost read = { variant_of type_kinds };
-
-    fn from_json(alloc: Global, value: Option<&Value>) -> Result<TypeKind, RecordFault> {
-        variant(alloc, value, &TYPE_KINDS)
-    }
-}
 
 const PRIMITIVE_KINDS: [(&str, PrimitiveKind); 43] = [
     ("NoType", PrimitiveKind::NoType),
@@ -102,10 +65,10 @@ const PRIMITIVE_KINDS: [(&str, PrimitiveKind); 43] = [
 ];
 
 impl FromJson for PrimitiveKind {
-    ghost read = { variant_of primitive_kinds };
+    ghost read = { λ _. variant_of primitive_kinds };
 
-    fn from_json(alloc: Global, value: Option<&Value>) -> Result<PrimitiveKind, RecordFault> {
-        variant(alloc, value, &PRIMITIVE_KINDS)
+    fn from_json(reader: Reader, value: Option<&Value>) -> Result<PrimitiveKind, RecordFault> {
+        variant(reader, value, &PRIMITIVE_KINDS)
     }
 }
 
@@ -116,10 +79,10 @@ const CLASS_KINDS: [(&str, ClassKind); 3] = [
 ];
 
 impl FromJson for ClassKind {
-    ghost read = { variant_of class_kinds };
+    ghost read = { λ _. variant_of class_kinds };
 
-    fn from_json(alloc: Global, value: Option<&Value>) -> Result<ClassKind, RecordFault> {
-        variant(alloc, value, &CLASS_KINDS)
+    fn from_json(reader: Reader, value: Option<&Value>) -> Result<ClassKind, RecordFault> {
+        variant(reader, value, &CLASS_KINDS)
     }
 }
 
@@ -132,117 +95,85 @@ const POINTER_MODES: [(&str, PointerMode); 5] = [
 ];
 
 impl FromJson for PointerMode {
-    ghost read = { variant_of pointer_modes };
+    ghost read = { λ _. variant_of pointer_modes };
 
-    fn from_json(alloc: Global, value: Option<&Value>) -> Result<PointerMode, RecordFault> {
-        variant(alloc, value, &POINTER_MODES)
-    }
-}
-
-/// The width and sign of a value.
-#[derive(Clone, Copy)]
-enum VariantKind {
-    U8,
-    U16,
-    U32,
-    U64,
-    I8,
-    I16,
-    I32,
-    I64,
-}
-
-const VARIANT_KINDS: [(&str, VariantKind); 8] = [
-    ("U8", VariantKind::U8),
-    ("U16", VariantKind::U16),
-    ("U32", VariantKind::U32),
-    ("U64", VariantKind::U64),
-    ("I8", VariantKind::I8),
-    ("I16", VariantKind::I16),
-    ("I32", VariantKind::I32),
-    ("I64", VariantKind::I64),
-];
-
-impl FromJson for VariantKind {
-    ghost read = { variant_of variant_kinds };
-
-    fn from_json(alloc: Global, value: Option<&Value>) -> Result<VariantKind, RecordFault> {
-        variant(alloc, value, &VARIANT_KINDS)
+    fn from_json(reader: Reader, value: Option<&Value>) -> Result<PointerMode, RecordFault> {
+        variant(reader, value, &POINTER_MODES)
     }
 }
 
 /// Reads a type that the compiler brings, or a pointer to one.
 #[tactic(auto, unfolding(crate::specs::Types::primitive_of))]
-fn primitive(alloc: Global, object: &Value) -> Result<PrimitiveType, RecordFault>
-    ensures { Gives result (primitive_of (view object.now)) }
+fn primitive(reader: Reader, object: &Value) -> Result<PrimitiveType, RecordFault>
+    ensures { Agrees result (primitive_of (view object.now)) }
 {
     Ok(PrimitiveType {
-        kind: member(alloc, object, "primitive")?,
-        indirection: member(alloc, object, "indirection")?,
+        kind: member(reader, object, "primitive")?,
+        indirection: member(reader, object, "indirection")?,
     })
 }
 
 /// Reads a class, a struct or an interface.
 #[tactic(auto, unfolding(crate::specs::Types::class_of))]
-fn class(alloc: Global, object: &Value) -> Result<ClassType, RecordFault>
-    ensures { Gives result (class_of (view object.now)) }
+fn class(reader: Reader, object: &Value) -> Result<ClassType, RecordFault>
+    ensures { Agrees result (class_of reader.version (view object.now)) }
 {
     Ok(ClassType {
-        class_kind: member(alloc, object, "class_kind")?,
-        name: member(alloc, object, "name")?,
-        unique_name: member(alloc, object, "unique_name")?,
-        size: member(alloc, object, "size")?,
-        forward_reference: member(alloc, object, "forward_reference")?,
+        class_kind: member(reader, object, "class_kind")?,
+        name: member(reader, object, "name")?,
+        unique_name: member(reader, object, "unique_name")?,
+        size: member(reader, object, "size")?,
+        forward_reference: member(reader, object, "forward_reference")?,
     })
 }
 
 /// Reads the type of a function that belongs to a class.
 #[tactic(auto, unfolding(crate::specs::Types::member_function_of))]
-fn member_function(alloc: Global, object: &Value) -> Result<MemberFunctionType, RecordFault>
-    ensures { Gives result (member_function_of (view object.now)) }
+fn member_function(reader: Reader, object: &Value) -> Result<MemberFunctionType, RecordFault>
+    ensures { Agrees result (member_function_of (view object.now)) }
 {
     Ok(MemberFunctionType {
-        return_type: member(alloc, object, "return_type")?,
-        class_type: member(alloc, object, "class_type")?,
-        this_pointer_type: member(alloc, object, "this_pointer_type")?,
-        is_constructor: member(alloc, object, "is_constructor")?,
-        argument_list: member(alloc, object, "argument_list")?,
+        return_type: member(reader, object, "return_type")?,
+        class_type: member(reader, object, "class_type")?,
+        this_pointer_type: member(reader, object, "this_pointer_type")?,
+        is_constructor: member(reader, object, "is_constructor")?,
+        argument_list: member(reader, object, "argument_list")?,
     })
 }
 
 /// Reads the type of a function that belongs to no class.
 #[tactic(auto, unfolding(crate::specs::Types::procedure_type_of))]
-fn procedure_type(alloc: Global, object: &Value) -> Result<ProcedureType, RecordFault>
-    ensures { Gives result (procedure_type_of (view object.now)) }
+fn procedure_type(reader: Reader, object: &Value) -> Result<ProcedureType, RecordFault>
+    ensures { Agrees result (procedure_type_of (view object.now)) }
 {
     Ok(ProcedureType {
-        return_type: member(alloc, object, "return_type")?,
-        is_constructor: member(alloc, object, "is_constructor")?,
-        argument_list: member(alloc, object, "argument_list")?,
+        return_type: member(reader, object, "return_type")?,
+        is_constructor: member(reader, object, "is_constructor")?,
+        argument_list: member(reader, object, "argument_list")?,
     })
 }
 
 /// Reads a pointer or a reference.
 #[tactic(auto, unfolding(crate::specs::Types::pointer_of))]
-fn pointer(alloc: Global, object: &Value) -> Result<PointerType, RecordFault>
-    ensures { Gives result (pointer_of (view object.now)) }
+fn pointer(reader: Reader, object: &Value) -> Result<PointerType, RecordFault>
+    ensures { Agrees result (pointer_of (view object.now)) }
 {
     Ok(PointerType {
-        underlying_type: member(alloc, object, "underlying_type")?,
-        mode: member(alloc, object, "mode")?,
-        is_const: member(alloc, object, "is_const")?,
-        size: member(alloc, object, "size")?,
+        underlying_type: member(reader, object, "underlying_type")?,
+        mode: member(reader, object, "mode")?,
+        is_const: member(reader, object, "is_const")?,
+        size: member(reader, object, "size")?,
     })
 }
 
 /// Reads an array.
 #[tactic(auto, unfolding(crate::specs::Types::dimensions_of))]
-fn array_type(alloc: Global, object: &Value) -> Result<ArrayType, RecordFault>
-    ensures { Gives result (dimensions_of (view object.now)) }
+fn array_type(reader: Reader, object: &Value) -> Result<ArrayType, RecordFault>
+    ensures { Agrees result (dimensions_of (view object.now)) }
 {
-    let element_type = member(alloc, object, "element_type")?;
-    let first = member(alloc, object, "first")?;
-    let rest: Elements<u32> = member(alloc, object, "rest")?;
+    let element_type = member(reader, object, "element_type")?;
+    let first = member(reader, object, "first")?;
+    let rest: Elements<u32> = member(reader, object, "rest")?;
     Ok(ArrayType {
         element_type,
         first,
@@ -252,84 +183,85 @@ fn array_type(alloc: Global, object: &Value) -> Result<ArrayType, RecordFault>
 
 /// Reads a union.
 #[tactic(auto, unfolding(crate::specs::Types::union_of))]
-fn union(alloc: Global, object: &Value) -> Result<UnionType, RecordFault>
-    ensures { Gives result (union_of (view object.now)) }
+fn union(reader: Reader, object: &Value) -> Result<UnionType, RecordFault>
+    ensures { Agrees result (union_of reader.version (view object.now)) }
 {
     Ok(UnionType {
-        name: member(alloc, object, "name")?,
-        unique_name: member(alloc, object, "unique_name")?,
-        size: member(alloc, object, "size")?,
-        forward_reference: member(alloc, object, "forward_reference")?,
+        name: member(reader, object, "name")?,
+        unique_name: member(reader, object, "unique_name")?,
+        size: member(reader, object, "size")?,
+        forward_reference: member(reader, object, "forward_reference")?,
     })
 }
 
 /// Reads an enumeration of named values.
 #[tactic(auto, unfolding(crate::specs::Types::enumeration_of))]
-fn enumeration(alloc: Global, object: &Value) -> Result<EnumerationType, RecordFault>
-    ensures { Gives result (enumeration_of (view object.now)) }
+fn enumeration(reader: Reader, object: &Value) -> Result<EnumerationType, RecordFault>
+    ensures { Agrees result (enumeration_of reader.version (view object.now)) }
 {
     Ok(EnumerationType {
-        name: member(alloc, object, "name")?,
-        underlying_type: member(alloc, object, "underlying_type")?,
+        name: member(reader, object, "name")?,
+        underlying_type: member(reader, object, "underlying_type")?,
     })
 }
 
-/// Reads a number of this width.
-#[tactic(auto, unfolding(crate::specs::Types::number_of_width))]
-fn sized_number(alloc: Global, width: VariantKind, object: &Value) -> Result<Variant, RecordFault>
-    ensures { Gives result (number_of_width width (view object.now)) }
+/// Reads a number whose width and sign have this name.
+#[tactic(auto, unfolding(crate::specs::Types::number_named))]
+fn sized_number(reader: Reader, width: &str, object: &Value) -> Result<Variant, RecordFault>
+    ensures { Agrees result (number_named width.now (view object.now)) }
 {
     Ok(match width {
-        VariantKind::U8 => Variant::U8(member(alloc, object, "value")?),
-        VariantKind::U16 => Variant::U16(member(alloc, object, "value")?),
-        VariantKind::U32 => Variant::U32(member(alloc, object, "value")?),
-        VariantKind::U64 => Variant::U64(member(alloc, object, "value")?),
-        VariantKind::I8 => Variant::I8(member(alloc, object, "value")?),
-        VariantKind::I16 => Variant::I16(member(alloc, object, "value")?),
-        VariantKind::I32 => Variant::I32(member(alloc, object, "value")?),
-        VariantKind::I64 => Variant::I64(member(alloc, object, "value")?),
+        "U8" => Variant::U8(member(reader, object, "value")?),
+        "U16" => Variant::U16(member(reader, object, "value")?),
+        "U32" => Variant::U32(member(reader, object, "value")?),
+        "U64" => Variant::U64(member(reader, object, "value")?),
+        "I8" => Variant::I8(member(reader, object, "value")?),
+        "I16" => Variant::I16(member(reader, object, "value")?),
+        "I32" => Variant::I32(member(reader, object, "value")?),
+        "I64" => Variant::I64(member(reader, object, "value")?),
+        _ => return unknown_kind(reader),
     })
 }
 
 impl FromJson for Variant {
-    ghost read = { number_of };
+    ghost read = { λ _. number_of };
 
     #[tactic(auto, unfolding(crate::specs::Types::number_of))]
-    fn from_json(alloc: Global, value: Option<&Value>) -> Result<Variant, RecordFault> {
-        let number = object(alloc, value)?;
-        let width = member(alloc, number, "kind")?;
-        sized_number(alloc, width, number)
+    fn from_json(reader: Reader, value: Option<&Value>) -> Result<Variant, RecordFault> {
+        let number = object(reader, value)?;
+        let width: Text = member(reader, number, "kind")?;
+        sized_number(reader, &width.text, number)
     }
 }
 
 /// Reads one named value of an enumeration.
 #[tactic(auto, unfolding(crate::specs::Types::enumerate_of))]
-fn enumerate(alloc: Global, object: &Value) -> Result<EnumerateType, RecordFault>
-    ensures { Gives result (enumerate_of (view object.now)) }
+fn enumerate(reader: Reader, object: &Value) -> Result<EnumerateType, RecordFault>
+    ensures { Agrees result (enumerate_of reader.version (view object.now)) }
 {
     Ok(EnumerateType {
-        name: member(alloc, object, "name")?,
-        value: member(alloc, object, "value")?,
+        name: member(reader, object, "name")?,
+        value: member(reader, object, "value")?,
     })
 }
 
 /// Reads a type with `const` before it, or without.
 #[tactic(auto, unfolding(crate::specs::Types::modifier_of))]
-fn modifier(alloc: Global, object: &Value) -> Result<ModifierType, RecordFault>
-    ensures { Gives result (modifier_of (view object.now)) }
+fn modifier(reader: Reader, object: &Value) -> Result<ModifierType, RecordFault>
+    ensures { Agrees result (modifier_of (view object.now)) }
 {
     Ok(ModifierType {
-        underlying_type: member(alloc, object, "underlying_type")?,
-        constant: member(alloc, object, "constant")?,
+        underlying_type: member(reader, object, "underlying_type")?,
+        constant: member(reader, object, "constant")?,
     })
 }
 
 /// Reads the types of a function's arguments.
 #[tactic(auto, unfolding(crate::specs::Types::arguments_of))]
-fn arguments(alloc: Global, object: &Value) -> Result<ArgumentList, RecordFault>
-    ensures { Gives result (arguments_of (view object.now)) }
+fn arguments(reader: Reader, object: &Value) -> Result<ArgumentList, RecordFault>
+    ensures { Agrees result (arguments_of (view object.now)) }
 {
-    let arguments: Elements<TypeIndex> = member(alloc, object, "arguments")?;
+    let arguments: Elements<TypeIndex> = member(reader, object, "arguments")?;
     Ok(ArgumentList {
         arguments: arguments.items,
     })
@@ -337,32 +269,33 @@ fn arguments(alloc: Global, object: &Value) -> Result<ArgumentList, RecordFault>
 
 /// Reads what a kind is called that is read and not printed.
 #[tactic(auto, unfolding(crate::specs::Types::kind_name_of))]
-pub(crate) fn kind_name(alloc: Global, object: &Value) -> Result<Text, RecordFault>
-    ensures { Gives result (kind_name_of (view object.now)) }
+pub(crate) fn kind_name(reader: Reader, object: &Value) -> Result<Text, RecordFault>
+    ensures { Agrees result (kind_name_of (view object.now)) }
 {
-    member(alloc, object, "kind_name")
+    member(reader, object, "kind_name")
 }
 
-/// Reads what a type of this kind says.
-#[tactic(auto, unfolding(crate::specs::Types::type_of_kind))]
-fn type_data(alloc: Global, kind: TypeKind, object: &Value) -> Result<TypeData, RecordFault>
-    ensures { Gives result (type_of_kind kind (view object.now)) }
+/// Reads what a type says whose kind has this name.
+#[tactic(auto, unfolding(crate::specs::Types::type_named))]
+fn type_data(reader: Reader, kind: &str, object: &Value) -> Result<TypeData, RecordFault>
+    ensures { Agrees result (type_named reader.version kind.now (view object.now)) }
 {
     Ok(match kind {
-        TypeKind::Primitive => TypeData::Primitive(primitive(alloc, object)?),
-        TypeKind::Class => TypeData::Class(class(alloc, object)?),
-        TypeKind::MemberFunction => TypeData::MemberFunction(member_function(alloc, object)?),
-        TypeKind::Procedure => TypeData::Procedure(procedure_type(alloc, object)?),
-        TypeKind::Pointer => TypeData::Pointer(pointer(alloc, object)?),
-        TypeKind::Array => TypeData::Array(array_type(alloc, object)?),
-        TypeKind::Union => TypeData::Union(union(alloc, object)?),
-        TypeKind::Enumeration => TypeData::Enumeration(enumeration(alloc, object)?),
-        TypeKind::Enumerate => TypeData::Enumerate(enumerate(alloc, object)?),
-        TypeKind::Modifier => TypeData::Modifier(modifier(alloc, object)?),
-        TypeKind::ArgumentList => TypeData::ArgumentList(arguments(alloc, object)?),
-        TypeKind::Other => TypeData::Other(UnhandledType {
-            kind_name: kind_name(alloc, object)?.text,
+        "Primitive" => TypeData::Primitive(primitive(reader, object)?),
+        "Class" => TypeData::Class(class(reader, object)?),
+        "MemberFunction" => TypeData::MemberFunction(member_function(reader, object)?),
+        "Procedure" => TypeData::Procedure(procedure_type(reader, object)?),
+        "Pointer" => TypeData::Pointer(pointer(reader, object)?),
+        "Array" => TypeData::Array(array_type(reader, object)?),
+        "Union" => TypeData::Union(union(reader, object)?),
+        "Enumeration" => TypeData::Enumeration(enumeration(reader, object)?),
+        "Enumerate" => TypeData::Enumerate(enumerate(reader, object)?),
+        "Modifier" => TypeData::Modifier(modifier(reader, object)?),
+        "ArgumentList" => TypeData::ArgumentList(arguments(reader, object)?),
+        "Other" => TypeData::Other(UnhandledType {
+            kind_name: kind_name(reader, object)?.text,
         }),
+        _ => return unknown_kind(reader),
     })
 }
 
@@ -370,9 +303,9 @@ impl FromJson for TypeData {
     ghost read = { type_of };
 
     #[tactic(auto, unfolding(crate::specs::Types::type_of))]
-    fn from_json(alloc: Global, value: Option<&Value>) -> Result<TypeData, RecordFault> {
-        let entry = object(alloc, value)?;
-        let kind = member(alloc, entry, "kind")?;
-        type_data(alloc, kind, entry)
+    fn from_json(reader: Reader, value: Option<&Value>) -> Result<TypeData, RecordFault> {
+        let entry = object(reader, value)?;
+        let kind: Text = member(reader, entry, "kind")?;
+        type_data(reader, &kind.text, entry)
     }
 }

@@ -4,36 +4,32 @@
 #![tactic(auto)]
 
 use pdb_addr2line::Error;
-use pdb_reporting::{Out, Stop, answer, parse};
+use pdb_reporting::{Out, Stop, is_want_of_memory, run};
+use std::io::BufWriter;
 use std::process::ExitCode;
-use std::rt::{Env, Files};
-use std::{env, fs, io};
+use std::rt::Env;
+use std::{env, io};
 
 fn main(rt: HostRuntime) -> ExitCode {
-    match run(&rt) {
+    let words = match words(&rt) {
+        Ok(words) => words,
+        Err(stop) => return tell(&rt, &stop),
+    };
+    let Ok(writer) = BufWriter::new(rt.alloc(), io::writer(&rt)) else {
+        return tell(&rt, &Stop::Refused(Error::OutOfMemory));
+    };
+    match run(&rt, &words, &mut Out::new(writer)) {
         Ok(()) => ExitCode::SUCCESS,
         Err(stop) => tell(&rt, &stop),
     }
 }
 
-/// Reads the command line and the records file, and writes what is asked for.
-fn run<R: Env + Files + Print + AllocGlobal>(rt: &R) -> Result<(), Stop> {
-    let alloc = rt.alloc();
-    let words = words(rt)?;
-    let Ok(request) = parse(alloc, &words) else {
-        return Err(Stop::Refused(Error::OutOfMemory));
-    };
-    let Some(request) = request else {
-        return Err(Stop::Usage);
-    };
-    let bytes = read(rt, request.records)?;
-    answer(alloc, &request, &bytes, &mut Out::new(io::writer(rt)))
-}
-
 /// The words of the command line. Words that are no text ask for nothing.
-fn words<R: Env + AllocGlobal>(rt: &R) -> Result<Vec<String>, Stop> {
-    let Ok(words) = env::args(rt) else {
-        return Err(Stop::Usage);
+fn words<R: Env + AllocGlobal>(rt: &R) -> Result<Vec<String>, Stop<'static>> {
+    let words = match env::args(rt) {
+        Ok(words) => words,
+        Err(error) if is_want_of_memory(&error) => return Err(Stop::Refused(Error::OutOfMemory)),
+        Err(_) => return Err(Stop::Usage),
     };
     match words.collect(rt.alloc()) {
         Ok(words) => Ok(words),
@@ -41,19 +37,8 @@ fn words<R: Env + AllocGlobal>(rt: &R) -> Result<Vec<String>, Stop> {
     }
 }
 
-/// The bytes of the records file.
-fn read<R: Files + AllocGlobal>(rt: &R, path: &str) -> Result<Vec<u8>, Stop> {
-    match fs::read(rt, path) {
-        Ok(bytes) => Ok(bytes),
-        Err(_) => match String::from_str(rt.alloc(), path) {
-            Ok(path) => Err(Stop::CannotRead(path)),
-            Err(_) => Err(Stop::Refused(Error::OutOfMemory)),
-        },
-    }
-}
-
 /// Prints why the program ended early, and gives its status.
-fn tell<R: Eprint>(rt: &R, stop: &Stop) -> ExitCode {
+fn tell<R: Eprint>(rt: &R, stop: &Stop<'_>) -> ExitCode {
     let _ = eprintln!(rt; "{stop}");
     ExitCode::from(stop.status())
 }

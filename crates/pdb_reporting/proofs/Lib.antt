@@ -1,2 +1,2 @@
 pub mod ReportLemmas
-pub mod AnswerLemmas
+pub mod FileReportLemmas

@@ -1,9 +1,17 @@
 -- What the words of a command line ask for.
-use Rattle.std.specs.Prelude.{ℕ, ◌+◌, ◌-◌, ◌*◌, ◌^◌, List, [], ◌∷◌, length, drop, codes, Option, Some, None, option_map, option_and_then, nat_le, nat_lt, nat_eq, ◌&&◌, if◌then◌else◌}
+use Rattle.std.specs.Prelude.{ℕ, ◌+◌, ◌-◌, ◌*◌, ◌^◌, List, [], ◌∷◌, length, drop, codes, Option}
+use Rattle.std.specs.Prelude.{Some, None, nat_le, nat_lt, nat_eq, ◌&&◌, if◌then◌else◌}
 use Rattle.std.specs.List.{starts_with}
 use Rattle.std.specs.Cmp.Lexicographic.{pointwise}
+use Rattle.pdb_reporting.specs.declared.arguments.Request.{Request}
 use Rattle.pdb_reporting.specs.declared.reports.Command.{Command}
 use Rattle.pdb_reporting.specs.declared.reports.Command.TheVariants.{Names}
+
+-- what follows from a value, where there is one
+infixl 10 ◌>>=◌
+abbrev pub ◌>>=◌ : {A B : Type 0} → Option A → (A → Option B) → Option B
+None >>= next = None
+(Some value) >>= next = next value
 
 -- the value of a hexadecimal digit of either case
 abbrev pub hex_digit : ℕ → Option ℕ
@@ -20,7 +28,10 @@ in_32_bits n = if nat_lt n (2 ^ 32) then Some n else None
 -- the number that hexadecimal digits spell behind one read so far
 abbrev pub hex_after : ℕ → List ℕ → Option ℕ
 hex_after value [] = Some value
-hex_after value (c ∷ cs) = option_and_then (λ digit. option_and_then (λ next. hex_after next cs) (in_32_bits (value * 16 + digit))) (hex_digit c)
+hex_after value (c ∷ cs) = do
+  digit ← hex_digit c
+  next ← in_32_bits (value * 16 + digit)
+  hex_after next cs
 
 -- the text without `0x` before it
 abbrev pub without_prefix : List ℕ → List ℕ
@@ -28,7 +39,8 @@ without_prefix text = if starts_with nat_eq text (codes "0x") then drop 2 text e
 
 -- the address that a word spells: one to eight hexadecimal digits
 abbrev pub digits_address : List ℕ → Option ℕ
-digits_address digits = if nat_lt 0 (length digits) && nat_le (length digits) 8 then hex_after 0 digits else None
+digits_address digits =
+    if nat_lt 0 (length digits) && nat_le (length digits) 8 then hex_after 0 digits else None
 
 -- the address that a word spells, with or without `0x`
 abbrev pub address_of : List ℕ → Option ℕ
@@ -37,7 +49,10 @@ address_of word = digits_address (without_prefix word)
 -- the addresses that words spell, each of them
 abbrev pub addresses_of : List (List ℕ) → Option (List ℕ)
 addresses_of [] = Some []
-addresses_of (word ∷ words) = option_and_then (λ address. option_map (λ rest. address ∷ rest) (addresses_of words)) (address_of word)
+addresses_of (word ∷ words) = do
+  address ← address_of word
+  rest ← addresses_of words
+  Some (address ∷ rest)
 
 -- what is asked for: a records file, what to tell, and of which addresses
 pub record Asked : Type 0 where
@@ -51,8 +66,14 @@ command_of word = if pointwise nat_eq word (codes "names") then Some Names else 
 
 -- what the words behind the program's name ask for; no answer asks for the usage line
 abbrev pub asked : List (List ℕ) → Option Asked
-asked (program ∷ records ∷ command ∷ words) =
-    option_and_then (λ c. option_map (λ addresses. record { records = records; command = c; addresses = addresses }) (addresses_of words)) (command_of command)
+asked (program ∷ records ∷ command ∷ words) = do
+  command ← command_of command
+  addresses ← addresses_of words
+  Some (record { records = records; command = command; addresses = addresses })
 asked [] = None
 asked (program ∷ []) = None
 asked (program ∷ records ∷ []) = None
+
+-- a request, as it was asked
+abbrev pub request : Request → Asked
+request r = record { records = r.records.now; command = r.command; addresses = r.addresses.items }

@@ -1,7 +1,7 @@
 pub mod Sinks
-pub mod Texts
+pub mod PrintedLines
 pub mod Reports
 pub mod Arguments
-pub mod Asks
-pub mod Answers
+pub mod FileReports
 pub mod Stops
+pub mod Runs

@@ -1,7 +1,17 @@
 -- What a sink holds.
-use Rattle.std.specs.Prelude.{◌≡◌, ℕ, List, ◌++◌, Option, Some, None}
+use Rattle.std.specs.Prelude.{◌≡◌, ℕ, Bool, List, ◌++◌, Option, Some, None}
 
--- a sink that tells its bytes holds these besides
-abbrev pub Takes : Option (List ℕ) → Option (List ℕ) → List ℕ → Type 0
-Takes None after bytes = Unit {0}
-Takes (Some held) after bytes = after ≡ Some (held ++ bytes)
+-- what is seen of a sink: the bytes that it holds, where it tells them, and whether it refused a piece
+pub record SinkState : Type 0 where
+  pub held : Option (List ℕ)
+  pub failed : Bool
+
+-- bytes that are told have these behind them afterwards
+abbrev pub Grows : Option (List ℕ) → Option (List ℕ) → List ℕ → Type 0
+Grows None after bytes = Unit {0}
+Grows (Some held) after bytes = after ≡ Some (held ++ bytes)
+
+-- a sink takes these bytes: where it tells its bytes it holds them besides, and it has refused no more than before
+pub record Takes (before after : SinkState) (bytes : List ℕ) : Type 0 where
+  pub held : Grows before.held after.held bytes
+  pub kept : after.failed ≡ before.failed

@@ -1,6 +1,6 @@
 ghost use Rattle.std.specs.Prelude.{◌≡◌, ◌++◌, map, option_map, string_bytes, IfOk};
-ghost use Rattle.pdb_reporting.specs.Arguments.{hex_digit, hex_after, without_prefix, digits_address, address_of, addresses_of, command_of, asked};
-ghost use Rattle.pdb_reporting.specs.Asks.{request};
+ghost use Rattle.pdb_reporting.specs.Arguments.{hex_digit, hex_after, without_prefix, digits_address};
+ghost use Rattle.pdb_reporting.specs.Arguments.{address_of, addresses_of, command_of, asked, request};
 
 use crate::reports::Command;
 use std::alloc::{AllocError, Global};
@@ -60,7 +60,8 @@ pub fn parse_address(word: &str) -> Option<u32>
 
 /// The addresses that words spell, where each of them spells one.
 fn parse_addresses(alloc: Global, words: &[String]) -> Result<Option<Vec<u32>>, AllocError>
-    ensures { IfOk result (λ found. option_map (λ v. v.items) found ≡ addresses_of (map string_bytes words.now)) }
+    ensures { IfOk result
+        (λ found. option_map (λ v. v.items) found ≡ addresses_of (map string_bytes words.now)) }
 {
     let mut addresses = Vec::new(alloc);
     for word in words {

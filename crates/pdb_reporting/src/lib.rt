@@ -1,13 +1,17 @@
 //! What the program `pdb_report` writes: one line for each address that it is asked about.
 #![tactic(auto)]
 
-mod answers;
 mod arguments;
-mod lines;
+mod file_reports;
+mod printed_lines;
 mod reports;
-mod sink;
+mod runs;
+mod sinks;
+mod stops;
 
-pub use answers::{Stop, answer};
 pub use arguments::{Request, parse, parse_address};
+pub use file_reports::{report_file, report_read};
 pub use reports::{Command, ReportFault, report};
-pub use sink::{Out, Sink, SinkFault};
+pub use runs::{is_want_of_memory, run};
+pub use sinks::{Out, Sink, SinkFault};
+pub use stops::Stop;

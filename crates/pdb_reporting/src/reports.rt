@@ -3,11 +3,11 @@ ghost use Rattle.pdb_types.specs.declared.error.Error.TheVariants.{OutOfMemory};
 ghost use Rattle.pdb_addr2line.specs.Sources.{function_at};
 ghost use Rattle.pdb_reporting.specs.declared.reports.ReportFault.TheVariants.{Lookup, Write};
 ghost use Rattle.pdb_reporting.specs.Sinks.{Takes};
-ghost use Rattle.pdb_reporting.specs.Texts.{names_line, names_text};
+ghost use Rattle.pdb_reporting.specs.PrintedLines.{names_line, names_text};
 ghost use Rattle.pdb_reporting.specs.Reports.{EndsAtOnce, EndsEarly};
 
-use crate::lines::line_of;
-use crate::sink::{Sink, SinkFault};
+use crate::printed_lines::line_of;
+use crate::sinks::{Sink, SinkFault};
 use pdb_addr2line::{Context, Error, ModuleProvider};
 use std::alloc::{AllocError, Global};
 
@@ -59,8 +59,10 @@ fn put_function<P: ModuleProvider, W: Sink>(
     sink: &mut W,
 ) -> Result<(), ReportFault>
     ensures same { context.new ≡ context.old }
-    ensures line { OnOk result (Takes (W.held sink.old) (W.held sink.new) (names_line address (function_at context.old (P.info context.old.provider) address))) }
-    ensures fault { IfErr result (EndsAtOnce (W.held sink.old) (W.held sink.new) (W.has_failed sink.new)) }
+    ensures line { OnOk result
+        (let there = function_at context.old (P.info context.old.provider) address in
+        Takes (W.state sink.old) (W.state sink.new) (names_line address there)) }
+    ensures fault { IfErr result (EndsAtOnce (W.state sink.old) (W.state sink.new)) }
 {
     let function = context.find_function(address)?;
     let line = line_of(alloc, address, &function)?;
@@ -83,8 +85,12 @@ pub fn report<P: ModuleProvider, W: Sink>(
     sink: &mut W,
 ) -> Result<(), ReportFault>
     ensures same { context.new ≡ context.old }
-    ensures text { OnOk result (Takes (W.held sink.old) (W.held sink.new) (names_text (function_at context.old (P.info context.old.provider)) addresses.now)) }
-    ensures fault { IfErr result (EndsEarly (function_at context.old (P.info context.old.provider)) addresses.now (W.held sink.old) (W.held sink.new) (W.has_failed sink.new)) }
+    ensures text { OnOk result
+        (let there = function_at context.old (P.info context.old.provider) in
+        Takes (W.state sink.old) (W.state sink.new) (names_text there addresses.now)) }
+    ensures fault { IfErr result
+        (let there = function_at context.old (P.info context.old.provider) in
+        EndsEarly there addresses.now (W.state sink.old) (W.state sink.new)) }
 {
     match command {
         Command::Names => report_names(alloc, context, addresses, sink),
@@ -99,8 +105,12 @@ fn report_names<P: ModuleProvider, W: Sink>(
     sink: &mut W,
 ) -> Result<(), ReportFault>
     ensures same { context.new ≡ context.old }
-    ensures text { OnOk result (Takes (W.held sink.old) (W.held sink.new) (names_text (function_at context.old (P.info context.old.provider)) addresses.now)) }
-    ensures fault { IfErr result (EndsEarly (function_at context.old (P.info context.old.provider)) addresses.now (W.held sink.old) (W.held sink.new) (W.has_failed sink.new)) }
+    ensures text { OnOk result
+        (let there = function_at context.old (P.info context.old.provider) in
+        Takes (W.state sink.old) (W.state sink.new) (names_text there addresses.now)) }
+    ensures fault { IfErr result
+        (let there = function_at context.old (P.info context.old.provider) in
+        EndsEarly there addresses.now (W.state sink.old) (W.state sink.new)) }
 {
     for address in addresses {
         put_function(alloc, context, *address, sink)?;

@@ -1,7 +1,7 @@
 -- The document of a plan, computed by following the rules to some depth.
 use Rattle.std.proofs.Common.{◌≡◌, ℕ, zero, suc, List}
-use Rattle.std.specs.Prelude.{Bool, Option, Some, None, option_map}
-use Rattle.pdb_types.specs.declared.resolution.Part.{Part}
+use Rattle.std.specs.Prelude.{Option, Some, None, option_map}
+use Rattle.pdb_types.specs.FailedParts.{Parts}
 use Rattle.pdb_signatures.specs.Documents.{Run, run}
 use Rattle.pdb_signatures.specs.Worlds.{World}
 use Rattle.pdb_signatures.specs.Plans.{Task, Plan, Done, Later, Seq, Buffered, Catch}
@@ -29,11 +29,11 @@ task-expanded w zero inside task = None
 task-expanded w (suc depth) inside task = option_map (later-some w inside task) (expanded w (task-expanded w depth) (rule w inside task))
 
 -- what printing a plan does, where its rules go no deeper than this
-abbrev pub run-expanded : (w : World) → ℕ → Plan → (Part → Bool) → Option Run
+abbrev pub run-expanded : (w : World) → ℕ → Plan → Parts → Option Run
 run-expanded w depth p failed = option_map (λ some. run some.0 failed) (expanded w (task-expanded w depth) p)
 
 -- what printing a plan does is what printing each document of it does
-pub run-each : (w : World) (depth : ℕ) (p : Plan) (failed : Part → Bool) (r : Run) → run-expanded w depth p failed ≡ Some r → Runs w p failed r
+pub run-each : (w : World) (depth : ℕ) (p : Plan) (failed : Parts) (r : Run) → run-expanded w depth p failed ≡ Some r → Runs w p failed r
 run-each w depth p failed r is d unfolds =
     (elim (expanded w (task-expanded w depth) p) as (λ o. option_map (λ some. run some.0 failed) o ≡ Some r → run d failed ≡ r) [
       | None ↦ λ e. cc

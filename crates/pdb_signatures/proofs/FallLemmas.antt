@@ -3,7 +3,7 @@ use Rattle.std.proofs.Common.{◌≡◌, ℕ, ◌+◌, ◌<◌, ◌≤◌, inl, 
 use Rattle.std.specs.Prelude.{Option, Some, None}
 use Rattle.pdb_records.specs.declared.types.TypeData.{TypeData}
 use Rattle.pdb_records.specs.declared.types.TypeData.TheVariants.{Primitive, Class, MemberFunction, Procedure, Pointer, Array, Union, Enumeration, Enumerate, Modifier, ArgumentList, Other}
-use Rattle.pdb_types.specs.declared.resolution.Part.{Part}
+use Rattle.pdb_types.specs.declared.unread.Part.{Part}
 use Rattle.pdb_signatures.specs.Attributes.{Attribute, attribute_of, with_target}
 use Rattle.pdb_signatures.specs.Worlds.{World}
 use Rattle.pdb_signatures.specs.Plans.{Task, Index, OfType, Chain, Elements, Plan, Later, circular, is_among, on_type, opened, met_before}

@@ -1,13 +1,14 @@
 -- What each rule leaves to be printed comes earlier: either less indices are free to open, or as many and the task ranks lower.
 use Rattle.std.proofs.Common.{◌≡◌, ℕ, ◌+◌, ◌<◌, ◌≤◌, ◌⊎◌, Bool, true, false, cond, nat_eq, List, [], ◌∷◌, ◌++◌, refl}
-use Rattle.std.specs.Prelude.{Option, Some, None}
+use Rattle.std.specs.Prelude.{Option, Some, None, Result, Ok, Err}
 use Rattle.pdb_records.specs.declared.types.TypeIndex.{TypeIndex}
 use Rattle.pdb_records.specs.declared.types.MemberFunctionType.{MemberFunctionType}
 use Rattle.pdb_records.specs.declared.types.TypeData.{TypeData}
 use Rattle.pdb_records.specs.declared.types.TypeData.TheVariants.{Primitive, Class, MemberFunction, Procedure, Pointer, Array, Union, Enumeration, Enumerate, Modifier, ArgumentList, Other}
 use Rattle.pdb_signatures.specs.Flags.{without_return_type, without_arguments}
 use Rattle.pdb_signatures.specs.Wording.{comma}
-use Rattle.pdb_signatures.specs.Worlds.{Entry, Found, Missing, Unimplemented, Refused, Broken, World}
+use Rattle.pdb_types.specs.Unread.{Trouble, Missing, Unimplemented, Refused, Broken}
+use Rattle.pdb_signatures.specs.Worlds.{World}
 use Rattle.pdb_signatures.specs.Plans.{Task, Index, OfType, Chain, Elements, Plan, Done, Later, Seq, Buffered, Catch, written, circular, is_among, on_type, on_printed, opened, opening}
 use Rattle.pdb_signatures.specs.Rules.{returned, returned_if_wanted, more_arguments, list_of_arguments, on_target, on_this_type, on_this, method_list, on_list, method_arguments}
 use Rattle.pdb_signatures.proofs.FreeLemmas.{free, free_lt}
@@ -22,7 +23,7 @@ EachTask P (Catch p) = EachTask P p
 
 -- only indices below a bound lead to types
 abbrev pub IsBelow : ℕ → World → Type 0
-IsBelow n w = (i : ℕ) (type : TypeData) → w.read i ≡ Found type → i < n
+IsBelow n w = (i : ℕ) (type : TypeData) → w.read i ≡ Ok type → i < n
 
 -- the rank of a task among those with the same indices open
 abbrev pub rank : ℕ → Task → ℕ
@@ -37,20 +38,20 @@ abbrev pub Before : ℕ → List ℕ → Task → List ℕ → Task → Type 0
 Before n inside task inside' task' = (free n inside' < free n inside) ⊎ ((free n inside' ≤ free n inside) × (rank n task' < rank n task))
 
 -- what follows a type that is needed
-pub on_type-each : (P : List ℕ → Task → Type 0) (entry : Entry) (next : TypeData → Plan) → ((type : TypeData) → entry ≡ Found type → EachTask P (next type)) → EachTask P (on_type entry next)
-on_type-each P (Found type) next each = each type refl
-on_type-each P (Missing i) next each = tt
-on_type-each P (Unimplemented k) next each = tt
-on_type-each P (Refused e) next each = tt
-on_type-each P (Broken part e) next each = tt
+pub on_type-each : (P : List ℕ → Task → Type 0) (entry : Result TypeData Trouble) (next : TypeData → Plan) → ((type : TypeData) → entry ≡ Ok type → EachTask P (next type)) → EachTask P (on_type entry next)
+on_type-each P (Ok type) next each = each type refl
+on_type-each P (Err (Missing i)) next each = tt
+on_type-each P (Err (Unimplemented k)) next each = tt
+on_type-each P (Err (Refused e)) next each = tt
+on_type-each P (Err (Broken part e)) next each = tt
 
 -- what follows a type that is printed where it stands
-pub on_printed-each : (P : List ℕ → Task → Type 0) (entry : Entry) (next : TypeData → Plan) → ((type : TypeData) → entry ≡ Found type → EachTask P (next type)) → EachTask P (on_printed entry next)
-on_printed-each P (Found type) next each = each type refl
-on_printed-each P (Missing i) next each = tt
-on_printed-each P (Unimplemented k) next each = tt
-on_printed-each P (Refused e) next each = tt
-on_printed-each P (Broken part e) next each = tt
+pub on_printed-each : (P : List ℕ → Task → Type 0) (entry : Result TypeData Trouble) (next : TypeData → Plan) → ((type : TypeData) → entry ≡ Ok type → EachTask P (next type)) → EachTask P (on_printed entry next)
+on_printed-each P (Ok type) next each = each type refl
+on_printed-each P (Err (Missing i)) next each = tt
+on_printed-each P (Err (Unimplemented k)) next each = tt
+on_printed-each P (Err (Refused e)) next each = tt
+on_printed-each P (Err (Broken part e)) next each = tt
 
 -- an index that opens
 pub opened-each : (P : List ℕ → Task → Type 0) (inside : List ℕ) (i : ℕ) (plan : Plan) → (is_among i inside ≡ false → EachTask P plan) → EachTask P (opened inside i plan)

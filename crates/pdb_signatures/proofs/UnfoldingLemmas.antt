@@ -1,20 +1,21 @@
 -- A plan unfolds to one document.
 use Rattle.std.proofs.Common.{◌≡◌, ◌^◌, ℕ, zero, suc, ◌<◌, ◌≤◌, inl, inr, true, false, cond, List, [], ◌∷◌, arith, refl, sym, ap, subst}
-use Rattle.std.specs.Prelude.{Bool, Some, nat_lt}
-use Rattle.std.proofs.lemmas.Bool.{ltb-true}
+use Rattle.std.specs.Prelude.{Bool, Some, Result, Ok}
 use Rattle.pdb_records.specs.Readings.{Read}
 use Rattle.pdb_records.specs.declared.types.Item.{Item}
 use Rattle.pdb_records.specs.declared.types.TypeIndex.{TypeIndex}
 use Rattle.pdb_records.specs.declared.types.TypeData.{TypeData}
 use Rattle.pdb_types.specs.declared.flags.TypeFormatterFlags.{TypeFormatterFlags}
 use Rattle.pdb_types.specs.declared.error.Error.TheVariants.{CircularTypeDefinition}
-use Rattle.pdb_types.specs.declared.resolution.Part.{Part}
-use Rattle.pdb_types.specs.Told.{Plain}
-use Rattle.pdb_types.specs.Resolution.{Linked}
+use Rattle.pdb_types.specs.Errors.{Plain}
+use Rattle.pdb_types.specs.FailedParts.{Parts}
+use Rattle.pdb_types.specs.Unread.{Trouble}
+use Rattle.pdb_types.specs.Standing.{Linked}
 use Rattle.pdb_types.specs.TypeSizes.{read_type}
+use Rattle.pdb_types.proofs.ReadingLemmas.{reading-below}
 use Rattle.pdb_signatures.specs.Documents.{Document, run}
 use Rattle.pdb_signatures.specs.Documents as document
-use Rattle.pdb_signatures.specs.Worlds.{Entry, Found, Missing, World, entry_of, entry_at, world_of}
+use Rattle.pdb_signatures.specs.Worlds.{World, type_at, world_of}
 use Rattle.pdb_signatures.specs.Plans.{Task, Index, OfType, Plan, Done, Later, Seq, Buffered, Catch, is_among, opened, on_printed, circular}
 use Rattle.pdb_signatures.specs.Rules.{rule}
 use Rattle.pdb_signatures.specs.Unfolding.{Unfolds, done, later, seq, buffered, catch, HasOneUnfolding, Runs}
@@ -87,22 +88,21 @@ plan-one n w below p =
     record { unfolded = some.0; unfolds = some.1; only = λ other unfolds. unfolds_once unfolds some.1 }
 
 -- only indices of 32 bits lead to types
-pub entry_at-below : (linked : Linked) (types : Read (Item TypeIndex TypeData)) (position i : ℕ) (type : TypeData) → entry_at linked types position i ≡ Found type → i < 2 ^ 32
-unfolding entry_at
-entry_at-below linked types position i type found =
-    (elim (nat_lt i (2 ^ 32)) as (λ b. nat_lt i (2 ^ 32) ≡ b → cond b (entry_of (read_type linked types position i)) (Missing i) ≡ Found type → i < 2 ^ 32) [ true ↦ λ e f. ltb-true i (2 ^ 32) e | false ↦ λ e f. cc ]) refl found
+pub type_at-below : (linked : Linked) (types : Read (Item TypeIndex TypeData)) (position i : ℕ) (type : TypeData) → type_at linked types position i ≡ Ok type → i < 2 ^ 32
+unfolding type_at
+type_at-below linked types position i type found = reading-below (λ index. index.0) linked types position i (λ read. Ok read.1) type found
 
 -- every plan unfolds to one document, whatever the records say
 pub every_plan : (linked : Linked) (types : Read (Item TypeIndex TypeData)) (pointer : ℕ) (chosen : TypeFormatterFlags) (position : ℕ) (p : Plan) → HasOneUnfolding (world_of linked types pointer chosen position) p
-every_plan linked types pointer chosen position p = plan-one (2 ^ 32) (world_of linked types pointer chosen position) (entry_at-below linked types position) p
+every_plan linked types pointer chosen position p = plan-one (2 ^ 32) (world_of linked types pointer chosen position) (type_at-below linked types position) p
 
 -- an index that is printed while it is open has the document of that error
-pub inside-circular : (w : World) (inside : List ℕ) (index : ℕ) (type : TypeData) → w.read index ≡ Found type → is_among index inside ≡ true → Unfolds w (Later inside (Index index)) (document.Fail (Plain (CircularTypeDefinition index)))
+pub inside-circular : (w : World) (inside : List ℕ) (index : ℕ) (type : TypeData) → w.read index ≡ Ok type → is_among index inside ≡ true → Unfolds w (Later inside (Index index)) (document.Fail (Plain (CircularTypeDefinition index)))
 inside-circular w inside index type found open_already =
     let fail : Document = document.Fail (Plain (CircularTypeDefinition index)) in
     let step : Unfolds w (opened inside index (Later (index ∷ inside) (OfType type))) fail = subst (λ (b : Bool). Unfolds w (cond b (circular index) (Later (index ∷ inside) (OfType type))) fail) (sym open_already) done in
-    later (subst (λ (e : Entry). Unfolds w (on_printed e (λ type. opened inside index (Later (index ∷ inside) (OfType type)))) fail) (sym found) step)
+    later (subst (λ (e : Result TypeData Trouble). Unfolds w (on_printed e (λ type. opened inside index (Later (index ∷ inside) (OfType type)))) fail) (sym found) step)
 
 -- printing it does nothing but fail
-pub inside-refused : (w : World) (inside : List ℕ) (index : ℕ) (type : TypeData) → w.read index ≡ Found type → is_among index inside ≡ true → (failed : Part → Bool) → Runs w (Later inside (Index index)) failed (record { text = []; fault = Some (Plain (CircularTypeDefinition index)); failed = failed })
+pub inside-refused : (w : World) (inside : List ℕ) (index : ℕ) (type : TypeData) → w.read index ≡ Ok type → is_among index inside ≡ true → (failed : Parts) → Runs w (Later inside (Index index)) failed (record { text = []; fault = Some (Plain (CircularTypeDefinition index)); failed = failed })
 inside-refused w inside index type found open_already failed d unfolds = ap (λ (e : Document). run e failed) (unfolds_once unfolds (inside-circular w inside index type found open_already))

@@ -3,11 +3,10 @@ use Rattle.std.specs.Prelude.{ℕ, ◌==◌, ◌-◌, ◌||◌, ◌++◌, Bool, 
 use Rattle.pdb_records.specs.declared.error.Error as records
 use Rattle.pdb_records.specs.declared.error.Error.TheVariants.{TypeNotFound}
 use Rattle.pdb_types.specs.declared.error.Error.{Error}
-use Rattle.pdb_types.specs.declared.error.Error.TheVariants.{PdbError, ModuleImportsUnsuccessful, ModuleExportsUnsuccessful}
-use Rattle.pdb_types.specs.declared.resolution.Part.{Part}
-use Rattle.pdb_types.specs.declared.resolution.Part.TheVariants.{Imports, Exports}
-use Rattle.pdb_types.specs.Told.{ToldError, Plain, NoModuleNamed}
-use Rattle.pdb_types.specs.FailedParts.{is_same_part}
+use Rattle.pdb_types.specs.declared.error.Error.TheVariants.{PdbError}
+use Rattle.pdb_types.specs.declared.unread.Part.{Part}
+use Rattle.pdb_types.specs.Errors.{ToldError, Plain, NoModuleNamed}
+use Rattle.pdb_types.specs.FailedParts.{Parts, with_part, part_error}
 use Rattle.pdb_signatures.specs.Wording.{missing_text}
 
 -- what is to be printed
@@ -31,7 +30,7 @@ pub data Document : Type 0 where
 pub record Run : Type 0 where
   pub text : List ℕ
   pub fault : Option ToldError
-  pub failed : Part → Bool
+  pub failed : Parts
 
 -- the index that an error of the records says to be missing
 abbrev pub index_not_found : records.Error → Option ℕ
@@ -48,15 +47,6 @@ abbrev pub told_missing : ToldError → Option ℕ
 told_missing (Plain e) = missing_type e
 told_missing (NoModuleNamed name) = None
 
--- the error of a part of the records that failed before
-abbrev pub unsuccessful : Part → ToldError
-unsuccessful (Imports position) = Plain ModuleImportsUnsuccessful
-unsuccessful (Exports position) = Plain ModuleExportsUnsuccessful
-
--- these parts, and one more
-abbrev pub with_part : (Part → Bool) → Part → Part → Bool
-with_part failed met part = failed part || is_same_part met part
-
 -- a byte is `*`, which is 42, or `&`, which is 38
 abbrev pub is_sigil : Option ℕ → Bool
 is_sigil None = false
@@ -67,7 +57,7 @@ abbrev pub ends_in_sigil : List ℕ → Bool
 ends_in_sigil text = is_sigil (slice_get text (length text - 1))
 
 -- a run, and then another with the parts that have failed by then, unless the first failed
-abbrev pub then_by : Option ToldError → Run → ((Part → Bool) → Run) → Run
+abbrev pub then_by : Option ToldError → Run → (Parts → Run) → Run
 then_by (Some e) first second = first
 then_by None first second = record { text = first.text ++ (second first.failed).text; fault = (second first.failed).fault; failed = (second first.failed).failed }
 
@@ -87,11 +77,11 @@ caught_by None inner = inner
 caught_by (Some e) inner = noted (told_missing e) inner
 
 -- what printing a document does, where these parts of the records failed before
-abbrev pub run : Document → (Part → Bool) → Run
+abbrev pub run : Document → Parts → Run
 run (Text written) failed = record { text = written; fault = None; failed = failed }
 run (Seq first second) failed = then_by (run first failed).fault (run first failed) (run second)
 run (Buffered inner after_sigil after_other) failed = buffered_by (run inner failed).fault (run inner failed) after_sigil after_other
 run (Catch inner) failed = caught_by (run inner failed).fault (run inner failed)
 run (Fail e) failed = record { text = []; fault = Some e; failed = failed }
-run (Ask part e) failed = record { text = []; fault = Some (if failed part then unsuccessful part else e); failed = with_part failed part }
+run (Ask part e) failed = record { text = []; fault = Some (part_error failed part e); failed = with_part failed part }
 run (Met part) failed = record { text = []; fault = None; failed = with_part failed part }

@@ -1,15 +1,16 @@
 -- Plans: what is to be printed, as far as one rule settles it.
-use Rattle.std.specs.Prelude.{ℕ, ◌==◌, Bool, List, ◌∷◌, Option, Some, None, if◌then◌else◌}
+use Rattle.std.specs.Prelude.{ℕ, ◌==◌, Bool, List, ◌∷◌, Option, Some, None, Result, Ok, Err, if◌then◌else◌}
 use Rattle.std.specs.List.{list_any}
 use Rattle.pdb_records.specs.declared.error.Error.TheVariants.{TypeNotFound, UnimplementedTypeKind}
 use Rattle.pdb_records.specs.declared.types.TypeData.{TypeData}
 use Rattle.pdb_types.specs.declared.error.Error.TheVariants.{PdbError, CircularTypeDefinition}
-use Rattle.pdb_types.specs.declared.resolution.Part.{Part}
-use Rattle.pdb_types.specs.Told.{ToldError, Plain}
+use Rattle.pdb_types.specs.declared.unread.Part.{Part}
+use Rattle.pdb_types.specs.Errors.{ToldError, Plain}
+use Rattle.pdb_types.specs.Unread.{Trouble, Missing, Unimplemented, Refused, Broken}
 use Rattle.pdb_signatures.specs.Documents.{Document}
 use Rattle.pdb_signatures.specs.Documents as document
 use Rattle.pdb_signatures.specs.Attributes.{Attribute}
-use Rattle.pdb_signatures.specs.Worlds.{Entry, Found, Missing, Unimplemented, Refused, Broken, World}
+use Rattle.pdb_signatures.specs.Worlds.{World}
 use Rattle.pdb_signatures.specs.Wording.{missing_text, unimplemented_text}
 
 -- what is still to be printed
@@ -53,20 +54,20 @@ abbrev pub is_among : ℕ → List ℕ → Bool
 is_among index indices = list_any (λ other. index == other) indices
 
 -- what follows a type that is needed: where it can't be read, that is the error
-abbrev pub on_type : Entry → (TypeData → Plan) → Plan
-on_type (Found type) next = next type
-on_type (Missing index) next = failing (Plain (PdbError (TypeNotFound index)))
-on_type (Unimplemented kind) next = failing (Plain (PdbError (UnimplementedTypeKind kind)))
-on_type (Refused e) next = failing e
-on_type (Broken part e) next = Done (document.Ask part e)
+abbrev pub on_type : Result TypeData Trouble → (TypeData → Plan) → Plan
+on_type (Ok type) next = next type
+on_type (Err (Missing index)) next = failing (Plain (PdbError (TypeNotFound index)))
+on_type (Err (Unimplemented kind)) next = failing (Plain (PdbError (UnimplementedTypeKind kind)))
+on_type (Err (Refused e)) next = failing e
+on_type (Err (Broken part e)) next = Done (document.Ask part e)
 
 -- what follows a type that is printed where it stands: there is a note of one that is missing or of a kind that isn't known
-abbrev pub on_printed : Entry → (TypeData → Plan) → Plan
-on_printed (Found type) next = next type
-on_printed (Missing index) next = written (missing_text index)
-on_printed (Unimplemented kind) next = written (unimplemented_text kind)
-on_printed (Refused e) next = failing e
-on_printed (Broken part e) next = Done (document.Ask part e)
+abbrev pub on_printed : Result TypeData Trouble → (TypeData → Plan) → Plan
+on_printed (Ok type) next = next type
+on_printed (Err (Missing index)) next = written (missing_text index)
+on_printed (Err (Unimplemented kind)) next = written (unimplemented_text kind)
+on_printed (Err (Refused e)) next = failing e
+on_printed (Err (Broken part e)) next = Done (document.Ask part e)
 
 -- an index opens: it may not be open already
 abbrev pub opened : List ℕ → ℕ → Plan → Plan

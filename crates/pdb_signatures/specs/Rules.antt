@@ -6,7 +6,7 @@ use Rattle.pdb_records.specs.declared.types.ProcedureType.{ProcedureType}
 use Rattle.pdb_records.specs.declared.types.TypeData.{TypeData}
 use Rattle.pdb_records.specs.declared.types.TypeData.TheVariants.{Primitive, Class, MemberFunction, Procedure, Pointer, Array, Union, Enumeration, Enumerate, Modifier, ArgumentList, Other}
 use Rattle.pdb_types.specs.declared.error.Error.TheVariants.{ArgumentTypeNotArgumentList}
-use Rattle.pdb_types.specs.Told.{Plain}
+use Rattle.pdb_types.specs.Errors.{Plain}
 use Rattle.pdb_signatures.specs.Flags.{without_return_type, without_arguments}
 use Rattle.pdb_signatures.specs.Primitives.{primitive_text}
 use Rattle.pdb_signatures.specs.Attributes.{Attribute, attribute_of, with_target, attributes_text}

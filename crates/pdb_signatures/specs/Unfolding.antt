@@ -1,6 +1,6 @@
 -- Which document a plan unfolds to, and what printing it does.
-use Rattle.std.specs.Prelude.{◌≡◌, ℕ, Bool, List}
-use Rattle.pdb_types.specs.declared.resolution.Part.{Part}
+use Rattle.std.specs.Prelude.{◌≡◌, ℕ, List}
+use Rattle.pdb_types.specs.FailedParts.{Parts}
 use Rattle.pdb_signatures.specs.Documents.{Document, Run, run}
 use Rattle.pdb_signatures.specs.Documents as document
 use Rattle.pdb_signatures.specs.Worlds.{World}
@@ -22,5 +22,5 @@ pub record HasOneUnfolding (w : World) (p : Plan) : Type 0 where
   pub only : (other : Document) → Unfolds w p other → other ≡ unfolded
 
 -- printing a plan does this, whatever document it unfolds to, where these parts of the records failed before
-abbrev pub Runs : World → Plan → (Part → Bool) → Run → Type 0
+abbrev pub Runs : World → Plan → Parts → Run → Type 0
 Runs w p failed r = (d : Document) → Unfolds w p d → run d failed ≡ r

@@ -2,17 +2,17 @@
 //!
 //! Each function here does nothing. Its contract is a law, for all records, and the check proves it.
 
-ghost use Rattle.std.specs.Prelude.{◌≡◌, ℕ, Bool, true, List, [], Some};
+ghost use Rattle.std.specs.Prelude.{◌≡◌, ℕ, true, List, [], Some, Ok};
 ghost use Rattle.pdb_records.specs.Readings.{Read};
 ghost use Rattle.pdb_records.specs.declared.types.Item.{Item};
 ghost use Rattle.pdb_records.specs.declared.types.TypeIndex.{TypeIndex};
 ghost use Rattle.pdb_records.specs.declared.types.TypeData.{TypeData};
-ghost use Rattle.pdb_types.specs.Resolution.{Linked};
+ghost use Rattle.pdb_types.specs.Standing.{Linked};
 ghost use Rattle.pdb_types.specs.declared.flags.TypeFormatterFlags.{TypeFormatterFlags};
 ghost use Rattle.pdb_types.specs.declared.error.Error.TheVariants.{CircularTypeDefinition};
-ghost use Rattle.pdb_types.specs.declared.resolution.Part.{Part};
-ghost use Rattle.pdb_types.specs.Told.{Plain};
-ghost use Rattle.pdb_signatures.specs.Worlds.{Found, entry_at, world_of};
+ghost use Rattle.pdb_types.specs.FailedParts.{Parts};
+ghost use Rattle.pdb_types.specs.Errors.{Plain};
+ghost use Rattle.pdb_signatures.specs.Worlds.{type_at, world_of};
 ghost use Rattle.pdb_signatures.specs.Plans.{is_among};
 ghost use Rattle.pdb_signatures.specs.Unfolding.{HasOneUnfolding, Runs};
 ghost use Rattle.pdb_signatures.specs.Signatures.{signature, type_of_index};
@@ -33,8 +33,8 @@ pub fn every_signature_has_one_unfolding()
 /// An index that is printed while it is open is refused as circular, and nothing is printed of it.
 pub fn an_index_inside_itself_is_circular()
     ensures { (linked : Linked) (types : Read (Item TypeIndex TypeData)) (pointer : ℕ) (flags : TypeFormatterFlags) (position : ℕ) (inside : List ℕ) (index : ℕ) (type : TypeData)
-        → entry_at linked types position index ≡ Found type
+        → type_at linked types position index ≡ Ok type
         → is_among index inside ≡ true
-        → (failed : Part → Bool)
+        → (failed : Parts)
         → Runs (world_of linked types pointer flags position) (type_of_index inside index) failed (record { text = []; fault = Some (Plain (CircularTypeDefinition index)); failed = failed }) }
 {}

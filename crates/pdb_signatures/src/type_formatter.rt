@@ -1,21 +1,15 @@
-ghost use Rattle.std.specs.Prelude.{◌≡◌, None, IfOk, OnOk, OnErr, MatchResult};
+ghost use Rattle.std.specs.Prelude.{◌≡◌, [], IfOk, OnOk, OnErr, MatchResult};
 ghost use Rattle.std.specs.Option.{option_copied};
 ghost use Rattle.pdb_types.specs.declared.error.Error.TheVariants.{OutOfMemory};
-ghost use Rattle.pdb_types.specs.FailedParts.{NoneFailed, GrowsBy};
+ghost use Rattle.pdb_types.specs.FailedParts.{with_met};
 ghost use Rattle.pdb_types.specs.Outcomes.{Gives};
-ghost use Rattle.pdb_signatures.specs.Formatters.{program_pointer_size, size_of};
+ghost use Rattle.pdb_types.specs.Standing.{program_pointer_size};
+ghost use Rattle.pdb_types.specs.TypeSizes.{size_of};
 
-use crate::error::{Error, Result};
-use crate::failed_parts::FailedParts;
-use crate::flags::TypeFormatterFlags;
-use crate::items::{IdMap, ItemMap, TypeMap};
-use crate::provider::ModuleProvider;
-use crate::resolution::Modules;
-use crate::sizes::pointer_size;
 use pdb_records::{
-    DebugInformation, IdInformation, MachineType, Module, StreamError, StringTable, TypeIndex,
-    TypeInformation,
+    DebugInformation, IdInformation, Module, StringTable, TypeIndex, TypeInformation,
 };
+use pdb_types::{Findings, ModuleProvider, Result, Standing, TypeFormatterFlags};
 use std::alloc::Global;
 use std::marker::Model;
 
@@ -24,55 +18,27 @@ use std::marker::Model;
 /// It stands on the records that it was given. Of what happens between two questions it remembers one
 /// thing that later answers show: which parts of the records it met broken.
 pub struct TypeFormatter<'a, P: ModuleProvider> {
-    modules: Modules<'a, P>,
-    pointer_size: u64,
-    flags: TypeFormatterFlags,
-    types: TypeMap<'a>,
-    ids: IdMap<'a>,
-    pub(crate) failed: FailedParts,
+    standing: Standing<'a, P>,
+    findings: Findings<'a>,
 }
 
 impl<'a, P: ModuleProvider> Model for TypeFormatter<'a, P> {
-    ghost use Rattle.std.specs.Option.{option_copied};
-    ghost use Rattle.pdb_types.specs.Outcomes.{Gives};
     ghost use Rattle.pdb_signatures.specs.Formatters.{Formatter};
+    ghost use Rattle.pdb_types.specs.Findings.{Fits};
 
     ghost Value = { Formatter P };
 
-    ghost view = { λ f. record {
-      standing = record {
-        provider = f.modules.provider.now;
-        modules = f.modules.modules;
-        strings = f.modules.strings;
-        pointer_size = f.pointer_size;
-        types = f.types;
-        ids = f.ids;
-        flags = f.flags;
-      };
-      failed = f.failed;
-    } };
+    ghost view = { λ f. record { standing = f.standing; failed = f.findings.failed } };
+
+    ghost invariant = { λ f. Fits P.info f.standing f.findings };
 }
 
 impl<P: ModuleProvider> Drop for TypeFormatter<'_, P> {
     fn drop(self) {
         let TypeFormatter {
-            modules: _,
-            pointer_size: _,
-            flags: _,
-            types: _,
-            ids: _,
-            failed: _,
+            standing: _,
+            findings: _,
         } = self;
-    }
-}
-
-/// The size of a pointer in a program, if its machine could be read.
-fn program_pointer_size(machine_type: &Result<MachineType, StreamError>) -> Result<u64>
-    ensures { result ≡ program_pointer_size machine_type.now }
-{
-    match machine_type {
-        Ok(machine) => Ok(pointer_size(*machine)),
-        Err(fault) => Err(Error::from(pdb_records::Error::Stream(*fault))),
     }
 }
 
@@ -81,7 +47,7 @@ impl<'a, P: ModuleProvider> TypeFormatter<'a, P> {
     ///
     /// # Errors
     ///
-    /// [`Error::PdbError`] where the machine could not be read.
+    /// [`Error::PdbError`](crate::Error::PdbError) where the machine could not be read.
     pub fn new_from_parts(
         alloc: Global,
         provider: &'a P,
@@ -102,24 +68,27 @@ impl<'a, P: ModuleProvider> TypeFormatter<'a, P> {
           ids = id_information.now.items;
           flags = flags;
         }) }
-        ensures none_failed { IfOk result (λ f. NoneFailed f.failed) }
+        ensures none_failed { IfOk result (λ f. f.failed ≡ []) }
     {
-        let pointer_size = program_pointer_size(&debug_information.machine_type)?;
-        Ok(TypeFormatter {
-            modules: Modules::new(alloc, provider, modules, string_table)?,
-            pointer_size,
+        let standing = Standing::new(
+            alloc,
+            provider,
+            modules,
+            debug_information,
+            type_information,
+            id_information,
+            string_table,
             flags,
-            types: ItemMap::new(alloc, type_information),
-            ids: ItemMap::new(alloc, id_information),
-            failed: FailedParts::new(alloc),
-        })
+        )?;
+        let findings = standing.no_findings();
+        Ok(TypeFormatter { standing, findings })
     }
 
     /// The modules that the formatter was given, in their order.
     pub fn modules(&self) -> &[Module]
         ensures { result.now ≡ self.now.standing.modules }
     {
-        self.modules.modules()
+        self.standing.modules()
     }
 
     /// The size of a type in bytes, for an index as the module at `module_index` writes it.
@@ -130,19 +99,17 @@ impl<'a, P: ModuleProvider> TypeFormatter<'a, P> {
     ///
     /// # Errors
     ///
-    /// [`Error::OutOfMemory`] alone. The formatter is then as it was before.
+    /// [`Error::OutOfMemory`](crate::Error::OutOfMemory) alone. The formatter is then as it was before.
     pub fn get_type_size(&mut self, module_index: usize, index: TypeIndex) -> Result<u64>
         ensures size { MatchResult result (λ size. size ≡ (size_of P.info self.old.standing module_index index.0).size) (λ e. e ≡ OutOfMemory) }
         ensures standing { self.new.standing ≡ self.old.standing }
-        ensures remembered { OnOk result (GrowsBy (size_of P.info self.old.standing module_index index.0).met self.old.failed self.new.failed) }
-        ensures unchanged { OnErr result (GrowsBy None self.old.failed self.new.failed) }
+        ensures remembered { OnOk result (self.new.failed ≡ with_met self.old.failed (size_of P.info self.old.standing module_index index.0).met) }
+        ensures unchanged { OnErr result (self.new.failed ≡ self.old.failed) }
     {
         let found = self
-            .modules
-            .type_size(self.pointer_size, &mut self.types, module_index, index)?;
-        if let Some(part) = found.met {
-            self.failed.add(part)?;
-        }
+            .standing
+            .type_size(&mut self.findings, module_index, index)?;
+        self.standing.remember(&mut self.findings, found.met)?;
         Ok(found.size)
     }
 }

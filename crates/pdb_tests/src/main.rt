@@ -8,8 +8,7 @@ mod runs;
 #[cfg(test)]
 mod tests;
 
-use pdb_addr2line::Error;
-use pdb_reporting::{Out, Stop, answer, parse};
+use pdb_reporting::{Out, run};
 use runs::{Run, next_run};
 use std::alloc::{AllocError, Global};
 use std::process::ExitCode;
@@ -63,16 +62,15 @@ fn is_as_wanted<R: Files + Print + AllocGlobal>(rt: &R, run: &Run<'_>) -> io::Re
 fn outcome<R: Files + AllocGlobal>(rt: &R, command: &str) -> io::Result<(String, u64)> {
     let alloc = rt.alloc();
     let words = words_of(alloc, command)?;
-    let mut sink = Out::new(Vec::new(alloc));
-    let ended = run_words(rt, &words, &mut sink);
-    let mut text = String::from_utf8_lossy(alloc, sink.into_inner().as_slice())?;
-    let mut status = 0;
-    if let Err(stop) = ended {
-        let line = format!(in alloc; "{stop}\n")?;
-        text.push_str(line.as_str())?;
-        status = u64::from(stop.status());
-    }
-    Ok((text, status))
+    let mut out = Out::new(Vec::new(alloc));
+    let ended = run(rt, &words, &mut out);
+    let mut text = String::from_utf8_lossy(alloc, out.into_inner().as_slice())?;
+    let Err(stop) = ended else {
+        return Ok((text, 0));
+    };
+    let line = format!(in alloc; "{stop}\n")?;
+    text.push_str(line.as_str())?;
+    Ok((text, u64::from(stop.status())))
 }
 
 /// The words of a command line.
@@ -82,26 +80,4 @@ fn words_of(alloc: Global, command: &str) -> Result<Vec<String>, AllocError> {
         words.push(String::from_str(alloc, word)?)?;
     }
     Ok(words)
-}
-
-/// Does what the program does with these words.
-fn run_words<R: Files + AllocGlobal>(
-    rt: &R,
-    words: &[String],
-    sink: &mut Out<Vec<u8>>,
-) -> Result<(), Stop> {
-    let alloc = rt.alloc();
-    let Ok(request) = parse(alloc, words) else {
-        return Err(Stop::Refused(Error::OutOfMemory));
-    };
-    let Some(request) = request else {
-        return Err(Stop::Usage);
-    };
-    match fs::read(rt, request.records) {
-        Ok(bytes) => answer(alloc, &request, &bytes, sink),
-        Err(_) => match String::from_str(alloc, request.records) {
-            Ok(path) => Err(Stop::CannotRead(path)),
-            Err(_) => Err(Stop::Refused(Error::OutOfMemory)),
-        },
-    }
 }

@@ -1,9 +1,9 @@
 -- A chain of types ends within as many steps as there are entries, or never.
-use Rattle.std.proofs.Common.{◌≡◌, ◌∙◌, ℕ, zero, suc, ◌≤◌, Bool, true, false, cond, eqb, ◌||◌, List, [], ◌∷◌, length, map, refl, sym, ap, subst, arith}
-use Rattle.std.specs.Prelude.{Option, Some, None, Result, Ok, Err}
+use Rattle.std.proofs.Common.{◌≡◌, ◌⊎◌, inl, inr, ◌^◌, ◌<◌, ◌∙◌, ℕ, zero, suc, ◌≤◌, Bool, true, false, cond, eqb, ◌||◌, List, [], ◌∷◌, length, map, refl, sym, ap, subst, arith}
+use Rattle.std.specs.Prelude.{Option, Some, None, Result, Ok, Err, nat_lt}
 use Rattle.std.specs.List.{AllByRecursion, IsDistinct, list_any}
 use Rattle.std.specs.Result.{result_unwrap_or}
-use Rattle.std.proofs.lemmas.Bool.{eqb-true, eq-eqb, or_right}
+use Rattle.std.proofs.lemmas.Bool.{ltb-true, eqb-true, eq-eqb, or_right}
 use Rattle.std.proofs.lemmas.Cmp.{nat_eq_equiv}
 use Rattle.std.proofs.lemmas.List.{length-map}
 use Rattle.std.proofs.lemmas.Map.Made.{length-le_from_is_member}
@@ -15,15 +15,17 @@ use Rattle.pdb_types.specs.declared.type_sizes.TypeSize.{TypeSize}
 use Rattle.pdb_types.specs.declared.type_sizes.Step.{Step}
 use Rattle.pdb_types.specs.declared.type_sizes.Step.TheVariants.{Ended, Next}
 use Rattle.pdb_types.specs.Outcomes.{and_then}
-use Rattle.pdb_types.specs.Told.{Trouble}
-use Rattle.pdb_types.specs.Items.{first_item, found_or_missing, item_of}
-use Rattle.pdb_types.specs.Resolution.{Linked, resolved}
-use Rattle.pdb_types.specs.TypeSizes.{refused, content, step_after, step, onward, ended, size_along, type_size}
+use Rattle.pdb_types.specs.Unread.{Trouble, Missing}
+use Rattle.pdb_types.specs.Items.{first_item}
+use Rattle.pdb_types.specs.Reading.{said, entry}
+use Rattle.pdb_types.specs.Resolution.{resolved}
+use Rattle.pdb_types.specs.Standing.{Linked}
+use Rattle.pdb_types.specs.TypeSizes.{no_size, step_after, step, onward, ended, size_along, type_size}
 use Rattle.pdb_types.specs.SizeLaws.{EndsWith, NeverEnds}
 use Rattle.pdb_types.proofs.SizeLemmas.{size_along-ended}
 
 -- a chain ends after one number of steps only
-steps_to_end : (next : ℕ → Step) (a b index : ℕ) (x y : TypeSize) → EndsWith next a index x → EndsWith next b index y → a ≡ b
+pub steps_to_end : (next : ℕ → Step) (a b index : ℕ) (x y : TypeSize) → EndsWith next a index x → EndsWith next b index y → a ≡ b
 steps_to_end next zero zero index x y one two = refl
 steps_to_end next zero (suc b) index x y one two = let e : Ended x ≡ Next two.0 = sym one ∙ two.1 in cc
 steps_to_end next (suc a) zero index x y one two = let e : Next one.0 ≡ Ended y = sym one.1 ∙ two in cc
@@ -40,15 +42,15 @@ size_along-within next (suc allowed) (suc steps) index size within ends =
     ap (onward (size_along next allowed)) ends.1 ∙ size_along-within next allowed steps ends.0.0 size (omega arith) ends.2
 
 -- a chain that never ends has no size
-pub size_along-never : (next : ℕ → Step) (allowed index : ℕ) → NeverEnds next index → size_along next allowed index ≡ record { size = 0; met = None }
+pub size_along-never : (next : ℕ → Step) (allowed index : ℕ) → NeverEnds next index → size_along next allowed index ≡ no_size
 size_along-never next zero index never = by_step (next index) refl where
-  by_step : (s : Step) → next index ≡ s → ended s ≡ record { size = 0; met = None }
+  by_step : (s : Step) → next index ≡ s → ended s ≡ no_size
   by_step (Ended size) is = absurd (never zero size is)
   by_step (Next further) is = refl
 size_along-never next (suc allowed) index never =
     by_step (next index) refl (λ further is. size_along-never next allowed further.0 (λ steps size ends. never (suc steps) size (further, is, ends)))
   where
-    by_step : (s : Step) → next index ≡ s → ((further : TypeIndex) → next index ≡ Next further → size_along next allowed further.0 ≡ record { size = 0; met = None }) → onward (size_along next allowed) s ≡ record { size = 0; met = None }
+    by_step : (s : Step) → next index ≡ s → ((further : TypeIndex) → next index ≡ Next further → size_along next allowed further.0 ≡ record { size = 0; met = None }) → onward (size_along next allowed) s ≡ no_size
     by_step (Ended size) is onwards = absurd (never zero size is)
     by_step (Next further) is onwards = onwards further is
 
@@ -118,36 +120,92 @@ first_item-among number (item ∷ items) found is = by_test (eqb item.index.0 nu
 
 -- what follows an index that stands for this
 abbrev follows : Read (Item TypeIndex TypeData) → ℕ → Result ℕ Trouble → Step
-follows types pointer stands = step_after pointer types.items (and_then (λ number. and_then (λ item. content number item.content) (refused (item_of (λ i. i.0) types number))) stands)
+follows types pointer stands = step_after pointer types.items (and_then stands (λ number. and_then (entry (λ i. i.0) types number) (λ content. Ok (number, content))))
 
 -- an index that goes on stands for the number of an entry
 follows-entry : (types : Read (Item TypeIndex TypeData)) (pointer : ℕ) (stands : Result ℕ Trouble) (further : TypeIndex) → follows types pointer stands ≡ Next further → (number : ℕ) × (stands ≡ Ok number) × (list_any (eqb number) (numbers types.items) ≡ true)
 follows-entry types pointer (Err e) further on = cc
 follows-entry types pointer (Ok number) further on = (number, refl, by_found (first_item (λ i. i.0) number types.items) refl on) where
-  by_found : (o : Option (Item TypeIndex TypeData)) → first_item (λ i. i.0) number types.items ≡ o → step_after pointer types.items (and_then (λ item. content number item.content) (refused (found_or_missing types.fault number o))) ≡ Next further → list_any (eqb number) (numbers types.items) ≡ true
+  by_found : (o : Option (Item TypeIndex TypeData)) → first_item (λ i. i.0) number types.items ≡ o → step_after pointer types.items (and_then (said types.fault number o) (λ content. Ok (number, content))) ≡ Next further → list_any (eqb number) (numbers types.items) ≡ true
   by_found None is none = cc
   by_found (Some item) is on = first_item-among number types.items item is
 
+-- an index of 32 bits goes on as what it stands for does; others don't go on
+abbrev follows_within : Linked → Read (Item TypeIndex TypeData) → ℕ → ℕ → ℕ → Bool → Step
+follows_within w types pointer position index within = step_after pointer types.items (cond within (and_then (resolved w position index) (λ number. and_then (entry (λ i. i.0) types number) (λ content. Ok (number, content)))) (Err (Missing index)))
+
+-- an index that goes on goes on as what it stands for does
+step-follows : (w : Linked) (types : Read (Item TypeIndex TypeData)) (pointer position index : ℕ) (further : TypeIndex) → step w types pointer position index ≡ Next further → step w types pointer position index ≡ follows types pointer (resolved w position index)
+step-follows w types pointer position index further on =
+    (elim (nat_lt index (2 ^ 32)) as (λ b. follows_within w types pointer position index b ≡ Next further → follows_within w types pointer position index b ≡ follows types pointer (resolved w position index)) [ true ↦ λ e. refl | false ↦ λ e. cc ]) on
+
+-- only an index of 32 bits goes on
+pub step-below : (w : Linked) (types : Read (Item TypeIndex TypeData)) (pointer position index : ℕ) (further : TypeIndex) → step w types pointer position index ≡ Next further → index < 2 ^ 32
+step-below w types pointer position index further on =
+    (elim (nat_lt index (2 ^ 32)) as (λ b. nat_lt index (2 ^ 32) ≡ b → follows_within w types pointer position index b ≡ Next further → index < 2 ^ 32) [ true ↦ λ e _. ltb-true index (2 ^ 32) e | false ↦ λ _ e. cc ]) refl on
+
 -- the number that an index stands for, where it stands for one
 abbrev number_of : Linked → ℕ → ℕ → ℕ
-number_of linked position index = result_unwrap_or (resolved linked position index) 0
+number_of w position index = result_unwrap_or (resolved w position index) 0
 
 -- the numbers of the indices that go on are those of entries
-numbers_among : (linked : Linked) (types : Read (Item TypeIndex TypeData)) (pointer position : ℕ) → KeysAmong (step linked types pointer position) (number_of linked position) (numbers types.items)
-numbers_among linked types pointer position index further on =
-    let entry = follows-entry types pointer (resolved linked position index) further on in rw entry.1 entry.2
+numbers_among : (w : Linked) (types : Read (Item TypeIndex TypeData)) (pointer position : ℕ) → KeysAmong (step w types pointer position) (number_of w position) (numbers types.items)
+numbers_among w types pointer position index further on =
+    let entry = follows-entry types pointer (resolved w position index) further (sym (step-follows w types pointer position index further on) ∙ on) in rw entry.1 entry.2
 
 -- of the indices that go on, those that stand for the same number are followed by the same
-numbers_tell : (linked : Linked) (types : Read (Item TypeIndex TypeData)) (pointer position : ℕ) → KeysTell (step linked types pointer position) (number_of linked position)
-numbers_tell linked types pointer position i j further other on onward same =
-    let entry = follows-entry types pointer (resolved linked position i) further on in
-    let next = follows-entry types pointer (resolved linked position j) other onward in
+numbers_tell : (w : Linked) (types : Read (Item TypeIndex TypeData)) (pointer position : ℕ) → KeysTell (step w types pointer position) (number_of w position)
+numbers_tell w types pointer position i j further other on onward same =
+    let on_entry = step-follows w types pointer position i further on in
+    let next_entry = step-follows w types pointer position j other onward in
+    let entry = follows-entry types pointer (resolved w position i) further (sym on_entry ∙ on) in
+    let next = follows-entry types pointer (resolved w position j) other (sym next_entry ∙ onward) in
     let equal : entry.0 ≡ next.0 = rw (entry.1, next.1) at same in
-    rw (entry.1, next.1, equal) refl
+    on_entry ∙ (ap (follows types pointer) (entry.1 ∙ (ap (λ n. Ok n) equal ∙ sym next.1)) ∙ sym next_entry)
+
+-- a chain that ends has no more steps than there are entries
+pub steps_within : (w : Linked) (types : Read (Item TypeIndex TypeData)) (pointer position index steps : ℕ) (size : TypeSize) → EndsWith (step w types pointer position) steps index size → steps ≤ length types.items
+steps_within w types pointer position index steps size ends =
+    let next = step w types pointer position in
+    let within = steps-le_keys next (number_of w position) (numbers types.items) (numbers_tell w types pointer position) (numbers_among w types pointer position) steps index size ends in
+    subst (λ (n : ℕ). steps ≤ n) (length-map types.items (λ item. item.index.0)) within
 
 -- however many steps a chain has, where it ends, the size at its end is the type's
-pub type_size-at_end : (linked : Linked) (types : Read (Item TypeIndex TypeData)) (pointer position index steps : ℕ) (size : TypeSize) → EndsWith (step linked types pointer position) steps index size → type_size linked types pointer position index ≡ size
-type_size-at_end linked types pointer position index steps size ends =
-    let next = step linked types pointer position in
-    let within = steps-le_keys next (number_of linked position) (numbers types.items) (numbers_tell linked types pointer position) (numbers_among linked types pointer position) steps index size ends in
-    size_along-within next (length types.items) steps index size (subst (λ (n : ℕ). steps ≤ n) (length-map types.items (λ item. item.index.0)) within) ends
+pub type_size-at_end : (w : Linked) (types : Read (Item TypeIndex TypeData)) (pointer position index steps : ℕ) (size : TypeSize) → EndsWith (step w types pointer position) steps index size → type_size w types pointer position index ≡ size
+unfolding type_size
+type_size-at_end w types pointer position index steps size ends = size_along-within (step w types pointer position) (length types.items) steps index size (steps_within w types pointer position index steps size ends) ends
+
+-- where a chain never ends, the type has no size
+pub type_size-never : (w : Linked) (types : Read (Item TypeIndex TypeData)) (pointer position index : ℕ) → NeverEnds (step w types pointer position) index → type_size w types pointer position index ≡ no_size
+unfolding type_size
+type_size-never w types pointer position index never = size_along-never (step w types pointer position) (length types.items) index never
+
+-- a chain ends, or not within so many steps
+abbrev pub EndsOrNot : (ℕ → Step) → ℕ → ℕ → Type 0
+EndsOrNot next steps index = ((k : ℕ) × (size : TypeSize) × EndsWith next k index size) ⊎ ((k : ℕ) (size : TypeSize) → EndsWith next k index size → steps < k)
+
+-- a chain that goes on ends or not as the one behind it
+ends_or_not-onward : (next : ℕ → Step) (steps index : ℕ) (further : TypeIndex) → next index ≡ Next further → EndsOrNot next steps further.0 → EndsOrNot next (suc steps) index
+ends_or_not-onward next steps index further is (inl (k, size, ends)) = inl (suc k, size, (further, is, ends))
+ends_or_not-onward next steps index further is (inr behind) = inr longer where
+  longer : (k : ℕ) (size : TypeSize) → EndsWith next k index size → suc steps < k
+  longer zero size ends = let e : Ended size ≡ Next further = sym ends ∙ is in cc
+  longer (suc k) size ends =
+      let e : Next ends.0 ≡ Next further = sym ends.1 ∙ is in
+      let same : ends.0 ≡ further = cc in
+      let less : steps < k = behind k size (subst (λ (f : TypeIndex). EndsWith next k f.0 size) same ends.2) in
+      omega arith
+
+-- whether a chain ends within so many steps can be told
+pub ends_or_not : (next : ℕ → Step) (steps index : ℕ) → EndsOrNot next steps index
+ends_or_not next zero index = by_step (next index) refl where
+  longer : (further : TypeIndex) → next index ≡ Next further → (k : ℕ) (size : TypeSize) → EndsWith next k index size → zero < k
+  longer further is zero size ends = let e : Ended size ≡ Next further = sym ends ∙ is in cc
+  longer further is (suc k) size ends = omega arith
+  by_step : (s : Step) → next index ≡ s → EndsOrNot next zero index
+  by_step (Ended size) is = inl (zero, size, is)
+  by_step (Next further) is = inr (longer further is)
+ends_or_not next (suc steps) index = by_step (next index) refl (λ i. ends_or_not next steps i) where
+  by_step : (s : Step) → next index ≡ s → ((i : ℕ) → EndsOrNot next steps i) → EndsOrNot next (suc steps) index
+  by_step (Ended size) is behind = inl (zero, size, is)
+  by_step (Next further) is behind = ends_or_not-onward next steps index further is (behind further.0)

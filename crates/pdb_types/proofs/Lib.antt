@@ -3,3 +3,7 @@ pub mod ItemLemmas
 pub mod ModuleLemmas
 pub mod SizeLemmas
 pub mod ChainLemmas
+pub mod PassedLemmas
+pub mod FindingLemmas
+pub mod FreeNumbers
+pub mod ReadingLemmas

@@ -1,31 +1,44 @@
 -- The parts of the records that failed.
-use Rattle.std.specs.Prelude.{◌≡◌, Bool, false, ◌==◌, ◌||◌, Option, Some, None}
-use Rattle.std.specs.BTreeSet.{contains}
-use Rattle.std.specs.Ordering.{nat_cmp}
-use Rattle.pdb_types.specs.declared.resolution.Part.{Part}
-use Rattle.pdb_types.specs.declared.resolution.Part.TheVariants.{Imports, Exports}
-use Rattle.pdb_types.specs.declared.failed_parts.FailedParts.{FailedParts}
+use Rattle.std.specs.Prelude.{Bool, List, Option, Some, None, if◌then◌else◌}
+use Rattle.std.specs.declared.cmp.Ordering.{Ordering}
+use Rattle.std.specs.declared.cmp.Ordering.TheVariants.{Less, Greater}
+use Rattle.std.specs.List.{list_any}
+use Rattle.std.specs.Ordering.{nat_cmp, is_eq}
+use Rattle.std.specs.BTreeSet.{insert_key}
+use Rattle.pdb_types.specs.declared.error.Error.TheVariants.{ModuleImportsUnsuccessful, ModuleExportsUnsuccessful}
+use Rattle.pdb_types.specs.declared.unread.Part.{Part}
+use Rattle.pdb_types.specs.declared.unread.Part.TheVariants.{Imports, Exports}
+use Rattle.pdb_types.specs.Errors.{ToldError, Plain}
+
+-- the order that parts are kept in: imports before exports, each by the position of its module
+abbrev pub part_cmp : Part → Part → Ordering
+part_cmp (Imports a) (Imports b) = nat_cmp a b
+part_cmp (Imports a) (Exports b) = Less
+part_cmp (Exports a) (Imports b) = Greater
+part_cmp (Exports a) (Exports b) = nat_cmp a b
+
+-- a set of parts, each once and in order
+abbrev pub Parts : Type 0
+Parts = List Part
 
 -- a part is among those that failed
-abbrev pub has : FailedParts → Part → Bool
-has failed (Imports position) = contains nat_cmp failed.imports position
-has failed (Exports position) = contains nat_cmp failed.exports position
+abbrev pub has_failed : Parts → Part → Bool
+has_failed failed part = list_any (λ other. is_eq (part_cmp part other)) failed
 
--- no part failed
-abbrev pub NoneFailed : FailedParts → Type 0
-NoneFailed failed = (part : Part) → has failed part ≡ false
+-- these parts, and one more
+abbrev pub with_part : Parts → Part → Parts
+with_part failed part = insert_key part_cmp failed part
 
--- two parts are one
-abbrev pub is_same_part : Part → Part → Bool
-is_same_part (Imports a) (Imports b) = a == b
-is_same_part (Exports a) (Exports b) = a == b
-is_same_part a b = false
+-- these parts, and the one that was met broken, if one was
+abbrev pub with_met : Parts → Option Part → Parts
+with_met failed None = failed
+with_met failed (Some part) = with_part failed part
 
--- a part is the one that was met
-abbrev pub is_met : Option Part → Part → Bool
-is_met None part = false
-is_met (Some met) part = is_same_part met part
+-- the error of a part that failed before
+abbrev pub unsuccessful : Part → ToldError
+unsuccessful (Imports position) = Plain ModuleImportsUnsuccessful
+unsuccessful (Exports position) = Plain ModuleExportsUnsuccessful
 
--- the parts that failed are those from before and the one that was met, and no others
-abbrev pub GrowsBy : Option Part → FailedParts → FailedParts → Type 0
-GrowsBy met old new = (part : Part) → has new part ≡ (has old part || is_met met part)
+-- what a part tells that is met broken: that it failed before, where it did, else its own error
+abbrev pub part_error : Parts → Part → ToldError → ToldError
+part_error failed part e = if has_failed failed part then unsuccessful part else e

@@ -30,56 +30,52 @@ aggregate (Union u) = Some (record { name = unwrap_or u.unique_name u.name; size
 aggregate other = None
 
 -- what an entry tells, if it could be read
-abbrev pub told_by : {I D : Type 0} → (D → Option Aggregate) → Item I D → Option Aggregate
-told_by tells item = option_and_then tells (result_ok item.content)
+abbrev pub told_by : Item TypeIndex TypeData → Option Aggregate
+told_by item = option_and_then aggregate (result_ok item.content)
 
 -- the size that a class or a union gives to a name: its own, where it goes by that name and is no forward reference
 abbrev pub size_for : List ℕ → Aggregate → Option ℕ
 size_for name a = if (not a.forward_reference && bytes_eq a.name name) then Some a.size else None
 
 -- the size that an entry gives to a name
-abbrev pub definition_size : {I D : Type 0} → (D → Option Aggregate) → List ℕ → Item I D → Option ℕ
-definition_size tells name item = option_and_then (size_for name) (told_by tells item)
+abbrev pub definition_size : List ℕ → Item TypeIndex TypeData → Option ℕ
+definition_size name item = option_and_then (size_for name) (told_by item)
 
 -- the size that the first definition of a name gives to it
-abbrev pub first_definition : {I D : Type 0} → (D → Option Aggregate) → List ℕ → List (Item I D) → Option ℕ
-first_definition tells name [] = None
-first_definition tells name (item ∷ items) = option_or (definition_size tells name item) (first_definition tells name items)
+abbrev pub first_definition : List ℕ → List (Item TypeIndex TypeData) → Option ℕ
+first_definition name [] = None
+first_definition name (item ∷ items) = option_or (definition_size name item) (first_definition name items)
 
 -- the entries behind the first that has this index
-abbrev pub entries_behind : {I D : Type 0} → (I → ℕ) → ℕ → List (Item I D) → List (Item I D)
-entries_behind number_of number [] = []
-entries_behind number_of number (item ∷ items) = if number_of item.index == number then items else entries_behind number_of number items
+abbrev pub entries_behind : ℕ → List (Item TypeIndex TypeData) → List (Item TypeIndex TypeData)
+entries_behind number [] = []
+entries_behind number (item ∷ items) = if item.index.0 == number then items else entries_behind number items
 
 -- the size of a class or a union that is a forward reference at this index: its first definition behind that entry has it
 abbrev pub size_behind : ℕ → List ℕ → List (Item TypeIndex TypeData) → Option ℕ
-size_behind number name items = first_definition aggregate name (entries_behind (λ index. index.0) number items)
-
--- a class or a union is a forward reference by this name
-abbrev pub refers_by : List ℕ → Aggregate → Bool
-refers_by name a = a.forward_reference && bytes_eq a.name name
+size_behind number name items = first_definition name (entries_behind number items)
 
 -- the name that a forward reference goes by
 abbrev pub referred_name : Aggregate → Option (List ℕ)
 referred_name a = if a.forward_reference then Some a.name else None
 
 -- the size that an entry's own name is given by these entries, where it is a forward reference
-abbrev pub own_size_among : {I D : Type 0} → (D → Option Aggregate) → List (Item I D) → Item I D → Option ℕ
-own_size_among tells items item = option_and_then (λ name. first_definition tells name items) (option_and_then referred_name (told_by tells item))
+abbrev pub forward_size_among : List (Item TypeIndex TypeData) → Item TypeIndex TypeData → Option ℕ
+forward_size_among items item = option_and_then (λ name. first_definition name items) (option_and_then referred_name (told_by item))
 
 -- the size that the own name of the first entry with this index is given behind it, where it is a forward reference
-abbrev pub own_size_behind : {I D : Type 0} → (I → ℕ) → (D → Option Aggregate) → ℕ → List (Item I D) → Option ℕ
-own_size_behind number_of tells number [] = None
-own_size_behind number_of tells number (item ∷ items) = if number_of item.index == number then own_size_among tells items item else own_size_behind number_of tells number items
+abbrev pub forward_size : ℕ → List (Item TypeIndex TypeData) → Option ℕ
+forward_size number [] = None
+forward_size number (item ∷ items) = if item.index.0 == number then forward_size_among items item else forward_size number items
 
 -- the size under a name, in a map by names that are lent
 abbrev pub size_under : BTreeMap (Bor (List ℕ)) ℕ → List ℕ → Option ℕ
 size_under sizes name = get_by (λ key. slice_cmp nat_cmp name key.now) sizes
 
 -- a map has under each name the size that its first definition among these entries gives
-unfoldable pub Defines : {I D : Type 0} → (D → Option Aggregate) → List (Item I D) → BTreeMap (Bor (List ℕ)) ℕ → Type 0
-Defines tells items sizes = (name : List ℕ) → size_under sizes name ≡ first_definition tells name items
+unfoldable pub Defines : List (Item TypeIndex TypeData) → BTreeMap (Bor (List ℕ)) ℕ → Type 0
+Defines items sizes = (name : List ℕ) → size_under sizes name ≡ first_definition name items
 
 -- a table has for each number the size that the own name of its forward reference is given behind it
-unfoldable pub Tabulates : {I D : Type 0} → (I → ℕ) → (D → Option Aggregate) → List (Item I D) → BTreeMap ℕ ℕ → Type 0
-Tabulates number_of tells items sizes = (number : ℕ) → get nat_cmp sizes number ≡ own_size_behind number_of tells number items
+unfoldable pub Tabulates : List (Item TypeIndex TypeData) → BTreeMap ℕ ℕ → Type 0
+Tabulates items sizes = (number : ℕ) → get nat_cmp sizes number ≡ forward_size number items

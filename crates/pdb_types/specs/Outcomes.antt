@@ -1,5 +1,6 @@
 -- What a call answers, beside the answer of its definition.
 use Rattle.std.specs.Prelude.{◌≡◌, ◌≢◌, Option, Some, None, Result, Ok, Err}
+use Rattle.std.specs.Borrow.{Bor}
 use Rattle.pdb_types.specs.declared.error.Error.{Error}
 use Rattle.pdb_types.specs.declared.error.Error.TheVariants.{OutOfMemory}
 
@@ -8,10 +9,15 @@ abbrev pub Gives : {A B : Type 0} → (A → B) → Result A Error → Result B 
 Gives view (Ok answer) definition = definition ≡ Ok (view answer)
 Gives view (Err error) definition = error ≢ OutOfMemory → definition ≡ Err error
 
--- what follows an answer; an error stays
-abbrev pub and_then : {A B E : Type 0} → (A → Result B E) → Result A E → Result B E
-and_then next (Ok answer) = next answer
-and_then next (Err e) = Err e
+-- an answer, and what follows it; an error stays
+abbrev pub and_then : {A B E : Type 0} → Result A E → (A → Result B E) → Result B E
+and_then (Ok answer) next = next answer
+and_then (Err e) next = Err e
+
+-- what is lent, in place of the loan
+abbrev pub lent : {A E : Type 0} → Result (Bor A) E → Result A E
+lent (Ok loan) = Ok loan.now
+lent (Err e) = Err e
 
 -- the first of two refusals
 abbrev pub first_refusal : Option Error → Option Error → Option Error

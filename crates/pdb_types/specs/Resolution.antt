@@ -13,18 +13,13 @@ use Rattle.pdb_records.specs.declared.debug_information.Module.{Module}
 use Rattle.pdb_records.specs.declared.modules.ModuleInfo.{ModuleInfo}
 use Rattle.pdb_types.specs.declared.error.Error.{Error}
 use Rattle.pdb_types.specs.declared.error.Error.TheVariants.{PdbError, OutOfRangeModuleIndex, ModuleInfoNotFound, CantResolveCrossModuleRefWithoutStringTable, LocalIndexNotInExports}
-use Rattle.pdb_types.specs.declared.resolution.Part.{Part}
-use Rattle.pdb_types.specs.declared.resolution.Part.TheVariants.{Imports, Exports}
-use Rattle.pdb_types.specs.declared.resolution.Modules as code
+use Rattle.pdb_types.specs.declared.unread.Part.{Part}
+use Rattle.pdb_types.specs.declared.unread.Part.TheVariants.{Imports, Exports}
+use Rattle.pdb_types.specs.Errors.{Plain, NoModuleNamed}
 use Rattle.pdb_types.specs.ModuleNames.{is_named, last_position_from}
 use Rattle.pdb_types.specs.Outcomes.{and_then}
-use Rattle.pdb_types.specs.Told.{Plain, NoModuleNamed, Trouble, Refused, Broken}
-
--- what resolution stands on: what a provider answers for a position and a module, the list of modules, and the texts
-pub record Linked : Type 0 where
-  pub info : ℕ → Module → Result (Option ModuleInfo) StreamError
-  pub modules : List Module
-  pub strings : Option (List (StringRef × List ℕ))
+use Rattle.pdb_types.specs.Standing.{Linked}
+use Rattle.pdb_types.specs.Unread.{Trouble, Refused, Broken, trouble_by}
 
 -- a stream's content, or its fault as an error
 abbrev pub streamed : {A : Type 0} → Result A StreamError → Result A Error
@@ -39,30 +34,30 @@ provided_info position (Err fault) = Err (PdbError (Stream fault))
 
 -- the records of a module, where the list has the position
 abbrev pub info_of : Linked → ℕ → Option Module → Result ModuleInfo Error
-info_of linked position None = Err (OutOfRangeModuleIndex position)
-info_of linked position (Some m) = provided_info position (linked.info position m)
+info_of w position None = Err (OutOfRangeModuleIndex position)
+info_of w position (Some m) = provided_info position (w.info position m)
 
 -- the records of the module at a position
 abbrev pub module_info : Linked → ℕ → Result ModuleInfo Error
-module_info linked position = info_of linked position (slice_get linked.modules position)
+module_info w position = info_of w position (slice_get w.modules position)
 
 -- what the module at a position imports
 abbrev pub imports : Linked → ℕ → Result (List Imported) Error
-imports linked position = and_then (λ info. streamed info.imports) (module_info linked position)
+imports w position = and_then (module_info w position) (λ info. streamed info.imports)
 
 -- what the module at a position exports
 abbrev pub exports : Linked → ℕ → Result (List (ℕ × ℕ)) Error
-exports linked position = and_then (λ info. streamed info.exports) (module_info linked position)
+exports w position = and_then (module_info w position) (λ info. streamed info.exports)
 
 -- a part of the records: where it answers an error it is broken
 abbrev pub unbroken : {A : Type 0} → Part → Result A Error → Result A Trouble
 unbroken part (Ok content) = Ok content
 unbroken part (Err e) = Err (Broken part (Plain e))
 
--- an answer of the records, whose error is no part's
+-- an answer of the records
 abbrev pub answered : {A : Type 0} → Result A records.Error → Result A Trouble
 answered (Ok answer) = Ok answer
-answered (Err e) = Err (Refused (Plain (PdbError e)))
+answered (Err e) = Err (trouble_by e)
 
 -- the texts, without which no index leads to another module
 abbrev pub texts : Option (List (StringRef × List ℕ)) → Result (List (StringRef × List ℕ)) Trouble
@@ -71,7 +66,7 @@ texts (Some strings) = Ok strings
 
 -- the text under a reference
 abbrev pub found_text : StringRef → Option (List ℕ) → Result (List ℕ) Trouble
-found_text reference None = Err (Refused (Plain (PdbError (StringNotFound reference.0))))
+found_text reference None = Err (trouble_by (StringNotFound reference.0))
 found_text reference (Some text) = Ok text
 
 -- the module that was found by a name, or the name in lower case
@@ -83,6 +78,12 @@ found_module name (Some position) = Ok position
 abbrev pub module_named : List Module → List ℕ → Result ℕ Trouble
 module_named modules name = found_module name (last_position_from 0 (is_named name) modules)
 
+-- the module whose name stands under a reference
+abbrev pub module_under : List Module → List (StringRef × List ℕ) → StringRef → Result ℕ Trouble
+module_under modules strings reference =
+    and_then (found_text reference (string_at reference strings)) (λ name.
+    module_named modules name)
+
 -- the index that was found under a number of a module's exports
 abbrev pub found_export : ℕ → Option ℕ → Result ℕ Trouble
 found_export local None = Err (Refused (Plain (LocalIndexNotInExports local)))
@@ -90,21 +91,24 @@ found_export local (Some index) = Ok index
 
 -- the index that a module exports under a number
 abbrev pub export_of : Linked → ℕ → ℕ → Result ℕ Trouble
-export_of linked local position = and_then (λ list. found_export local (exported local list)) (unbroken (Exports position) (exports linked position))
+export_of w local position =
+    and_then (unbroken (Exports position) (exports w position)) (λ list.
+    found_export local (exported local list))
 
 -- the index behind an import: the name of the other module, and the number there
 abbrev pub import_target : Linked → List (StringRef × List ℕ) → StringRef × ℕ → Result ℕ Trouble
-import_target linked strings (reference, local) = and_then (export_of linked local) (and_then (module_named linked.modules) (found_text reference (string_at reference strings)))
+import_target w strings (reference, local) =
+    and_then (module_under w.modules strings reference) (λ position.
+    export_of w local position)
 
 -- what an index that leads to another module stands for, asked by the module at a position
 abbrev pub across : Linked → ℕ → ℕ → Result ℕ Trouble
-across linked position index =
-    and_then (λ strings. and_then (import_target linked strings) (and_then (λ list. answered (imported list index)) (unbroken (Imports position) (imports linked position)))) (texts linked.strings)
+across w position index =
+    and_then (texts w.strings) (λ strings.
+    and_then (unbroken (Imports position) (imports w position)) (λ list.
+    and_then (answered (imported list index)) (λ target.
+    import_target w strings target)))
 
 -- what an index stands for: with bit 31 it leads to another module, else it is its own
 abbrev pub resolved : Linked → ℕ → ℕ → Result ℕ Trouble
-resolved linked position index = if nat_lt index (2 ^ 31) then Ok index else across linked position index
-
--- what resolution stands on, as the code has it
-abbrev pub linked_by : {P : Type 0} → (P → ℕ → Module → Result (Option ModuleInfo) StreamError) → code.Modules P → Linked
-linked_by info m = record { info = info m.provider.now; modules = m.modules; strings = m.strings }
+resolved w position index = if nat_lt index (2 ^ 31) then Ok index else across w position index

@@ -13,3 +13,8 @@ EndsWith next (suc steps) index size = (further : TypeIndex) × (next index ≡ 
 -- a chain from an index never ends
 abbrev pub NeverEnds : (ℕ → Step) → ℕ → Type 0
 NeverEnds next index = (steps : ℕ) (size : TypeSize) → EndsWith next steps index size → ⊥
+
+-- a chain leads from one index to another in so many steps
+abbrev pub Leads : (ℕ → Step) → ℕ → ℕ → ℕ → Type 0
+Leads next zero index other = index ≡ other
+Leads next (suc steps) index other = (further : TypeIndex) × (next index ≡ Next further) × Leads next steps further.0 other

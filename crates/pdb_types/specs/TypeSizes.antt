@@ -1,44 +1,35 @@
--- Types by their index, and the sizes that chains of them end with.
+-- The sizes that chains of types end with.
 use Rattle.std.specs.Prelude.{ℕ, zero, suc, List, Option, Some, None, Result, Ok, Err, length, option_and_then, if◌then◌else◌}
 use Rattle.std.specs.Option.{unwrap_or}
 use Rattle.pdb_records.specs.Readings.{Read}
-use Rattle.pdb_records.specs.declared.error.Error as records
 use Rattle.pdb_records.specs.declared.types.Item.{Item}
 use Rattle.pdb_records.specs.declared.types.TypeIndex.{TypeIndex}
 use Rattle.pdb_records.specs.declared.types.TypeData.{TypeData}
-use Rattle.pdb_types.specs.declared.error.Error.{Error}
-use Rattle.pdb_types.specs.declared.resolution.Part.{Part}
+use Rattle.pdb_types.specs.declared.unread.Part.{Part}
 use Rattle.pdb_types.specs.declared.type_sizes.TypeSize.{TypeSize}
 use Rattle.pdb_types.specs.declared.type_sizes.Step.{Step}
 use Rattle.pdb_types.specs.declared.type_sizes.Step.TheVariants.{Ended, Next}
-use Rattle.pdb_types.specs.Outcomes.{and_then}
-use Rattle.pdb_types.specs.Told.{Trouble, Refused, Broken, told}
-use Rattle.pdb_types.specs.Items.{item_of}
-use Rattle.pdb_types.specs.Sizes.{own_size, underneath}
 use Rattle.pdb_types.specs.ForwardReferences.{Aggregate, aggregate, size_behind}
-use Rattle.pdb_types.specs.Resolution.{Linked, resolved, answered}
+use Rattle.pdb_types.specs.Reading.{reading}
+use Rattle.pdb_types.specs.Sizes.{own_size, underneath}
+use Rattle.pdb_types.specs.Standing.{Linked, Basis, Infos, linked}
+use Rattle.pdb_types.specs.Unread.{Trouble, Broken}
 
--- an answer whose error is no part's
-abbrev pub refused : {A : Type 0} → Result A Error → Result A Trouble
-refused (Ok answer) = Ok answer
-refused (Err e) = Err (Refused (told e))
-
--- what an entry says, with the index that it was found by
-abbrev pub content : {A : Type 0} → ℕ → Result A records.Error → Result (ℕ × A) Trouble
-content number said = and_then (λ a. Ok (number, a)) (answered said)
-
--- the type of an index, asked by the module at a position, with the index that it stands for
+-- the type of an index, asked by the module at a position, with the number that the index stands for
 abbrev pub read_type : Linked → Read (Item TypeIndex TypeData) → ℕ → ℕ → Result (ℕ × TypeData) Trouble
-read_type linked types position index =
-    and_then (λ number. and_then (λ item. content number item.content) (refused (item_of (λ i. i.0) types number))) (resolved linked position index)
+read_type w types position index = reading (λ i. i.0) w types position index
 
 -- the size of a forward reference's definition behind it; other types have none
 abbrev pub size_elsewhere : ℕ → List (Item TypeIndex TypeData) → Aggregate → Option ℕ
 size_elsewhere number items a = if a.forward_reference then size_behind number a.name items else None
 
--- the size of a type with this index that is no enumeration and no modifier
+-- the size of a type with this number that is no enumeration and no modifier
 abbrev pub end_size : ℕ → List (Item TypeIndex TypeData) → ℕ → TypeData → ℕ
 end_size pointer items number type = unwrap_or (option_and_then (size_elsewhere number items) (aggregate type)) (own_size pointer type)
+
+-- no size, and no part of the records that was met broken
+abbrev pub no_size : TypeSize
+no_size = record { size = 0; met = None }
 
 -- what follows a type in a chain: the type underneath, or the end with its size
 abbrev pub step_from : ℕ → List (Item TypeIndex TypeData) → ℕ × TypeData → Option TypeIndex → Step
@@ -47,22 +38,22 @@ step_from pointer items read (Some next) = Next next
 
 -- the part that was met broken
 abbrev pub met_in : Trouble → Option Part
-met_in (Refused e) = None
 met_in (Broken part e) = Some part
+met_in other = None
 
 -- what follows what was read in a chain: what can't be read ends it, and has no size
 abbrev pub step_after : ℕ → List (Item TypeIndex TypeData) → Result (ℕ × TypeData) Trouble → Step
 step_after pointer items (Ok read) = step_from pointer items read (underneath read.1)
-step_after pointer items (Err unread) = Ended (record { size = 0; met = met_in unread })
+step_after pointer items (Err trouble) = Ended (record { size = 0; met = met_in trouble })
 
 -- what follows an index in a chain
 abbrev pub step : Linked → Read (Item TypeIndex TypeData) → ℕ → ℕ → ℕ → Step
-step linked types pointer position index = step_after pointer types.items (read_type linked types position index)
+step w types pointer position index = step_after pointer types.items (read_type w types position index)
 
 -- a chain that goes on here has no size
 abbrev pub ended : Step → TypeSize
 ended (Ended size) = size
-ended (Next index) = record { size = 0; met = None }
+ended (Next index) = no_size
 
 -- the size of what follows
 abbrev pub onward : (ℕ → TypeSize) → Step → TypeSize
@@ -76,5 +67,9 @@ size_along next (suc steps) index = onward (size_along next steps) (next index)
 
 -- the size of a type, asked by the module at a position: the size at the end of its chain, however long, or none where it never
 -- ends; as many steps as there are entries settle that, as the laws over SizeLaws say
-abbrev pub type_size : Linked → Read (Item TypeIndex TypeData) → ℕ → ℕ → ℕ → TypeSize
-type_size linked types pointer position index = size_along (step linked types pointer position) (length types.items) index
+unfoldable pub type_size : Linked → Read (Item TypeIndex TypeData) → ℕ → ℕ → ℕ → TypeSize
+type_size w types pointer position index = size_along (step w types pointer position) (length types.items) index
+
+-- the size of a type on what answers stand on, and the part that is met broken
+abbrev pub size_of : {P : Type 0} → (P → Infos) → Basis P → ℕ → ℕ → TypeSize
+size_of info s position index = type_size (linked info s) s.types s.pointer_size position index

@@ -1,50 +1,89 @@
-ghost use Rattle.std.specs.Prelude.{◌≡◌, OnOk, OnErr, None, Some};
-ghost use Rattle.pdb_types.specs.FailedParts.{NoneFailed, has, GrowsBy};
+ghost use Rattle.std.specs.Prelude.{◌≡◌, [], IfOk, OnOk, OnErr};
+ghost use Rattle.pdb_types.specs.Errors.{Plain, told};
+ghost use Rattle.pdb_types.specs.FailedParts.{has_failed, with_part, with_met, unsuccessful, part_error};
 
-use crate::resolution::Part;
+use crate::error::Error;
+use crate::unread::Part;
 use std::alloc::{AllocError, Global};
 use std::collections::BTreeSet;
+use std::marker::Model;
 
 /// The parts of the records that were met broken.
 #[derive(Drop)]
-pub(crate) struct FailedParts {
-    imports: BTreeSet<usize>,
-    exports: BTreeSet<usize>,
+pub struct FailedParts {
+    parts: BTreeSet<Part>,
+}
+
+impl Model for FailedParts {
+    ghost use Rattle.std.specs.Prelude.{List};
+    ghost use Rattle.pdb_types.specs.declared.unread.Part.{Part};
+
+    ghost Value = { List Part };
+
+    ghost view = { λ f. f.parts.keys };
+}
+
+/// The error of a part that failed before.
+fn unsuccessful(part: Part) -> Error
+    ensures { Plain result ≡ unsuccessful part }
+{
+    match part {
+        Part::Imports(_) => Error::ModuleImportsUnsuccessful,
+        Part::Exports(_) => Error::ModuleExportsUnsuccessful,
+    }
 }
 
 impl FailedParts {
     /// No part. It takes no memory.
-    pub(crate) fn new(alloc: Global) -> Self
-        ensures { NoneFailed result }
+    pub fn new(alloc: Global) -> Self
+        ensures { result ≡ [] }
     {
         FailedParts {
-            imports: BTreeSet::new(alloc),
-            exports: BTreeSet::new(alloc),
+            parts: BTreeSet::new(alloc),
         }
     }
 
     /// Whether a part was met broken before.
-    pub(crate) fn has(&self, part: Part) -> bool
-        ensures { result ≡ has self.now part }
+    pub fn has_failed(&self, part: Part) -> bool
+        ensures { result ≡ has_failed self.now part }
     {
-        match part {
-            Part::Imports(position) => self.imports.contains(&position),
-            Part::Exports(position) => self.exports.contains(&position),
-        }
+        self.parts.contains(&part)
     }
 
     /// Remembers a part. Where there is no memory for it, nothing changes.
-    pub(crate) fn add(&mut self, part: Part) -> Result<(), AllocError>
-        ensures added { OnOk result (GrowsBy (Some part) self.old self.new) }
-        ensures refused { OnErr result (GrowsBy None self.old self.new) }
+    pub fn add(&mut self, part: Part) -> Result<(), AllocError>
+        ensures added { OnOk result (self.new ≡ with_part self.old part) }
+        ensures refused { OnErr result (self.new ≡ self.old) }
     {
-        let added = match part {
-            Part::Imports(position) => self.imports.insert(position),
-            Part::Exports(position) => self.exports.insert(position),
-        };
-        match added {
+        match self.parts.insert(part) {
             Ok(_) => Ok(()),
             Err(_) => Err(AllocError),
         }
+    }
+
+    /// Remembers the part that was met broken, if one was.
+    pub fn add_met(&mut self, met: Option<Part>) -> Result<(), AllocError>
+        ensures added { OnOk result (self.new ≡ with_met self.old met) }
+        ensures refused { OnErr result (self.new ≡ self.old) }
+    {
+        match met {
+            Some(part) => self.add(part),
+            None => Ok(()),
+        }
+    }
+
+    /// What a part that is met broken tells: its own error where it is new, and then it is remembered,
+    /// else that it failed before.
+    pub fn ask(&mut self, part: Part, error: Error) -> Result<Error, AllocError>
+        ensures told { IfOk result (λ e. told e ≡ part_error self.old part (told error)) }
+        ensures added { OnOk result (self.new ≡ with_part self.old part) }
+        ensures refused { OnErr result (self.new ≡ self.old) }
+    {
+        let failed_before = self.has_failed(part);
+        self.add(part)?;
+        if failed_before {
+            return Ok(unsuccessful(part));
+        }
+        Ok(error)
     }
 }

@@ -1,8 +1,7 @@
-ghost use Rattle.std.specs.Prelude.{◌≡◌, false, MatchResult};
-ghost use Rattle.std.specs.Option.{option_map_or};
+ghost use Rattle.std.specs.Prelude.{◌≡◌, MatchResult};
 ghost use Rattle.std.specs.Str.{bytes_eq};
 ghost use Rattle.pdb_types.specs.declared.error.Error.TheVariants.{OutOfMemory};
-ghost use Rattle.pdb_types.specs.ForwardReferences.{aggregate, told_by, definition_size, size_behind, refers_by};
+ghost use Rattle.pdb_types.specs.ForwardReferences.{definition_size, size_behind};
 
 use crate::aggregates::told_by;
 use crate::error::Result;
@@ -18,7 +17,7 @@ fn is_same(a: &RawString, b: &RawString) -> bool
 
 /// The size that an entry gives to a name.
 fn definition_size(item: &Item<TypeIndex, TypeData>, name: &RawString) -> Option<u64>
-    ensures { result ≡ definition_size aggregate name.now item.now }
+    ensures { result ≡ definition_size name.now item.now }
 {
     let defined = told_by(item)?;
     if !defined.forward_reference && is_same(defined.name, name) {
@@ -46,19 +45,9 @@ fn size_behind(
     None
 }
 
-/// Whether an entry is a forward reference that goes by a name.
-fn refers_by(item: &Item<TypeIndex, TypeData>, name: &RawString) -> bool
-    ensures { result ≡ option_map_or (refers_by name.now) (told_by aggregate item.now) false }
-{
-    match told_by(item) {
-        Some(told) => told.forward_reference && is_same(told.name, name),
-        None => false,
-    }
-}
-
 /// Finds the sizes of classes and unions of which a name alone is known.
 ///
-/// It keeps nothing itself: what was read of a list stays with the map of the list.
+/// It keeps nothing: each call brings a list of its own.
 #[derive(Drop)]
 pub struct TypeSizeCache {}
 
@@ -72,10 +61,11 @@ impl TypeSizeCache {
     ///
     /// Of the entries behind the first one with the index `resolved`, the first that defines a class or
     /// a union of this name has the size. A type goes by its unique name where it has one, else by its
-    /// name. The answer is `None` where no such entry is there.
+    /// name. The answer is `None` where no such entry is there. The list is read as far as that entry.
     ///
-    /// The first question about a forward reference by its own name reads the whole list, for all such
-    /// questions. A question by another name, or about another entry, reads the list on from the entry.
+    /// # Errors
+    ///
+    /// [`Error::OutOfMemory`](crate::Error::OutOfMemory) alone.
     pub fn get_size_for_forward_reference(
         &mut self,
         resolved: TypeIndex,
@@ -85,13 +75,6 @@ impl TypeSizeCache {
         ensures size { MatchResult result (λ size. size ≡ size_behind resolved.0 name.now types.old.items) (λ e. e ≡ OutOfMemory) }
         ensures same { types.new ≡ types.old }
     {
-        let Some(item) = types.find(resolved)? else {
-            return Ok(None);
-        };
-        if refers_by(item, name) {
-            return Ok(types.own_size_behind(resolved)?);
-        }
-        let read = types.records();
-        Ok(size_behind(&read.items, resolved, name))
+        Ok(size_behind(&types.records().items, resolved, name))
     }
 }

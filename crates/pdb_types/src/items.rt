@@ -3,13 +3,10 @@ ghost use Rattle.std.specs.Option.{option_copied, option_or};
 ghost use Rattle.std.specs.BTreeMap.{get};
 ghost use Rattle.std.specs.Ordering.{nat_cmp};
 ghost use Rattle.pdb_types.specs.Items.{Knows, first_item, item_of, missing};
-ghost use Rattle.pdb_types.specs.ForwardReferences.{own_size_behind};
 ghost use Rattle.pdb_types.specs.Outcomes.{Gives};
 
-use crate::aggregates::ItemData;
 use crate::error::{Error, Result};
 use crate::keep_first::keep_first;
-use crate::own_sizes::{own_sizes, size_at};
 use pdb_records::{
     IdData, IdIndex, Item, ItemInformation, Reading, StreamError, TypeData, TypeIndex,
 };
@@ -43,16 +40,12 @@ impl ItemIndex for IdIndex {
     }
 }
 
-/// Finds the entries of a list by their index. The list is read as far as it was asked for.
-///
-/// It keeps what was read: entries by their index and, once the size of a forward reference was asked
-/// for, those sizes of the whole list.
-pub struct ItemMap<'a, I: ItemIndex, D: ItemData> {
-    alloc: Global,
+/// Finds the entries of a list by their index. The list is read as far as it was asked for, and what was
+/// read is kept.
+pub struct ItemMap<'a, I: ItemIndex, D> {
     information: &'a ItemInformation<I, D>,
     known: BTreeMap<u32, &'a Item<I, D>>,
     scanned: usize,
-    sizes_behind: Option<BTreeMap<u32, u64>>,
 }
 
 /// The types of a program by their index.
@@ -61,12 +54,11 @@ pub type TypeMap<'a> = ItemMap<'a, TypeIndex, TypeData>;
 /// The ids of a program by their index.
 pub type IdMap<'a> = ItemMap<'a, IdIndex, IdData>;
 
-impl<'a, I: ItemIndex, D: ItemData> Model for ItemMap<'a, I, D> {
-    ghost use Rattle.std.specs.Prelude.{◌≤◌, length, take, IfSome};
+impl<'a, I: ItemIndex, D> Model for ItemMap<'a, I, D> {
+    ghost use Rattle.std.specs.Prelude.{◌≤◌, length, take};
     ghost use Rattle.pdb_records.specs.Readings.{Read};
     ghost use Rattle.pdb_records.specs.declared.types.Item.{Item};
     ghost use Rattle.pdb_types.specs.Items.{Knows};
-    ghost use Rattle.pdb_types.specs.ForwardReferences.{Tabulates};
 
     ghost Value = { Read (Item I D) };
 
@@ -74,18 +66,15 @@ impl<'a, I: ItemIndex, D: ItemData> Model for ItemMap<'a, I, D> {
 
     ghost invariant = { λ m.
         (m.scanned ≤ length m.information.now.items.items)
-        × Knows I.number_of (take m.scanned m.information.now.items.items) m.known
-        × IfSome m.sizes_behind (Tabulates I.number_of D.tells m.information.now.items.items) };
+        × Knows I.number_of (take m.scanned m.information.now.items.items) m.known };
 }
 
-impl<I: ItemIndex, D: ItemData> Drop for ItemMap<'_, I, D> {
+impl<I: ItemIndex, D> Drop for ItemMap<'_, I, D> {
     fn drop(self) {
         let ItemMap {
-            alloc: _,
             information: _,
             known: _,
             scanned: _,
-            sizes_behind: _,
         } = self;
     }
 }
@@ -150,17 +139,15 @@ fn why_missing(fault: Option<StreamError>, number: u32) -> Error
     }
 }
 
-impl<'a, I: ItemIndex, D: ItemData> ItemMap<'a, I, D> {
+impl<'a, I: ItemIndex, D> ItemMap<'a, I, D> {
     /// A map of a list's entries. It takes no memory yet.
     pub fn new(alloc: Global, information: &'a ItemInformation<I, D>) -> Self
         ensures { result ≡ information.now.items }
     {
         ItemMap {
-            alloc,
             information,
             known: BTreeMap::new(alloc),
             scanned: 0,
-            sizes_behind: None,
         }
     }
 
@@ -200,24 +187,5 @@ impl<'a, I: ItemIndex, D: ItemData> ItemMap<'a, I, D> {
             Some(item) => Ok(item),
             None => Err(why_missing(read.fault, number)),
         }
-    }
-
-    /// The size that the own name of an index's forward reference is given behind it.
-    ///
-    /// The first question reads the whole list, for all of them. Where memory runs out over that,
-    /// nothing of it is kept.
-    pub(crate) fn own_size_behind(&mut self, index: I) -> Result<Option<u64>, AllocError>
-        ensures size { IfOk result (λ size. size ≡ own_size_behind I.number_of D.tells (I.number_of index) self.old.items) }
-        ensures same { self.new ≡ self.old }
-    {
-        let number = index.number();
-        if let Some(sizes) = &self.sizes_behind {
-            return Ok(size_at(sizes, number));
-        }
-        let list = &self.information.items;
-        let sizes = own_sizes(self.alloc, &list.items)?;
-        let size = size_at(&sizes, number);
-        self.sizes_behind = Some(sizes);
-        Ok(size)
     }
 }

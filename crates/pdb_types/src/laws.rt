@@ -2,26 +2,34 @@
 //!
 //! Each function here does nothing. Its contract is a law, for all records, and the check proves it.
 
-ghost use Rattle.std.specs.Prelude.{◌≡◌, ℕ, None};
+ghost use Rattle.std.specs.Prelude.{◌≡◌, ℕ, suc};
 ghost use Rattle.pdb_records.specs.Readings.{Read};
 ghost use Rattle.pdb_records.specs.declared.types.Item.{Item};
 ghost use Rattle.pdb_records.specs.declared.types.TypeIndex.{TypeIndex};
 ghost use Rattle.pdb_records.specs.declared.types.TypeData.{TypeData};
 ghost use Rattle.pdb_types.specs.declared.type_sizes.TypeSize.{TypeSize};
-ghost use Rattle.pdb_types.specs.Resolution.{Linked};
-ghost use Rattle.pdb_types.specs.TypeSizes.{step, type_size};
-ghost use Rattle.pdb_types.specs.SizeLaws.{EndsWith, NeverEnds};
+ghost use Rattle.pdb_types.specs.Standing.{Linked};
+ghost use Rattle.pdb_types.specs.TypeSizes.{no_size, step, type_size};
+ghost use Rattle.pdb_types.specs.SizeLaws.{EndsWith, NeverEnds, Leads};
 
 /// Where a chain of types ends, after however many steps, a type has the size at its end.
 pub fn chains_that_end_have_the_size_at_their_end()
-    ensures { (linked : Linked) (types : Read (Item TypeIndex TypeData)) (pointer position index steps : ℕ) (size : TypeSize)
-        → EndsWith (step linked types pointer position) steps index size
-        → type_size linked types pointer position index ≡ size }
+    ensures { (w : Linked) (types : Read (Item TypeIndex TypeData)) (pointer position index steps : ℕ) (size : TypeSize)
+        → EndsWith (step w types pointer position) steps index size
+        → type_size w types pointer position index ≡ size }
 {}
 
 /// Where a chain of types never ends, a type has no size, and no part of the records is met broken.
 pub fn chains_that_never_end_have_no_size()
-    ensures { (linked : Linked) (types : Read (Item TypeIndex TypeData)) (pointer position index : ℕ)
-        → NeverEnds (step linked types pointer position) index
-        → type_size linked types pointer position index ≡ record { size = 0; met = None } }
+    ensures { (w : Linked) (types : Read (Item TypeIndex TypeData)) (pointer position index : ℕ)
+        → NeverEnds (step w types pointer position) index
+        → type_size w types pointer position index ≡ no_size }
+{}
+
+/// Where a chain of types meets an index a second time, the type has no size: not the first one either.
+pub fn chains_that_repeat_have_no_size()
+    ensures { (w : Linked) (types : Read (Item TypeIndex TypeData)) (pointer position index repeated before steps : ℕ)
+        → Leads (step w types pointer position) before index repeated
+        → Leads (step w types pointer position) (suc steps) repeated repeated
+        → type_size w types pointer position index ≡ no_size }
 {}

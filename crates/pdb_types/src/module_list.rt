@@ -1,5 +1,6 @@
-ghost use Rattle.std.specs.Prelude.{◌≡◌, IfOk, string_bytes};
-ghost use Rattle.std.specs.Str.{str_to_ascii_lowercase};
+ghost use Rattle.std.specs.Prelude.{◌≡◌, ℕ, List, Some, IfOk, OnOk, string_bytes, if◌then◌else◌};
+ghost use Rattle.std.specs.BTreeMap.{get_by_text};
+ghost use Rattle.std.specs.Str.{bytes_eq, str_to_ascii_lowercase};
 ghost use Rattle.pdb_records.specs.Names.{lossy};
 ghost use Rattle.pdb_types.specs.ModuleNames.{has_lower_name, last_position_from};
 
@@ -36,6 +37,19 @@ pub(crate) fn lower_case(alloc: Global, name: &RawString) -> Result<String, Allo
     Ok(text)
 }
 
+/// Puts the position of a module under its name, in the place of one from before.
+fn put(
+    positions: &mut BTreeMap<String, usize>,
+    lower_name: String,
+    position: usize,
+) -> Result<(), AllocError>
+    ensures { OnOk result ((lower : List ℕ) → get_by_text positions.new lower
+        ≡ (if bytes_eq (string_bytes lower_name) lower then Some position else get_by_text positions.old lower)) }
+{
+    positions.insert(lower_name, position)?;
+    Ok(())
+}
+
 impl ModuleList {
     /// The modules, with a table of their names. Of several with one name the last is found.
     pub(crate) fn new(alloc: Global, modules: Vec<Module>) -> Result<Self, AllocError>
@@ -43,7 +57,8 @@ impl ModuleList {
     {
         let mut positions = BTreeMap::new(alloc);
         for (position, module) in modules.iter().enumerate() {
-            positions.insert(lower_case(alloc, &module.name)?, position)?;
+            let lower_name = lower_case(alloc, &module.name)?;
+            put(&mut positions, lower_name, position)?;
         }
         Ok(ModuleList { modules, positions })
     }

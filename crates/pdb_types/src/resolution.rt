@@ -1,81 +1,24 @@
-ghost use Rattle.std.specs.Prelude.{◌≡◌, ◌≢◌, ℕ, Option, IfOk, IfErr, Result, string_bytes, option_map};
-ghost use Rattle.std.specs.Option.{option_copied};
-ghost use Rattle.std.specs.Str.{str_to_ascii_lowercase};
-ghost use Rattle.std.specs.Cow.{cow_str_bytes};
-ghost use Rattle.pdb_records.specs.Names.{lossy};
-ghost use Rattle.pdb_types.specs.declared.error.Error.TheVariants.{OutOfMemory};
-ghost use Rattle.pdb_types.specs.Told.{Tells, told, lent};
-ghost use Rattle.pdb_types.specs.Resolution.{linked_by, streamed, module_info, imports, exports, module_named, export_of, import_target, across, resolved};
+ghost use Rattle.std.specs.Prelude.{◌≡◌, Some};
+ghost use Rattle.pdb_types.specs.Outcomes.{lent};
+ghost use Rattle.pdb_types.specs.Unread.{Tells};
+ghost use Rattle.pdb_types.specs.Standing.{linked};
+ghost use Rattle.pdb_types.specs.Resolution.{streamed, module_info, imports, exports, module_named, module_under, found_export, export_of, import_target, across, resolved};
+ghost use Rattle.pdb_types.specs.Findings.{Fits, Keeps};
 
 use crate::error::{Error, Result};
-use crate::module_list::{ModuleList, lower_case};
+use crate::exports::ExportTable;
+use crate::findings::Findings;
+use crate::module_list::lower_case;
 use crate::provider::ModuleProvider;
+use crate::standing::Standing;
 use crate::texts::Texts;
+use crate::unread::{Part, Unread};
 use pdb_records::{
-    CrossModuleExports, CrossModuleImports, Module, ModuleInfo, RawString, StreamError, StringRef,
-    StringTable,
+    CrossModuleExports, CrossModuleImports, ModuleInfo, RawString, StreamError, StringRef,
 };
-use std::alloc::{AllocError, Global};
-
-/// A part of the records that may be broken by itself, by the position of its module.
-#[derive(Clone, Copy)]
-pub(crate) enum Part {
-    /// What a module imports.
-    Imports(usize),
-    /// What a module exports.
-    Exports(usize),
-}
-
-/// Why something could not be read.
-#[derive(Drop)]
-pub(crate) enum Unread {
-    /// There is no answer, and no part of the records is to blame.
-    Refused(Error),
-    /// A part of the records is broken, with this error.
-    Broken(Part, Error),
-}
-
-impl From<Error> for Unread {
-    ghost use Rattle.pdb_types.specs.declared.resolution.Unread.TheVariants.{Refused};
-
-    ghost from_gives = { λ e r. r ≡ Refused e };
-
-    fn from(error: Error) -> Unread {
-        Unread::Refused(error)
-    }
-}
-
-impl From<AllocError> for Unread {
-    ghost use Rattle.pdb_types.specs.declared.resolution.Unread.TheVariants.{Refused};
-
-    ghost from_gives = { λ _ r. r ≡ Refused OutOfMemory };
-
-    fn from(_error: AllocError) -> Unread {
-        Unread::Refused(Error::OutOfMemory)
-    }
-}
 
 /// The bit that marks an index that leads to another module.
 const CROSS_MODULE: u32 = 1 << 31;
-
-/// What indices that lead to other modules are resolved by.
-pub(crate) struct Modules<'a, P: ModuleProvider> {
-    alloc: Global,
-    provider: &'a P,
-    modules: ModuleList,
-    strings: Option<Texts<'a>>,
-}
-
-impl<P: ModuleProvider> Drop for Modules<'_, P> {
-    fn drop(self) {
-        let Modules {
-            alloc: _,
-            provider: _,
-            modules: _,
-            strings: _,
-        } = self;
-    }
-}
 
 /// A stream's content, or its fault as an error.
 fn streamed<A>(content: &Result<A, StreamError>) -> Result<&A>
@@ -87,40 +30,20 @@ fn streamed<A>(content: &Result<A, StreamError>) -> Result<&A>
     }
 }
 
-impl<'a, P: ModuleProvider> Modules<'a, P> {
-    /// What resolves indices by these records.
-    pub(crate) fn new(
-        alloc: Global,
-        provider: &'a P,
-        modules: Vec<Module>,
-        strings: Option<&'a StringTable>,
-    ) -> Result<Self, AllocError>
-        ensures provider { IfOk result (λ m. m.provider.now ≡ provider.now) }
-        ensures modules { IfOk result (λ m. m.modules ≡ modules.items) }
-        ensures strings { IfOk result (λ m. m.strings ≡ option_copied strings.entry) }
-    {
-        let strings = match strings {
-            Some(strings) => Some(Texts::new(alloc, strings)?),
-            None => None,
-        };
-        Ok(Modules {
-            alloc,
-            provider,
-            modules: ModuleList::new(alloc, modules)?,
-            strings,
-        })
+/// The index that was found under a number of a module's exports.
+fn found_export(local: u32, found: Option<u32>) -> Result<u32, Unread>
+    ensures { Tells (λ index. index) result (found_export local found) }
+{
+    match found {
+        Some(index) => Ok(index),
+        None => Err(Unread::Refused(Error::LocalIndexNotInExports(local))),
     }
+}
 
-    /// The modules in their order.
-    pub(crate) fn modules(&self) -> &[Module]
-        ensures { result.now ≡ self.now.modules }
-    {
-        self.modules.modules()
-    }
-
+impl<'a, P: ModuleProvider> Standing<'a, P> {
     /// The records of the module at a position.
-    pub(crate) fn module_info(&self, position: usize) -> Result<&'a ModuleInfo>
-        ensures { lent result ≡ module_info (linked_by P.info self.now) position }
+    fn module_info(&self, position: usize) -> Result<&'a ModuleInfo>
+        ensures { lent result ≡ module_info (linked P.info self.now) position }
     {
         let provider = self.provider;
         let Some(module) = self.modules().get(position) else {
@@ -135,14 +58,14 @@ impl<'a, P: ModuleProvider> Modules<'a, P> {
 
     /// What the module at a position imports.
     fn imports(&self, position: usize) -> Result<&'a CrossModuleImports>
-        ensures { lent result ≡ imports (linked_by P.info self.now) position }
+        ensures { lent result ≡ imports (linked P.info self.now) position }
     {
         streamed(&self.module_info(position)?.imports)
     }
 
     /// What the module at a position exports.
     fn exports(&self, position: usize) -> Result<&'a CrossModuleExports>
-        ensures { lent result ≡ exports (linked_by P.info self.now) position }
+        ensures { lent result ≡ exports (linked P.info self.now) position }
     {
         streamed(&self.module_info(position)?.exports)
     }
@@ -158,40 +81,84 @@ impl<'a, P: ModuleProvider> Modules<'a, P> {
         }
     }
 
-    /// The index that the module at a position exports under a number.
-    fn export_of(&self, local: u32, position: usize) -> Result<u32, Unread>
-        ensures { Tells (λ index. index) result (export_of (linked_by P.info self.now) local position) }
+    /// The position of the module whose name stands under a reference. It is looked for once.
+    fn module_under(
+        &self,
+        findings: &mut Findings<'a>,
+        strings: &Texts<'a>,
+        reference: StringRef,
+    ) -> Result<usize, Unread>
+        requires fits { Fits P.info self.now findings.old }
+        requires strings { self.now.strings ≡ Some strings.now }
+        ensures position { Tells (λ position. position) result (module_under self.now.modules strings.now reference) }
+        ensures kept { Keeps P.info self.now findings.old findings.new }
     {
+        if let Some(position) = findings.named.get(&reference.0) {
+            return Ok(*position);
+        }
+        let Some(name) = strings.get(reference) else {
+            return Err(Unread::from(pdb_records::Error::StringNotFound(reference.0)));
+        };
+        let position = self.module_named(name)?;
+        match findings.named.insert(reference.0, position) {
+            Ok(_) => Ok(position),
+            Err(_) => Err(Unread::OutOfMemory),
+        }
+    }
+
+    /// The index that the module at a position exports under a number. Its exports are read once.
+    fn export_of(
+        &self,
+        findings: &mut Findings<'a>,
+        local: u32,
+        position: usize,
+    ) -> Result<u32, Unread>
+        requires fits { Fits P.info self.now findings.old }
+        ensures index { Tells (λ index. index) result (export_of (linked P.info self.now) local position) }
+        ensures kept { Keeps P.info self.now findings.old findings.new }
+    {
+        if let Some(table) = findings.exports.get(&position) {
+            return found_export(local, table.get(local));
+        }
         let exports = match self.exports(position) {
             Ok(exports) => exports,
             Err(error) => return Err(Unread::Broken(Part::Exports(position), error)),
         };
-        match exports.resolve_import(local) {
-            Some(index) => Ok(index),
-            None => Err(Unread::Refused(Error::LocalIndexNotInExports(local))),
+        let table = ExportTable::new(self.alloc, exports)?;
+        let found = table.get(local);
+        match findings.exports.insert(position, table) {
+            Ok(_) => found_export(local, found),
+            Err(_) => Err(Unread::OutOfMemory),
         }
     }
 
     /// The index behind an import: the name of the other module, and the number there.
     fn import_target(
         &self,
+        findings: &mut Findings<'a>,
         strings: &Texts<'a>,
-        reference: StringRef,
-        local: u32,
+        target: (StringRef, u32),
     ) -> Result<u32, Unread>
-        ensures { Tells (λ index. index) result (import_target (linked_by P.info self.now) strings.now (reference, local)) }
+        requires fits { Fits P.info self.now findings.old }
+        requires strings { self.now.strings ≡ Some strings.now }
+        ensures index { Tells (λ index. index) result (import_target (linked P.info self.now) strings.now target) }
+        ensures kept { Keeps P.info self.now findings.old findings.new }
     {
-        let Some(name) = strings.get(reference) else {
-            let missing = pdb_records::Error::StringNotFound(reference.0);
-            return Err(Unread::Refused(Error::from(missing)));
-        };
-        let position = self.module_named(name)?;
-        self.export_of(local, position)
+        let (reference, local) = target;
+        let position = self.module_under(findings, strings, reference)?;
+        self.export_of(findings, local, position)
     }
 
     /// What an index that leads to another module stands for, asked by the module at a position.
-    fn across(&self, position: usize, index: u32) -> Result<u32, Unread>
-        ensures { Tells (λ index. index) result (across (linked_by P.info self.now) position index) }
+    fn across(
+        &self,
+        findings: &mut Findings<'a>,
+        position: usize,
+        index: u32,
+    ) -> Result<u32, Unread>
+        requires fits { Fits P.info self.now findings.old }
+        ensures index { Tells (λ index. index) result (across (linked P.info self.now) position index) }
+        ensures kept { Keeps P.info self.now findings.old findings.new }
     {
         let Some(strings) = &self.strings else {
             let refusal = Error::CantResolveCrossModuleRefWithoutStringTable;
@@ -202,18 +169,25 @@ impl<'a, P: ModuleProvider> Modules<'a, P> {
             Err(error) => return Err(Unread::Broken(Part::Imports(position), error)),
         };
         match imports.resolve_import(index) {
-            Ok((reference, local)) => self.import_target(strings, reference, local),
-            Err(error) => Err(Unread::Refused(Error::from(error))),
+            Ok(target) => self.import_target(findings, strings, target),
+            Err(error) => Err(Unread::from(error)),
         }
     }
 
     /// What an index stands for, asked by the module at a position.
-    pub(crate) fn resolve(&self, position: usize, index: u32) -> Result<u32, Unread>
-        ensures { Tells (λ index. index) result (resolved (linked_by P.info self.now) position index) }
+    pub(crate) fn resolve(
+        &self,
+        findings: &mut Findings<'a>,
+        position: usize,
+        index: u32,
+    ) -> Result<u32, Unread>
+        requires fits { Fits P.info self.now findings.old }
+        ensures index { Tells (λ index. index) result (resolved (linked P.info self.now) position index) }
+        ensures kept { Keeps P.info self.now findings.old findings.new }
     {
         if index < CROSS_MODULE {
             return Ok(index);
         }
-        self.across(position, index)
+        self.across(findings, position, index)
     }
 }

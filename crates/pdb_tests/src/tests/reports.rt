@@ -1,7 +1,9 @@
-use pdb_addr2line::ContextPdbData;
+use pdb_addr2line::{Context, ContextPdbData, ModuleProvider};
 use pdb_json::read_records;
 use pdb_reporting::{Command, Out, ReportFault, Sink, report};
 use std::io;
+use std::io::BufWriter;
+use std::process::Abort;
 use std::test::Fail;
 
 /// Records with no section, so that each address has a short line.
@@ -30,19 +32,40 @@ impl io::Write for Narrow {
     }
 }
 
+/// Reports two addresses to a writer with this much room, where 44 bytes are enough.
+fn check_room<P: ModuleProvider>(
+    rt: &(impl Abort + AllocGlobal),
+    context: &mut Context<'_, P>,
+    room: usize,
+) {
+    let mut sink = Out::new(Narrow { room });
+    let told = report(rt.alloc(), context, Command::Names, &[1, 2], &mut sink);
+    if room < 44 {
+        assert!(rt; matches!(&told, Err(ReportFault::Write)), "at {room}");
+    } else {
+        assert!(rt; told.is_ok());
+    }
+    assert_eq!(rt; sink.failed(), room < 44, "at {room}");
+}
+
 #[test]
 fn writer_that_refuses(rt: HostRuntime) -> Result<(), Fail> {
     let data = ContextPdbData::try_from_pdb(rt.alloc(), read_records(rt.alloc(), NOTHING)?)?;
     let mut context = data.make_context()?;
     for room in 0..=44usize {
-        let mut sink = Out::new(Narrow { room });
-        let told = report(rt.alloc(), &mut context, Command::Names, &[1, 2], &mut sink);
-        if room < 44 {
-            assert!(rt; matches!(&told, Err(ReportFault::Write)), "at {room}");
-        } else {
-            assert!(rt; told.is_ok());
-        }
-        assert_eq!(rt; sink.failed(), room < 44, "at {room}");
+        check_room(&rt, &mut context, room);
+    }
+    Ok(())
+}
+
+#[test]
+fn writer_that_keeps_back_what_it_can_not_write(rt: HostRuntime) -> Result<(), Fail> {
+    for (room, refused) in [(5usize, false), (4, true)] {
+        let mut sink = Out::new(BufWriter::new(rt.alloc(), Narrow { room })?);
+        assert!(rt; sink.put(b"0x100").is_ok());
+        assert!(rt; !sink.failed());
+        assert_eq!(rt; sink.flush().is_err(), refused);
+        assert_eq!(rt; sink.failed(), refused);
     }
     Ok(())
 }

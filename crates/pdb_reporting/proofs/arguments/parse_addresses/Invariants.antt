@@ -5,4 +5,6 @@ use Rattle.pdb_reporting.proofs.arguments.parse_addresses.Given as goal
 
 -- the addresses so far, and those of what is left, are those of all
 abbrev pub invariant-loop-word : goal.invariant-loop-word
-invariant-loop-word l = option_map (λ rest. l.addresses.items ++ rest) (addresses_of (map string_bytes (drop l.word-index l.words))) ≡ addresses_of (map string_bytes l.words)
+invariant-loop-word l =
+    option_map (λ rest. l.addresses.items ++ rest) (addresses_of (map string_bytes (drop l.word-index l.words)))
+    ≡ addresses_of (map string_bytes l.words)

@@ -3,4 +3,4 @@ use Rattle.pdb_types.proofs.ItemLemmas.{knows_nothing}
 use Rattle.pdb_types.proofs.items.ItemMap.new.Goals as goal
 
 pub invariant_of-result : goal.invariant_of-result
-invariant_of-result g c = (omega arith, knows_nothing _ _ c.new.ensures.empty, tt)
+invariant_of-result g c = (omega arith, knows_nothing _ _ c.new.ensures.empty)

@@ -1,0 +1,27 @@
+-- From the records that were handed in to how a report over them ends.
+use Rattle.std.proofs.Common.{◌≡◌, ◌∙◌, ℕ, List, Option, None, Result, Ok, inr, sym, ap}
+use Rattle.pdb_records.specs.Records.{Records}
+use Rattle.pdb_types.specs.declared.error.Error.{Error}
+use Rattle.pdb_addr2line.specs.Outcomes.{unless}
+use Rattle.pdb_addr2line.specs.Sources.{Sources}
+use Rattle.pdb_addr2line.specs.Made.{records_refusal, context_of}
+use Rattle.pdb_reporting.specs.declared.reports.ReportFault.{ReportFault}
+use Rattle.pdb_reporting.specs.declared.reports.ReportFault.TheVariants.{Lookup, Write}
+use Rattle.pdb_reporting.specs.Sinks.{SinkState}
+use Rattle.pdb_reporting.specs.Reports.{EndsEarly}
+use Rattle.pdb_reporting.specs.FileReports.{opened, function_over_records, EndsOver}
+
+-- records whose streams were read are opened as their context is made
+pub opened-accepted : (records given : Records) (made : Result (Sources Records) Error)
+    → given ≡ records → records_refusal records ≡ None → context_of given ≡ made → opened records ≡ made
+opened-accepted records given made kept accepted is_made =
+    let refused : Option Error → Result (Sources Records) Error = λ r. unless r (context_of records) in
+    let same : context_of records ≡ context_of given = ap (λ (r : Records). context_of r) (sym kept) in
+    ap refused accepted ∙ (same ∙ is_made)
+
+-- a report that ends early over records that are not refused ends amid its lines
+pub ends_amid : (addresses : List ℕ) (sources : Sources Records) (before after : SinkState) (fault : ReportFault)
+    → EndsEarly (function_over_records sources) addresses before after fault
+    → EndsOver addresses (Ok sources) before after fault
+ends_amid addresses sources before after (Lookup error) early = inr early
+ends_amid addresses sources before after Write early = early

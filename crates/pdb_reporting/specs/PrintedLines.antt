@@ -1,0 +1,35 @@
+-- What is written of functions.
+use Rattle.std.specs.Prelude.{ℕ, false, List, [], ◌∷◌, ◌++◌, codes, Option, Some, None}
+use Rattle.std.specs.Fmt.{digits}
+use Rattle.pdb_addr2line.specs.Function.{Description}
+
+-- a number in hexadecimal digits
+abbrev pub hex : ℕ → List ℕ
+hex n = digits 16 false n
+
+-- a name, where it is known
+abbrev pub name_text : Option (List ℕ) → List ℕ
+name_text None = codes "<unknown>"
+name_text (Some name) = name
+
+-- two question marks, for an end that isn't known
+abbrev pub unknown_end : List ℕ
+unknown_end = 63 ∷ 63 ∷ []
+
+-- an end, where it is known
+abbrev pub end_text : Option ℕ → List ℕ
+end_text None = unknown_end
+end_text (Some address) = codes "0x" ++ hex address
+
+-- the line of an address: the function there, or that there is none
+abbrev pub names_line : ℕ → Option Description → List ℕ
+names_line address (Some f) =
+    codes "0x" ++ (hex address ++ (codes " - " ++ (name_text f.name
+    ++ (codes " 0x" ++ (hex f.start_rva ++ (codes ".." ++ (end_text f.end_rva ++ codes "\n")))))))
+names_line address None = hex address ++ codes " - no function found\n"
+
+-- the lines of addresses, in order
+abbrev pub names_text : (ℕ → Option Description) → List ℕ → List ℕ
+names_text function_there [] = []
+names_text function_there (address ∷ addresses) =
+    names_line address (function_there address) ++ names_text function_there addresses

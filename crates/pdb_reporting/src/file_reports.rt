@@ -1,0 +1,79 @@
+ghost use Rattle.std.specs.Prelude.{OnOk, IfErr};
+ghost use Rattle.pdb_json.specs.RecordsFile.{records_of_file};
+ghost use Rattle.pdb_reporting.specs.FileReports.{opened, TakesLines, EndsOver};
+ghost use Rattle.pdb_reporting.specs.Stops.{Ends, EndsOverFile};
+
+use crate::arguments::Request;
+use crate::reports::{ReportFault, report};
+use crate::sinks::Sink;
+use crate::stops::Stop;
+use pdb_addr2line::ContextPdbData;
+use pdb_addr2line::pdb::PDB;
+use pdb_json::{RecordFault, read_records};
+use std::alloc::Global;
+
+/// Writes what a request asks for, over records.
+fn report_records<W: Sink>(
+    alloc: Global,
+    request: &Request<'_>,
+    records: PDB,
+    sink: &mut W,
+) -> Result<(), ReportFault>
+    ensures lines { OnOk result
+        (TakesLines request.now.addresses.items (opened records) (W.state sink.old) (W.state sink.new)) }
+    ensures fault { IfErr result
+        (EndsOver request.now.addresses.items (opened records) (W.state sink.old) (W.state sink.new)) }
+{
+    let data = ContextPdbData::try_from_pdb(alloc, records)?;
+    let mut context = data.make_context()?;
+    report(
+        alloc,
+        &mut context,
+        request.command,
+        &request.addresses,
+        sink,
+    )
+}
+
+/// Writes what a request asks for, over what was read of its records file.
+///
+/// # Errors
+///
+/// [`Stop::Records`] with the path and the fault where the file holds no records, [`Stop::Refused`] where the
+/// records are refused or memory ran out, and [`Stop::CannotWrite`] where the sink refused a line. The sink
+/// holds nothing of it then but the lines that stand before an address for which there was no memory.
+pub fn report_read<'w, W: Sink>(
+    alloc: Global,
+    request: &Request<'w>,
+    read: Result<PDB, RecordFault>,
+    sink: &mut W,
+) -> Result<(), Stop<'w>>
+    ensures { Ends request.now.records.now request.now.addresses.items read
+        (W.state sink.old) (W.state sink.new) result }
+{
+    match read {
+        Ok(records) => {
+            report_records(alloc, request, records, sink)?;
+            Ok(())
+        }
+        Err(fault) => Err(Stop::Records(request.records, fault)),
+    }
+}
+
+/// Writes what a request asks for, over the bytes of its records file.
+///
+/// # Errors
+///
+/// As [`report_read`] for what is read of the bytes.
+pub fn report_file<'w, W: Sink>(
+    alloc: Global,
+    request: &Request<'w>,
+    bytes: &[u8],
+    sink: &mut W,
+) -> Result<(), Stop<'w>>
+    ensures { EndsOverFile request.now.records.now request.now.addresses.items (records_of_file bytes.now)
+        (W.state sink.old) (W.state sink.new) result }
+{
+    let read = read_records(alloc, bytes);
+    report_read(alloc, request, read, sink)
+}

@@ -1,0 +1,54 @@
+ghost use Rattle.std.specs.Prelude.{◌≡◌, Some, option_map, string_bytes, IfOk};
+ghost use Rattle.pdb_addr2line.specs.Function.{description};
+ghost use Rattle.pdb_reporting.specs.PrintedLines.{name_text, end_text, names_line};
+
+use pdb_addr2line::Function;
+use std::alloc::{AllocError, Global};
+
+/// What stands for a name that isn't known.
+const UNKNOWN_NAME: &str = "<unknown>";
+
+/// A name, where it is known.
+fn name_of(name: &Option<String>) -> &str
+    ensures { result.now ≡ name_text (option_map string_bytes name.now) }
+{
+    match name {
+        Some(name) => name.as_str(),
+        None => UNKNOWN_NAME,
+    }
+}
+
+/// An end, where it is known.
+fn end_of(alloc: Global, end: Option<u32>) -> Result<String, AllocError>
+    ensures { IfOk result (λ s. string_bytes s ≡ end_text end) }
+{
+    match end {
+        Some(address) => format!(in alloc; "0x{address:x}"),
+        None => String::from_str(alloc, "??"),
+    }
+}
+
+/// The line of an address with a function.
+fn function_line(alloc: Global, address: u32, function: &Function) -> Result<String, AllocError>
+    ensures { IfOk result (λ s. string_bytes s ≡ names_line address (Some (description function.now))) }
+{
+    let name = name_of(&function.name);
+    let start = function.start_rva;
+    let end = end_of(alloc, function.end_rva)?;
+    format!(in alloc; "0x{address:x} - {name} 0x{start:x}..{end}\n")
+}
+
+/// The line of an address: the function there, or that there is none.
+pub(crate) fn line_of(
+    alloc: Global,
+    address: u32,
+    function: &Option<Function>,
+) -> Result<String, AllocError>
+    ensures { IfOk result
+        (λ s. string_bytes s ≡ names_line address (option_map description function.now)) }
+{
+    match function {
+        Some(function) => function_line(alloc, address, function),
+        None => format!(in alloc; "{address:x} - no function found\n"),
+    }
+}

@@ -1,0 +1,134 @@
+//! Asks the sizes of types over the records files beside it, and compares them with what is wanted.
+//!
+//! `sizes.txt` has a line `file NAME` for each records file, and then a line `MODULE INDEX SIZE` for each
+//! question: the position of the module that asks, the index in hexadecimal, and the size in bytes. The
+//! questions over a file are asked by as many formatters as there are, each of them another one first.
+#![tactic(auto)]
+
+mod questions;
+
+use pdb_addr2line::{ContextPdbData, TypeFormatter};
+use pdb_json::read_records;
+use pdb_records::TypeIndex;
+use questions::{Question, question_of};
+use std::alloc::Global;
+use std::rt::Files;
+use std::{fs, io};
+
+/// The file with the questions.
+const SIZES: &str = "sizes.txt";
+
+/// What was asked, and what differed.
+#[derive(Clone, Copy)]
+struct Tally {
+    asked: u64,
+    differ: u64,
+}
+
+fn main(rt: HostRuntime) -> io::Result<()> {
+    let text = fs::read_to_string(&rt, SIZES)?;
+    let mut tally = Tally { asked: 0, differ: 0 };
+    for part in text.as_str().split("file ") {
+        if !part.is_empty() {
+            tally = over_file(&rt, part, tally)?;
+        }
+    }
+    println!(rt; "{0} sizes, {1} differ", tally.asked, tally.differ)
+}
+
+/// Asks the questions over one file. A file that can't be read counts as one that differs.
+fn over_file<R: Files + Print + AllocGlobal>(
+    rt: &R,
+    part: &str,
+    tally: Tally,
+) -> io::Result<Tally> {
+    let mut lines = part.lines();
+    let name = lines.next().unwrap_or("");
+    let bytes = fs::read(rt, name)?;
+    let questions = questions_of(rt.alloc(), part)?;
+    let Some(data) = data_of(rt.alloc(), &bytes) else {
+        println!(rt; "{name} was refused")?;
+        return Ok(differing(tally));
+    };
+    over_data(rt, &data, name, &questions, tally)
+}
+
+/// One more that was asked, and one more that differs.
+fn differing(tally: Tally) -> Tally {
+    Tally {
+        asked: tally.asked.saturating_add(1),
+        differ: tally.differ.saturating_add(1),
+    }
+}
+
+/// The questions in the lines of a part.
+fn questions_of(alloc: Global, part: &str) -> io::Result<Vec<Question>> {
+    let mut questions = Vec::new(alloc);
+    for line in part.lines() {
+        if let Some(question) = question_of(line) {
+            questions.push(question)?;
+        }
+    }
+    Ok(questions)
+}
+
+/// The records of a file, if it holds some.
+fn data_of(alloc: Global, bytes: &[u8]) -> Option<ContextPdbData<'static>> {
+    let Ok(records) = read_records(alloc, bytes) else {
+        return None;
+    };
+    ContextPdbData::try_from_pdb(alloc, records).ok()
+}
+
+/// Asks the questions over records, once for each question that may come first.
+fn over_data<R: Print>(
+    rt: &R,
+    data: &ContextPdbData<'_>,
+    name: &str,
+    questions: &[Question],
+    tally: Tally,
+) -> io::Result<Tally> {
+    let mut tally = tally;
+    for first in questions {
+        let Ok(mut formatter) = data.make_type_formatter() else {
+            return Ok(differing(tally));
+        };
+        tally = ask(rt, &mut formatter, name, *first, tally)?;
+        tally = ask_all(rt, &mut formatter, name, questions, tally)?;
+    }
+    Ok(tally)
+}
+
+/// Asks all questions.
+fn ask_all<R: Print>(
+    rt: &R,
+    formatter: &mut TypeFormatter<'_, ContextPdbData<'_>>,
+    name: &str,
+    questions: &[Question],
+    tally: Tally,
+) -> io::Result<Tally> {
+    let mut tally = tally;
+    for question in questions {
+        tally = ask(rt, formatter, name, *question, tally)?;
+    }
+    Ok(tally)
+}
+
+/// Asks one question. An answer that differs is printed.
+fn ask<R: Print>(
+    rt: &R,
+    formatter: &mut TypeFormatter<'_, ContextPdbData<'_>>,
+    name: &str,
+    question: Question,
+    tally: Tally,
+) -> io::Result<Tally> {
+    let size = formatter.get_type_size(question.module, TypeIndex(question.index));
+    if size.ok() == Some(question.size) {
+        return Ok(Tally {
+            asked: tally.asked.saturating_add(1),
+            differ: tally.differ,
+        });
+    }
+    println!(rt; "{name} {0} {1:x} differs", question.module, question.index)?;
+    Ok(differing(tally))
+}

@@ -1,0 +1,86 @@
+-- The indices that a chain of types passes.
+use Rattle.std.proofs.Common.{◌≡◌, inl, inr, ◌∙◌, ℕ, zero, suc, ◌+◌, refl, sym, ap, subst, arith}
+use Rattle.std.specs.Prelude.{length, List, [], ◌∷◌, true, cond}
+use Rattle.std.specs.declared.cmp.Ordering.TheVariants.{Less, Equal, Greater}
+use Rattle.std.specs.Ordering.{nat_cmp, is_eq}
+use Rattle.std.specs.List.{list_any, AllByRecursion}
+use Rattle.std.specs.Cmp.{tied_itself, nat_cmp_total}
+use Rattle.std.specs.FinMap.{nat_cmp-IsAntisymmetric}
+use Rattle.std.specs.BTreeSet.{BTreeSet, contains, Updates}
+use Rattle.std.proofs.lemmas.Bool.{or_right}
+use Rattle.pdb_records.specs.Readings.{Read}
+use Rattle.pdb_records.specs.declared.types.Item.{Item}
+use Rattle.pdb_records.specs.declared.types.TypeIndex.{TypeIndex}
+use Rattle.pdb_records.specs.declared.types.TypeData.{TypeData}
+use Rattle.pdb_types.specs.declared.type_sizes.TypeSize.{TypeSize}
+use Rattle.pdb_types.specs.declared.type_sizes.Step.{Step}
+use Rattle.pdb_types.specs.declared.type_sizes.Step.TheVariants.{Ended, Next}
+use Rattle.pdb_types.specs.Standing.{Linked}
+use Rattle.pdb_types.specs.TypeSizes.{no_size, step, type_size}
+use Rattle.pdb_types.specs.SizeLaws.{EndsWith, NeverEnds, Leads}
+use Rattle.pdb_types.proofs.ChainLemmas.{steps_to_end, steps_within, EndsOrNot, ends_or_not, type_size-at_end, type_size-never}
+
+-- a chain that leads to an index ends as that one does
+ends_behind : (next : ℕ → Step) (steps k index other : ℕ) (size : TypeSize) → Leads next steps index other → EndsWith next k index size → (rest : ℕ) × (steps + rest ≡ k) × EndsWith next rest other size
+ends_behind next zero k index other size leads ends = (k, omega arith, subst (λ (i : ℕ). EndsWith next k i size) leads ends)
+ends_behind next (suc steps) zero index other size leads ends = let e : Next leads.0 ≡ Ended size = sym leads.1 ∙ ends in cc
+ends_behind next (suc steps) (suc k) index other size leads ends =
+    let e : Next ends.0 ≡ Next leads.0 = sym ends.1 ∙ leads.1 in
+    let same : ends.0 ≡ leads.0 = cc in
+    let behind = ends_behind next steps k leads.0.0 other size leads.2 (subst (λ (f : TypeIndex). EndsWith next k f.0 size) same ends.2) in
+    (behind.0, omega (arith, behind.1), behind.2)
+
+-- a chain that comes back to its index never ends
+never_ends : (next : ℕ → Step) (steps index : ℕ) → Leads next (suc steps) index index → NeverEnds next index
+never_ends next steps index back k size ends =
+    let behind = ends_behind next (suc steps) k index index size back ends in
+    let equal : k ≡ behind.0 = steps_to_end next k behind.0 index size size ends behind.2 in
+    absurd (omega (arith, behind.1))
+
+-- a chain that leads to one that never ends never ends
+never_before : (next : ℕ → Step) (steps index other : ℕ) → Leads next steps index other → NeverEnds next other → NeverEnds next index
+never_before next steps index other leads never k size ends =
+    let behind = ends_behind next steps k index other size leads ends in never behind.0 size behind.2
+
+-- a chain that leads to one that ends has its end
+ends_before : (next : ℕ → Step) (steps k index other : ℕ) (size : TypeSize) → Leads next steps index other → EndsWith next k other size → (total : ℕ) × EndsWith next total index size
+ends_before next zero k index other size leads ends = (k, subst (λ (i : ℕ). EndsWith next k i size) (sym leads) ends)
+ends_before next (suc steps) k index other size leads ends =
+    let behind = ends_before next steps k leads.0.0 other size leads.2 ends in (suc behind.0, (leads.0, leads.1, behind.1))
+
+-- a type has the size of each that its chain leads to
+pub type_size-leads : (w : Linked) (types : Read (Item TypeIndex TypeData)) (pointer position index other steps : ℕ) → Leads (step w types pointer position) steps index other → type_size w types pointer position index ≡ type_size w types pointer position other
+type_size-leads w types pointer position index other steps leads = by_end (ends_or_not (step w types pointer position) (length types.items) other) where
+  by_end : EndsOrNot (step w types pointer position) (length types.items) other → type_size w types pointer position index ≡ type_size w types pointer position other
+  by_end (inl (k, size, ends)) = let total = ends_before (step w types pointer position) steps k index other size leads ends in type_size-at_end w types pointer position index total.0 size total.1 ∙ sym (type_size-at_end w types pointer position other k size ends)
+  by_end (inr longer) =
+      let never : NeverEnds (step w types pointer position) other = λ k size ends. let within = steps_within w types pointer position other k size ends in let more = longer k size ends in absurd (omega arith) in
+      type_size-never w types pointer position index (never_before (step w types pointer position) steps index other leads never) ∙ sym (type_size-never w types pointer position other never)
+
+-- a type whose chain comes back to it has no size
+pub type_size-back : (w : Linked) (types : Read (Item TypeIndex TypeData)) (pointer position index steps : ℕ) → Leads (step w types pointer position) (suc steps) index index → type_size w types pointer position index ≡ no_size
+type_size-back w types pointer position index steps back = type_size-never w types pointer position index (never_ends (step w types pointer position) steps index back)
+
+-- a type whose chain meets an index twice has no size
+pub type_size-repeats : (w : Linked) (types : Read (Item TypeIndex TypeData)) (pointer position index repeated before steps : ℕ) → Leads (step w types pointer position) before index repeated → Leads (step w types pointer position) (suc steps) repeated repeated → type_size w types pointer position index ≡ no_size
+type_size-repeats w types pointer position index repeated before steps leads back = type_size-leads w types pointer position index repeated before leads ∙ type_size-back w types pointer position repeated steps back
+
+-- a chain with one more step
+pub leads_more : (next : ℕ → Step) (steps index other : ℕ) (further : TypeIndex) → Leads next steps index other → next other ≡ Next further → Leads next (suc steps) index further.0
+leads_more next zero index other further leads on = (further, ap next leads ∙ on, refl)
+leads_more next (suc steps) index other further leads on = (leads.0, leads.1, leads_more next steps leads.0.0 other further leads.2 on)
+
+-- what holds of one more number, and of all that a set has, holds of all that it has with that number
+pub with_one : (P : ℕ → Type 0) (old new : BTreeSet ℕ) (index : ℕ) → Updates nat_cmp old new index true → P index → ((q : ℕ) → contains nat_cmp old q ≡ true → P q) → (q : ℕ) → contains nat_cmp new q ≡ true → P q
+with_one P old new index updates here each q there =
+    (elim (nat_cmp index q) as (λ o. nat_cmp index q ≡ o → cond (is_eq o) true (contains nat_cmp old q) ≡ true → P q) [
+      | Less ↦ λ _ e. each q e
+      | Equal ↦ λ tied _. subst P (nat_cmp-IsAntisymmetric index q tied) here
+      | Greater ↦ λ _ e. each q e
+    ]) refl (sym (updates.0 q) ∙ there)
+
+-- what holds of each number of a set holds of each key
+pub each_key : (P : ℕ → Type 0) (keys : List ℕ) → ((q : ℕ) → list_any (λ k. is_eq (nat_cmp q k)) keys ≡ true → P q) → AllByRecursion P keys
+each_key P [] each = tt
+each_key P (k ∷ keys) each =
+    (each k (rw (tied_itself nat_cmp_total k) refl), each_key P keys (λ q there. each q (or_right (is_eq (nat_cmp q k)) (list_any (λ x. is_eq (nat_cmp q x)) keys) there)))

@@ -1,0 +1,33 @@
+-- Types and ids by an index that a module writes.
+use Rattle.std.specs.Prelude.{ℕ, ◌^◌, Option, Some, None, Result, Ok, Err, nat_lt, if◌then◌else◌}
+use Rattle.pdb_records.specs.Readings.{Read}
+use Rattle.pdb_records.specs.declared.error.StreamError.{StreamError}
+use Rattle.pdb_records.specs.declared.error.Error.TheVariants.{Stream, TypeNotFound}
+use Rattle.pdb_records.specs.declared.types.Item.{Item}
+use Rattle.pdb_types.specs.Items.{first_item}
+use Rattle.pdb_types.specs.Outcomes.{and_then}
+use Rattle.pdb_types.specs.Resolution.{answered, resolved}
+use Rattle.pdb_types.specs.Standing.{Linked}
+use Rattle.pdb_types.specs.Unread.{Trouble, Missing, trouble_by}
+
+-- why no entry was found: the list could not be read to its end, or nothing in it has the number
+abbrev pub absent : Option StreamError → ℕ → Trouble
+absent None number = trouble_by (TypeNotFound number)
+absent (Some fault) number = trouble_by (Stream fault)
+
+-- what the entry that was found says
+abbrev pub said : {I D : Type 0} → Option StreamError → ℕ → Option (Item I D) → Result D Trouble
+said fault number None = Err (absent fault number)
+said fault number (Some item) = answered item.content
+
+-- what the first entry with this number says
+abbrev pub entry : {I D : Type 0} → (I → ℕ) → Read (Item I D) → ℕ → Result D Trouble
+entry number_of list number = said list.fault number (first_item number_of number list.items)
+
+-- the number that an index of 32 bits stands for, asked by the module at a position, and what its entry says; no other index is read
+abbrev pub reading : {I D : Type 0} → (I → ℕ) → Linked → Read (Item I D) → ℕ → ℕ → Result (ℕ × D) Trouble
+reading number_of w list position index = if nat_lt index (2 ^ 32) then
+    and_then (resolved w position index) (λ number.
+    and_then (entry number_of list number) (λ content.
+    Ok (number, content)))
+  else Err (Missing index)

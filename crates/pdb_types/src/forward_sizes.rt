@@ -1,0 +1,92 @@
+ghost use Rattle.std.specs.Prelude.{◌≡◌, ◌==◌, ℕ, List, IfOk, OnOk, option_map, option_and_then, if◌then◌else◌};
+ghost use Rattle.std.specs.Option.{option_or};
+ghost use Rattle.std.specs.BTreeMap.{get};
+ghost use Rattle.std.specs.Ordering.{nat_cmp};
+ghost use Rattle.pdb_types.specs.ForwardReferences.{told_aggregate, size_for, referred_name, size_under, Tabulates};
+
+use crate::aggregates::{Aggregate, told_by};
+use pdb_records::{Item, RawString, TypeData, TypeIndex};
+use std::alloc::{AllocError, Global};
+use std::collections::BTreeMap;
+
+/// The bytes of a name.
+fn bytes_of(name: &RawString) -> &[u8]
+    ensures { result.now ≡ name.now }
+{
+    name.0.as_slice()
+}
+
+/// The size under the name of a forward reference.
+fn reference_size<'a>(by_name: &BTreeMap<&'a [u8], u64>, told: Option<Aggregate<'a>>) -> Option<u64>
+    ensures { result ≡ option_and_then (size_under by_name.now) (option_and_then referred_name (option_map told_aggregate told.entry)) }
+{
+    let reference = told?;
+    if !reference.forward_reference {
+        return None;
+    }
+    by_name.get(&bytes_of(reference.name)).copied()
+}
+
+/// Puts the size of a definition under its name, in the place of one from behind it.
+fn define<'a>(
+    by_name: &mut BTreeMap<&'a [u8], u64>,
+    told: Option<Aggregate<'a>>,
+) -> Result<(), AllocError>
+    ensures { OnOk result ((name : List ℕ) → size_under by_name.new name
+        ≡ option_or (option_and_then (size_for name) (option_map told_aggregate told.entry)) (size_under by_name.old name)) }
+{
+    let Some(defined) = told else {
+        return Ok(());
+    };
+    if defined.forward_reference {
+        return Ok(());
+    }
+    match by_name.insert(bytes_of(defined.name), defined.size) {
+        Ok(_) => Ok(()),
+        Err(_) => Err(AllocError),
+    }
+}
+
+/// Puts what an entry answers under its number, in the place of what an entry behind it answers.
+fn answer(sizes: &mut BTreeMap<u32, u64>, number: u32, size: Option<u64>) -> Result<(), AllocError>
+    ensures { OnOk result ((n : ℕ) → get nat_cmp sizes.new n ≡ (if number == n then size else get nat_cmp sizes.old n)) }
+{
+    let Some(size) = size else {
+        let _ = sizes.remove(&number);
+        return Ok(());
+    };
+    match sizes.insert(number, size) {
+        Ok(_) => Ok(()),
+        Err(_) => Err(AllocError),
+    }
+}
+
+/// By the number of an index, the size that the own name of its forward reference is given behind it.
+///
+/// The list is read once, from its end, with the first definition of each name that was met so far.
+pub(crate) fn forward_sizes(
+    alloc: Global,
+    items: &[Item<TypeIndex, TypeData>],
+) -> Result<BTreeMap<u32, u64>, AllocError>
+    ensures { IfOk result (Tabulates items.now) }
+{
+    let mut by_name = BTreeMap::new(alloc);
+    let mut sizes = BTreeMap::new(alloc);
+    let mut left = items.len();
+    while left > 0 {
+        left -= 1;
+        let item = &items[left];
+        let told = told_by(item);
+        let size = reference_size(&by_name, told);
+        answer(&mut sizes, item.index.0, size)?;
+        define(&mut by_name, told)?;
+    }
+    Ok(sizes)
+}
+
+/// The size that a table has under a number.
+pub(crate) fn size_at(sizes: &BTreeMap<u32, u64>, number: u32) -> Option<u64>
+    ensures { result ≡ get nat_cmp sizes.now number }
+{
+    sizes.get(&number).copied()
+}
