@@ -37,7 +37,8 @@ fn push_own(
     site: Site<'_>,
     rows: &[InlineRow],
 ) -> Result<(), AllocError>
-    ensures { OnOk result (ranges.new.items ≡ ranges.old.items ++ map (own_range site.entry.depth site.entry.symbol.now) rows.now) }
+    ensures { OnOk result (ranges.new.items
+        ≡ ranges.old.items ++ map (own_range site.entry.depth site.entry.symbol.now) rows.now) }
 {
     for row in rows {
         ranges.push(InlineRange {
@@ -58,7 +59,8 @@ fn own_ranges(
     inlinees: &BTreeSet<IdIndex>,
     sites: &[Site<'_>],
 ) -> Result<Vec<InlineRange>, AllocError>
-    ensures { IfOk result (λ v. v.items ≡ flat_map (λ site. own_ranges inlinees.now.keys site.depth site.symbol) (map kept_site sites.now)) }
+    ensures { IfOk result (λ v. v.items
+        ≡ flat_map (λ site. own_ranges inlinees.now.keys site.depth site.symbol) (map kept_site sites.now)) }
 {
     let mut ranges = Vec::new(alloc);
     for site in sites {

@@ -73,7 +73,8 @@ fn open_at<'a>(
     outer: &mut Vec<Site<'a>>,
 ) -> Result<(), AllocError>
     ensures found { OnOk result (map kept_site sites.new.items ≡ map kept_site sites.old.items
-        ++ option_to_list (option_map (λ s. at_depth (opened_at at (reverse (map open_site outer.old.items)) s)) (site_of symbol.now))) }
+        ++ option_to_list (option_map
+        (λ s. at_depth (opened_at at (reverse (map open_site outer.old.items)) s)) (site_of symbol.now))) }
     ensures opened { OnOk result (reverse (map open_site outer.new.items)
         ≡ open_after at (site_of symbol.now) (reverse (map open_site outer.old.items))) }
 {
