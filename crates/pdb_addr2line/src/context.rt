@@ -54,7 +54,7 @@ impl<'a, P: ModuleProvider> Model for Context<'a, P> {
     ghost invariant = { λ c. record {
       merged : merged_contributions c.sections.items c.debug_information.now ≡ Ok c.contributions.items;
       told : map global_function c.global_functions.items
-        ≡ functions_told c.sections.items c.global_symbols.now.symbols.items c.debug_information.now;
+          ≡ functions_told c.sections.items c.global_symbols.now.symbols.items c.debug_information.now;
     } };
 }
 
@@ -182,8 +182,8 @@ impl<'a, P: ModuleProvider> Context<'a, P> {
     ) -> Result<Option<PublicOrProcedureSymbol<'a>>>
         ensures { MatchResult result
             (λ found. option_map found_function found
-                ≡ function_in_contribution (P.info self.now.provider) self.now.modules
-                (global_functions_of self.now) place contribution)
+            ≡ function_in_contribution (P.info self.now.provider) self.now.modules
+            (global_functions_of self.now) place contribution)
             (λ e. e ≡ OutOfMemory) }
     {
         let module_index = contribution.module_index;
@@ -202,8 +202,8 @@ impl<'a, P: ModuleProvider> Context<'a, P> {
     ) -> Result<Option<ProcedureSymbolFunction<'a>>>
         ensures { MatchResult result
             (λ found. option_map module_procedure found
-                ≡ pick (procedure_covers place) (λ p. p.offset.offset)
-                (procedures_of_module (P.info self.now.provider) self.now.modules module_index))
+            ≡ pick (procedure_covers place) (λ p. p.offset.offset)
+            (procedures_of_module (P.info self.now.provider) self.now.modules module_index))
             (λ e. e ≡ OutOfMemory) }
     {
         let info = self.module_info(module_index)?;
@@ -217,7 +217,7 @@ impl<'a, P: ModuleProvider> Context<'a, P> {
     fn module_info(&self, module_index: usize) -> Result<Option<BasicModuleInfo<'a>>>
         ensures { MatchResult result
             (λ info. option_map_or info_procedures info []
-                ≡ procedures_of_module (P.info self.now.provider) self.now.modules module_index)
+            ≡ procedures_of_module (P.info self.now.provider) self.now.modules module_index)
             (λ e. e ≡ OutOfMemory) }
     {
         let Some(module) = self.modules.get(module_index) else {

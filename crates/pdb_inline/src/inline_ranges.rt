@@ -54,7 +54,7 @@ fn push_own(
 }
 
 /// The ranges of the sites' own rows.
-fn own_ranges(
+fn own_ranges_of_sites(
     alloc: Global,
     inlinees: &BTreeSet<IdIndex>,
     sites: &[Site<'_>],
@@ -87,7 +87,7 @@ fn read_ranges(
 ) -> Result<Vec<InlineRange>, AllocError>
     ensures { IfOk result (λ v. v.items ≡ read_by_depth inlinees.now.keys (map kept_site sites.now)) }
 {
-    let mut ranges = own_ranges(alloc, inlinees, sites)?;
+    let mut ranges = own_ranges_of_sites(alloc, inlinees, sites)?;
     let added = ranges_added_to_sites(alloc, inlinees, sites)?;
     ranges.extend_from_slice(&added)?;
     Ok(ranges)

@@ -2,7 +2,7 @@ use Rattle.std.proofs.Common.{◌≡◌, ◌++◌, map, drop}
 use Rattle.std.specs.List.{flat_map}
 use Rattle.pdb_inline.specs.InlineRanges.{own_ranges}
 use Rattle.pdb_inline.specs.Sites.{kept_site}
-use Rattle.pdb_inline.proofs.inline_ranges.own_ranges.Given as goal
+use Rattle.pdb_inline.proofs.inline_ranges.own_ranges_of_sites.Given as goal
 
 -- the ranges so far, and those of what is left, are those of all sites
 abbrev pub invariant-loop-site : goal.invariant-loop-site
