@@ -22,8 +22,11 @@ stream_refusal (Err fault) = Some (PdbError (Stream fault))
 -- the first stream that failed of those that a context can't do without
 abbrev pub records_refusal : Records → Option Error
 records_refusal r =
-    first_refusal (stream_refusal r.global_symbols) (first_refusal (stream_refusal r.debug_information)
-    (first_refusal (stream_refusal r.type_information) (first_refusal (stream_refusal r.id_information) (stream_refusal r.address_map))))
+    first_refusal (stream_refusal r.global_symbols) (
+    first_refusal (stream_refusal r.debug_information) (
+    first_refusal (stream_refusal r.type_information) (
+    first_refusal (stream_refusal r.id_information) (
+    stream_refusal r.address_map))))
 
 -- what the records hold of the module at a position; past the list there is nothing
 abbrev pub info_at : Records → ℕ → Result (Option ModuleInfo) StreamError
@@ -37,10 +40,12 @@ sections_read r =
 
 -- what signatures can't be told for: a fault of the list of modules, and then a machine that could not be read
 abbrev pub formatter_refusal : DebugInformation → Option Error
-formatter_refusal debug = first_refusal (option_map (λ fault. PdbError (Stream fault)) debug.modules.fault) (stream_refusal debug.machine_type)
+formatter_refusal debug =
+    first_refusal (option_map (λ fault. PdbError (Stream fault)) debug.modules.fault) (
+    stream_refusal debug.machine_type)
 
--- the context of these records: refused for the list of modules, the machine and the sections, and then as a context over
--- their contents is
+-- the context of these records: refused for the list of modules, the machine and the sections, and then as a context
+-- over their contents is
 abbrev pub context_of : Records → Result (Sources Records) Error
 context_of r =
     and_then (streamed r.debug_information) (λ debug.

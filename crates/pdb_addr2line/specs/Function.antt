@@ -38,13 +38,16 @@ decorated_at globals start = option_and_then decorated_name (global_at start glo
 
 -- the name of a procedure with no type: a decorated one at its start goes before its own, unless that is decorated too
 abbrev pub untyped_name : List GlobalFunction → ModuleProcedure → List ℕ
-untyped_name globals p = if is_decorated p.name then lossy p.name else unwrap_or (decorated_at globals p.offset) (printed_name p.name)
+untyped_name globals p =
+    if is_decorated p.name then lossy p.name
+    else unwrap_or (decorated_at globals p.offset) (printed_name p.name)
 
 -- the name of a procedure; those with a type have none as yet
 abbrev pub procedure_name : List GlobalFunction → ModuleProcedure → Option (List ℕ)
 procedure_name globals p = if p.type_index.0 == 0 then Some (untyped_name globals p) else None
 
--- where a global function ends: at the next one of its section, if there is one; nothing is told where that one has no address
+-- where a global function ends: at the next one of its section, if there is one; nothing is told where that one has no
+-- address
 abbrev pub global_end : List AddressRange → Option GlobalFunction → Option (Option ℕ)
 global_end sections None = Some None
 global_end sections (Some next) = option_map (λ address. Some address.0) (rva sections next.start)
@@ -56,13 +59,18 @@ sum_in_32_bits a b = if nat_lt (a + b) (2 ^ 32) then Some (a + b) else None
 -- what is told of a global function
 abbrev pub described_global : List AddressRange → List GlobalFunction → GlobalFunction → Option Description
 described_global sections globals f =
-    option_and_then (λ start. option_map (λ end. record { start_rva = start.0; end_rva = end; name = option_map lossy f.name })
+    option_and_then (λ start.
+    option_map (λ end. record { start_rva = start.0; end_rva = end; name = option_map lossy f.name })
     (global_end sections (next_global f.start globals))) (rva sections f.start)
 
 -- what is told of a procedure
 abbrev pub described_procedure : List AddressRange → List GlobalFunction → ModuleProcedure → Option Description
 described_procedure sections globals p =
-    option_map (λ start. record { start_rva = start.0; end_rva = sum_in_32_bits start.0 p.len; name = procedure_name globals p }) (rva sections p.offset)
+    option_map (λ start. record {
+      start_rva = start.0;
+      end_rva = sum_in_32_bits start.0 p.len;
+      name = procedure_name globals p;
+    }) (rva sections p.offset)
 
 -- what is told of a function that lies over a place
 abbrev pub described : List AddressRange → List GlobalFunction → FoundFunction → Option Description

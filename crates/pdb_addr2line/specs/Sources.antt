@@ -5,6 +5,7 @@ use Rattle.pdb_records.specs.Addresses.{internal_offset}
 use Rattle.pdb_records.specs.declared.error.Error.TheVariants.{Stream}
 use Rattle.pdb_records.specs.declared.addresses.AddressRange.{AddressRange}
 use Rattle.pdb_records.specs.declared.addresses.ImageSectionHeader.{ImageSectionHeader}
+use Rattle.pdb_records.specs.declared.addresses.PdbInternalSectionOffset.{PdbInternalSectionOffset}
 use Rattle.pdb_records.specs.declared.debug_information.DebugInformation.{DebugInformation}
 use Rattle.pdb_records.specs.declared.debug_information.Module.{Module}
 use Rattle.pdb_records.specs.declared.symbols.SymbolTable.{SymbolTable}
@@ -44,10 +45,14 @@ accepted s =
 
 -- the contribution over an address
 abbrev pub contribution_at : {P : Type 0} → Sources P → ℕ → Option ModuleSectionContribution
-contribution_at s address = option_and_then (λ place. find (contribution_covers place) (contributions_of s)) (internal_offset s.address_map (record { 0 = address }))
+contribution_at s address =
+    let over = λ (place : PdbInternalSectionOffset). find (contribution_covers place) (contributions_of s) in
+    option_and_then over (internal_offset s.address_map (record { 0 = address }))
 
 -- the function over an address, by a plain scan of the records
 abbrev pub function_at : {P : Type 0} → Sources P → Infos → ℕ → Option Description
 function_at s infos address =
-    option_and_then (λ place. option_and_then (described s.address_map (global_functions_of s)) (function_over infos s.modules (contributions_of s) (global_functions_of s) place))
-    (internal_offset s.address_map (record { 0 = address }))
+    let globals = global_functions_of s in
+    let found = λ (place : PdbInternalSectionOffset). function_over infos s.modules (contributions_of s) globals place in
+    let told = λ (place : PdbInternalSectionOffset). option_and_then (described s.address_map globals) (found place) in
+    option_and_then told (internal_offset s.address_map (record { 0 = address }))

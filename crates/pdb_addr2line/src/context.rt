@@ -53,7 +53,8 @@ impl<'a, P: ModuleProvider> Model for Context<'a, P> {
 
     ghost invariant = { λ c. record {
       merged : merged_contributions c.sections.items c.debug_information.now ≡ Ok c.contributions.items;
-      told : map global_function c.global_functions.items ≡ functions_told c.sections.items c.global_symbols.now.symbols.items c.debug_information.now;
+      told : map global_function c.global_functions.items
+          ≡ functions_told c.sections.items c.global_symbols.now.symbols.items c.debug_information.now;
     } };
 }
 
@@ -180,7 +181,9 @@ impl<'a, P: ModuleProvider> Context<'a, P> {
         contribution: ModuleSectionContribution,
     ) -> Result<Option<PublicOrProcedureSymbol<'a>>>
         ensures { MatchResult result
-            (λ found. option_map found_function found ≡ function_in_contribution (P.info self.now.provider) self.now.modules (global_functions_of self.now) place contribution)
+            (λ found. option_map found_function found
+            ≡ function_in_contribution (P.info self.now.provider) self.now.modules
+            (global_functions_of self.now) place contribution)
             (λ e. e ≡ OutOfMemory) }
     {
         let module_index = contribution.module_index;
@@ -198,7 +201,9 @@ impl<'a, P: ModuleProvider> Context<'a, P> {
         module_index: usize,
     ) -> Result<Option<ProcedureSymbolFunction<'a>>>
         ensures { MatchResult result
-            (λ found. option_map module_procedure found ≡ pick (procedure_covers place) (λ p. p.offset.offset) (procedures_of_module (P.info self.now.provider) self.now.modules module_index))
+            (λ found. option_map module_procedure found
+            ≡ pick (procedure_covers place) (λ p. p.offset.offset)
+            (procedures_of_module (P.info self.now.provider) self.now.modules module_index))
             (λ e. e ≡ OutOfMemory) }
     {
         let info = self.module_info(module_index)?;
@@ -211,7 +216,8 @@ impl<'a, P: ModuleProvider> Context<'a, P> {
     /// The procedures of the module at a position, where it has records that could be read.
     fn module_info(&self, module_index: usize) -> Result<Option<BasicModuleInfo<'a>>>
         ensures { MatchResult result
-            (λ info. option_map_or info_procedures info [] ≡ procedures_of_module (P.info self.now.provider) self.now.modules module_index)
+            (λ info. option_map_or info_procedures info []
+            ≡ procedures_of_module (P.info self.now.provider) self.now.modules module_index)
             (λ e. e ≡ OutOfMemory) }
     {
         let Some(module) = self.modules.get(module_index) else {

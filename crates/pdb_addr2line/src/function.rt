@@ -69,7 +69,8 @@ fn untyped_procedure_name(
     functions: &[PublicSymbolFunctionOrPlaceholder<'_>],
     procedure: ProcedureSymbolFunction<'_>,
 ) -> Result<String, AllocError>
-    ensures { IfOk result (λ s. string_bytes s ≡ untyped_name (map global_function functions.now) (module_procedure procedure.entry)) }
+    ensures { IfOk result (λ s. string_bytes s
+        ≡ untyped_name (map global_function functions.now) (module_procedure procedure.entry)) }
 {
     if is_mangled(procedure.name) {
         return text_of(alloc, procedure.name);
@@ -86,7 +87,8 @@ fn name_of_procedure(
     functions: &[PublicSymbolFunctionOrPlaceholder<'_>],
     procedure: ProcedureSymbolFunction<'_>,
 ) -> Result<Option<String>, AllocError>
-    ensures { IfOk result (λ name. option_map string_bytes name ≡ procedure_name (map global_function functions.now) (module_procedure procedure.entry)) }
+    ensures { IfOk result (λ name. option_map string_bytes name
+        ≡ procedure_name (map global_function functions.now) (module_procedure procedure.entry)) }
 {
     if procedure.type_index.0 != 0 {
         return Ok(None);
@@ -102,7 +104,8 @@ fn describe_procedure(
     functions: &[PublicSymbolFunctionOrPlaceholder<'_>],
     procedure: ProcedureSymbolFunction<'_>,
 ) -> Result<Option<Function>, AllocError>
-    ensures { IfOk result (λ f. option_map description f ≡ described_procedure address_map.now (map global_function functions.now) (module_procedure procedure.entry)) }
+    ensures { IfOk result (λ f. option_map description f
+        ≡ described_procedure address_map.now (map global_function functions.now) (module_procedure procedure.entry)) }
 {
     let Some(start) = procedure.offset.to_rva(address_map) else {
         return Ok(None);
@@ -152,7 +155,8 @@ fn describe_global(
     functions: &[PublicSymbolFunctionOrPlaceholder<'_>],
     function: PublicSymbolFunctionOrPlaceholder<'_>,
 ) -> Result<Option<Function>, AllocError>
-    ensures { IfOk result (λ f. option_map description f ≡ described_global address_map.now (map global_function functions.now) (global_function function.entry)) }
+    ensures { IfOk result (λ f. option_map description f
+        ≡ described_global address_map.now (map global_function functions.now) (global_function function.entry)) }
 {
     let Some(start) = function.start_offset.to_rva(address_map) else {
         return Ok(None);
@@ -176,7 +180,8 @@ pub(crate) fn describe(
     functions: &[PublicSymbolFunctionOrPlaceholder<'_>],
     found: PublicOrProcedureSymbol<'_>,
 ) -> Result<Option<Function>, AllocError>
-    ensures { IfOk result (λ f. option_map description f ≡ described address_map.now (map global_function functions.now) (found_function found.entry)) }
+    ensures { IfOk result (λ f. option_map description f
+        ≡ described address_map.now (map global_function functions.now) (found_function found.entry)) }
 {
     match found {
         PublicOrProcedureSymbol::Public(_, function) => {

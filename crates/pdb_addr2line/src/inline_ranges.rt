@@ -26,7 +26,8 @@ pub fn compute_procedure_inline_ranges(
     inlinees: &BTreeSet<IdIndex>,
 ) -> Result<Vec<InlineRange>>
     ensures { Gives (λ v. v.items) result
-        (procedure_inline_ranges inlinees.now.keys module_info.now procedure.now.symbol_index.0 procedure.now.end_symbol_index.0) }
+        (procedure_inline_ranges inlinees.now.keys module_info.now
+        procedure.now.symbol_index.0 procedure.now.end_symbol_index.0) }
 {
     let position = procedure.symbol_index;
     let end = procedure.end_symbol_index;

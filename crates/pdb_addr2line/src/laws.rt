@@ -8,8 +8,8 @@ pub use pdb_functions::laws::{
     pick_covers_with_greatest_start,
 };
 pub use pdb_inline::laws::{
-    added_ranges_are_of_maximal_runs, ranges_cover_deeper_sites, ranges_lie_in_ranges_above, stacks_have_all_levels,
-    stacks_lie_directly_inside, well_nested_sites_are_inside_by_position,
+    added_ranges_are_of_maximal_runs, ranges_cover_deeper_sites, ranges_lie_in_ranges_above,
+    stacks_have_all_levels, stacks_lie_directly_inside, well_nested_sites_are_inside_by_position,
 };
 pub use pdb_ranges::laws::{
     missing_runs_hold_what_is_missing, runs_are_determined, runs_of_ranges_hold_their_numbers,

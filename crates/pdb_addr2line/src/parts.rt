@@ -7,4 +7,5 @@ pub use pdb_functions::{
 };
 pub use pdb_inline::InlineRange;
 pub use pdb_ranges::RangeSet;
+pub use pdb_signatures::seen::{AlreadySeenError, Seen, SeenError};
 pub use pdb_types::{IdMap, ItemIndex, ItemMap, TypeMap, TypeSizeCache};

@@ -20,7 +20,12 @@ is_kept sections c = nat_lt 0 c.size && is_executable sections c.offset.section
 
 -- the bytes that a contribution claims for its module
 abbrev pub claimed : SectionContribution → ModuleSectionContribution
-claimed c = record { section_index = c.offset.section; start_offset = c.offset.offset; end_offset = c.offset.offset + c.size; module_index = c.«module» }
+claimed c = record {
+  section_index = c.offset.section;
+  start_offset = c.offset.offset;
+  end_offset = c.offset.offset + c.size;
+  module_index = c.«module»;
+}
 
 -- what the contributions that count claim, in reading order
 abbrev pub claims : List ImageSectionHeader → List SectionContribution → List ModuleSectionContribution
@@ -41,32 +46,47 @@ run_ended None claim = []
 run_ended (Some run) claim = if is_same_run run claim then [] else run ∷ []
 
 -- the runs of neighbours of one module and section, behind what came before
-abbrev pub runs_after : Option ModuleSectionContribution → List ModuleSectionContribution → List ModuleSectionContribution
+abbrev pub runs_after : Option ModuleSectionContribution → List ModuleSectionContribution
+    → List ModuleSectionContribution
 runs_after None [] = []
 runs_after (Some run) [] = run ∷ []
 runs_after before (claim ∷ claims) = run_ended before claim ++ runs_after (Some (run_with before claim)) claims
 
 -- a claim whose end doesn't fit 32 bits
 abbrev pub refused_end : ModuleSectionContribution → Option Error
-refused_end claim = if nat_lt claim.end_offset (2 ^ 32) then None else Some (SectionContributionEndTooLarge claim.module_index claim.section_index)
+refused_end claim =
+    if nat_lt claim.end_offset (2 ^ 32) then None
+    else Some (SectionContributionEndTooLarge claim.module_index claim.section_index)
 
 -- a claim that ends below the end before it in its run
 abbrev pub refused_order : Option ModuleSectionContribution → ModuleSectionContribution → Option Error
 refused_order None claim = None
-refused_order (Some run) claim = if is_same_run run claim && nat_lt claim.end_offset run.end_offset then Some (UnorderedSectionContributions claim.module_index claim.section_index) else None
+refused_order (Some run) claim =
+    if is_same_run run claim && nat_lt claim.end_offset run.end_offset
+    then Some (UnorderedSectionContributions claim.module_index claim.section_index)
+    else None
 
 -- the first refusal in reading order, behind what came before
 abbrev pub refusal_after : Option ModuleSectionContribution → List ModuleSectionContribution → Option Error
 refusal_after before [] = None
-refusal_after before (claim ∷ claims) = first_refusal (refused_end claim) (first_refusal (refused_order before claim) (refusal_after (Some (run_with before claim)) claims))
+refusal_after before (claim ∷ claims) =
+    first_refusal (refused_end claim) (
+    first_refusal (refused_order before claim) (
+    refusal_after (Some (run_with before claim)) claims))
 
 -- the first refusal in reading order: of a contribution, or of the fault behind them
 abbrev pub reading_refusal : List ImageSectionHeader → DebugInformation → Option Error
-reading_refusal sections debug = first_refusal (refusal_after None (claims sections debug.section_contributions.items)) (option_map (λ fault. PdbError (Stream fault)) debug.section_contributions.fault)
+reading_refusal sections debug =
+    first_refusal (refusal_after None (claims sections debug.section_contributions.items)) (
+    option_map (λ fault. PdbError (Stream fault)) debug.section_contributions.fault)
 
 -- by section, start, end and module
 abbrev pub contribution_cmp : ModuleSectionContribution → ModuleSectionContribution → Ordering
-contribution_cmp a b = ordering_then (nat_cmp a.section_index b.section_index) (ordering_then (nat_cmp a.start_offset b.start_offset) (ordering_then (nat_cmp a.end_offset b.end_offset) (nat_cmp a.module_index b.module_index)))
+contribution_cmp a b =
+    ordering_then (nat_cmp a.section_index b.section_index) (
+    ordering_then (nat_cmp a.start_offset b.start_offset) (
+    ordering_then (nat_cmp a.end_offset b.end_offset) (
+    nat_cmp a.module_index b.module_index)))
 
 -- one stands before another
 abbrev pub contribution_before : ModuleSectionContribution → ModuleSectionContribution → Bool
@@ -79,7 +99,10 @@ ordered_runs sections cs = in_order contribution_before (runs_after None (claims
 -- a run that begins before the one in front of it ends, in one section
 abbrev pub refused_overlap : Option ModuleSectionContribution → ModuleSectionContribution → Option Error
 refused_overlap None run = None
-refused_overlap (Some before) run = if (before.section_index == run.section_index) && nat_lt run.start_offset before.end_offset then Some (OverlappingSectionContributions run.section_index before.module_index run.module_index) else None
+refused_overlap (Some before) run =
+    if (before.section_index == run.section_index) && nat_lt run.start_offset before.end_offset
+    then Some (OverlappingSectionContributions run.section_index before.module_index run.module_index)
+    else None
 
 -- the first overlap of neighbours, behind what came before
 abbrev pub overlap_after : Option ModuleSectionContribution → List ModuleSectionContribution → Option Error
@@ -87,7 +110,8 @@ overlap_after before [] = None
 overlap_after before (run ∷ runs) = first_refusal (refused_overlap before run) (overlap_after (Some run) runs)
 
 -- which module each part of the program came from, or why that can't be told
-abbrev pub merged_contributions : List ImageSectionHeader → DebugInformation → Result (List ModuleSectionContribution) Error
+abbrev pub merged_contributions : List ImageSectionHeader → DebugInformation
+    → Result (List ModuleSectionContribution) Error
 merged_contributions sections debug =
     let runs = ordered_runs sections debug.section_contributions.items in
     unless (reading_refusal sections debug) (unless (overlap_after None runs) (Ok runs))

@@ -25,7 +25,10 @@ global_function f = record { start = f.start_offset; name = option_copied f.name
 
 -- the function of a public symbol in a section that holds code
 abbrev pub public_data : List ImageSectionHeader → Option SymbolData → Option GlobalFunction
-public_data sections (Some (Public symbol)) = if is_executable sections symbol.offset.section then Some (record { start = symbol.offset; name = Some symbol.name }) else None
+public_data sections (Some (Public symbol)) =
+    if is_executable sections symbol.offset.section
+    then Some (record { start = symbol.offset; name = Some symbol.name })
+    else None
 public_data sections (Some (Procedure symbol)) = None
 public_data sections (Some (SeparatedCode symbol)) = None
 public_data sections (Some (Thunk symbol)) = None

@@ -13,7 +13,8 @@ IsFilled m = m.start_offset < m.end_offset
 
 -- one lies before another: in a section before, or wholly below it in one section
 abbrev pub LiesBefore : ModuleSectionContribution → ModuleSectionContribution → Type 0
-LiesBefore a b = (a.section_index < b.section_index) ⊎ ((a.section_index ≡ b.section_index) × (a.end_offset ≤ b.start_offset))
+LiesBefore a b =
+    (a.section_index < b.section_index) ⊎ ((a.section_index ≡ b.section_index) × (a.end_offset ≤ b.start_offset))
 
 -- each has a byte and lies before all that follow
 abbrev pub AreApart : List ModuleSectionContribution → Type 0

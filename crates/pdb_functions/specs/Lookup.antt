@@ -42,22 +42,26 @@ global_in c None = None
 global_in c (Some f) = if nat_le c.start_offset f.start.offset then Some (found_global c.module_index f) else None
 
 -- the procedure of a contribution's module, else the global function
-abbrev pub found_or_global : ModuleSectionContribution → Option GlobalFunction → Option ModuleProcedure → Option FoundFunction
+abbrev pub found_or_global : ModuleSectionContribution → Option GlobalFunction → Option ModuleProcedure
+    → Option FoundFunction
 found_or_global c global (Some p) = Some (found_procedure c.module_index p)
 found_or_global c global None = global_in c global
 
--- what lies over a place in a contribution: of the procedures of its module over the place the one of greatest start, else the
--- global function of greatest start at or below it in the section
-abbrev pub function_in_contribution : Infos → List Module → List GlobalFunction → PdbInternalSectionOffset → ModuleSectionContribution → Option FoundFunction
+-- what lies over a place in a contribution: of the procedures of its module over the place the one of greatest start,
+-- else the global function of greatest start at or below it in the section
+abbrev pub function_in_contribution : Infos → List Module → List GlobalFunction → PdbInternalSectionOffset
+    → ModuleSectionContribution → Option FoundFunction
 function_in_contribution infos modules globals place c =
     found_or_global c
     (pick (global_function_covers place) (λ f. f.start.offset) globals)
     (pick (procedure_covers place) (λ p. p.offset.offset) (procedures_of_module infos modules c.module_index))
 
 -- what lies over a place: nothing outside the contributions
-abbrev pub function_over : Infos → List Module → List ModuleSectionContribution → List GlobalFunction → PdbInternalSectionOffset → Option FoundFunction
+abbrev pub function_over : Infos → List Module → List ModuleSectionContribution → List GlobalFunction
+    → PdbInternalSectionOffset → Option FoundFunction
 function_over infos modules contributions globals place =
-    option_and_then (function_in_contribution infos modules globals place) (find (contribution_covers place) contributions)
+    let contribution = find (contribution_covers place) contributions in
+    option_and_then (function_in_contribution infos modules globals place) contribution
 
 -- the first global function of a list that starts at a place
 abbrev pub global_at : PdbInternalSectionOffset → List GlobalFunction → Option GlobalFunction
@@ -65,4 +69,5 @@ global_at place globals = find (λ f. is_same_place f.start place) globals
 
 -- the next global function of a section behind an offset, in a list that ascends
 abbrev pub next_global : PdbInternalSectionOffset → List GlobalFunction → Option GlobalFunction
-next_global place globals = find (λ f. (f.start.section == place.section) && nat_lt place.offset f.start.offset) globals
+next_global place globals =
+    find (λ f. (f.start.section == place.section) && nat_lt place.offset f.start.offset) globals

@@ -24,23 +24,51 @@ pub record ModuleProcedure : Type 0 where
 
 -- the same, as the code keeps it
 abbrev pub module_procedure : ProcedureSymbolFunction → ModuleProcedure
-module_procedure p = record { offset = p.offset; len = p.len; name = p.name.now; symbol_index = p.symbol_index; end_symbol_index = p.end_symbol_index; type_index = p.type_index }
+module_procedure p = record {
+  offset = p.offset;
+  len = p.len;
+  name = p.name.now;
+  symbol_index = p.symbol_index;
+  end_symbol_index = p.end_symbol_index;
+  type_index = p.type_index;
+}
 
 -- what is there, where it isn't empty
 abbrev pub unless_empty : ModuleProcedure → Option ModuleProcedure
 unless_empty procedure = if nat_lt 0 procedure.len then Some procedure else None
 
--- what a symbol holds, as a procedure behind the last one kept: code apart from its body takes the name and the type of
--- that one, where it starts at the parent's place
+-- what a symbol holds, as a procedure behind the last one kept: code apart from its body takes the name and the type
+-- of that one, where it starts at the parent's place
 abbrev pub procedure_data : ℕ → Option ModuleProcedure → Option SymbolData → Option ModuleProcedure
 procedure_data at last (Some (Procedure s)) =
-    unless_empty (record { offset = s.offset; len = s.len; name = s.name; symbol_index = record { 0 = at }; end_symbol_index = s.end; type_index = s.type_index })
+    unless_empty (record {
+      offset = s.offset;
+      len = s.len;
+      name = s.name;
+      symbol_index = record { 0 = at };
+      end_symbol_index = s.end;
+      type_index = s.type_index;
+    })
 procedure_data at last (Some (SeparatedCode s)) = option_and_then (λ parent.
     if is_same_place parent.offset s.parent_offset
-    then unless_empty (record { offset = s.offset; len = s.len; name = parent.name; symbol_index = record { 0 = at }; end_symbol_index = s.end; type_index = parent.type_index })
+    then unless_empty (record {
+      offset = s.offset;
+      len = s.len;
+      name = parent.name;
+      symbol_index = record { 0 = at };
+      end_symbol_index = s.end;
+      type_index = parent.type_index;
+    })
     else None) last
 procedure_data at last (Some (Thunk s)) =
-    unless_empty (record { offset = s.offset; len = s.len; name = s.name; symbol_index = record { 0 = at }; end_symbol_index = s.end; type_index = record { 0 = 0 } })
+    unless_empty (record {
+      offset = s.offset;
+      len = s.len;
+      name = s.name;
+      symbol_index = record { 0 = at };
+      end_symbol_index = s.end;
+      type_index = record { 0 = 0 };
+    })
 procedure_data at last (Some (Public s)) = None
 procedure_data at last (Some (InlineSite s)) = None
 procedure_data at last (Some Other) = None
@@ -59,7 +87,8 @@ last_kept last (Some procedure) = Some procedure
 abbrev pub procedures_from : ℕ → Option ModuleProcedure → List Symbol → List ModuleProcedure
 procedures_from at last [] = []
 procedures_from at last (symbol ∷ symbols) =
-    option_to_list (procedure_at at last symbol) ++ procedures_from (at + 1) (last_kept last (procedure_at at last symbol)) symbols
+    option_to_list (procedure_at at last symbol)
+    ++ procedures_from (at + 1) (last_kept last (procedure_at at last symbol)) symbols
 
 -- the procedures that symbols tell of, by section and start, of each start the first
 abbrev pub symbol_procedures : List Symbol → List ModuleProcedure

@@ -20,9 +20,11 @@ is_at None place = false
 is_at (Some before) place = is_same_place before place
 
 -- of neighbours with one start the first, where this place stands in front
-abbrev pub firsts_after : {T : Type 0} → (T → PdbInternalSectionOffset) → Option PdbInternalSectionOffset → List T → List T
+abbrev pub firsts_after : {T : Type 0} → (T → PdbInternalSectionOffset) → Option PdbInternalSectionOffset → List T
+    → List T
 firsts_after start before [] = []
-firsts_after start before (x ∷ xs) = if is_at before (start x) then firsts_after start before xs else x ∷ firsts_after start (Some (start x)) xs
+firsts_after start before (x ∷ xs) =
+    if is_at before (start x) then firsts_after start before xs else x ∷ firsts_after start (Some (start x)) xs
 
 -- by section and start, of each start the first in reading order
 abbrev pub first_of_each_start : {T : Type 0} → (T → PdbInternalSectionOffset) → List T → List T

@@ -190,7 +190,8 @@ pub fn compute_section_contributions(
     ),
 >
     ensures merged { Gives (λ made. made.0.items) result (merged_contributions sections.now debug_information.now) }
-    ensures starts { IfOk result (λ made. made.1.items ≡ contribution_starts sections.now debug_information.now.section_contributions.items) }
+    ensures starts { IfOk result (λ made. made.1.items
+        ≡ contribution_starts sections.now debug_information.now.section_contributions.items) }
 {
     let contributions = &debug_information.section_contributions;
     let mut merged = merge(alloc, sections, &contributions.items)?;

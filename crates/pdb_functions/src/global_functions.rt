@@ -72,7 +72,8 @@ fn add_placeholders(
     functions: &mut Vec<PublicSymbolFunctionOrPlaceholder<'_>>,
     starts: &[PdbInternalSectionOffset],
 ) -> Result<(), AllocError>
-    ensures { OnOk result (map global_function functions.new.items ≡ map global_function functions.old.items ++ map placeholder starts.now) }
+    ensures { OnOk result (map global_function functions.new.items
+        ≡ map global_function functions.old.items ++ map placeholder starts.now) }
 {
     for start in starts {
         functions.push(PublicSymbolFunctionOrPlaceholder {
@@ -95,7 +96,9 @@ pub fn compute_global_functions<'a>(
     contribution_starts: &[PdbInternalSectionOffset],
 ) -> Result<Vec<PublicSymbolFunctionOrPlaceholder<'a>>, AllocError>
     ensures { IfOk result (λ v. map global_function v.items
-        ≡ first_of_each_start (λ f. f.start) (filter_map (public_function sections.now) symbols.now ++ map placeholder (contribution_starts.now ++ section_ends sections.now))) }
+        ≡ first_of_each_start (λ f. f.start)
+            (filter_map (public_function sections.now) symbols.now
+            ++ map placeholder (contribution_starts.now ++ section_ends sections.now))) }
 {
     let mut functions = public_symbol_functions(alloc, sections, symbols)?;
     add_placeholders(&mut functions, contribution_starts)?;

@@ -47,13 +47,16 @@ pub fn merged_contributions_hold_all()
 pub fn first_global_function_of_each_start_is_kept()
     ensures ascend { (sections : List ImageSectionHeader) (symbols : List Symbol) (debug : DebugInformation)
         → StartsAscend (global_functions sections symbols debug) }
-    ensures first { (sections : List ImageSectionHeader) (symbols : List Symbol) (debug : DebugInformation) (place : PdbInternalSectionOffset)
-        → global_at place (global_functions sections symbols debug) ≡ global_at place (told_functions sections symbols debug) }
+    ensures first { (sections : List ImageSectionHeader) (symbols : List Symbol) (debug : DebugInformation)
+        (place : PdbInternalSectionOffset)
+        → global_at place (global_functions sections symbols debug)
+        ≡ global_at place (told_functions sections symbols debug) }
 {}
 
 /// The procedure that is picked for a place covers it. No other over the place has a greater start, and
 /// of those with an equal start it is the first. None is picked only where none covers the place.
 pub fn pick_covers_with_greatest_start()
     ensures { (place : PdbInternalSectionOffset) (procedures : List ModuleProcedure)
-        → IsPicked (procedure_covers place) (λ p. p.offset.offset) procedures (pick (procedure_covers place) (λ p. p.offset.offset) procedures) }
+        → IsPicked (procedure_covers place) (λ p. p.offset.offset) procedures
+            (pick (procedure_covers place) (λ p. p.offset.offset) procedures) }
 {}

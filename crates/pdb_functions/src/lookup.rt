@@ -74,7 +74,8 @@ pub fn procedure_over<'a>(
     procedures: &[ProcedureSymbolFunction<'a>],
     place: PdbInternalSectionOffset,
 ) -> Option<ProcedureSymbolFunction<'a>>
-    ensures { option_map module_procedure result ≡ pick (procedure_covers place) (λ p. p.offset.offset) (map module_procedure procedures.now) }
+    ensures { option_map module_procedure result
+        ≡ pick (procedure_covers place) (λ p. p.offset.offset) (map module_procedure procedures.now) }
 {
     pick_span(procedures, place)
 }
@@ -84,7 +85,8 @@ pub fn global_function_over<'a>(
     functions: &[PublicSymbolFunctionOrPlaceholder<'a>],
     place: PdbInternalSectionOffset,
 ) -> Option<PublicSymbolFunctionOrPlaceholder<'a>>
-    ensures { option_map global_function result ≡ pick (global_function_covers place) (λ f. f.start.offset) (map global_function functions.now) }
+    ensures { option_map global_function result
+        ≡ pick (global_function_covers place) (λ f. f.start.offset) (map global_function functions.now) }
 {
     pick_span(functions, place)
 }

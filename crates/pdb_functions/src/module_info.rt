@@ -40,7 +40,8 @@ impl<'a> BasicModuleInfo<'a> {
         ensures read { IfOk result (λ b. b ≡ module_info.now) }
         ensures refused { MatchResult result
             (λ _. module_info.now.symbols.fault ≡ None)
-            (λ e. e ≢ OutOfMemory → option_map (λ fault. PdbError (Stream fault)) module_info.now.symbols.fault ≡ Some e) }
+            (λ e. e ≢ OutOfMemory
+                → option_map (λ fault. PdbError (Stream fault)) module_info.now.symbols.fault ≡ Some e) }
     {
         if let Some(fault) = module_info.symbols.fault {
             return Err(Error::from(pdb_records::Error::Stream(fault)));

@@ -66,7 +66,8 @@ fn of_separated_code<'a>(
     last: Option<ProcedureSymbolFunction<'a>>,
     symbol: &SeparatedCodeSymbol,
 ) -> Option<ProcedureSymbolFunction<'a>>
-    ensures { option_map module_procedure result ≡ procedure_data at (option_map module_procedure last.entry) (Some (SymbolData.SeparatedCode symbol.now)) }
+    ensures { option_map module_procedure result
+        ≡ procedure_data at (option_map module_procedure last.entry) (Some (SymbolData.SeparatedCode symbol.now)) }
 {
     let parent = last?;
     if parent.offset != symbol.parent_offset {
@@ -102,7 +103,8 @@ fn procedure_of<'a>(
     last: Option<ProcedureSymbolFunction<'a>>,
     symbol: &'a Symbol,
 ) -> Option<ProcedureSymbolFunction<'a>>
-    ensures { option_map module_procedure result ≡ procedure_at at (option_map module_procedure last.entry) symbol.now }
+    ensures { option_map module_procedure result
+        ≡ procedure_at at (option_map module_procedure last.entry) symbol.now }
 {
     if !is_code_kind(symbol.raw_kind) {
         return None;

@@ -2,9 +2,9 @@
 use Rattle.std.proofs.Common.{◌≡◌, ◌∙◌, ℕ, zero, suc, ◌+◌, ◌-◌, ◌<◌, ◌≤◌, min, List, [], ◌∷◌, ◌++◌, length, map, drop, reverse, refl, ap, arith, inl, inr, add-one}
 use Rattle.std.specs.Prelude.{◌⊎◌}
 use Rattle.std.specs.Prelude.{Option, Some, None, Ok, option_map, option_to_list, is_some}
-use Rattle.std.proofs.Common.{true}
+use Rattle.std.proofs.Common.{false, sym}
 use Rattle.std.proofs.lemmas.Bool.{cases_lt, le-leb, lt-leb, lt-ltb, le-ltb}
-use Rattle.std.proofs.lemmas.List.{map-append, reverse-append, append-nil, append_assoc}
+use Rattle.std.proofs.lemmas.List.{map-append, reverse-append, append-nil, append_assoc, length-reverse, length-map}
 use Rattle.pdb_records.specs.declared.error.StreamError.{StreamError}
 use Rattle.pdb_records.specs.declared.symbols.Symbol.{Symbol}
 use Rattle.pdb_records.specs.declared.symbols.InlineSiteSymbol.{InlineSiteSymbol}
@@ -117,14 +117,20 @@ pub turn_counted : (fault : Option StreamError) (end : ℕ) (symbols : List Symb
 turn_counted fault end symbols at through outer symbol here from before =
     rw (here, lt-leb at through from, lt-leb (innermost_end end outer) at before) refl
 
--- with the last entry of the code's list gone, the innermost site is closed
-pub closed_site : (old new : List code.Site) (last : Option code.Site) → old ≡ new ++ option_to_list last → is_some last ≡ true
-    → ((rest : Walk) → after_close (reverse (map open_site old)) rest ≡ rest) × (drop 1 (reverse (map open_site old)) ≡ reverse (map open_site new))
-closed_site old new None is there = absurd cc
-closed_site old new (Some site) is there =
-    let same : reverse (map open_site old) ≡ open_site site ∷ reverse (map open_site new) =
-    rw (is, map-append open_site new (site ∷ []), reverse-append (map open_site new) (open_site site ∷ [])) refl in
-    (λ rest. rw same refl, rw same refl)
+-- with the last entry of the code's list gone, the innermost site is closed; an empty list has none to close
+pub closed_rest : (old new : List code.Site) (last : Option code.Site) → old ≡ new ++ option_to_list last → (is_some last ≡ false → length old ≡ 0)
+    → reverse (map open_site new) ≡ drop 1 (reverse (map open_site old))
+closed_rest [] new None is none = let empty : new ≡ [] = rw (append-nil new) at (sym is) in rw empty refl
+closed_rest (site ∷ old) new None is none = absurd (let no = none refl in omega arith)
+closed_rest old new (Some site) is none =
+    rw (is, map-append open_site new (site ∷ []), reverse-append (map open_site new) (open_site site ∷ [])) refl
+
+-- where a site is open, closing one leaves the rest of the walk
+pub closed_site : (old : List code.Site) (rest : Walk) → 0 < length old → after_close (reverse (map open_site old)) rest ≡ rest
+closed_site old rest some = by_outer (reverse (map open_site old)) (simp (length-reverse, length-map) (omega arith)) where
+  by_outer : (outer : List OpenSite) → 0 < length outer → after_close outer rest ≡ rest
+  by_outer [] none = absurd (omega arith)
+  by_outer (site ∷ outer) there = refl
 
 -- where the code's list is empty, the procedure is closed
 pub closed_procedure : (old : List code.Site) (rest : Walk) → length old ≡ 0

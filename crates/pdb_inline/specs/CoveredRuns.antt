@@ -1,5 +1,5 @@
--- What sites cover together with the sites inside them, as it is found from the last site to the first. These are steps of the
--- code: its private functions cite them, and no public contract or law does.
+-- What sites cover together with the sites inside them, as it is found from the last site to the first. These are
+-- steps of the code: its private functions cite them, and no public contract or law does.
 use Rattle.std.specs.Prelude.{ℕ, Bool, false, ◌||◌, ◌&&◌, List, [], ◌∷◌, ◌++◌, nat_lt, reverse, if◌then◌else◌}
 use Rattle.std.specs.List.{flat_map}
 use Rattle.pdb_records.specs.declared.ids.IdIndex.{IdIndex}
@@ -22,7 +22,8 @@ deeper_ranges inlinees depth (site ∷ sites) =
 abbrev pub added_by_depth : List IdIndex → List SiteAtDepth → List InlineRange
 added_by_depth inlinees [] = []
 added_by_depth inlinees (site ∷ sites) =
-    added_ranges inlinees site.depth site.symbol (missing_runs (deeper_ranges inlinees site.depth sites) (row_ranges inlinees site.symbol))
+    added_ranges inlinees site.depth site.symbol
+    (missing_runs (deeper_ranges inlinees site.depth sites) (row_ranges inlinees site.symbol))
     ++ added_by_depth inlinees sites
 
 -- the ranges of sites as they are read, where those inside a site are the deeper ones that follow it at once

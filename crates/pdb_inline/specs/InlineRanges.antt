@@ -79,8 +79,8 @@ range_before a b = is_lt (range_cmp a b)
 abbrev pub inline_ranges : List IdIndex → List Site → List InlineRange
 inline_ranges inlinees sites = in_order range_before (read_ranges inlinees sites)
 
--- the ranges of the procedure whose symbol stands at a position, and whose end at another; refused where its walk meets the
--- fault of the module's symbols
+-- the ranges of the procedure whose symbol stands at a position, and whose end at another; refused where its walk
+-- meets the fault of the module's symbols
 abbrev pub procedure_inline_ranges : List IdIndex → ModuleInfo → ℕ → ℕ → Result (List InlineRange) Error
 procedure_inline_ranges inlinees info position end =
     let w = walk info.symbols.items info.symbols.fault position end in unless_met w (inline_ranges inlinees w.sites)

@@ -21,7 +21,8 @@ row_end row = row.offset + row_length row
 abbrev pub rows_with_code : List InlineRow → List InlineRow
 rows_with_code rows = filter (λ row. nat_lt 0 (row_length row)) rows
 
--- the rows of a site that count: those with code, read before their fault, and none where the site's id isn't among the inlinees
+-- the rows of a site that count: those with code, read before their fault, and none where the site's id isn't among
+-- the inlinees
 abbrev pub kept_rows : List IdIndex → InlineSiteSymbol → List InlineRow
 kept_rows inlinees symbol = if has_id inlinees symbol.inlinee then rows_with_code symbol.rows.items else []
 

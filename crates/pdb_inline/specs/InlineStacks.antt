@@ -19,7 +19,8 @@ has_range_over ranges depth x = list_any (lies_over depth x) ranges
 
 -- a number is covered at a depth: it is in a row of a site at least that deep
 abbrev pub is_covered : List IdIndex → List Site → ℕ → ℕ → Bool
-is_covered inlinees sites least x = list_any (λ site. nat_le least (depth site) && has (row_ranges inlinees site.symbol) x) sites
+is_covered inlinees sites least x =
+    list_any (λ site. nat_le least (depth site) && has (row_ranges inlinees site.symbol) x) sites
 
 -- at how many of so many depths, from one on, a number is covered
 abbrev pub covered_depths : List IdIndex → List Site → ℕ → ℕ → ℕ → ℕ
@@ -41,8 +42,8 @@ abbrev pub with_outer : Option InlineRange → List InlineRange → List InlineR
 with_outer None inner = []
 with_outer (Some range) inner = range ∷ inner
 
--- of the ranges of a depth over a number the one that starts last, of equal starts the first; from a depth on, up to the
--- first depth without a range over the number, and for at most so many depths
+-- of the ranges of a depth over a number the one that starts last, of equal starts the first; from a depth on, up to
+-- the first depth without a range over the number, and for at most so many depths
 abbrev pub stack_from : ℕ → List InlineRange → ℕ → ℕ → List InlineRange
 stack_from zero ranges x depth = []
 stack_from (suc count) ranges x depth =
@@ -55,7 +56,8 @@ inline_stack ranges x = stack_from (depths ranges) ranges x 0
 -- the ranges of a site: those of its own rows, and what is added to it
 abbrev pub site_ranges : List IdIndex → List Site → Site → List InlineRange
 site_ranges inlinees sites site =
-    own_ranges inlinees (depth site) site.symbol ++ added_ranges inlinees (depth site) site.symbol (missing inlinees sites site)
+    own_ranges inlinees (depth site) site.symbol
+    ++ added_ranges inlinees (depth site) site.symbol (missing inlinees sites site)
 
 -- a site has a range over a number
 abbrev pub is_over : List IdIndex → List Site → ℕ → Site → Bool

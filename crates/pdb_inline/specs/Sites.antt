@@ -40,8 +40,8 @@ procedure_data_end None = None
 abbrev pub nested_end : Symbol → Option ℕ
 nested_end symbol = if is_site_kind symbol.raw_kind then procedure_data_end symbol.content else None
 
--- a site of a procedure: the position of its symbol, the positions of the sites that it is inside of, the innermost first,
--- and what its symbol holds
+-- a site of a procedure: the position of its symbol, the positions of the sites that it is inside of, the innermost
+-- first, and what its symbol holds
 pub record Site : Type 0 where
   pub position : ℕ
   pub outer : List ℕ
@@ -66,8 +66,8 @@ abbrev pub innermost_end : ℕ → List OpenSite → ℕ
 innermost_end end [] = end
 innermost_end end (site ∷ outer) = site.end
 
--- the position through which symbols are passed over, after one at a position: a procedure inside is passed over through its
--- end, where that lies after it
+-- the position through which symbols are passed over, after one at a position: a procedure inside is passed over
+-- through its end, where that lies after it
 abbrev pub through_after : ℕ → Option ℕ → ℕ → ℕ
 through_after at None through = through
 through_after at (Some end) through = if nat_lt at end then end else through
@@ -85,21 +85,24 @@ opened_at at outer symbol = record { position = at; outer = map (λ site. site.p
 abbrev pub found_first : Option Site → Walk → Walk
 found_first site rest = record rest { sites = option_to_list site ++ rest.sites }
 
--- what a walk finds once a symbol has closed the innermost of what is open: the rest, or nothing more where that was the procedure
+-- what a walk finds once a symbol has closed the innermost of what is open: the rest, or nothing more where that was
+-- the procedure
 abbrev pub after_close : List OpenSite → Walk → Walk
 after_close [] rest = record { sites = []; fault = None }
 after_close (site ∷ outer) rest = rest
 
--- the walk of a procedure over the symbols from a position on, those up to `through` passed over, with these sites open, the
--- innermost first. A symbol at or past the innermost end closes what ends there and nothing else, whatever it holds. At the
--- end of the symbols the walk meets the fault, if there is one
+-- the walk of a procedure over the symbols from a position on, those up to `through` passed over, with these sites
+-- open, the innermost first. A symbol at or past the innermost end closes what ends there and nothing else, whatever
+-- it holds. At the end of the symbols the walk meets the fault, if there is one
 abbrev pub walk_from : Option StreamError → ℕ → List Symbol → ℕ → ℕ → List OpenSite → Walk
 walk_from fault end [] at through outer = record { sites = []; fault = fault }
 walk_from fault end (symbol ∷ symbols) at through outer =
     if nat_le at through then walk_from fault end symbols (at + 1) through outer
-    else if nat_le (innermost_end end outer) at then after_close outer (walk_from fault end symbols (at + 1) through (drop 1 outer))
+    else if nat_le (innermost_end end outer) at
+    then after_close outer (walk_from fault end symbols (at + 1) through (drop 1 outer))
     else found_first (option_map (opened_at at outer) (site_of symbol))
-    (walk_from fault end symbols (at + 1) (through_after at (nested_end symbol) through) (open_after at (site_of symbol) outer))
+    (walk_from fault end symbols (at + 1) (through_after at (nested_end symbol) through)
+    (open_after at (site_of symbol) outer))
 
 -- the walk of the procedure whose symbol stands at a position, and whose end at another: it begins after that symbol
 abbrev pub walk : List Symbol → Option StreamError → ℕ → ℕ → Walk

@@ -37,7 +37,8 @@ fn push_own(
     site: Site<'_>,
     rows: &[InlineRow],
 ) -> Result<(), AllocError>
-    ensures { OnOk result (ranges.new.items ≡ ranges.old.items ++ map (own_range site.entry.depth site.entry.symbol.now) rows.now) }
+    ensures { OnOk result (ranges.new.items
+        ≡ ranges.old.items ++ map (own_range site.entry.depth site.entry.symbol.now) rows.now) }
 {
     for row in rows {
         ranges.push(InlineRange {
@@ -53,12 +54,13 @@ fn push_own(
 }
 
 /// The ranges of the sites' own rows.
-fn own_ranges(
+fn own_ranges_of_sites(
     alloc: Global,
     inlinees: &BTreeSet<IdIndex>,
     sites: &[Site<'_>],
 ) -> Result<Vec<InlineRange>, AllocError>
-    ensures { IfOk result (λ v. v.items ≡ flat_map (λ site. own_ranges inlinees.now.keys site.depth site.symbol) (map kept_site sites.now)) }
+    ensures { IfOk result (λ v. v.items
+        ≡ flat_map (λ site. own_ranges inlinees.now.keys site.depth site.symbol) (map kept_site sites.now)) }
 {
     let mut ranges = Vec::new(alloc);
     for site in sites {
@@ -85,7 +87,7 @@ fn read_ranges(
 ) -> Result<Vec<InlineRange>, AllocError>
     ensures { IfOk result (λ v. v.items ≡ read_by_depth inlinees.now.keys (map kept_site sites.now)) }
 {
-    let mut ranges = own_ranges(alloc, inlinees, sites)?;
+    let mut ranges = own_ranges_of_sites(alloc, inlinees, sites)?;
     let added = ranges_added_to_sites(alloc, inlinees, sites)?;
     ranges.extend_from_slice(&added)?;
     Ok(ranges)

@@ -26,7 +26,8 @@ pub fn stacks_have_all_levels()
     ensures all { (inlinees : List IdIndex) (symbols : List Symbol) (fault : Option StreamError) (position end x : ℕ)
         → length (inline_stack (inline_ranges inlinees (walk symbols fault position end).sites) x)
         ≡ levels inlinees (walk symbols fault position end).sites x }
-    ensures no_more { (inlinees : List IdIndex) (symbols : List Symbol) (fault : Option StreamError) (position end depth x : ℕ)
+    ensures no_more { (inlinees : List IdIndex) (symbols : List Symbol) (fault : Option StreamError)
+        (position end depth x : ℕ)
         → length (walk symbols fault position end).sites ≤ depth
         → is_covered inlinees (walk symbols fault position end).sites depth x ≡ false }
 {}
@@ -53,18 +54,22 @@ pub fn well_nested_sites_are_inside_by_position()
 /// each depth one site alone has ranges over the number, each of these sites lies directly inside the
 /// next outer one.
 pub fn stacks_lie_directly_inside()
-    ensures of_sites { (inlinees : List IdIndex) (symbols : List Symbol) (fault : Option StreamError) (position end x level : ℕ) (range : InlineRange)
-        → slice_get (inline_stack (inline_ranges inlinees (walk symbols fault position end).sites) x) level ≡ Some range
+    ensures of_sites { (inlinees : List IdIndex) (symbols : List Symbol) (fault : Option StreamError)
+        (position end x level : ℕ) (range : InlineRange)
+        → slice_get (inline_stack (inline_ranges inlinees (walk symbols fault position end).sites) x) level
+        ≡ Some range
         → (site : Site) × Contains (walk symbols fault position end).sites site
         × Contains (site_ranges inlinees (walk symbols fault position end).sites site) range
         × (depth site ≡ level) × IsTrue (lies_over level x range) }
-    ensures directly { (inlinees : List IdIndex) (symbols : List Symbol) (fault : Option StreamError) (position end x level : ℕ)
-        (outer inner : Site) (range under : InlineRange)
+    ensures directly { (inlinees : List IdIndex) (symbols : List Symbol) (fault : Option StreamError)
+        (position end x level : ℕ) (outer inner : Site) (range under : InlineRange)
         → IsSoleOver inlinees (walk symbols fault position end).sites x
         → Contains (walk symbols fault position end).sites outer
         → Contains (walk symbols fault position end).sites inner
-        → slice_get (inline_stack (inline_ranges inlinees (walk symbols fault position end).sites) x) level ≡ Some range
-        → slice_get (inline_stack (inline_ranges inlinees (walk symbols fault position end).sites) x) (level + 1) ≡ Some under
+        → slice_get (inline_stack (inline_ranges inlinees (walk symbols fault position end).sites) x) level
+        ≡ Some range
+        → slice_get (inline_stack (inline_ranges inlinees (walk symbols fault position end).sites) x) (level + 1)
+        ≡ Some under
         → Contains (site_ranges inlinees (walk symbols fault position end).sites outer) range
         → Contains (site_ranges inlinees (walk symbols fault position end).sites inner) under
         → IsDirectlyInside outer inner }
@@ -73,7 +78,8 @@ pub fn stacks_lie_directly_inside()
 /// What is added for a site is for the maximal runs of what the rows of sites inside it cover and its own
 /// rows do not: runs that hold those numbers and no others, none of which touches the next.
 pub fn added_ranges_are_of_maximal_runs()
-    ensures maximal { (inlinees : List IdIndex) (sites : List Site) (site : Site) → IsRunsFrom 0 (missing inlinees sites site) }
+    ensures maximal { (inlinees : List IdIndex) (sites : List Site) (site : Site)
+        → IsRunsFrom 0 (missing inlinees sites site) }
     ensures numbers { (inlinees : List IdIndex) (sites : List Site) (site : Site) (x : ℕ)
         → has (missing inlinees sites site) x
         ≡ (has (inner_ranges inlinees sites site) x && not (has (row_ranges inlinees site.symbol) x)) }

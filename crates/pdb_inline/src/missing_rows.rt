@@ -131,7 +131,8 @@ fn add_missing(
         → reverse added.new.items ≡ added_ranges inlinees.now.keys site.entry.depth site.entry.symbol.now
         (missing_runs inner (row_ranges inlinees.now.keys site.entry.symbol.now)) ++ reverse added.old.items) }
     ensures covered { OnOk result ((d x : ℕ) → is_on_stack d stack.new.items x
-        ≡ (nat_lt d site.entry.depth && (has (row_ranges inlinees.now.keys site.entry.symbol.now) x || is_on_stack d stack.old.items x))) }
+        ≡ (nat_lt d site.entry.depth
+        && (has (row_ranges inlinees.now.keys site.entry.symbol.now) x || is_on_stack d stack.old.items x))) }
 {
     let rows = kept_rows(alloc, inlinees, site.symbol)?;
     let own = ranges_of_rows(alloc, &rows)?;

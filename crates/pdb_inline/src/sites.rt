@@ -1,4 +1,4 @@
-ghost use Rattle.std.specs.Prelude.{◌≡◌, ◌+◌, ◌-◌, ◌^◌, ◌++◌, min, map, reverse, option_map, option_to_list, Option, Some, None, OnOk};
+ghost use Rattle.std.specs.Prelude.{◌≡◌, ◌+◌, ◌-◌, ◌^◌, ◌++◌, drop, length, min, nat_lt, map, reverse, option_map, option_to_list, Option, Some, None, OnOk};
 ghost use Rattle.std.specs.Option.{option_copied};
 ghost use Rattle.pdb_types.specs.Outcomes.{Gives};
 ghost use Rattle.pdb_inline.specs.Sites.{site_of, nested_end, innermost_end, through_after, open_after, opened_at, walk, unless_met, at_depth, kept_site, open_site};
@@ -73,7 +73,8 @@ fn open_at<'a>(
     outer: &mut Vec<Site<'a>>,
 ) -> Result<(), AllocError>
     ensures found { OnOk result (map kept_site sites.new.items ≡ map kept_site sites.old.items
-        ++ option_to_list (option_map (λ s. at_depth (opened_at at (reverse (map open_site outer.old.items)) s)) (site_of symbol.now))) }
+        ++ option_to_list (option_map
+        (λ s. at_depth (opened_at at (reverse (map open_site outer.old.items)) s)) (site_of symbol.now))) }
     ensures opened { OnOk result (reverse (map open_site outer.new.items)
         ≡ open_after at (site_of symbol.now) (reverse (map open_site outer.old.items))) }
 {
@@ -87,6 +88,15 @@ fn open_at<'a>(
         outer.push(site)?;
     }
     Ok(())
+}
+
+/// Closes the innermost of what is open. `false` where no site is: that closes the procedure.
+#[tactic(auto, using(crate::proofs::SiteLemmas::closed_rest))]
+fn close_innermost(outer: &mut Vec<Site<'_>>) -> bool
+    ensures open { result ≡ nat_lt 0 (length outer.old.items) }
+    ensures rest { reverse (map open_site outer.new.items) ≡ drop 1 (reverse (map open_site outer.old.items)) }
+{
+    outer.pop().is_some()
 }
 
 /// The sites of a procedure by the positions of its symbol and its end, in the order of their symbols.
@@ -105,7 +115,7 @@ pub(crate) fn procedure_sites(
     let mut at = position.saturating_add(1);
     while at < symbols.len() {
         if first_end(end, &outer) <= at {
-            if outer.pop().is_none() {
+            if !close_innermost(&mut outer) {
                 return Ok(sites);
             }
             at += 1;

@@ -98,6 +98,3 @@ impl RangeSet {
         self.runs.as_slice()
     }
 }
-
-#[cfg(test)]
-mod tests;

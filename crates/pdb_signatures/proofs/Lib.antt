@@ -4,3 +4,4 @@ pub mod FallLemmas
 pub mod UnfoldingLemmas
 pub mod Expansion
 pub mod SignatureExamples
+pub mod SeenLemmas

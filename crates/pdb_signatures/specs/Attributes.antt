@@ -19,7 +19,8 @@ attribute_of p constant = record { points = p.mode; constant_pointer = p.is_cons
 -- the last pointer of these, which stands first, points to something constant or not
 abbrev pub with_target : Bool → List Attribute → List Attribute
 with_target constant [] = []
-with_target constant (a ∷ earlier) = record { points = a.points; constant_pointer = a.constant_pointer; constant_target = constant } ∷ earlier
+with_target constant (a ∷ earlier) =
+    record { points = a.points; constant_pointer = a.constant_pointer; constant_target = constant } ∷ earlier
 
 -- the sign of a pointer or a reference
 abbrev pub sigil : PointerMode → List ℕ
@@ -33,16 +34,21 @@ sigil pointer.RValueReference = codes "&&"
 abbrev pub space_before_sigil : TypeFormatterFlags → List ℕ
 space_before_sigil chosen = if with_space_before_pointer chosen then codes " " else []
 
--- before a sign: `const` where the target is constant, and the space that is wanted, unless none may stand here or a sign is just before it
+-- before a sign: `const` where the target is constant, and the space that is wanted, unless none may stand here or a
+-- sign is just before it
 abbrev pub before_sigil : TypeFormatterFlags → Bool → Bool → Bool → List ℕ
-before_sigil chosen may_space after_sigil true = (if may_space then codes " const" else codes "const") ++ space_before_sigil chosen
+before_sigil chosen may_space after_sigil true =
+    (if may_space then codes " const" else codes "const") ++ space_before_sigil chosen
 before_sigil chosen may_space after_sigil false = if may_space && not after_sigil then space_before_sigil chosen else []
 
 -- one pointer: what stands before its sign, the sign, and `const` where it is constant itself
 abbrev pub attribute_text : TypeFormatterFlags → Bool → Bool → Attribute → List ℕ
-attribute_text chosen may_space after_sigil a = before_sigil chosen may_space after_sigil a.constant_target ++ sigil a.points ++ (if a.constant_pointer then codes " const" else [])
+attribute_text chosen may_space after_sigil a =
+    before_sigil chosen may_space after_sigil a.constant_target ++ sigil a.points
+    ++ (if a.constant_pointer then codes " const" else [])
 
 -- the pointers of a chain, the last first: a space may stand here or not, and a sign is just before or not
 abbrev pub attributes_text : TypeFormatterFlags → Bool → Bool → List Attribute → List ℕ
 attributes_text chosen may_space after_sigil [] = []
-attributes_text chosen may_space after_sigil (a ∷ earlier) = attribute_text chosen may_space after_sigil a ++ attributes_text chosen true (not a.constant_pointer) earlier
+attributes_text chosen may_space after_sigil (a ∷ earlier) =
+    attribute_text chosen may_space after_sigil a ++ attributes_text chosen true (not a.constant_pointer) earlier

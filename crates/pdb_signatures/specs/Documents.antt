@@ -15,7 +15,8 @@ pub data Document : Type 0 where
   Text : List ℕ → Document
   -- one document, and then another, unless the first fails
   Seq : Document → Document → Document
-  -- a document, or nothing of it where it fails; then the first text where the document's ends in `*` or `&`, else the second
+  -- a document, or nothing of it where it fails; then the first text where the document's ends in `*` or `&`, else the
+  -- second
   Buffered : Document → List ℕ → List ℕ → Document
   -- a document; where it fails for a type that is missing, a note of that follows what it printed
   Catch : Document → Document
@@ -59,12 +60,16 @@ ends_in_sigil text = is_sigil (slice_get text (length text - 1))
 -- a run, and then another with the parts that have failed by then, unless the first failed
 abbrev pub then_by : Option ToldError → Run → (Parts → Run) → Run
 then_by (Some e) first second = first
-then_by None first second = record { text = first.text ++ (second first.failed).text; fault = (second first.failed).fault; failed = (second first.failed).failed }
+then_by None first second =
+    let next = second first.failed in
+    record { text = first.text ++ next.text; fault = next.fault; failed = next.failed }
 
 -- a run with one of two texts behind it, by what its text ends in, or without any text where it failed
 abbrev pub buffered_by : Option ToldError → Run → List ℕ → List ℕ → Run
 buffered_by (Some e) inner after_sigil after_other = record { text = []; fault = inner.fault; failed = inner.failed }
-buffered_by None inner after_sigil after_other = record { text = inner.text ++ (if ends_in_sigil inner.text then after_sigil else after_other); fault = None; failed = inner.failed }
+buffered_by None inner after_sigil after_other =
+    let behind = if ends_in_sigil inner.text then after_sigil else after_other in
+    record { text = inner.text ++ behind; fault = None; failed = inner.failed }
 
 -- a run that failed for a type that is missing, with a note of that in place of the failure
 abbrev pub noted : Option ℕ → Run → Run
@@ -80,7 +85,8 @@ caught_by (Some e) inner = noted (told_missing e) inner
 abbrev pub run : Document → Parts → Run
 run (Text written) failed = record { text = written; fault = None; failed = failed }
 run (Seq first second) failed = then_by (run first failed).fault (run first failed) (run second)
-run (Buffered inner after_sigil after_other) failed = buffered_by (run inner failed).fault (run inner failed) after_sigil after_other
+run (Buffered inner after_sigil after_other) failed =
+    buffered_by (run inner failed).fault (run inner failed) after_sigil after_other
 run (Catch inner) failed = caught_by (run inner failed).fault (run inner failed)
 run (Fail e) failed = record { text = []; fault = Some e; failed = failed }
 run (Ask part e) failed = record { text = []; fault = Some (part_error failed part e); failed = with_part failed part }

@@ -11,3 +11,4 @@ pub mod Plans
 pub mod Rules
 pub mod Unfolding
 pub mod Signatures
+pub mod Seen

@@ -61,7 +61,8 @@ on_type (Err (Unimplemented kind)) next = failing (Plain (PdbError (Unimplemente
 on_type (Err (Refused e)) next = failing e
 on_type (Err (Broken part e)) next = Done (document.Ask part e)
 
--- what follows a type that is printed where it stands: there is a note of one that is missing or of a kind that isn't known
+-- what follows a type that is printed where it stands: there is a note of one that is missing or of a kind that isn't
+-- known
 abbrev pub on_printed : Result TypeData Trouble → (TypeData → Plan) → Plan
 on_printed (Ok type) next = next type
 on_printed (Err (Missing index)) next = written (missing_text index)

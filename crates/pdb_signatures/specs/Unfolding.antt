@@ -10,9 +10,11 @@ use Rattle.pdb_signatures.specs.Rules.{rule}
 -- a plan unfolds to a document: each task in it by its rule, and so on until no task is left
 pub data Unfolds (w : World) : Plan → Document → Type 0 where
   done : {d : Document} → Unfolds w (Done d) d
-  later : {inside : List ℕ} {task : Task} {d : Document} → Unfolds w (rule w inside task) d → Unfolds w (Later inside task) d
+  later : {inside : List ℕ} {task : Task} {d : Document} → Unfolds w (rule w inside task) d
+      → Unfolds w (Later inside task) d
   seq : {p q : Plan} {a b : Document} → Unfolds w p a → Unfolds w q b → Unfolds w (Seq p q) (document.Seq a b)
-  buffered : {p : Plan} {a : Document} {after_sigil after_other : List ℕ} → Unfolds w p a → Unfolds w (Buffered p after_sigil after_other) (document.Buffered a after_sigil after_other)
+  buffered : {p : Plan} {a : Document} {after_sigil after_other : List ℕ} → Unfolds w p a
+      → Unfolds w (Buffered p after_sigil after_other) (document.Buffered a after_sigil after_other)
   catch : {p : Plan} {a : Document} → Unfolds w p a → Unfolds w (Catch p) (document.Catch a)
 
 -- a plan unfolds to one document, and to no other

@@ -23,7 +23,8 @@ type_at w types position index = and_then (read_type w types position index) (λ
 
 -- what printing stands on where the module at a position asks
 abbrev pub world_of : Linked → Read (Item TypeIndex TypeData) → ℕ → TypeFormatterFlags → ℕ → World
-world_of w types pointer chosen position = record { read = type_at w types position; size = type_size w types pointer position; flags = chosen }
+world_of w types pointer chosen position =
+    record { read = type_at w types position; size = type_size w types pointer position; flags = chosen }
 
 -- what printing stands on for a formatter, where the module at a position asks
 abbrev pub formatter_world : {P : Type 0} → (P → Infos) → Basis P → ℕ → World

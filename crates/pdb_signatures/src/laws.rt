@@ -20,21 +20,25 @@ ghost use Rattle.pdb_signatures.specs.Signatures.{signature, type_of_index};
 /// Every type has exactly one document, whatever the records say and whichever indices are open,
 /// although types may refer to each other in circles.
 pub fn every_type_has_one_unfolding()
-    ensures { (linked : Linked) (types : Read (Item TypeIndex TypeData)) (pointer : ℕ) (flags : TypeFormatterFlags) (position : ℕ) (inside : List ℕ) (index : ℕ)
+    ensures { (linked : Linked) (types : Read (Item TypeIndex TypeData)) (pointer : ℕ) (flags : TypeFormatterFlags)
+        (position : ℕ) (inside : List ℕ) (index : ℕ)
         → HasOneUnfolding (world_of linked types pointer flags position) (type_of_index inside index) }
 {}
 
 /// Every signature has exactly one document, whatever its name and type and whatever the records say.
 pub fn every_signature_has_one_unfolding()
-    ensures { (linked : Linked) (types : Read (Item TypeIndex TypeData)) (pointer : ℕ) (flags : TypeFormatterFlags) (position : ℕ) (name : List ℕ) (index : ℕ)
-        → HasOneUnfolding (world_of linked types pointer flags position) (signature (world_of linked types pointer flags position) name index) }
+    ensures { (linked : Linked) (types : Read (Item TypeIndex TypeData)) (pointer : ℕ) (flags : TypeFormatterFlags)
+        (position : ℕ) (name : List ℕ) (index : ℕ)
+        → let w = world_of linked types pointer flags position in HasOneUnfolding w (signature w name index) }
 {}
 
 /// An index that is printed while it is open is refused as circular, and nothing is printed of it.
 pub fn an_index_inside_itself_is_circular()
-    ensures { (linked : Linked) (types : Read (Item TypeIndex TypeData)) (pointer : ℕ) (flags : TypeFormatterFlags) (position : ℕ) (inside : List ℕ) (index : ℕ) (type : TypeData)
+    ensures { (linked : Linked) (types : Read (Item TypeIndex TypeData)) (pointer : ℕ) (flags : TypeFormatterFlags)
+        (position : ℕ) (inside : List ℕ) (index : ℕ) (type : TypeData)
         → type_at linked types position index ≡ Ok type
         → is_among index inside ≡ true
         → (failed : Parts)
-        → Runs (world_of linked types pointer flags position) (type_of_index inside index) failed (record { text = []; fault = Some (Plain (CircularTypeDefinition index)); failed = failed }) }
+        → Runs (world_of linked types pointer flags position) (type_of_index inside index) failed
+            (record { text = []; fault = Some (Plain (CircularTypeDefinition index)); failed = failed }) }
 {}

@@ -4,10 +4,11 @@
 #![tactic(auto)]
 
 pub mod laws;
+pub mod seen;
 mod type_formatter;
 
 pub use pdb_types::{
-    Error, FailedParts, Findings, IdMap, ItemIndex, ItemMap, ModuleProvider, Part, Result, Standing,
-    TypeFormatterFlags, TypeMap, TypeSize, TypeSizeCache, Unread,
+    Error, IdMap, ItemIndex, ItemMap, ModuleProvider, Result, TypeFormatterFlags, TypeMap,
+    TypeSizeCache,
 };
 pub use type_formatter::TypeFormatter;

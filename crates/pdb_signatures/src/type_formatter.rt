@@ -58,7 +58,8 @@ impl<'a, P: ModuleProvider> TypeFormatter<'a, P> {
         string_table: Option<&'a StringTable>,
         flags: TypeFormatterFlags,
     ) -> Result<Self>
-        ensures pointer { Gives (λ f. f.standing.pointer_size) result (program_pointer_size debug_information.now.machine_type) }
+        ensures pointer { Gives (λ f. f.standing.pointer_size) result
+            (program_pointer_size debug_information.now.machine_type) }
         ensures standing { IfOk result (λ f. f.standing ≡ record {
           provider = provider.now;
           modules = modules.items;
@@ -101,9 +102,12 @@ impl<'a, P: ModuleProvider> TypeFormatter<'a, P> {
     ///
     /// [`Error::OutOfMemory`](crate::Error::OutOfMemory) alone. The formatter is then as it was before.
     pub fn get_type_size(&mut self, module_index: usize, index: TypeIndex) -> Result<u64>
-        ensures size { MatchResult result (λ size. size ≡ (size_of P.info self.old.standing module_index index.0).size) (λ e. e ≡ OutOfMemory) }
+        ensures size { MatchResult result
+            (λ size. size ≡ (size_of P.info self.old.standing module_index index.0).size)
+            (λ e. e ≡ OutOfMemory) }
         ensures standing { self.new.standing ≡ self.old.standing }
-        ensures remembered { OnOk result (self.new.failed ≡ with_met self.old.failed (size_of P.info self.old.standing module_index index.0).met) }
+        ensures remembered { OnOk result (self.new.failed ≡
+            with_met self.old.failed (size_of P.info self.old.standing module_index index.0).met) }
         ensures unchanged { OnErr result (self.new.failed ≡ self.old.failed) }
     {
         let found = self

@@ -2,6 +2,7 @@
 
 mod contributions;
 mod formatters;
+mod lent_records;
 mod records;
 mod reports;
 mod texts;

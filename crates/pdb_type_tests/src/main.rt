@@ -8,6 +8,8 @@
 #[cfg(test)]
 mod parts;
 mod questions;
+#[cfg(test)]
+mod seen;
 
 use pdb_addr2line::{ContextPdbData, TypeFormatter};
 use pdb_json::read_records;

@@ -202,6 +202,7 @@ ends_or_not next zero index = by_step (next index) refl where
   longer : (further : TypeIndex) → next index ≡ Next further → (k : ℕ) (size : TypeSize) → EndsWith next k index size → zero < k
   longer further is zero size ends = let e : Ended size ≡ Next further = sym ends ∙ is in cc
   longer further is (suc k) size ends = omega arith
+
   by_step : (s : Step) → next index ≡ s → EndsOrNot next zero index
   by_step (Ended size) is = inl (zero, size, is)
   by_step (Next further) is = inr (longer further is)

@@ -84,6 +84,7 @@ forward_size-read types number type a read told refers = by_found (first_item (�
   by_content : (item : Item TypeIndex TypeData) (content : Result TypeData records.Error) → item.content ≡ content → answered content ≡ Ok type → told_by item ≡ Some a
   by_content item (Ok said) is e = let same : said ≡ type = cc in ap (λ c. option_and_then aggregate (result_ok c)) is ∙ (ap aggregate same ∙ told)
   by_content item (Err error) is e = cc
+
   by_found : (o : Option (Item TypeIndex TypeData)) → first_item (λ index. index.0) number types.items ≡ o → said types.fault number o ≡ Ok type → forward_size number types.items ≡ size_behind number a.name types.items
   by_found None is e = cc
   by_found (Some item) is e = forward_size-told number a types.items item is (by_content item item.content refl e) refers

@@ -7,4 +7,5 @@ use Rattle.pdb_records.specs.References.{exported}
 
 -- a table knows each of these exports by its number
 abbrev pub KnowsExports : List (ℕ × ℕ) → BTreeMap ℕ (Bor (ℕ × ℕ)) → Type 0
-KnowsExports exports known = (number : ℕ) → option_map (λ export. export.now.1) (get nat_cmp known number) ≡ exported number exports
+KnowsExports exports known =
+    (number : ℕ) → option_map (λ export. export.now.1) (get nat_cmp known number) ≡ exported number exports

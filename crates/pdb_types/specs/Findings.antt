@@ -15,11 +15,12 @@ use Rattle.pdb_types.specs.TypeSizes.{size_of}
 -- the positions of modules that were found are those of the names under their references
 unfoldable pub FitsNames : Linked → BTreeMap ℕ ℕ → Type 0
 FitsNames w named = (reference position : ℕ) → get nat_cmp named reference ≡ Some position
-  → and_then (texts w.strings) (λ strings. module_under w.modules strings (record { 0 = reference })) ≡ Ok position
+    → and_then (texts w.strings) (λ strings. module_under w.modules strings (record { 0 = reference })) ≡ Ok position
 
 -- the exports that were found are those of the modules at their positions
 unfoldable pub FitsExports : Linked → BTreeMap ℕ (List (ℕ × ℕ)) → Type 0
-FitsExports w found = (position : ℕ) (list : List (ℕ × ℕ)) → get nat_cmp found position ≡ Some list → exports w position ≡ Ok list
+FitsExports w found =
+    (position : ℕ) (list : List (ℕ × ℕ)) → get nat_cmp found position ≡ Some list → exports w position ≡ Ok list
 
 -- the order of questions: by the position of the module that asks, and then by the index
 abbrev pub asked_cmp : Asked → Asked → Ordering
@@ -27,7 +28,9 @@ asked_cmp a b = ordering_then (nat_cmp a.position b.position) (nat_cmp a.index b
 
 -- the sizes that were found are those of the types that were asked for
 unfoldable pub FitsSizes : {P : Type 0} → (P → Infos) → Basis P → BTreeMap Asked TypeSize → Type 0
-FitsSizes info s sizes = (asked : Asked) (size : TypeSize) → get asked_cmp sizes asked ≡ Some size → size_of info s asked.position asked.index ≡ size
+FitsSizes info s sizes =
+    (asked : Asked) (size : TypeSize) → get asked_cmp sizes asked ≡ Some size
+    → size_of info s asked.position asked.index ≡ size
 
 -- what was found so far is what the records say
 pub record Fits {P : Type 0} (info : P → Infos) (s : Basis P) (f : Findings) : Type 0 where

@@ -25,8 +25,10 @@ told_aggregate a = record { name = a.name.now; size = a.size; forward_reference 
 
 -- a class or a union goes by its unique name where it has one, else by its name
 abbrev pub aggregate : TypeData → Option Aggregate
-aggregate (Class c) = Some (record { name = unwrap_or c.unique_name c.name; size = c.size; forward_reference = c.forward_reference })
-aggregate (Union u) = Some (record { name = unwrap_or u.unique_name u.name; size = u.size; forward_reference = u.forward_reference })
+aggregate (Class c) =
+    Some (record { name = unwrap_or c.unique_name c.name; size = c.size; forward_reference = c.forward_reference })
+aggregate (Union u) =
+    Some (record { name = unwrap_or u.unique_name u.name; size = u.size; forward_reference = u.forward_reference })
 aggregate other = None
 
 -- what an entry tells, if it could be read
@@ -51,7 +53,8 @@ abbrev pub entries_behind : ℕ → List (Item TypeIndex TypeData) → List (Ite
 entries_behind number [] = []
 entries_behind number (item ∷ items) = if item.index.0 == number then items else entries_behind number items
 
--- the size of a class or a union that is a forward reference at this index: its first definition behind that entry has it
+-- the size of a class or a union that is a forward reference at this index: its first definition behind that entry has
+-- it
 abbrev pub size_behind : ℕ → List ℕ → List (Item TypeIndex TypeData) → Option ℕ
 size_behind number name items = first_definition name (entries_behind number items)
 
@@ -61,12 +64,14 @@ referred_name a = if a.forward_reference then Some a.name else None
 
 -- the size that an entry's own name is given by these entries, where it is a forward reference
 abbrev pub forward_size_among : List (Item TypeIndex TypeData) → Item TypeIndex TypeData → Option ℕ
-forward_size_among items item = option_and_then (λ name. first_definition name items) (option_and_then referred_name (told_by item))
+forward_size_among items item =
+    option_and_then (λ name. first_definition name items) (option_and_then referred_name (told_by item))
 
 -- the size that the own name of the first entry with this index is given behind it, where it is a forward reference
 abbrev pub forward_size : ℕ → List (Item TypeIndex TypeData) → Option ℕ
 forward_size number [] = None
-forward_size number (item ∷ items) = if item.index.0 == number then forward_size_among items item else forward_size number items
+forward_size number (item ∷ items) =
+    if item.index.0 == number then forward_size_among items item else forward_size number items
 
 -- the size under a name, in a map by names that are lent
 abbrev pub size_under : BTreeMap (Bor (List ℕ)) ℕ → List ℕ → Option ℕ

@@ -30,4 +30,5 @@ item_of number_of read number = found_or_missing read.fault number (first_item n
 
 -- a map knows each of these entries by its number
 unfoldable pub Knows : {I D : Type 0} → (I → ℕ) → List (Item I D) → BTreeMap ℕ (Bor (Item I D)) → Type 0
-Knows number_of items known = (number : ℕ) → option_map (λ entry. entry.now) (get nat_cmp known number) ≡ first_item number_of number items
+Knows number_of items known =
+    (number : ℕ) → option_map (λ entry. entry.now) (get nat_cmp known number) ≡ first_item number_of number items

@@ -24,10 +24,11 @@ said fault number (Some item) = answered item.content
 abbrev pub entry : {I D : Type 0} → (I → ℕ) → Read (Item I D) → ℕ → Result D Trouble
 entry number_of list number = said list.fault number (first_item number_of number list.items)
 
--- the number that an index of 32 bits stands for, asked by the module at a position, and what its entry says; no other index is read
+-- the number that an index of 32 bits stands for, asked by the module at a position, and what its entry says; no other
+-- index is read
 abbrev pub reading : {I D : Type 0} → (I → ℕ) → Linked → Read (Item I D) → ℕ → ℕ → Result (ℕ × D) Trouble
 reading number_of w list position index = if nat_lt index (2 ^ 32) then
     and_then (resolved w position index) (λ number.
     and_then (entry number_of list number) (λ content.
     Ok (number, content)))
-  else Err (Missing index)
+    else Err (Missing index)

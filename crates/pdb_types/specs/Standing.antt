@@ -21,8 +21,8 @@ use Rattle.pdb_types.specs.Sizes.{pointer_size}
 abbrev pub Infos : Type 0
 Infos = ℕ → Module → Result (Option ModuleInfo) StreamError
 
--- what answers about types stand on: a provider of modules' records, the list of modules, the texts that they share, the size of
--- a pointer, the types and the ids, and how signatures are printed
+-- what answers about types stand on: a provider of modules' records, the list of modules, the texts that they share,
+-- the size of a pointer, the types and the ids, and how signatures are printed
 pub record Basis (P : Type 0) : Type 0 where
   pub provider : P
   pub modules : List Module

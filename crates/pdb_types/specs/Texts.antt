@@ -8,4 +8,5 @@ use Rattle.pdb_records.specs.Strings.{string_at}
 
 -- a table knows each of these texts by the number of its reference
 abbrev pub KnowsTexts : List (StringRef × List ℕ) → BTreeMap ℕ (Bor (List ℕ)) → Type 0
-KnowsTexts strings known = (number : ℕ) → option_map (λ text. text.now) (get nat_cmp known number) ≡ string_at (record { 0 = number }) strings
+KnowsTexts strings known =
+    (number : ℕ) → option_map (λ text. text.now) (get nat_cmp known number) ≡ string_at (record { 0 = number }) strings

@@ -25,7 +25,8 @@ size_elsewhere number items a = if a.forward_reference then size_behind number a
 
 -- the size of a type with this number that is no enumeration and no modifier
 abbrev pub end_size : ℕ → List (Item TypeIndex TypeData) → ℕ → TypeData → ℕ
-end_size pointer items number type = unwrap_or (option_and_then (size_elsewhere number items) (aggregate type)) (own_size pointer type)
+end_size pointer items number type =
+    unwrap_or (option_and_then (size_elsewhere number items) (aggregate type)) (own_size pointer type)
 
 -- no size, and no part of the records that was met broken
 abbrev pub no_size : TypeSize
@@ -65,8 +66,8 @@ abbrev pub size_along : (ℕ → Step) → ℕ → ℕ → TypeSize
 size_along next zero index = ended (next index)
 size_along next (suc steps) index = onward (size_along next steps) (next index)
 
--- the size of a type, asked by the module at a position: the size at the end of its chain, however long, or none where it never
--- ends; as many steps as there are entries settle that, as the laws over SizeLaws say
+-- the size of a type, asked by the module at a position: the size at the end of its chain, however long, or none where
+-- it never ends; as many steps as there are entries settle that, as the laws over SizeLaws say
 unfoldable pub type_size : Linked → Read (Item TypeIndex TypeData) → ℕ → ℕ → ℕ → TypeSize
 type_size w types pointer position index = size_along (step w types pointer position) (length types.items) index
 

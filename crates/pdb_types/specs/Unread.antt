@@ -8,8 +8,8 @@ use Rattle.pdb_types.specs.declared.unread.Unread.{Unread}
 use Rattle.pdb_types.specs.declared.unread.Unread.TheVariants as code
 use Rattle.pdb_types.specs.Errors.{ToldError, Plain, told}
 
--- why something could not be read: nothing has this number, its kind isn't known, there is no answer, or a part of the records is
--- broken. Want of memory is none of these
+-- why something could not be read: nothing has this number, its kind isn't known, there is no answer, or a part of the
+-- records is broken. Want of memory is none of these
 pub data Trouble : Type 0 where
   Missing : ℕ → Trouble
   Unimplemented : ℕ → Trouble

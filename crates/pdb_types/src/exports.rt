@@ -35,10 +35,7 @@ impl Drop for ExportTable<'_> {
 
 impl<'a> ExportTable<'a> {
     /// A table of all exports.
-    pub(crate) fn new(
-        alloc: Global,
-        exports: &'a CrossModuleExports,
-    ) -> Result<Self, AllocError>
+    pub(crate) fn new(alloc: Global, exports: &'a CrossModuleExports) -> Result<Self, AllocError>
         ensures { IfOk result (λ table. table ≡ exports.now) }
     {
         let mut known = BTreeMap::new(alloc);

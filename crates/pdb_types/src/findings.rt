@@ -38,11 +38,7 @@ pub struct Findings<'a> {
 
 impl<'a> Findings<'a> {
     /// Nothing yet. It takes no memory.
-    pub(crate) fn new(
-        alloc: Global,
-        types: &'a TypeInformation,
-        ids: &'a IdInformation,
-    ) -> Self
+    pub(crate) fn new(alloc: Global, types: &'a TypeInformation, ids: &'a IdInformation) -> Self
         ensures types { result.types ≡ types.now.items }
         ensures ids { result.ids ≡ ids.now.items }
         ensures named { result.named.entries ≡ [] }

@@ -72,7 +72,9 @@ impl TypeSizeCache {
         name: &RawString,
         types: &mut TypeMap<'_>,
     ) -> Result<Option<u64>>
-        ensures size { MatchResult result (λ size. size ≡ size_behind resolved.0 name.now types.old.items) (λ e. e ≡ OutOfMemory) }
+        ensures size { MatchResult result
+            (λ size. size ≡ size_behind resolved.0 name.now types.old.items)
+            (λ e. e ≡ OutOfMemory) }
         ensures same { types.new ≡ types.old }
     {
         Ok(size_behind(&types.records().items, resolved, name))

@@ -18,7 +18,8 @@ fn bytes_of(name: &RawString) -> &[u8]
 
 /// The size under the name of a forward reference.
 fn reference_size<'a>(by_name: &BTreeMap<&'a [u8], u64>, told: Option<Aggregate<'a>>) -> Option<u64>
-    ensures { result ≡ option_and_then (size_under by_name.now) (option_and_then referred_name (option_map told_aggregate told.entry)) }
+    ensures { result ≡ option_and_then (size_under by_name.now)
+        (option_and_then referred_name (option_map told_aggregate told.entry)) }
 {
     let reference = told?;
     if !reference.forward_reference {
@@ -33,7 +34,8 @@ fn define<'a>(
     told: Option<Aggregate<'a>>,
 ) -> Result<(), AllocError>
     ensures { OnOk result ((name : List ℕ) → size_under by_name.new name
-        ≡ option_or (option_and_then (size_for name) (option_map told_aggregate told.entry)) (size_under by_name.old name)) }
+        ≡ option_or (option_and_then (size_for name) (option_map told_aggregate told.entry))
+            (size_under by_name.old name)) }
 {
     let Some(defined) = told else {
         return Ok(());
@@ -49,7 +51,8 @@ fn define<'a>(
 
 /// Puts what an entry answers under its number, in the place of what an entry behind it answers.
 fn answer(sizes: &mut BTreeMap<u32, u64>, number: u32, size: Option<u64>) -> Result<(), AllocError>
-    ensures { OnOk result ((n : ℕ) → get nat_cmp sizes.new n ≡ (if number == n then size else get nat_cmp sizes.old n)) }
+    ensures { OnOk result ((n : ℕ) → get nat_cmp sizes.new n
+        ≡ (if number == n then size else get nat_cmp sizes.old n)) }
 {
     let Some(size) = size else {
         let _ = sizes.remove(&number);

@@ -85,7 +85,8 @@ fn learn<'a, I: ItemIndex, D>(
     item: &'a Item<I, D>,
 ) -> Result<(), AllocError>
     ensures learned { OnOk result ((number : ℕ) → option_map (λ entry. entry.now) (get nat_cmp known.new number)
-        ≡ option_or (option_map (λ entry. entry.now) (get nat_cmp known.old number)) (first_item I.number_of number (item.now ∷ []))) }
+        ≡ option_or (option_map (λ entry. entry.now) (get nat_cmp known.old number))
+            (first_item I.number_of number (item.now ∷ []))) }
     ensures refused { OnErr result ((number : ℕ) → get nat_cmp known.new number ≡ get nat_cmp known.old number) }
 {
     keep_first(known, item.index.number(), item)
@@ -160,7 +161,8 @@ impl<'a, I: ItemIndex, D> ItemMap<'a, I, D> {
 
     /// The first entry of the list with this index, if there is one.
     pub(crate) fn find(&mut self, index: I) -> Result<Option<&'a Item<I, D>>, AllocError>
-        ensures found { IfOk result (λ item. option_copied item ≡ first_item I.number_of (I.number_of index) self.old.items) }
+        ensures found { IfOk result
+            (λ item. option_copied item ≡ first_item I.number_of (I.number_of index) self.old.items) }
         ensures same { self.new ≡ self.old }
     {
         let number = index.number();

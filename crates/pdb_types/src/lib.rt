@@ -1,8 +1,8 @@
 //! Types and ids by their index, in one module or across modules, and the sizes of types.
 //!
 //! [`Standing`] is what answers stand on, and is only read. [`Findings`] is what was found of it so far,
-//! and grows. Here too are the errors of the crates above, and the provider who hands in a module's
-//! records.
+//! and grows. They are for the crates above, whose types keep the two together. Here too are the errors
+//! of the crates above, and the provider who hands in a module's records.
 #![tactic(auto)]
 
 mod aggregates;

@@ -40,7 +40,8 @@ impl<'a, P: ModuleProvider> Standing<'a, P> {
         index: TypeIndex,
     ) -> Result<(TypeIndex, &'a TypeData), Unread>
         requires fits { Fits P.info self.now findings.old }
-        ensures read { Tells (λ read. (read.0.0, read.1.now)) result (reading (λ i. i.0) (linked P.info self.now) self.now.types position index.0) }
+        ensures read { Tells (λ read. (read.0.0, read.1.now)) result
+            (reading (λ i. i.0) (linked P.info self.now) self.now.types position index.0) }
         ensures kept { Keeps P.info self.now findings.old findings.new }
     {
         let resolved = TypeIndex(self.resolve(findings, position, index.0)?);
@@ -56,7 +57,8 @@ impl<'a, P: ModuleProvider> Standing<'a, P> {
         index: IdIndex,
     ) -> Result<(IdIndex, &'a IdData), Unread>
         requires fits { Fits P.info self.now findings.old }
-        ensures read { Tells (λ read. (read.0.0, read.1.now)) result (reading (λ i. i.0) (linked P.info self.now) self.now.ids position index.0) }
+        ensures read { Tells (λ read. (read.0.0, read.1.now)) result
+            (reading (λ i. i.0) (linked P.info self.now) self.now.ids position index.0) }
         ensures kept { Keeps P.info self.now findings.old findings.new }
     {
         let resolved = IdIndex(self.resolve(findings, position, index.0)?);

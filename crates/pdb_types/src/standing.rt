@@ -15,8 +15,7 @@ use crate::sizes::pointer_size;
 use crate::texts::Texts;
 use crate::unread::Part;
 use pdb_records::{
-    DebugInformation, IdInformation, MachineType, Module, StreamError, StringTable,
-    TypeInformation,
+    DebugInformation, IdInformation, MachineType, Module, StreamError, StringTable, TypeInformation,
 };
 use std::alloc::{AllocError, Global};
 use std::marker::Model;
@@ -75,10 +74,7 @@ fn program_pointer_size(machine_type: &Result<MachineType, StreamError>) -> Resu
 }
 
 /// A table of the texts, where there are any.
-fn texts_of(
-    alloc: Global,
-    strings: Option<&StringTable>,
-) -> Result<Option<Texts<'_>>, AllocError>
+fn texts_of(alloc: Global, strings: Option<&StringTable>) -> Result<Option<Texts<'_>>, AllocError>
     ensures { IfOk result (λ texts. texts ≡ option_copied strings.entry) }
 {
     match strings {

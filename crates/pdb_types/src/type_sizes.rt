@@ -45,7 +45,9 @@ impl<'a, P: ModuleProvider> Standing<'a, P> {
     /// The size that the definition behind a forward reference has. The list is read once for all.
     fn forward_size(&self, findings: &mut Findings<'a>, resolved: TypeIndex) -> Result<Option<u64>>
         requires fits { Fits P.info self.now findings.old }
-        ensures size { MatchResult result (λ size. size ≡ forward_size resolved.0 self.now.types.items) (λ e. e ≡ OutOfMemory) }
+        ensures size { MatchResult result
+            (λ size. size ≡ forward_size resolved.0 self.now.types.items)
+            (λ e. e ≡ OutOfMemory) }
         ensures kept { Keeps P.info self.now findings.old findings.new }
     {
         if let Some(sizes) = &findings.forward_sizes {
@@ -68,7 +70,9 @@ impl<'a, P: ModuleProvider> Standing<'a, P> {
     ) -> Result<u64>
         requires fits { Fits P.info self.now findings.old }
         requires read { entry (λ i. i.0) self.now.types resolved.0 ≡ Ok type_data.now }
-        ensures size { MatchResult result (λ size. size ≡ end_size self.now.pointer_size self.now.types.items resolved.0 type_data.now) (λ e. e ≡ OutOfMemory) }
+        ensures size { MatchResult result
+            (λ size. size ≡ end_size self.now.pointer_size self.now.types.items resolved.0 type_data.now)
+            (λ e. e ≡ OutOfMemory) }
         ensures kept { Keeps P.info self.now findings.old findings.new }
     {
         let own = own_size(self.pointer_size, type_data);
@@ -82,21 +86,21 @@ impl<'a, P: ModuleProvider> Standing<'a, P> {
     }
 
     /// What follows an index in a chain of types.
-    fn step(
-        &self,
-        findings: &mut Findings<'a>,
-        position: usize,
-        index: TypeIndex,
-    ) -> Result<Step>
+    fn step(&self, findings: &mut Findings<'a>, position: usize, index: TypeIndex) -> Result<Step>
         requires fits { Fits P.info self.now findings.old }
-        ensures step { MatchResult result (λ s. s ≡ step (linked P.info self.now) self.now.types self.now.pointer_size position index.0) (λ e. e ≡ OutOfMemory) }
+        ensures step { MatchResult result
+            (λ s. s ≡ step (linked P.info self.now) self.now.types self.now.pointer_size position index.0)
+            (λ e. e ≡ OutOfMemory) }
         ensures kept { Keeps P.info self.now findings.old findings.new }
     {
         let (resolved, type_data) = match self.read_type(findings, position, index) {
             Ok(read) => read,
             Err(Unread::OutOfMemory) => return Err(Error::OutOfMemory),
             Err(Unread::Broken(part, _)) => {
-                return Ok(Step::Ended(TypeSize { size: 0, met: Some(part) }));
+                return Ok(Step::Ended(TypeSize {
+                    size: 0,
+                    met: Some(part),
+                }));
             }
             Err(_) => return Ok(Step::Ended(NO_SIZE)),
         };
@@ -119,14 +123,21 @@ impl<'a, P: ModuleProvider> Standing<'a, P> {
     ) -> Result<TypeSize>
         requires fits { Fits P.info self.now findings.old }
         requires none_passed { passed.old.keys ≡ [] }
-        ensures size { MatchResult result (λ size. size ≡ size_of P.info self.now position index.0) (λ e. e ≡ OutOfMemory) }
-        ensures passed { IfOk result (λ size. (other : ℕ) → contains nat_cmp passed.new other ≡ true → size_of P.info self.now position other ≡ size) }
+        ensures size { MatchResult result
+            (λ size. size ≡ size_of P.info self.now position index.0)
+            (λ e. e ≡ OutOfMemory) }
+        ensures passed { IfOk result
+            (λ size. (other : ℕ) → contains nat_cmp passed.new other ≡ true
+                → size_of P.info self.now position other ≡ size) }
         ensures kept { Keeps P.info self.now findings.old findings.new }
     {
         let mut index = index;
         'chain: loop {
             let number = index.0;
-            let asked = Asked { position, index: number };
+            let asked = Asked {
+                position,
+                index: number,
+            };
             if let Some(size) = findings.sizes.get(&asked) {
                 return Ok(*size);
             }
@@ -167,7 +178,10 @@ impl<'a, P: ModuleProvider> Standing<'a, P> {
         ensures kept { Keeps P.info self.now findings.old findings.new }
     {
         for index in passed {
-            let asked = Asked { position, index: *index };
+            let asked = Asked {
+                position,
+                index: *index,
+            };
             self.keep_size(findings, asked, size)?;
         }
         Ok(())
@@ -187,7 +201,9 @@ impl<'a, P: ModuleProvider> Standing<'a, P> {
         index: TypeIndex,
     ) -> Result<TypeSize>
         requires fits { Fits P.info self.now findings.old }
-        ensures size { MatchResult result (λ size. size ≡ size_of P.info self.now position index.0) (λ e. e ≡ OutOfMemory) }
+        ensures size { MatchResult result
+            (λ size. size ≡ size_of P.info self.now position index.0)
+            (λ e. e ≡ OutOfMemory) }
         ensures kept { Keeps P.info self.now findings.old findings.new }
     {
         let mut passed = BTreeSet::new(self.alloc);

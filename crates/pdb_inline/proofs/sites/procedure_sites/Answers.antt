@@ -1,6 +1,5 @@
-use Rattle.std.proofs.Common.{rules, ◌≡◌, ◌<◌, ◌≤◌, ◌∷◌, ◌+◌, ◌-◌, ◌^◌, min, length, map, drop, reverse, arith, true, add-one, drop-cons}
-use Rattle.std.specs.Prelude.{is_some}
-use Rattle.std.proofs.lemmas.Grind.{common_steps}
+use Rattle.std.proofs.Common.{rules, ◌≡◌, ◌<◌, ◌≤◌, ◌∷◌, ◌+◌, ◌-◌, ◌^◌, min, length, map, drop, reverse, arith, add-one, drop-cons}
+use Rattle.std.proofs.lemmas.Bool.Decides.{nat_tests}
 use Rattle.pdb_inline.specs.Sites.{walk, open_site, opened_at, innermost_end, nested_end}
 use Rattle.pdb_inline.proofs.SiteLemmas.{begun, gone_on, turn_closed, turn_counted, closed_site, closed_procedure, found_more, stopped}
 use Rattle.pdb_inline.proofs.sites.procedure_sites.Goals as goal
@@ -14,11 +13,11 @@ loop-at-init c =
     let none = c.new-sites.ensures.items in
     rw (none, empty, same) (record { begun = omega arith; sites = search rules; fault = search rules })
 
-pub returns-then-is_none : goal.returns-then-is_none
-returns-then-is_none c =
+pub returns-then-not-close_innermost : goal.returns-then-not-close_innermost
+returns-then-not-close_innermost c =
     let ends : innermost_end c.args.end (reverse (map open_site c.loop-at.outer.items)) ≤ c.loop-at.at = rw (c.first_end.ensures, c.deref.ensures.value) at c.if-first_end-at.true in
     let same = turn_closed c.args.fault c.args.end c.args.symbols.now c.loop-at.at 0 (reverse (map open_site c.loop-at.outer.items)) (omega arith) c.loop-at.invariant.begun ends in
-    let empty : length c.loop-at.outer.items ≡ 0 = grind (arith, common_steps) in
+    let empty : length c.loop-at.outer.items ≡ 0 = grind (arith, nat_tests) in
     let last = rw (same, closed_procedure c.loop-at.outer.items _ empty) at c.loop-at.invariant in
     stopped (walk c.args.symbols.now c.args.fault c.args.position c.args.end) _ _ last.sites last.fault
 
@@ -26,9 +25,8 @@ pub loop-at-preserved-then-first_end-at : goal.loop-at-preserved-then-first_end-
 loop-at-preserved-then-first_end-at c =
     let ends : innermost_end c.args.end (reverse (map open_site c.loop-at.outer.items)) ≤ c.loop-at.at = rw (c.first_end.ensures, c.deref.ensures.value) at c.if-first_end-at.true in
     let same = turn_closed c.args.fault c.args.end c.args.symbols.now c.loop-at.at 0 (reverse (map open_site c.loop-at.outer.items)) (omega arith) c.loop-at.invariant.begun ends in
-    let there : is_some c.pop.result ≡ true = search rules in
-    let closed = closed_site c.loop-at.outer.items c.pop.new.self.items c.pop.result c.pop.ensures.items there in
-    let next = rw (same, closed.0 _, closed.1) at c.loop-at.invariant in
+    let some : 0 < length c.loop-at.outer.items = grind (arith, nat_tests) in
+    let next = rw (same, closed_site c.loop-at.outer.items _ some, ← c.close_innermost.ensures.rest) at c.loop-at.invariant in
     record { begun = omega arith; sites = next.sites; fault = next.fault }
 
 pub loop-at-preserved : goal.loop-at-preserved

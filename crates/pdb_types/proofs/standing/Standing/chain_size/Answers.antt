@@ -77,5 +77,5 @@ chain-preserved g c =
       kept = record { fits = c.step.ensures.kept.fits; failed = c.step.ensures.kept.failed ∙ c.chain.invariant.kept.failed };
       led = (suc c.chain.invariant.led.0, leads_more next c.chain.invariant.led.0 c.args.index.0 c.chain.index.0 c.in-Next.next c.chain.invariant.led.1 on);
       passed = with_one (λ other. (steps : _) × Leads next (suc steps) other c.in-Next.next.0) c.chain.passed c.insert.new.self c.chain.index.0 c.in_ok-insert.ensures.updates (zero, (c.in-Next.next, on, refl))
-        (λ other there. let led = c.chain.invariant.passed other there in (suc led.0, leads_more next (suc led.0) other c.chain.index.0 c.in-Next.next led.1 on));
+          (λ other there. let led = c.chain.invariant.passed other there in (suc led.0, leads_more next (suc led.0) other c.chain.index.0 c.in-Next.next led.1 on));
     }

@@ -1,0 +1,11 @@
+//! Runs of the parts that contexts are made of, over records that are made here.
+#![tactic(auto)]
+
+#[cfg(test)]
+mod contributions;
+#[cfg(test)]
+mod inline_ranges;
+#[cfg(test)]
+mod procedures;
+#[cfg(test)]
+mod range_sets;
