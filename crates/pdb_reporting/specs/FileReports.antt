@@ -11,7 +11,7 @@ use Rattle.pdb_reporting.specs.declared.reports.ReportFault.{ReportFault}
 use Rattle.pdb_reporting.specs.declared.reports.ReportFault.TheVariants.{Lookup, Write}
 use Rattle.pdb_reporting.specs.Sinks.{SinkState, Takes}
 use Rattle.pdb_reporting.specs.PrintedLines.{names_text}
-use Rattle.pdb_reporting.specs.Reports.{TakesLinesBefore, EndsEarly}
+use Rattle.pdb_reporting.specs.Reports.{EndsEarly}
 
 -- the context of these records, where their streams and their contents are not refused
 abbrev pub opened : Records → Result (Sources Records) Error
