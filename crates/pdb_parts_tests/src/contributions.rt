@@ -68,10 +68,7 @@ fn debug_information(alloc: Global, given: &[Given]) -> Result<DebugInformation,
 }
 
 /// The merged contributions, and where those that count start.
-fn merged(
-    alloc: Global,
-    given: &[Given],
-) -> Result<(Vec<ModuleSectionContribution>, Vec<Place>)> {
+fn merged(alloc: Global, given: &[Given]) -> Result<(Vec<ModuleSectionContribution>, Vec<Place>)> {
     let debug = debug_information(alloc, given)?;
     let (merged, starts) = compute_section_contributions(alloc, &debug, &SECTIONS)?;
     let mut places = Vec::new(alloc);

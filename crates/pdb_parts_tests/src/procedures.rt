@@ -1,11 +1,11 @@
 use pdb_functions::{
-    BasicModuleInfo, PublicOrProcedureSymbol, PublicSymbolFunctionOrPlaceholder,
-    ModuleSectionContribution, global_function_in, laws, procedure_over,
+    BasicModuleInfo, ModuleSectionContribution, ProcedureSymbolFunction, PublicOrProcedureSymbol,
+    PublicSymbolFunctionOrPlaceholder, global_function_in, laws, procedure_over,
 };
 use pdb_records::{
-    ModuleInfo, PdbInternalSectionOffset, ProcedureSymbol, RawString, Reading, S_GPROC32, S_LPROC32,
-    S_SEPCODE, S_THUNK32, SeparatedCodeSymbol, StreamError, Symbol, SymbolData, SymbolIndex,
-    ThunkSymbol, TypeIndex,
+    ModuleInfo, PdbInternalSectionOffset, ProcedureSymbol, RawString, Reading, S_GPROC32,
+    S_LPROC32, S_SEPCODE, S_THUNK32, SeparatedCodeSymbol, StreamError, Symbol, SymbolData,
+    SymbolIndex, ThunkSymbol, TypeIndex,
 };
 use pdb_types::Error;
 use std::alloc::{AllocError, Global};
@@ -78,6 +78,20 @@ fn module(alloc: Global, symbols: Vec<Symbol>, fault: Option<StreamError>) -> Mo
     }
 }
 
+fn shown<'a>(
+    alloc: Global,
+    procedures: &[ProcedureSymbolFunction<'a>],
+) -> Result<Vec<Shown<'a>>, AllocError> {
+    let mut shown = Vec::new(alloc);
+    for p in procedures {
+        let name: &'a RawString = p.name;
+        let (position, end) = (p.symbol_index.0, p.end_symbol_index.0);
+        let bytes = name.0.as_slice();
+        shown.push((p.offset.offset, p.len, bytes, position, end, p.type_index.0))?;
+    }
+    Ok(shown)
+}
+
 #[test]
 fn procedures_by_their_starts(rt: HostRuntime) -> Result<(), Fail> {
     let alloc = rt.alloc();
@@ -90,25 +104,13 @@ fn procedures_by_their_starts(rt: HostRuntime) -> Result<(), Fail> {
     symbols.push(thunk(alloc, 0x10)?)?;
     let info = module(alloc, symbols, None);
     let basic = BasicModuleInfo::try_from_module_info(alloc, &info)?;
-    let mut shown: Vec<Shown<'_>> = Vec::new(alloc);
-    for p in basic.procedures() {
-        let name = p.name.0.as_slice();
-        let (position, end) = (p.symbol_index.0, p.end_symbol_index.0);
-        shown.push((p.offset.offset, p.len, name, position, end, p.type_index.0))?;
-    }
-    assert_eq!(rt; shown.len(), 3);
-    for (got, want) in shown.iter().zip(&[
-        (0x10u32, 6u32, b"t", 5usize, 6usize, 0u32),
-        (0x40, 0x10, b"f", 0, 9, 7),
-        (0x80, 4, b"f", 1, 8, 7),
-    ]) {
-        assert_eq!(rt; got.0, want.0);
-        assert_eq!(rt; got.1, want.1);
-        assert_eq!(rt; got.2, want.2.as_slice());
-        assert_eq!(rt; got.3, want.3);
-        assert_eq!(rt; got.4, want.4);
-        assert_eq!(rt; got.5, want.5);
-    }
+    let shown = shown(alloc, basic.procedures())?;
+    let wanted: [Shown<'_>; 3] = [
+        (0x10, 6, b"t".as_slice(), 5, 6, 0),
+        (0x40, 0x10, b"f".as_slice(), 0, 9, 7),
+        (0x80, 4, b"f".as_slice(), 1, 8, 7),
+    ];
+    assert_eq!(rt; shown.as_slice(), wanted.as_slice());
     assert_eq!(rt; basic.module_info().symbols.items.len(), 6);
     laws::pick_covers_with_greatest_start();
     Ok(())
@@ -118,7 +120,12 @@ fn procedures_by_their_starts(rt: HostRuntime) -> Result<(), Fail> {
 fn module_with_a_fault(rt: HostRuntime) {
     let info = module(rt.alloc(), Vec::new(rt.alloc()), Some(StreamError(3)));
     let refused = BasicModuleInfo::try_from_module_info(rt.alloc(), &info);
-    assert!(rt; matches!(&refused, Err(Error::PdbError(pdb_records::Error::Stream(StreamError(3))))));
+    assert!(rt;
+        matches!(
+            &refused,
+            Err(Error::PdbError(pdb_records::Error::Stream(StreamError(3))))
+        )
+    );
 }
 
 #[test]
