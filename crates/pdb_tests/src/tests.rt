@@ -1,6 +1,5 @@
 //! Tests over records that are made here: each public call once, with ample memory, and texts.
 
-mod contributions;
 mod formatters;
 mod lent_records;
 mod records;
