@@ -97,8 +97,8 @@ pub fn compute_global_functions<'a>(
 ) -> Result<Vec<PublicSymbolFunctionOrPlaceholder<'a>>, AllocError>
     ensures { IfOk result (λ v. map global_function v.items
         ≡ first_of_each_start (λ f. f.start)
-            (filter_map (public_function sections.now) symbols.now
-            ++ map placeholder (contribution_starts.now ++ section_ends sections.now))) }
+        (filter_map (public_function sections.now) symbols.now
+        ++ map placeholder (contribution_starts.now ++ section_ends sections.now))) }
 {
     let mut functions = public_symbol_functions(alloc, sections, symbols)?;
     add_placeholders(&mut functions, contribution_starts)?;

@@ -58,5 +58,5 @@ pub fn first_global_function_of_each_start_is_kept()
 pub fn pick_covers_with_greatest_start()
     ensures { (place : PdbInternalSectionOffset) (procedures : List ModuleProcedure)
         → IsPicked (procedure_covers place) (λ p. p.offset.offset) procedures
-            (pick (procedure_covers place) (λ p. p.offset.offset) procedures) }
+        (pick (procedure_covers place) (λ p. p.offset.offset) procedures) }
 {}

@@ -41,7 +41,7 @@ impl<'a> BasicModuleInfo<'a> {
         ensures refused { MatchResult result
             (λ _. module_info.now.symbols.fault ≡ None)
             (λ e. e ≢ OutOfMemory
-                → option_map (λ fault. PdbError (Stream fault)) module_info.now.symbols.fault ≡ Some e) }
+            → option_map (λ fault. PdbError (Stream fault)) module_info.now.symbols.fault ≡ Some e) }
     {
         if let Some(fault) = module_info.symbols.fault {
             return Err(Error::from(pdb_records::Error::Stream(fault)));

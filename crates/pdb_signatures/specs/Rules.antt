@@ -60,7 +60,7 @@ on_this w class (Some this) next = on_type (w.read this.0) (on_this_type w class
 abbrev pub method_list : World → List ℕ → Bool → List TypeIndex → Bool → List TypeIndex → Plan
 method_list w inside may_say_const list constant before =
     Seq (Seq (written (codes "(")) (list_of_arguments w inside (before ++ list)))
-        (written (if constant && may_say_const then codes ") const" else codes ")"))
+    (written (if constant && may_say_const then codes ") const" else codes ")"))
 
 -- what follows the type of a method's list of arguments
 abbrev pub on_list : World → MemberFunctionType → Bool → List ℕ → TypeData → Plan
@@ -77,17 +77,17 @@ method_arguments w inside m may_say_const =
 abbrev pub pointers_to_method : World → List Attribute → List ℕ → MemberFunctionType → Plan
 pointers_to_method w attributes inside m =
     let class_inside =
-        Seq (Seq (returned inside m.is_constructor (Some m.return_type)) (written (codes "(")))
-            (Later inside (Index m.class_type.0)) in
+    Seq (Seq (returned inside m.is_constructor (Some m.return_type)) (written (codes "(")))
+    (Later inside (Index m.class_type.0)) in
     Seq (Seq class_inside (written (attributes_text w.flags false false attributes ++ codes ")")))
-        (method_arguments w inside m false)
+    (method_arguments w inside m false)
 
 -- a pointer to a function: what it returns, the pointers in parentheses, and its arguments in parentheses
 abbrev pub pointers_to_function : World → List Attribute → List ℕ → ProcedureType → Plan
 pointers_to_function w attributes inside p =
     let pointers =
-        Seq (returned inside p.is_constructor p.return_type)
-            (written (codes "(" ++ attributes_text w.flags false false attributes ++ codes ")(")) in
+    Seq (returned inside p.is_constructor p.return_type)
+    (written (codes "(" ++ attributes_text w.flags false false attributes ++ codes ")(")) in
     Seq (Seq pointers (Later inside (Index p.argument_list.0))) (written (codes ")"))
 
 -- the end of a chain of pointers: functions are printed around the pointers, and any other type before them
@@ -96,8 +96,8 @@ chain_end w attributes inside (MemberFunction m) = pointers_to_method w attribut
 chain_end w attributes inside (Procedure p) = pointers_to_function w attributes inside p
 chain_end w attributes inside other =
     Buffered (Later inside (OfType other))
-        (attributes_text w.flags true true attributes)
-        (attributes_text w.flags true false attributes)
+    (attributes_text w.flags true true attributes)
+    (attributes_text w.flags true false attributes)
 
 -- what follows a modifier in a chain of pointers: a pointer goes on with the chain, all else ends it
 abbrev pub behind_modifier : World → List Attribute → List ℕ → TypeData → Plan
@@ -120,7 +120,7 @@ element w inside elements levels index (Array a) =
     Later inside (Elements (index ∷ elements) (levels ++ (a.first ∷ [])) a.element_type.0)
 element w inside elements levels index other =
     met_before (w.size index).met
-        (Seq (Later inside (OfType other)) (written (dimensions_text levels (w.size index).size)))
+    (Seq (Later inside (OfType other)) (written (dimensions_text levels (w.size index).size)))
 
 -- the target of a modifier, constant or not
 abbrev pub modified : World → Bool → List ℕ → TypeData → Plan
@@ -137,10 +137,10 @@ by_kind w inside (Enumeration e) = written (declared_text w.flags (codes "enum "
 by_kind w inside (Enumerate e) = written (declared_text w.flags (codes "enum class ") e.name)
 by_kind w inside (MemberFunction m) =
     Seq (Seq (returned_if_wanted w inside m.is_constructor (Some m.return_type)) (written (codes "()")))
-        (method_arguments w inside m false)
+    (method_arguments w inside m false)
 by_kind w inside (Procedure p) =
     Seq (Seq (returned_if_wanted w inside p.is_constructor p.return_type) (written (codes "()(")))
-        (Later inside (Index p.argument_list.0))
+    (Later inside (Index p.argument_list.0))
 by_kind w inside (ArgumentList list) = list_of_arguments w inside list
 by_kind w inside (Pointer p) = Later inside (Chain (attribute_of p false ∷ []) p.underlying_type.0)
 by_kind w inside (Array a) = Later inside (Elements [] (a.first ∷ []) a.element_type.0)

@@ -19,13 +19,13 @@ function_arguments w inside list =
 abbrev pub signature_by_type : World → List ℕ → List ℕ → TypeData → Plan
 signature_by_type w name inside (MemberFunction m) =
     Seq
-        (Seq
-        (Seq (written (static_text w.flags m.this_pointer_type))
-        (returned_if_wanted w inside m.is_constructor (Some m.return_type))) (written (function_name name)))
+    (Seq
+    (Seq (written (static_text w.flags m.this_pointer_type))
+    (returned_if_wanted w inside m.is_constructor (Some m.return_type))) (written (function_name name)))
     (method_arguments w inside m true)
 signature_by_type w name inside (Procedure p) =
     Seq (Seq (returned_if_wanted w inside p.is_constructor p.return_type) (written (function_name name)))
-        (function_arguments w inside p.argument_list)
+    (function_arguments w inside p.argument_list)
 signature_by_type w name inside other = written name
 
 -- the signature of a function with this name and the type of this index; index 0 is no type, and then the name stands

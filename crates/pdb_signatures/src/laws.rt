@@ -40,5 +40,5 @@ pub fn an_index_inside_itself_is_circular()
         → is_among index inside ≡ true
         → (failed : Parts)
         → Runs (world_of linked types pointer flags position) (type_of_index inside index) failed
-            (record { text = []; fault = Some (Plain (CircularTypeDefinition index)); failed = failed }) }
+        (record { text = []; fault = Some (Plain (CircularTypeDefinition index)); failed = failed }) }
 {}

@@ -35,7 +35,7 @@ fn define<'a>(
 ) -> Result<(), AllocError>
     ensures { OnOk result ((name : List ℕ) → size_under by_name.new name
         ≡ option_or (option_and_then (size_for name) (option_map told_aggregate told.entry))
-            (size_under by_name.old name)) }
+        (size_under by_name.old name)) }
 {
     let Some(defined) = told else {
         return Ok(());

@@ -86,7 +86,7 @@ fn learn<'a, I: ItemIndex, D>(
 ) -> Result<(), AllocError>
     ensures learned { OnOk result ((number : ℕ) → option_map (λ entry. entry.now) (get nat_cmp known.new number)
         ≡ option_or (option_map (λ entry. entry.now) (get nat_cmp known.old number))
-            (first_item I.number_of number (item.now ∷ []))) }
+        (first_item I.number_of number (item.now ∷ []))) }
     ensures refused { OnErr result ((number : ℕ) → get nat_cmp known.new number ≡ get nat_cmp known.old number) }
 {
     keep_first(known, item.index.number(), item)

@@ -14,7 +14,7 @@ pub(crate) fn keep_first<'a, T>(
 ) -> Result<(), AllocError>
     ensures kept { OnOk result ((asked : ℕ) → option_map (λ v. v.now) (get nat_cmp known.new asked)
         ≡ option_or (option_map (λ v. v.now) (get nat_cmp known.old asked))
-            (if number == asked then Some value.now else None)) }
+        (if number == asked then Some value.now else None)) }
     ensures refused { OnErr result ((asked : ℕ) → get nat_cmp known.new asked ≡ get nat_cmp known.old asked) }
 {
     if known.contains_key(&number) {

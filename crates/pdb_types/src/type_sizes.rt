@@ -128,7 +128,7 @@ impl<'a, P: ModuleProvider> Standing<'a, P> {
             (λ e. e ≡ OutOfMemory) }
         ensures passed { IfOk result
             (λ size. (other : ℕ) → contains nat_cmp passed.new other ≡ true
-                → size_of P.info self.now position other ≡ size) }
+            → size_of P.info self.now position other ≡ size) }
         ensures kept { Keeps P.info self.now findings.old findings.new }
     {
         let mut index = index;
