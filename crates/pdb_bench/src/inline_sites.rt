@@ -52,6 +52,14 @@ fn module_info(alloc: Global, shape: Shape, sites: u32) -> Result<ModuleInfo, Al
             symbols.push(other())?;
         }
     }
+    module_info_of(alloc, symbols)
+}
+
+/// A module with these symbols, and nothing else.
+pub(crate) fn module_info_of(
+    alloc: Global,
+    symbols: Vec<Symbol>,
+) -> Result<ModuleInfo, AllocError> {
     Ok(ModuleInfo {
         symbols: Reading {
             items: symbols,

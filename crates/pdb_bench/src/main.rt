@@ -1,19 +1,21 @@
 //! Times reading, making a context, look-ups and sizes of types over generated records.
 //!
 //! `pdb_bench NUMBER ..` does so for each number of public symbols, of inline sites of a procedure, of
-//! types, and of types in a chain; with no number for a thousand.
+//! nested procedures, of types, and of types in a chain; with no number for a thousand.
 //! Counts go to standard output, and times, in milliseconds, to standard error.
 #![tactic(auto)]
 
 mod chains;
 mod generate;
 mod inline_sites;
+mod nested_procedures;
 mod types;
 
 use anyhow::Result;
 use chains::measure_chains;
 use generate::{ADDRESS_STEP, records_text};
 use inline_sites::{Shape, count_ranges};
+use nested_procedures::count_ranges_of_nested;
 use pdb_addr2line::pdb::PDB;
 use pdb_addr2line::{Context, ContextPdbData, ModuleProvider};
 use pdb_json::read_records;
@@ -38,6 +40,7 @@ fn main(rt: HostRuntime) -> Result<()> {
         measure(&rt, *size)?;
         measure_sites(&rt, "nested", Shape::Nested, *size)?;
         measure_sites(&rt, "side by side", Shape::SideBySide, *size)?;
+        measure_nested_procedures(&rt, *size)?;
         measure_types(&rt, *size)?;
         measure_chains(&rt, *size)?;
     }
@@ -124,5 +127,18 @@ fn measure_sites<R: Clock + Print + Eprint + AllocGlobal>(
     let walking = start.elapsed(rt)?.as_millis();
     println!(rt; "{sites} sites {name}, {ranges} ranges")?;
     eprintln!(rt; "sites made and ranges found in {walking}")?;
+    Ok(())
+}
+
+/// Finds the inline ranges of each of so many procedures, nested in each other.
+fn measure_nested_procedures<R: Clock + Print + Eprint + AllocGlobal>(
+    rt: &R,
+    procedures: u32,
+) -> Result<()> {
+    let start = Instant::now(rt)?;
+    let ranges = count_ranges_of_nested(rt.alloc(), procedures)?;
+    let walking = start.elapsed(rt)?.as_millis();
+    println!(rt; "{procedures} procedures nested, {ranges} ranges")?;
+    eprintln!(rt; "procedures made and ranges found in {walking}")?;
     Ok(())
 }
