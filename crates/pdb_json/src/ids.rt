@@ -5,7 +5,7 @@ ghost use Rattle.pdb_json.specs.Ids.{id_named, id_of};
 
 use crate::faults::RecordFault;
 use crate::members::{Elements, FromJson, member};
-use crate::names::{Text, unknown_kind};
+use crate::names::{kind, unknown_kind};
 use crate::reader::Reader;
 use crate::types::kind_name;
 use crate::values::object;
@@ -82,7 +82,7 @@ impl FromJson for IdData {
     #[tactic(auto, unfolding(crate::specs::Ids::id_of))]
     fn from_json(reader: Reader, value: Option<&Value>) -> Result<IdData, RecordFault> {
         let entry = object(reader, value)?;
-        let kind: Text = member(reader, entry, "kind")?;
-        id_data(reader, &kind.text, entry)
+        let kind = kind(reader, entry)?;
+        id_data(reader, kind, entry)
     }
 }

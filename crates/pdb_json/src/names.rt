@@ -1,6 +1,8 @@
-ghost use Rattle.std.specs.Prelude.{◌≡◌, map};
-ghost use Rattle.pdb_json.specs.Faults.{Agrees};
+ghost use Rattle.std.specs.Prelude.{◌≡◌, map, codes};
+ghost use Rattle.serde_json.specs.View.{view};
+ghost use Rattle.pdb_json.specs.Faults.{Agrees, AgreesBy};
 ghost use Rattle.pdb_json.specs.Values.{found, text_of};
+ghost use Rattle.pdb_json.specs.Members.{member_of};
 ghost use Rattle.pdb_json.specs.Names.{name_of, variant_named, variant_of, unknown_kind};
 
 use crate::faults::{RecordFault, inside, wanted};
@@ -36,6 +38,20 @@ pub(crate) fn variant<T: Copy>(
     match named(name, names) {
         Some(variant) => Ok(variant),
         None => wanted(reader.alloc, "kind"),
+    }
+}
+
+/// Reads the name of an object's kind.
+#[tactic(auto, unfolding(crate::specs::Members::member_of, crate::specs::Values::text_of))]
+pub(crate) fn kind(reader: Reader, object: &Value) -> Result<&str, RecordFault>
+    ensures { AgreesBy (λ kind. kind.now) result (member_of (codes "kind") text_of (view object.now)) }
+{
+    if let Some(value) = object.get("kind")
+        && let Some(kind) = value.as_str()
+    {
+        Ok(kind)
+    } else {
+        inside(reader.alloc, "kind", wanted(reader.alloc, "text"))
     }
 }
 

@@ -6,7 +6,7 @@ ghost use Rattle.pdb_json.specs.Symbols.{data_named, data_of, symbol_of, symbol_
 
 use crate::faults::RecordFault;
 use crate::members::{FromJson, member};
-use crate::names::{Text, unknown_kind};
+use crate::names::{kind, unknown_kind};
 use crate::reader::Reader;
 use crate::sections::place;
 use crate::values::object;
@@ -152,8 +152,8 @@ impl FromJson for SymbolData {
     #[tactic(auto, unfolding(crate::specs::Symbols::data_of))]
     fn from_json(reader: Reader, value: Option<&Value>) -> Result<SymbolData, RecordFault> {
         let symbol = object(reader, value)?;
-        let kind: Text = member(reader, symbol, "kind")?;
-        symbol_data(reader, &kind.text, symbol)
+        let kind = kind(reader, symbol)?;
+        symbol_data(reader, kind, symbol)
     }
 }
 

@@ -8,7 +8,7 @@ ghost use Rattle.pdb_json.specs.Types.{modifier_of, arguments_of, kind_name_of, 
 
 use crate::faults::RecordFault;
 use crate::members::{Elements, FromJson, member};
-use crate::names::{Text, unknown_kind, variant};
+use crate::names::{Text, kind, unknown_kind, variant};
 use crate::reader::Reader;
 use crate::values::object;
 use pdb_records::{
@@ -229,8 +229,8 @@ impl FromJson for Variant {
     #[tactic(auto, unfolding(crate::specs::Types::number_of))]
     fn from_json(reader: Reader, value: Option<&Value>) -> Result<Variant, RecordFault> {
         let number = object(reader, value)?;
-        let width: Text = member(reader, number, "kind")?;
-        sized_number(reader, &width.text, number)
+        let width = kind(reader, number)?;
+        sized_number(reader, width, number)
     }
 }
 
@@ -305,7 +305,7 @@ impl FromJson for TypeData {
     #[tactic(auto, unfolding(crate::specs::Types::type_of))]
     fn from_json(reader: Reader, value: Option<&Value>) -> Result<TypeData, RecordFault> {
         let entry = object(reader, value)?;
-        let kind: Text = member(reader, entry, "kind")?;
-        type_data(reader, &kind.text, entry)
+        let kind = kind(reader, entry)?;
+        type_data(reader, kind, entry)
     }
 }
