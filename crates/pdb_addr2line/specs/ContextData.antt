@@ -44,23 +44,9 @@ formatter_refusal debug =
     first_refusal (option_map (λ fault. PdbError (Stream fault)) debug.modules.fault) (
     stream_refusal debug.machine_type)
 
--- the context of these records: refused for the list of modules, the machine and the sections, and then as a context
--- over their contents is
-abbrev pub context_of : Records → Result (Sources Records) Error
-context_of r =
-    and_then (streamed r.debug_information) (λ debug.
-    and_then (streamed r.global_symbols) (λ symbols.
-    and_then (streamed r.address_map) (λ ranges.
-    unless (formatter_refusal debug) (
-    and_then (sections_read r) (λ sections.
-    accepted (record {
-      provider = r;
-      sections = sections;
-      address_map = ranges;
-      global_symbols = symbols;
-      debug_information = debug;
-      modules = debug.modules.items;
-    }))))))
+-- the flags where none are chosen: no return types, no `static`, a space behind commas, and names alone
+abbrev pub default_flags : TypeFormatterFlags
+default_flags = record { 0 = 23 }
 
 -- what was read, if it was
 abbrev pub if_read : {A : Type 0} → Result A StreamError → Option A
@@ -84,3 +70,25 @@ formatter_of flags r =
       ids = ids.items;
       flags = flags;
     }))))))
+
+-- the context over these records whose formatter stands on this: refused for the sections, and then as a context over
+-- their contents is
+abbrev pub context_over : Records → Basis Records → Result (Sources Records) Error
+context_over r basis =
+    and_then (streamed r.debug_information) (λ debug.
+    and_then (streamed r.global_symbols) (λ symbols.
+    and_then (streamed r.address_map) (λ ranges.
+    and_then (sections_read r) (λ sections.
+    accepted (record {
+      provider = r;
+      sections = sections;
+      address_map = ranges;
+      global_symbols = symbols;
+      strings = if_read r.string_table;
+      debug_information = debug;
+      basis = basis;
+    })))))
+
+-- the context of these records: refused as their formatter is, and then as one over them with that formatter
+abbrev pub context_of : TypeFormatterFlags → Records → Result (Sources Records) Error
+context_of flags r = and_then (formatter_of flags r) (context_over r)

@@ -1,13 +1,16 @@
 -- What is told of a function.
-use Rattle.std.specs.Prelude.{ℕ, ◌+◌, ◌^◌, ◌==◌, Bool, false, List, [], ◌∷◌, length, codes, string_bytes, Option, Some, None, option_map, option_and_then, unwrap_or, nat_lt, if◌then◌else◌}
+use Rattle.std.specs.Prelude.{ℕ, ◌+◌, ◌^◌, List, string_bytes, Option, Some, None, option_map, option_and_then, nat_lt, if◌then◌else◌}
+use Rattle.std.specs.Option.{option_map_or}
 use Rattle.pdb_records.specs.Names.{lossy}
 use Rattle.pdb_records.specs.Addresses.{rva}
 use Rattle.pdb_records.specs.declared.addresses.AddressRange.{AddressRange}
-use Rattle.pdb_records.specs.declared.addresses.PdbInternalSectionOffset.{PdbInternalSectionOffset}
+use Rattle.pdb_types.specs.FailedParts.{Parts}
+use Rattle.pdb_types.specs.Standing.{Basis, Infos}
 use Rattle.pdb_addr2line.specs.declared.function.Function.{Function}
 use Rattle.pdb_functions.specs.GlobalFunctions.{GlobalFunction}
 use Rattle.pdb_functions.specs.Procedures.{ModuleProcedure}
-use Rattle.pdb_functions.specs.Lookup.{FoundFunction, found_procedure, found_global, global_at, next_global}
+use Rattle.pdb_functions.specs.Lookup.{FoundFunction, found_procedure, found_global, next_global}
+use Rattle.pdb_addr2line.specs.Names.{procedure_name, failed_by_name}
 
 -- a function's addresses and its name, as far as they are known
 pub record Description : Type 0 where
@@ -18,33 +21,6 @@ pub record Description : Type 0 where
 -- the same, as the code has it
 abbrev pub description : Function → Description
 description f = record { start_rva = f.start_rva; end_rva = f.end_rva; name = option_map string_bytes f.name }
-
--- a name that a compiler decorated begins with a question mark
-abbrev pub is_decorated : List ℕ → Bool
-is_decorated [] = false
-is_decorated (c ∷ cs) = c == 63
-
--- a name as it is printed
-abbrev pub printed_name : List ℕ → List ℕ
-printed_name name = if length name == 0 then codes "<name omitted>" else lossy name
-
--- the decorated name of a global function, where it has one
-abbrev pub decorated_name : GlobalFunction → Option (List ℕ)
-decorated_name f = option_and_then (λ name. if is_decorated name then Some (lossy name) else None) f.name
-
--- the decorated name of the global function that starts at a place
-abbrev pub decorated_at : List GlobalFunction → PdbInternalSectionOffset → Option (List ℕ)
-decorated_at globals start = option_and_then decorated_name (global_at start globals)
-
--- the name of a procedure with no type: a decorated one at its start goes before its own, unless that is decorated too
-abbrev pub untyped_name : List GlobalFunction → ModuleProcedure → List ℕ
-untyped_name globals p =
-    if is_decorated p.name then lossy p.name
-    else unwrap_or (decorated_at globals p.offset) (printed_name p.name)
-
--- the name of a procedure; those with a type have none as yet
-abbrev pub procedure_name : List GlobalFunction → ModuleProcedure → Option (List ℕ)
-procedure_name globals p = if p.type_index.0 == 0 then Some (untyped_name globals p) else None
 
 -- where a global function ends: at the next one of its section, if there is one; nothing is told where that one has no
 -- address
@@ -63,16 +39,25 @@ described_global sections globals f =
     option_map (λ end. record { start_rva = start.0; end_rva = end; name = option_map lossy f.name })
     (global_end sections (next_global f.start globals))) (rva sections f.start)
 
--- what is told of a procedure
-abbrev pub described_procedure : List AddressRange → List GlobalFunction → ModuleProcedure → Option Description
-described_procedure sections globals p =
+-- what is told of a procedure of this name
+abbrev pub described_procedure : List AddressRange → ModuleProcedure → Option (List ℕ) → Option Description
+described_procedure sections p name =
     option_map (λ start. record {
       start_rva = start.0;
       end_rva = sum_in_32_bits start.0 p.len;
-      name = procedure_name globals p;
+      name = name;
     }) (rva sections p.offset)
 
 -- what is told of a function that lies over a place
-abbrev pub described : List AddressRange → List GlobalFunction → FoundFunction → Option Description
-described sections globals (found_global m f) = described_global sections globals f
-described sections globals (found_procedure m p) = described_procedure sections globals p
+abbrev pub described : {P : Type 0} → (P → Infos) → Basis P → List AddressRange → List GlobalFunction → FoundFunction
+    → Option Description
+described info basis sections globals (found_global m f) = described_global sections globals f
+described info basis sections globals (found_procedure m p) =
+    described_procedure sections p (procedure_name info basis globals m p)
+
+-- the parts that failed once that is told: those by its name, where a procedure has an address
+abbrev pub failed_by_telling : {P : Type 0} → (P → Infos) → Basis P → List AddressRange → List GlobalFunction
+    → FoundFunction → Parts → Parts
+failed_by_telling info basis sections globals (found_global m f) failed = failed
+failed_by_telling info basis sections globals (found_procedure m p) failed =
+    option_map_or (λ start. failed_by_name info basis globals m p failed) (rva sections p.offset) failed

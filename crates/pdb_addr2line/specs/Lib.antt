@@ -15,7 +15,9 @@ pub use Rattle.pdb_inline.specs.InlineRows
 pub use Rattle.pdb_inline.specs.InlineRanges
 pub use Rattle.pdb_inline.specs.InlineStacks
 pub use Rattle.pdb_inline.specs.WellNested
-pub mod Function
 pub mod Sources
+pub mod Names
+pub mod Function
+pub mod Lookups
 pub mod ContextData
 pub mod Keeper

@@ -1,7 +1,7 @@
 ghost use Rattle.std.specs.Prelude.{◌≡◌, [], None, Some, IfOk};
 ghost use Rattle.pdb_types.specs.Provided.{provided};
 ghost use Rattle.pdb_types.specs.Outcomes.{Gives, Refuses};
-ghost use Rattle.pdb_addr2line.specs.ContextData.{records_refusal, formatter_refusal, sections_read, info_at, context_of, formatter_of};
+ghost use Rattle.pdb_addr2line.specs.ContextData.{records_refusal, formatter_refusal, sections_read, info_at, default_flags, context_over, context_of, formatter_of};
 ghost use Rattle.std.specs.Borrow.{sem};
 ghost use Rattle.std.specs.Io.BufRead.{Rests};
 ghost use Rattle.pdb_records.specs.contracts.pdb.PDB.{the_row};
@@ -108,7 +108,19 @@ impl<'p> ContextPdbData<'p> {
         })
     }
 
-    /// A context over these records.
+    /// A context over these records, whose names are printed with the default flags.
+    ///
+    /// # Errors
+    ///
+    /// As [`ContextPdbData::make_context_with_formatter_flags`].
+    pub fn make_context(&self) -> Result<Context<'_, Self>>
+        ensures sources { Gives (λ c. c.sources) result (context_of default_flags self.now) }
+        ensures none_failed { IfOk result (λ c. c.failed ≡ []) }
+    {
+        self.make_context_with_formatter_flags(TypeFormatterFlags::default())
+    }
+
+    /// A context over these records, whose names are printed with these flags.
     ///
     /// # Errors
     ///
@@ -116,8 +128,21 @@ impl<'p> ContextPdbData<'p> {
     /// read, for sections that could not be read, and for the fault of the global symbols, in this
     /// order; then the errors of
     /// [`compute_section_contributions`](crate::parts::compute_section_contributions).
-    pub fn make_context(&self) -> Result<Context<'_, Self>>
-        ensures { Gives (λ c. c) result (context_of self.now) }
+    pub fn make_context_with_formatter_flags(
+        &self,
+        flags: TypeFormatterFlags,
+    ) -> Result<Context<'_, Self>>
+        ensures sources { Gives (λ c. c.sources) result (context_of flags self.now) }
+        ensures none_failed { IfOk result (λ c. c.failed ≡ []) }
+    {
+        let formatter = self.make_type_formatter_with_flags(flags)?;
+        self.context_with(formatter)
+    }
+
+    /// A context over these records, whose names this formatter prints.
+    fn context_with<'c>(&'c self, formatter: TypeFormatter<'c, Self>) -> Result<Context<'c, Self>>
+        ensures sources { Gives (λ c. c.sources) result (context_over self.now formatter.entry.standing) }
+        ensures failed { IfOk result (λ c. c.failed ≡ formatter.entry.failed) }
     {
         let pdb = self.pdb();
         let (Ok(debug), Ok(symbols), Ok(address_map)) = (
@@ -127,19 +152,18 @@ impl<'p> ContextPdbData<'p> {
         ) else {
             unreachable!();
         };
-        check_machine(debug)?;
         let sections = sections_of(pdb)?;
-        let modules = copies_of(self.alloc, &debug.modules.items)?;
-        let context = Context::over(
+        let strings = pdb.string_table.as_ref().ok();
+        Context::new_from_parts(
             self.alloc,
             self,
             sections,
             address_map,
             symbols,
+            strings,
             debug,
-            modules,
-        )?;
-        Ok(context)
+            formatter,
+        )
     }
 
     /// A formatter of types over these records, with the default flags.
@@ -148,7 +172,7 @@ impl<'p> ContextPdbData<'p> {
     ///
     /// As [`ContextPdbData::make_type_formatter_with_flags`].
     pub fn make_type_formatter(&self) -> Result<TypeFormatter<'_, Self>>
-        ensures answer { Gives (λ f. f.standing) result (formatter_of (record { 0 = 23 }) self.now) }
+        ensures answer { Gives (λ f. f.standing) result (formatter_of default_flags self.now) }
         ensures none_failed { IfOk result (λ f. f.failed ≡ []) }
     {
         self.make_type_formatter_with_flags(TypeFormatterFlags::default())

@@ -1,16 +1,22 @@
-ghost use Rattle.std.specs.Prelude.{◌≡◌, map, option_map, string_bytes, IfOk};
-ghost use Rattle.std.specs.Option.{option_copied};
+ghost use Rattle.std.specs.Prelude.{◌≡◌, map, option_map, string_bytes, IfOk, OnOk, MatchResult};
+ghost use Rattle.std.specs.Option.{option_copied, option_map_or};
+ghost use Rattle.pdb_records.specs.Addresses.{rva};
 ghost use Rattle.pdb_records.specs.Names.{lossy};
+ghost use Rattle.pdb_types.specs.declared.error.Error.TheVariants.{OutOfMemory};
 ghost use Rattle.pdb_functions.specs.GlobalFunctions.{global_function};
 ghost use Rattle.pdb_functions.specs.Procedures.{module_procedure};
 ghost use Rattle.pdb_functions.specs.Lookup.{found_function};
-ghost use Rattle.pdb_addr2line.specs.Function.{description, is_decorated, printed_name, decorated_at, untyped_name, procedure_name, global_end, described_global, described_procedure, described};
+ghost use Rattle.pdb_addr2line.specs.Names.{procedure_name, failed_by_name, GainsBroken};
+ghost use Rattle.pdb_addr2line.specs.Function.{description, global_end, described_global, described_procedure, described, failed_by_telling};
 
+use crate::names::{name_of_procedure, text_of};
 use pdb_functions::{
     ProcedureSymbolFunction, PublicOrProcedureSymbol, PublicSymbolFunctionOrPlaceholder,
-    global_function_at, next_function,
+    next_function,
 };
-use pdb_records::{AddressMap, PdbInternalSectionOffset, RawString};
+use pdb_records::{AddressMap, RawString};
+use pdb_signatures::TypeFormatter;
+use pdb_types::{ModuleProvider, Result};
 use std::alloc::{AllocError, Global};
 
 /// A function's addresses and its name.
@@ -20,97 +26,37 @@ pub struct Function {
     pub start_rva: u32,
     /// Where it ends: the address of the first byte behind it, if it is known and fits 32 bits.
     pub end_rva: Option<u32>,
-    /// The name, if one is known. That of a public symbol may be decorated: it then begins with a
-    /// question mark, and a demangler can take it apart.
+    /// The name, if one is known. That of a procedure is its signature, as the formatter's flags want it.
+    /// That of a public symbol may be decorated: it then begins with a question mark, and a demangler can
+    /// take it apart.
     pub name: Option<String>,
 }
 
-/// What a procedure is called that has an empty name.
-const OMITTED_NAME: &str = "<name omitted>";
-
-/// Whether a name is one that a compiler decorated.
-fn is_mangled(name: &RawString) -> bool
-    ensures { result ≡ is_decorated name.now }
-{
-    name.0.first() == Some(&b'?')
-}
-
-/// A name as text.
-fn text_of(alloc: Global, name: &RawString) -> Result<String, AllocError>
-    ensures { IfOk result (λ s. string_bytes s ≡ lossy name.now) }
-{
-    name.to_string_lossy(alloc)?.into_owned(alloc)
-}
-
-/// A name as it is printed.
-fn printed(alloc: Global, name: &RawString) -> Result<String, AllocError>
-    ensures { IfOk result (λ s. string_bytes s ≡ printed_name name.now) }
-{
-    if name.0.is_empty() {
-        return String::from_str(alloc, OMITTED_NAME);
-    }
-    text_of(alloc, name)
-}
-
-/// The decorated name of the global function that starts at a place.
-fn mangled_name_at<'a>(
-    functions: &[PublicSymbolFunctionOrPlaceholder<'a>],
-    start: PdbInternalSectionOffset,
-) -> Option<&'a RawString>
-    ensures { option_map lossy (option_copied result) ≡ decorated_at (map global_function functions.now) start }
-{
-    let name = global_function_at(functions, start)?.name?;
-    if is_mangled(name) { Some(name) } else { None }
-}
-
-/// The name of a procedure with no type.
-fn untyped_procedure_name(
-    alloc: Global,
-    functions: &[PublicSymbolFunctionOrPlaceholder<'_>],
-    procedure: ProcedureSymbolFunction<'_>,
-) -> Result<String, AllocError>
-    ensures { IfOk result (λ s. string_bytes s
-        ≡ untyped_name (map global_function functions.now) (module_procedure procedure.entry)) }
-{
-    if is_mangled(procedure.name) {
-        return text_of(alloc, procedure.name);
-    }
-    match mangled_name_at(functions, procedure.offset) {
-        Some(name) => text_of(alloc, name),
-        None => printed(alloc, procedure.name),
-    }
-}
-
-/// The name of a procedure, if one is known.
-fn name_of_procedure(
-    alloc: Global,
-    functions: &[PublicSymbolFunctionOrPlaceholder<'_>],
-    procedure: ProcedureSymbolFunction<'_>,
-) -> Result<Option<String>, AllocError>
-    ensures { IfOk result (λ name. option_map string_bytes name
-        ≡ procedure_name (map global_function functions.now) (module_procedure procedure.entry)) }
-{
-    if procedure.type_index.0 != 0 {
-        return Ok(None);
-    }
-    let name = untyped_procedure_name(alloc, functions, procedure)?;
-    Ok(Some(name))
-}
-
-/// What is told of a procedure.
-fn describe_procedure(
+/// What is told of a procedure of a module.
+fn describe_procedure<P: ModuleProvider>(
     alloc: Global,
     address_map: &AddressMap,
     functions: &[PublicSymbolFunctionOrPlaceholder<'_>],
+    formatter: &mut TypeFormatter<'_, P>,
+    module_index: usize,
     procedure: ProcedureSymbolFunction<'_>,
-) -> Result<Option<Function>, AllocError>
-    ensures { IfOk result (λ f. option_map description f
-        ≡ described_procedure address_map.now (map global_function functions.now) (module_procedure procedure.entry)) }
+) -> Result<Option<Function>>
+    ensures told { MatchResult result
+        (λ f. option_map description f ≡ described_procedure address_map.now (module_procedure procedure.entry)
+        (procedure_name P.info formatter.old.standing (map global_function functions.now)
+        module_index (module_procedure procedure.entry)))
+        (λ e. e ≡ OutOfMemory) }
+    ensures standing { formatter.new.standing ≡ formatter.old.standing }
+    ensures failed { OnOk result (formatter.new.failed ≡ option_map_or
+        (λ _. failed_by_name P.info formatter.old.standing (map global_function functions.now)
+        module_index (module_procedure procedure.entry) formatter.old.failed)
+        (rva address_map.now (module_procedure procedure.entry).offset) formatter.old.failed) }
+    ensures broken { GainsBroken P.info formatter.old.standing formatter.old.failed formatter.new.failed }
 {
     let Some(start) = procedure.offset.to_rva(address_map) else {
         return Ok(None);
     };
-    let name = name_of_procedure(alloc, functions, procedure)?;
+    let name = name_of_procedure(alloc, functions, formatter, module_index, procedure)?;
     Ok(Some(Function {
         start_rva: start.0,
         end_rva: start.0.checked_add(procedure.len),
@@ -174,21 +120,34 @@ fn describe_global(
 }
 
 /// What is told of a function that lies over a place.
-pub(crate) fn describe(
+pub(crate) fn describe<P: ModuleProvider>(
     alloc: Global,
     address_map: &AddressMap,
     functions: &[PublicSymbolFunctionOrPlaceholder<'_>],
+    formatter: &mut TypeFormatter<'_, P>,
     found: PublicOrProcedureSymbol<'_>,
-) -> Result<Option<Function>, AllocError>
-    ensures { IfOk result (λ f. option_map description f
-        ≡ described address_map.now (map global_function functions.now) (found_function found.entry)) }
+) -> Result<Option<Function>>
+    ensures told { MatchResult result
+        (λ f. option_map description f ≡ described P.info formatter.old.standing address_map.now
+        (map global_function functions.now) (found_function found.entry))
+        (λ e. e ≡ OutOfMemory) }
+    ensures standing { formatter.new.standing ≡ formatter.old.standing }
+    ensures failed { OnOk result (formatter.new.failed ≡ failed_by_telling P.info formatter.old.standing
+        address_map.now (map global_function functions.now) (found_function found.entry) formatter.old.failed) }
+    ensures broken { GainsBroken P.info formatter.old.standing formatter.old.failed formatter.new.failed }
 {
     match found {
         PublicOrProcedureSymbol::Public(_, function) => {
-            describe_global(alloc, address_map, functions, function)
+            let function = describe_global(alloc, address_map, functions, function)?;
+            Ok(function)
         }
-        PublicOrProcedureSymbol::Procedure(_, procedure) => {
-            describe_procedure(alloc, address_map, functions, procedure)
-        }
+        PublicOrProcedureSymbol::Procedure(module_index, procedure) => describe_procedure(
+            alloc,
+            address_map,
+            functions,
+            formatter,
+            module_index,
+            procedure,
+        ),
     }
 }

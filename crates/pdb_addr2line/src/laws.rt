@@ -17,3 +17,4 @@ pub use pdb_ranges::laws::{
 pub use pdb_records::laws::{
     hash_of_indices_agrees_with_equality, order_of_indices_agrees_with_equality,
 };
+pub use pdb_signatures::laws::text_does_not_depend_on_failed_parts;

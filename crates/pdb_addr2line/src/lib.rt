@@ -12,7 +12,8 @@
 //! }
 //! ```
 //!
-//! Addresses are relative to where the program is loaded.
+//! Addresses are relative to where the program is loaded. The name of a procedure is its C++ signature,
+//! which a [`TypeFormatter`] prints: [`ContextPdbData::make_context_with_formatter_flags`] chooses how.
 #![tactic(auto)]
 
 pub use pdb_records as pdb;
@@ -22,6 +23,8 @@ mod context_data;
 mod function;
 mod inline_ranges;
 pub mod laws;
+mod lookups;
+mod names;
 pub mod parts;
 
 pub use context::Context;

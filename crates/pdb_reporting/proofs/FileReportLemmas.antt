@@ -4,7 +4,7 @@ use Rattle.pdb_records.specs.Records.{Records}
 use Rattle.pdb_types.specs.declared.error.Error.{Error}
 use Rattle.pdb_types.specs.Outcomes.{unless}
 use Rattle.pdb_addr2line.specs.Sources.{Sources}
-use Rattle.pdb_addr2line.specs.ContextData.{records_refusal, context_of}
+use Rattle.pdb_addr2line.specs.ContextData.{records_refusal, default_flags, context_of}
 use Rattle.pdb_reporting.specs.declared.reports.ReportFault.{ReportFault}
 use Rattle.pdb_reporting.specs.declared.reports.ReportFault.TheVariants.{Lookup, Write}
 use Rattle.pdb_reporting.specs.Sinks.{SinkState}
@@ -13,10 +13,11 @@ use Rattle.pdb_reporting.specs.FileReports.{opened, function_over_records, EndsO
 
 -- records whose streams were read are opened as their context is made
 pub opened-accepted : (records given : Records) (made : Result (Sources Records) Error)
-    → given ≡ records → records_refusal records ≡ None → context_of given ≡ made → opened records ≡ made
+    → given ≡ records → records_refusal records ≡ None → context_of default_flags given ≡ made → opened records ≡ made
 opened-accepted records given made kept accepted is_made =
-    let refused : Option Error → Result (Sources Records) Error = λ r. unless r (context_of records) in
-    let same : context_of records ≡ context_of given = ap (λ (r : Records). context_of r) (sym kept) in
+    let context : Records → Result (Sources Records) Error = context_of default_flags in
+    let refused : Option Error → Result (Sources Records) Error = λ r. unless r (context records) in
+    let same : context records ≡ context given = ap context (sym kept) in
     ap refused accepted ∙ (same ∙ is_made)
 
 -- a report that ends early over records that are not refused ends amid its lines

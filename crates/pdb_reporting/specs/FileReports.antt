@@ -5,21 +5,22 @@ use Rattle.pdb_types.specs.declared.error.Error.{Error}
 use Rattle.pdb_types.specs.declared.error.Error.TheVariants.{OutOfMemory}
 use Rattle.pdb_addr2line.specs.Function.{Description}
 use Rattle.pdb_types.specs.Outcomes.{unless}
-use Rattle.pdb_addr2line.specs.Sources.{Sources, function_at}
-use Rattle.pdb_addr2line.specs.ContextData.{records_refusal, info_at, context_of}
+use Rattle.pdb_addr2line.specs.Lookups.{function_at}
+use Rattle.pdb_addr2line.specs.Sources.{Sources}
+use Rattle.pdb_addr2line.specs.ContextData.{records_refusal, info_at, default_flags, context_of}
 use Rattle.pdb_reporting.specs.declared.reports.ReportFault.{ReportFault}
 use Rattle.pdb_reporting.specs.declared.reports.ReportFault.TheVariants.{Lookup, Write}
 use Rattle.pdb_reporting.specs.Sinks.{SinkState, Takes}
 use Rattle.pdb_reporting.specs.PrintedLines.{names_text}
 use Rattle.pdb_reporting.specs.Reports.{EndsEarly}
 
--- the context of these records, where their streams and their contents are not refused
+-- the context of these records with the default flags, where their streams and their contents are not refused
 abbrev pub opened : Records → Result (Sources Records) Error
-opened records = unless (records_refusal records) (context_of records)
+opened records = unless (records_refusal records) (context_of default_flags records)
 
 -- the function over an address, by a plain scan of records
 abbrev pub function_over_records : Sources Records → ℕ → Option Description
-function_over_records sources = function_at sources (λ index m. info_at sources.provider index)
+function_over_records = function_at (λ records index m. info_at records index)
 
 -- a sink takes the lines of addresses over records, which are not refused
 abbrev pub TakesLines : List ℕ → Result (Sources Records) Error → SinkState → SinkState → Type 0

@@ -1,6 +1,6 @@
 ghost use Rattle.std.specs.Prelude.{◌≡◌, OnOk, IfErr};
 ghost use Rattle.pdb_types.specs.declared.error.Error.TheVariants.{OutOfMemory};
-ghost use Rattle.pdb_addr2line.specs.Sources.{function_at};
+ghost use Rattle.pdb_addr2line.specs.Lookups.{function_at};
 ghost use Rattle.pdb_reporting.specs.declared.reports.ReportFault.TheVariants.{Lookup, Write};
 ghost use Rattle.pdb_reporting.specs.Sinks.{Takes};
 ghost use Rattle.pdb_reporting.specs.PrintedLines.{names_line, names_text};
@@ -58,9 +58,9 @@ fn put_function<P: ModuleProvider, W: Sink>(
     address: u32,
     sink: &mut W,
 ) -> Result<(), ReportFault>
-    ensures same { context.new ≡ context.old }
+    ensures sources { context.new.sources ≡ context.old.sources }
     ensures line { OnOk result
-        (let there = function_at context.old (P.info context.old.provider) address in
+        (let there = function_at P.info context.old.sources address in
         Takes (W.state sink.old) (W.state sink.new) (names_line address there)) }
     ensures fault { IfErr result (EndsAtOnce (W.state sink.old) (W.state sink.new)) }
 {
@@ -84,12 +84,12 @@ pub fn report<P: ModuleProvider, W: Sink>(
     addresses: &[u32],
     sink: &mut W,
 ) -> Result<(), ReportFault>
-    ensures same { context.new ≡ context.old }
+    ensures sources { context.new.sources ≡ context.old.sources }
     ensures text { OnOk result
-        (let there = function_at context.old (P.info context.old.provider) in
+        (let there = function_at P.info context.old.sources in
         Takes (W.state sink.old) (W.state sink.new) (names_text there addresses.now)) }
     ensures fault { IfErr result
-        (let there = function_at context.old (P.info context.old.provider) in
+        (let there = function_at P.info context.old.sources in
         EndsEarly there addresses.now (W.state sink.old) (W.state sink.new)) }
 {
     match command {
@@ -104,12 +104,12 @@ fn report_names<P: ModuleProvider, W: Sink>(
     addresses: &[u32],
     sink: &mut W,
 ) -> Result<(), ReportFault>
-    ensures same { context.new ≡ context.old }
+    ensures sources { context.new.sources ≡ context.old.sources }
     ensures text { OnOk result
-        (let there = function_at context.old (P.info context.old.provider) in
+        (let there = function_at P.info context.old.sources in
         Takes (W.state sink.old) (W.state sink.new) (names_text there addresses.now)) }
     ensures fault { IfErr result
-        (let there = function_at context.old (P.info context.old.provider) in
+        (let there = function_at P.info context.old.sources in
         EndsEarly there addresses.now (W.state sink.old) (W.state sink.new)) }
 {
     for address in addresses {

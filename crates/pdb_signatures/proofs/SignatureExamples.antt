@@ -20,7 +20,7 @@ use Rattle.pdb_types.specs.TypeSizes.{type_size}
 use Rattle.pdb_types.specs.declared.unread.Part.TheVariants.{Imports}
 use Rattle.pdb_types.specs.Errors.{ToldError, Plain}
 use Rattle.pdb_types.specs.Standing.{Linked}
-use Rattle.pdb_signatures.specs.Documents.{Run}
+use Rattle.pdb_signatures.specs.Documents.{Run, Told}
 use Rattle.pdb_signatures.specs.Worlds.{World, world_of, type_at}
 use Rattle.pdb_signatures.specs.Unfolding.{Runs}
 use Rattle.pdb_signatures.specs.Signatures.{signature}
@@ -104,7 +104,7 @@ Prints w name text = PrintingDoes w name 0x1000 none_failed (record { text = tex
 
 -- the signature of the type 0x1000 is printed as far as this text, and then there is this error
 abbrev pub Fails : World → List ℕ → List ℕ → ToldError → Type 0
-Fails w name text e = PrintingDoes w name 0x1000 none_failed (record { text = text; fault = Some e; failed = none_failed })
+Fails w name text e = PrintingDoes w name 0x1000 none_failed (record { text = text; fault = Some (Told e); failed = none_failed })
 
 -- a pointer to constant characters, and a number
 pub text_and_number : Prints (program 23 (taking (at 0x1002 ∷ at 0x1005 ∷ []) (entry 0x1002 (pointer_to 0x1003) ∷ entry 0x1003 (constant_of 0x1004) ∷ entry 0x1004 (plain RChar) ∷ entry 0x1005 (plain I32) ∷ []))) (codes "f") (codes "f(char const*, int)")
@@ -270,11 +270,11 @@ unfolding type_at type_size digits
 no_function = printing-does refl
 
 -- a type of another module, where the imports are broken: the first time they tell their own error
-pub broken_imports : PrintingDoes (program 23 []) (codes "f") 0x8000_0000 none_failed (record { text = []; fault = Some (Plain (PdbError (Stream (record { 0 = 9 })))); failed = with_part none_failed (Imports 0) })
+pub broken_imports : PrintingDoes (program 23 []) (codes "f") 0x8000_0000 none_failed (record { text = []; fault = Some (Told (Plain (PdbError (Stream (record { 0 = 9 }))))); failed = with_part none_failed (Imports 0) })
 unfolding type_at type_size digits
 broken_imports = printing-does refl
 
 -- the same where they failed before
-pub imports_failed_before : PrintingDoes (program 23 []) (codes "f") 0x8000_0000 (with_part none_failed (Imports 0)) (record { text = []; fault = Some (Plain ModuleImportsUnsuccessful); failed = with_part (with_part none_failed (Imports 0)) (Imports 0) })
+pub imports_failed_before : PrintingDoes (program 23 []) (codes "f") 0x8000_0000 (with_part none_failed (Imports 0)) (record { text = []; fault = Some (Told (Plain ModuleImportsUnsuccessful)); failed = with_part (with_part none_failed (Imports 0)) (Imports 0) })
 unfolding type_at type_size digits
 imports_failed_before = printing-does refl

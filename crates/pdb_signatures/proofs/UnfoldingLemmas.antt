@@ -1,5 +1,5 @@
 -- A plan unfolds to one document.
-use Rattle.std.proofs.Common.{◌≡◌, ◌^◌, ℕ, zero, suc, ◌<◌, ◌≤◌, inl, inr, true, false, cond, List, [], ◌∷◌, arith, refl, sym, ap, subst}
+use Rattle.std.proofs.Common.{◌≡◌, ◌^◌, ℕ, zero, suc, ◌<◌, ◌≤◌, inl, inr, true, cond, List, [], ◌∷◌, arith, refl, sym, ap, subst}
 use Rattle.std.specs.Prelude.{Bool, Some, Result, Ok}
 use Rattle.pdb_records.specs.Readings.{Read}
 use Rattle.pdb_records.specs.declared.types.Item.{Item}
@@ -11,9 +11,8 @@ use Rattle.pdb_types.specs.Errors.{Plain}
 use Rattle.pdb_types.specs.FailedParts.{Parts}
 use Rattle.pdb_types.specs.Unread.{Trouble}
 use Rattle.pdb_types.specs.Standing.{Linked}
-use Rattle.pdb_types.specs.TypeSizes.{read_type}
 use Rattle.pdb_types.proofs.ReadingLemmas.{reading-below}
-use Rattle.pdb_signatures.specs.Documents.{Document, run}
+use Rattle.pdb_signatures.specs.Documents.{Document, Told, run}
 use Rattle.pdb_signatures.specs.Documents as document
 use Rattle.pdb_signatures.specs.Worlds.{World, type_at, world_of}
 use Rattle.pdb_signatures.specs.Plans.{Task, Index, OfType, Plan, Done, Later, Seq, Buffered, Catch, is_among, opened, on_printed, circular}
@@ -97,12 +96,12 @@ pub every_plan : (linked : Linked) (types : Read (Item TypeIndex TypeData)) (poi
 every_plan linked types pointer chosen position p = plan-one (2 ^ 32) (world_of linked types pointer chosen position) (type_at-below linked types position) p
 
 -- an index that is printed while it is open has the document of that error
-pub inside-circular : (w : World) (inside : List ℕ) (index : ℕ) (type : TypeData) → w.read index ≡ Ok type → is_among index inside ≡ true → Unfolds w (Later inside (Index index)) (document.Fail (Plain (CircularTypeDefinition index)))
+pub inside-circular : (w : World) (inside : List ℕ) (index : ℕ) (type : TypeData) → w.read index ≡ Ok type → is_among index inside ≡ true → Unfolds w (Later inside (Index index)) (document.Fail (Told (Plain (CircularTypeDefinition index))))
 inside-circular w inside index type found open_already =
-    let fail : Document = document.Fail (Plain (CircularTypeDefinition index)) in
+    let fail : Document = document.Fail (Told (Plain (CircularTypeDefinition index))) in
     let step : Unfolds w (opened inside index (Later (index ∷ inside) (OfType type))) fail = subst (λ (b : Bool). Unfolds w (cond b (circular index) (Later (index ∷ inside) (OfType type))) fail) (sym open_already) done in
     later (subst (λ (e : Result TypeData Trouble). Unfolds w (on_printed e (λ type. opened inside index (Later (index ∷ inside) (OfType type)))) fail) (sym found) step)
 
 -- printing it does nothing but fail
-pub inside-refused : (w : World) (inside : List ℕ) (index : ℕ) (type : TypeData) → w.read index ≡ Ok type → is_among index inside ≡ true → (failed : Parts) → Runs w (Later inside (Index index)) failed (record { text = []; fault = Some (Plain (CircularTypeDefinition index)); failed = failed })
+pub inside-refused : (w : World) (inside : List ℕ) (index : ℕ) (type : TypeData) → w.read index ≡ Ok type → is_among index inside ≡ true → (failed : Parts) → Runs w (Later inside (Index index)) failed (record { text = []; fault = Some (Told (Plain (CircularTypeDefinition index))); failed = failed })
 inside-refused w inside index type found open_already failed d unfolds = ap (λ (e : Document). run e failed) (unfolds_once unfolds (inside-circular w inside index type found open_already))

@@ -5,12 +5,7 @@ use Rattle.pdb_records.specs.declared.types.PointerMode.TheVariants as pointer
 use Rattle.pdb_records.specs.declared.types.PointerType.{PointerType}
 use Rattle.pdb_types.specs.declared.flags.TypeFormatterFlags.{TypeFormatterFlags}
 use Rattle.pdb_signatures.specs.Flags.{with_space_before_pointer}
-
--- one pointer of a chain of pointers: how it points, whether it is constant itself, and whether what it points to is
-pub record Attribute : Type 0 where
-  pub points : PointerMode
-  pub constant_pointer : Bool
-  pub constant_target : Bool
+pub use Rattle.pdb_signatures.specs.declared.attributes.Attribute.{Attribute}
 
 -- a pointer, before it is known what it points to: constant as it says itself, or where `const` stands before it
 abbrev pub attribute_of : PointerType → Bool → Attribute

@@ -11,4 +11,10 @@ pub mod Plans
 pub mod Rules
 pub mod Unfolding
 pub mod Signatures
+pub mod Troubles
+pub mod Progress
+pub mod Frames
+pub mod Printed
+pub mod BrokenParts
+pub mod Answers
 pub mod Seen

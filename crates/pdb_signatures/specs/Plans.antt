@@ -1,13 +1,14 @@
 -- Plans: what is to be printed, as far as one rule settles it.
 use Rattle.std.specs.Prelude.{ℕ, ◌==◌, Bool, List, ◌∷◌, Option, Some, None, Result, Ok, Err, if◌then◌else◌}
 use Rattle.std.specs.List.{list_any}
-use Rattle.pdb_records.specs.declared.error.Error.TheVariants.{TypeNotFound, UnimplementedTypeKind}
+use Rattle.pdb_records.specs.declared.error.Error.TheVariants.{UnimplementedTypeKind}
+use Rattle.pdb_records.specs.declared.types.MemberFunctionType.{MemberFunctionType}
 use Rattle.pdb_records.specs.declared.types.TypeData.{TypeData}
 use Rattle.pdb_types.specs.declared.error.Error.TheVariants.{PdbError, CircularTypeDefinition}
 use Rattle.pdb_types.specs.declared.unread.Part.{Part}
 use Rattle.pdb_types.specs.Errors.{ToldError, Plain}
 use Rattle.pdb_types.specs.Unread.{Trouble, Missing, Unimplemented, Refused, Broken}
-use Rattle.pdb_signatures.specs.Documents.{Document}
+use Rattle.pdb_signatures.specs.Documents.{Document, TypeNotFound, Told}
 use Rattle.pdb_signatures.specs.Documents as document
 use Rattle.pdb_signatures.specs.Attributes.{Attribute}
 use Rattle.pdb_signatures.specs.Worlds.{World}
@@ -19,9 +20,16 @@ pub data Task : Type 0 where
   Index : ℕ → Task
   -- this type
   OfType : TypeData → Task
+  -- the arguments of a method, in parentheses, and `const` behind them where it is constant and that may be said
+  MethodArguments : MemberFunctionType → Bool → Task
   -- a chain of pointers, the last first, that points to the type of an index
   Chain : List Attribute → ℕ → Task
-  -- an array: the indices of its elements so far, the sizes of its levels so far, and the index of its next element
+  -- the same, where a modifier stands between the last pointer and the type of the index
+  BehindModifier : List Attribute → ℕ → Task
+  -- the type of an index, constant or not
+  Modified : Bool → ℕ → Task
+  -- an array: the indices of its elements so far, in order, the sizes of its levels so far, and the index of its next
+  -- element
   Elements : List ℕ → List ℕ → ℕ → Task
 
 -- what is to be printed, as far as one rule settles it
@@ -37,13 +45,18 @@ pub data Plan : Type 0 where
   -- a plan, with a note where it fails for a type that is missing
   Catch : Plan → Plan
 
+-- one plan, and then another
+infixr 20 ◌▸◌
+abbrev pub ◌▸◌ : Plan → Plan → Plan
+first ▸ second = Seq first second
+
 -- this text
 abbrev pub written : List ℕ → Plan
 written text = Done (document.Text text)
 
 -- this error
 abbrev pub failing : ToldError → Plan
-failing e = Done (document.Fail e)
+failing e = Done (document.Fail (Told e))
 
 -- an index that opens inside itself
 abbrev pub circular : ℕ → Plan
@@ -53,22 +66,30 @@ circular index = failing (Plain (CircularTypeDefinition index))
 abbrev pub is_among : ℕ → List ℕ → Bool
 is_among index indices = list_any (λ other. index == other) indices
 
--- what follows a type that is needed: where it can't be read, that is the error
-abbrev pub on_type : Result TypeData Trouble → (TypeData → Plan) → Plan
-on_type (Ok type) next = next type
-on_type (Err (Missing index)) next = failing (Plain (PdbError (TypeNotFound index)))
-on_type (Err (Unimplemented kind)) next = failing (Plain (PdbError (UnimplementedTypeKind kind)))
-on_type (Err (Refused e)) next = failing e
-on_type (Err (Broken part e)) next = Done (document.Ask part e)
+-- why a type that is needed can't be read: that is the error
+abbrev pub refusal : Trouble → Document
+refusal (Missing index) = document.Fail (TypeNotFound index)
+refusal (Unimplemented kind) = document.Fail (Told (Plain (PdbError (UnimplementedTypeKind kind))))
+refusal (Refused e) = document.Fail (Told e)
+refusal (Broken part e) = document.Ask part e
 
--- what follows a type that is printed where it stands: there is a note of one that is missing or of a kind that isn't
--- known
+-- why a type that is printed where it stands can't be read: a note of one that is missing or of a kind that isn't known,
+-- else the error
+abbrev pub note_or_refusal : Trouble → Document
+note_or_refusal (Missing index) = document.Text (missing_text index)
+note_or_refusal (Unimplemented kind) = document.Text (unimplemented_text kind)
+note_or_refusal (Refused e) = document.Fail (Told e)
+note_or_refusal (Broken part e) = document.Ask part e
+
+-- what follows what is needed
+abbrev pub on_read : {A : Type 0} → Result A Trouble → (A → Plan) → Plan
+on_read (Ok answer) next = next answer
+on_read (Err trouble) next = Done (refusal trouble)
+
+-- what follows a type that is printed where it stands
 abbrev pub on_printed : Result TypeData Trouble → (TypeData → Plan) → Plan
 on_printed (Ok type) next = next type
-on_printed (Err (Missing index)) next = written (missing_text index)
-on_printed (Err (Unimplemented kind)) next = written (unimplemented_text kind)
-on_printed (Err (Refused e)) next = failing e
-on_printed (Err (Broken part e)) next = Done (document.Ask part e)
+on_printed (Err trouble) next = Done (note_or_refusal trouble)
 
 -- an index opens: it may not be open already
 abbrev pub opened : List ℕ → ℕ → Plan → Plan
@@ -76,9 +97,9 @@ opened inside index within = if is_among index inside then circular index else w
 
 -- an index opens, and its type is read and needed
 abbrev pub opening : World → List ℕ → ℕ → (List ℕ → TypeData → Plan) → Plan
-opening w inside index next = opened inside index (on_type (w.read index) (next (index ∷ inside)))
+opening w inside index next = opened inside index (on_read (w.read index) (next (index ∷ inside)))
 
 -- a part of the records that is met broken on the way, and then a plan
 abbrev pub met_before : Option Part → Plan → Plan
 met_before None plan = plan
-met_before (Some part) plan = Seq (Done (document.Met part)) plan
+met_before (Some part) plan = Done (document.Met part) ▸ plan

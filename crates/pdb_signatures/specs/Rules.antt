@@ -1,5 +1,7 @@
 -- The rules by which types are printed, each of them one step deep. The list `inside` has the indices that are open.
-use Rattle.std.specs.Prelude.{ℕ, ◌==◌, ◌&&◌, ◌++◌, Bool, true, false, List, [], ◌∷◌, Option, Some, None, codes, if◌then◌else◌}
+use Rattle.std.specs.Prelude.{ℕ, ◌==◌, ◌&&◌, ◌||◌, ◌++◌, Bool, true, false, List, [], ◌∷◌, Option, Some, None, Result, Ok, codes, if◌then◌else◌}
+use Rattle.std.specs.BTreeSet.{insert_key}
+use Rattle.std.specs.Ordering.{nat_cmp}
 use Rattle.pdb_records.specs.declared.types.TypeIndex.{TypeIndex}
 use Rattle.pdb_records.specs.declared.types.MemberFunctionType.{MemberFunctionType}
 use Rattle.pdb_records.specs.declared.types.ProcedureType.{ProcedureType}
@@ -7,65 +9,82 @@ use Rattle.pdb_records.specs.declared.types.TypeData.{TypeData}
 use Rattle.pdb_records.specs.declared.types.TypeData.TheVariants.{Primitive, Class, MemberFunction, Procedure, Pointer, Array, Union, Enumeration, Enumerate, Modifier, ArgumentList, Other}
 use Rattle.pdb_types.specs.declared.error.Error.TheVariants.{ArgumentTypeNotArgumentList}
 use Rattle.pdb_types.specs.Errors.{Plain}
+use Rattle.pdb_types.specs.Outcomes.{and_then}
+use Rattle.pdb_types.specs.Unread.{Trouble}
+use Rattle.pdb_signatures.specs.declared.methods.This.{This}
 use Rattle.pdb_signatures.specs.Flags.{without_return_type, without_arguments}
 use Rattle.pdb_signatures.specs.Primitives.{primitive_text}
 use Rattle.pdb_signatures.specs.Attributes.{Attribute, attribute_of, with_target, attributes_text}
 use Rattle.pdb_signatures.specs.Wording.{unhandled_text, class_word, declared_text, comma, dimensions_text}
 use Rattle.pdb_signatures.specs.Worlds.{World}
-use Rattle.pdb_signatures.specs.Plans.{Task, Index, OfType, Chain, Elements, Plan, Later, Seq, Buffered, Catch, written, failing, circular, is_among, on_type, on_printed, opened, opening, met_before}
+use Rattle.pdb_signatures.specs.Plans.{Task, Index, OfType, MethodArguments, Chain, BehindModifier, Modified, Elements, Plan, Later, Buffered, Catch, ◌▸◌, written, failing, circular, is_among, on_read, on_printed, opened, opening, met_before}
 
--- the type that a function returns, with a space behind it: nothing for a constructor, or where there is none
+-- the type that a function returns, with a space behind it: nothing where it is left out, or where there is none
 abbrev pub returned : List ℕ → Bool → Option TypeIndex → Plan
-returned inside constructor None = written []
-returned inside constructor (Some index) =
-    if constructor then written [] else Seq (Later inside (Index index.0)) (written (codes " "))
+returned inside left_out None = written []
+returned inside left_out (Some index) =
+    if left_out then written [] else Later inside (Index index.0) ▸ written (codes " ")
 
--- the same, unless functions are printed without it
+-- the same, for a function that is printed by itself: left out for a constructor, and where functions are printed
+-- without it
 abbrev pub returned_if_wanted : World → List ℕ → Bool → Option TypeIndex → Plan
-returned_if_wanted w inside constructor index =
-    if without_return_type w.flags then written [] else returned inside constructor index
+returned_if_wanted w inside constructor index = returned inside (constructor || without_return_type w.flags) index
 
--- more arguments behind those before
-abbrev pub more_arguments : World → List ℕ → Plan → List TypeIndex → Plan
-more_arguments w inside before [] = before
-more_arguments w inside before (next ∷ rest) =
-    more_arguments w inside (Seq (Seq before (written (comma w.flags))) (Later inside (Index next.0))) rest
+-- further arguments, each behind a comma
+abbrev pub further_arguments : World → List ℕ → List TypeIndex → Plan
+further_arguments w inside [] = written []
+further_arguments w inside (next ∷ rest) =
+    written (comma w.flags) ▸ Later inside (Index next.0) ▸ further_arguments w inside rest
 
 -- a list of arguments, with commas between them
 abbrev pub list_of_arguments : World → List ℕ → List TypeIndex → Plan
 list_of_arguments w inside [] = written []
-list_of_arguments w inside (next ∷ rest) = more_arguments w inside (Later inside (Index next.0)) rest
+list_of_arguments w inside (next ∷ rest) = Later inside (Index next.0) ▸ further_arguments w inside rest
 
--- what follows the target of `this`: a modifier of the class says whether the method is constant. Else `this` is an
+-- a method's `this` that says nothing but that the method is constant or not
+abbrev pub plain_this : Bool → This
+plain_this constant = record { constant = constant; argument = None }
+
+-- a method's `this` that is printed as its first argument
+abbrev pub printed_this : TypeIndex → This
+printed_this this = record { constant = false; argument = Some this }
+
+-- what the target of `this` tells: a modifier of the class says whether the method is constant. Else `this` is an
 -- argument
-abbrev pub on_target : TypeIndex → TypeIndex → (Bool → List TypeIndex → Plan) → TypeData → Plan
-on_target class this next (Modifier m) =
-    if m.underlying_type.0 == class.0 then next m.constant [] else next false (this ∷ [])
-on_target class this next other = next false (this ∷ [])
+abbrev pub this_by_target : TypeIndex → TypeIndex → TypeData → This
+this_by_target class this (Modifier m) =
+    if m.underlying_type.0 == class.0 then plain_this m.constant else printed_this this
+this_by_target class this other = printed_this this
 
--- what follows the type of `this`: with a pointer to the class the method is not constant. Else its target decides, or
--- `this` is an argument
-abbrev pub on_this_type : World → TypeIndex → TypeIndex → (Bool → List TypeIndex → Plan) → TypeData → Plan
-on_this_type w class this next (Pointer p) =
-    if p.underlying_type.0 == class.0 then next false []
-    else on_type (w.read p.underlying_type.0) (on_target class this next)
-on_this_type w class this next other = next false (this ∷ [])
+-- what the type of `this` tells: with a pointer to the class the method is not constant. With another pointer its target
+-- decides, and else `this` is an argument
+abbrev pub this_by_type : World → TypeIndex → TypeIndex → TypeData → Result This Trouble
+this_by_type w class this (Pointer p) =
+    if p.underlying_type.0 == class.0 then Ok (plain_this false)
+    else and_then (w.read p.underlying_type.0) (λ target. Ok (this_by_target class this target))
+this_by_type w class this other = Ok (printed_this this)
 
--- what follows `this`: whether the method is constant, and the arguments that stand before the list
-abbrev pub on_this : World → TypeIndex → Option TypeIndex → (Bool → List TypeIndex → Plan) → Plan
-on_this w class None next = next false []
-on_this w class (Some this) next = on_type (w.read this.0) (on_this_type w class this next)
+-- what a method's `this` tells, where there is one
+abbrev pub this_of : World → TypeIndex → Option TypeIndex → Result This Trouble
+this_of w class None = Ok (plain_this false)
+this_of w class (Some this) = and_then (w.read this.0) (this_by_type w class this)
+
+-- a list of arguments, behind `this` where that is an argument
+abbrev pub arguments_behind : Option TypeIndex → List TypeIndex → List TypeIndex
+arguments_behind None list = list
+arguments_behind (Some this) list = this ∷ list
 
 -- a method's arguments in parentheses, and `const` behind them where the method is constant and that may be said
-abbrev pub method_list : World → List ℕ → Bool → List TypeIndex → Bool → List TypeIndex → Plan
-method_list w inside may_say_const list constant before =
-    Seq (Seq (written (codes "(")) (list_of_arguments w inside (before ++ list)))
-    (written (if constant && may_say_const then codes ") const" else codes ")"))
+abbrev pub method_list : World → List ℕ → Bool → List TypeIndex → This → Plan
+method_list w inside may_say_const list this =
+    written (codes "(")
+    ▸ list_of_arguments w inside (arguments_behind this.argument list)
+    ▸ written (if this.constant && may_say_const then codes ") const" else codes ")")
 
 -- what follows the type of a method's list of arguments
 abbrev pub on_list : World → MemberFunctionType → Bool → List ℕ → TypeData → Plan
 on_list w m may_say_const inside (ArgumentList list) =
-    on_this w m.class_type m.this_pointer_type (method_list w inside may_say_const list)
+    on_read (this_of w m.class_type m.this_pointer_type) (method_list w inside may_say_const list)
 on_list w m may_say_const inside other = failing (Plain ArgumentTypeNotArgumentList)
 
 -- a method's arguments, unless functions are printed without them; then nothing is read
@@ -76,19 +95,22 @@ method_arguments w inside m may_say_const =
 -- a pointer to a method: what it returns, the class and the pointers in parentheses, and its arguments
 abbrev pub pointers_to_method : World → List Attribute → List ℕ → MemberFunctionType → Plan
 pointers_to_method w attributes inside m =
-    let class_inside =
-    Seq (Seq (returned inside m.is_constructor (Some m.return_type)) (written (codes "(")))
-    (Later inside (Index m.class_type.0)) in
-    Seq (Seq class_inside (written (attributes_text w.flags false false attributes ++ codes ")")))
-    (method_arguments w inside m false)
+    returned inside m.is_constructor (Some m.return_type)
+    ▸ written (codes "(")
+    ▸ Later inside (Index m.class_type.0)
+    ▸ written (attributes_text w.flags false false attributes)
+    ▸ written (codes ")")
+    ▸ Later inside (MethodArguments m false)
 
 -- a pointer to a function: what it returns, the pointers in parentheses, and its arguments in parentheses
 abbrev pub pointers_to_function : World → List Attribute → List ℕ → ProcedureType → Plan
 pointers_to_function w attributes inside p =
-    let pointers =
-    Seq (returned inside p.is_constructor p.return_type)
-    (written (codes "(" ++ attributes_text w.flags false false attributes ++ codes ")(")) in
-    Seq (Seq pointers (Later inside (Index p.argument_list.0))) (written (codes ")"))
+    returned inside p.is_constructor p.return_type
+    ▸ written (codes "(")
+    ▸ written (attributes_text w.flags false false attributes)
+    ▸ written (codes ")(")
+    ▸ Later inside (Index p.argument_list.0)
+    ▸ written (codes ")")
 
 -- the end of a chain of pointers: functions are printed around the pointers, and any other type before them
 abbrev pub chain_end : World → List Attribute → List ℕ → TypeData → Plan
@@ -110,23 +132,23 @@ abbrev pub behind_pointer : World → List Attribute → List ℕ → TypeData �
 behind_pointer w attributes inside (Pointer p) =
     Later inside (Chain (attribute_of p false ∷ attributes) p.underlying_type.0)
 behind_pointer w attributes inside (Modifier m) =
-    opening w inside m.underlying_type.0 (behind_modifier w (with_target m.constant attributes))
+    Later inside (BehindModifier (with_target m.constant attributes) m.underlying_type.0)
 behind_pointer w attributes inside other = chain_end w attributes inside other
 
 -- an element of an array: an array goes on with one more level, and all else is the base, whose size is asked before it
 -- is printed
 abbrev pub element : World → List ℕ → List ℕ → List ℕ → ℕ → TypeData → Plan
 element w inside elements levels index (Array a) =
-    Later inside (Elements (index ∷ elements) (levels ++ (a.first ∷ [])) a.element_type.0)
+    Later inside (Elements (insert_key nat_cmp elements index) (levels ++ a.first ∷ []) a.element_type.0)
 element w inside elements levels index other =
     met_before (w.size index).met
-    (Seq (Later inside (OfType other)) (written (dimensions_text levels (w.size index).size)))
+    (Later inside (OfType other) ▸ written (dimensions_text levels (w.size index).size))
 
 -- the target of a modifier, constant or not
 abbrev pub modified : World → Bool → List ℕ → TypeData → Plan
 modified w constant inside (Pointer p) = Later inside (Chain (attribute_of p constant ∷ []) p.underlying_type.0)
 modified w constant inside (Primitive p) = written (primitive_text w.flags p constant)
-modified w constant inside other = Seq (written (if constant then codes "const " else [])) (Later inside (OfType other))
+modified w constant inside other = written (if constant then codes "const " else []) ▸ Later inside (OfType other)
 
 -- a type, by its kind
 abbrev pub by_kind : World → List ℕ → TypeData → Plan
@@ -136,15 +158,17 @@ by_kind w inside (Union u) = written (declared_text w.flags (codes "union ") u.n
 by_kind w inside (Enumeration e) = written (declared_text w.flags (codes "enum ") e.name)
 by_kind w inside (Enumerate e) = written (declared_text w.flags (codes "enum class ") e.name)
 by_kind w inside (MemberFunction m) =
-    Seq (Seq (returned_if_wanted w inside m.is_constructor (Some m.return_type)) (written (codes "()")))
-    (method_arguments w inside m false)
+    returned_if_wanted w inside m.is_constructor (Some m.return_type)
+    ▸ written (codes "()")
+    ▸ Later inside (MethodArguments m false)
 by_kind w inside (Procedure p) =
-    Seq (Seq (returned_if_wanted w inside p.is_constructor p.return_type) (written (codes "()(")))
-    (Later inside (Index p.argument_list.0))
+    returned_if_wanted w inside p.is_constructor p.return_type
+    ▸ written (codes "()(")
+    ▸ Later inside (Index p.argument_list.0)
 by_kind w inside (ArgumentList list) = list_of_arguments w inside list
 by_kind w inside (Pointer p) = Later inside (Chain (attribute_of p false ∷ []) p.underlying_type.0)
 by_kind w inside (Array a) = Later inside (Elements [] (a.first ∷ []) a.element_type.0)
-by_kind w inside (Modifier m) = opening w inside m.underlying_type.0 (modified w m.constant)
+by_kind w inside (Modifier m) = Later inside (Modified m.constant m.underlying_type.0)
 by_kind w inside (Other kind) = written (unhandled_text kind)
 
 -- what the rule of a task gives
@@ -152,6 +176,9 @@ abbrev pub rule : World → List ℕ → Task → Plan
 rule w inside (Index index) =
     on_printed (w.read index) (λ type. opened inside index (Later (index ∷ inside) (OfType type)))
 rule w inside (OfType type) = Catch (by_kind w inside type)
+rule w inside (MethodArguments m may_say_const) = method_arguments w inside m may_say_const
 rule w inside (Chain attributes target) = opening w inside target (behind_pointer w attributes)
+rule w inside (BehindModifier attributes target) = opening w inside target (behind_modifier w attributes)
+rule w inside (Modified constant target) = opening w inside target (modified w constant)
 rule w inside (Elements elements levels next) =
-    if is_among next elements then circular next else on_type (w.read next) (element w inside elements levels next)
+    if is_among next elements then circular next else on_read (w.read next) (element w inside elements levels next)

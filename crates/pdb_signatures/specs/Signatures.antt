@@ -6,33 +6,33 @@ use Rattle.pdb_records.specs.declared.types.TypeData.TheVariants.{MemberFunction
 use Rattle.pdb_signatures.specs.Flags.{without_arguments}
 use Rattle.pdb_signatures.specs.Wording.{function_name, static_text}
 use Rattle.pdb_signatures.specs.Worlds.{World}
-use Rattle.pdb_signatures.specs.Plans.{Index, Plan, Later, Seq, written, on_type}
-use Rattle.pdb_signatures.specs.Rules.{returned_if_wanted, method_arguments}
+use Rattle.pdb_signatures.specs.Plans.{Index, MethodArguments, Plan, Later, ◌▸◌, written, on_read}
+use Rattle.pdb_signatures.specs.Rules.{returned_if_wanted}
 
 -- a function's arguments in parentheses, unless functions are printed without them
 abbrev pub function_arguments : World → List ℕ → TypeIndex → Plan
 function_arguments w inside list =
     if without_arguments w.flags then written []
-    else Seq (Seq (written (codes "(")) (Later inside (Index list.0))) (written (codes ")"))
+    else written (codes "(") ▸ Later inside (Index list.0) ▸ written (codes ")")
 
 -- the signature of a function with this name and type; where the type is no function's, the name as it is
 abbrev pub signature_by_type : World → List ℕ → List ℕ → TypeData → Plan
 signature_by_type w name inside (MemberFunction m) =
-    Seq
-    (Seq
-    (Seq (written (static_text w.flags m.this_pointer_type))
-    (returned_if_wanted w inside m.is_constructor (Some m.return_type))) (written (function_name name)))
-    (method_arguments w inside m true)
+    written (static_text w.flags m.this_pointer_type)
+    ▸ returned_if_wanted w inside m.is_constructor (Some m.return_type)
+    ▸ written (function_name name)
+    ▸ Later inside (MethodArguments m true)
 signature_by_type w name inside (Procedure p) =
-    Seq (Seq (returned_if_wanted w inside p.is_constructor p.return_type) (written (function_name name)))
-    (function_arguments w inside p.argument_list)
+    returned_if_wanted w inside p.is_constructor p.return_type
+    ▸ written (function_name name)
+    ▸ function_arguments w inside p.argument_list
 signature_by_type w name inside other = written name
 
 -- the signature of a function with this name and the type of this index; index 0 is no type, and then the name stands
 -- alone
 abbrev pub signature : World → List ℕ → ℕ → Plan
 signature w name index =
-    if index == 0 then written (function_name name) else on_type (w.read index) (signature_by_type w name (index ∷ []))
+    if index == 0 then written (function_name name) else on_read (w.read index) (signature_by_type w name (index ∷ []))
 
 -- the type of this index, while these indices are open
 abbrev pub type_of_index : List ℕ → ℕ → Plan

@@ -1,12 +1,16 @@
 -- The words and names that types are printed with.
-use Rattle.std.specs.Prelude.{ℕ, ◌==◌, ◌/◌, ◌++◌, false, List, [], ◌∷◌, Option, Some, None, codes, if◌then◌else◌}
+use Rattle.std.specs.Prelude.{ℕ, ◌==◌, ◌/◌, ◌++◌, false, List, [], ◌∷◌, reverse, Option, Some, None, codes, if◌then◌else◌}
 use Rattle.std.specs.Fmt.{decimal, digits}
 use Rattle.pdb_records.specs.Names.{lossy}
 use Rattle.pdb_records.specs.declared.types.ClassKind.{ClassKind}
 use Rattle.pdb_records.specs.declared.types.ClassKind.TheVariants as class
 use Rattle.pdb_records.specs.declared.types.TypeIndex.{TypeIndex}
 use Rattle.pdb_types.specs.declared.flags.TypeFormatterFlags.{TypeFormatterFlags}
+use Rattle.pdb_signatures.specs.declared.wording.Wording.{Wording}
+use Rattle.pdb_signatures.specs.declared.wording.Wording.TheVariants.{Text, MissingType, UnimplementedKind, UnhandledKind, Declared, Primitive, Pointers, Dimensions}
 use Rattle.pdb_signatures.specs.Flags.{with_names_alone, with_space_after_comma, without_static}
+use Rattle.pdb_signatures.specs.Primitives.{primitive_text}
+use Rattle.pdb_signatures.specs.Attributes.{attributes_text}
 
 -- a number in lower case hexadecimal, with `0x` before it
 abbrev pub hexadecimal : ℕ → List ℕ
@@ -61,3 +65,14 @@ dimension_text bytes element = codes "[" ++ (if element == 0 then [] else decima
 abbrev pub dimensions_text : List ℕ → ℕ → List ℕ
 dimensions_text [] base = []
 dimensions_text (level ∷ inner) base = dimension_text level (next_size inner base) ++ dimensions_text inner base
+
+-- a piece of a signature that is known as it stands
+abbrev pub wording_text : TypeFormatterFlags → Wording → List ℕ
+wording_text chosen (Text known) = known.now
+wording_text chosen (MissingType index) = missing_text index
+wording_text chosen (UnimplementedKind kind) = unimplemented_text kind
+wording_text chosen (UnhandledKind kind) = unhandled_text kind.now
+wording_text chosen (Declared word name) = declared_text chosen word.now name.now
+wording_text chosen (Primitive primitive constant) = primitive_text chosen primitive constant
+wording_text chosen (Pointers attributes) = attributes_text chosen false false (reverse attributes.items)
+wording_text chosen (Dimensions levels base) = dimensions_text levels.items base

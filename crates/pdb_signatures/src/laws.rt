@@ -2,7 +2,7 @@
 //!
 //! Each function here does nothing. Its contract is a law, for all records, and the check proves it.
 
-ghost use Rattle.std.specs.Prelude.{◌≡◌, ℕ, true, List, [], Some, Ok};
+ghost use Rattle.std.specs.Prelude.{◌≡◌, ℕ, true, List, [], ◌∷◌, Some, Ok};
 ghost use Rattle.pdb_records.specs.Readings.{Read};
 ghost use Rattle.pdb_records.specs.declared.types.Item.{Item};
 ghost use Rattle.pdb_records.specs.declared.types.TypeIndex.{TypeIndex};
@@ -12,9 +12,13 @@ ghost use Rattle.pdb_types.specs.declared.flags.TypeFormatterFlags.{TypeFormatte
 ghost use Rattle.pdb_types.specs.declared.error.Error.TheVariants.{CircularTypeDefinition};
 ghost use Rattle.pdb_types.specs.FailedParts.{Parts};
 ghost use Rattle.pdb_types.specs.Errors.{Plain};
-ghost use Rattle.pdb_signatures.specs.Worlds.{type_at, world_of};
+ghost use Rattle.pdb_signatures.specs.Worlds.{World, type_at, world_of};
+ghost use Rattle.pdb_signatures.specs.Documents.{Told, Document, Text, Seq, run};
 ghost use Rattle.pdb_signatures.specs.Plans.{is_among};
-ghost use Rattle.pdb_signatures.specs.Unfolding.{HasOneUnfolding, Runs};
+ghost use Rattle.pdb_signatures.specs.Printed.{AlikeRuns, document_of};
+ghost use Rattle.pdb_signatures.specs.Rules.{list_of_arguments};
+ghost use Rattle.pdb_signatures.specs.Unfolding.{HasOneUnfolding, Unfolds, Runs};
+ghost use Rattle.pdb_signatures.specs.Wording.{comma};
 ghost use Rattle.pdb_signatures.specs.Signatures.{signature, type_of_index};
 
 /// Every type has exactly one document, whatever the records say and whichever indices are open,
@@ -40,5 +44,27 @@ pub fn an_index_inside_itself_is_circular()
         → is_among index inside ≡ true
         → (failed : Parts)
         → Runs (world_of linked types pointer flags position) (type_of_index inside index) failed
-        (record { text = []; fault = Some (Plain (CircularTypeDefinition index)); failed = failed }) }
+        (record { text = []; fault = Some (Told (Plain (CircularTypeDefinition index))); failed = failed }) }
+{}
+
+/// What is printed, and whether printing succeeds, doesn't depend on which parts of the records were met
+/// broken before. Only the error that a broken part tells does, and which parts are broken in the end.
+pub fn text_does_not_depend_on_failed_parts()
+    ensures { (d : Document) (failed failed' : Parts) → AlikeRuns (run d failed) (run d failed') }
+{}
+
+/// The document that is computed of a signature is the one that it unfolds to.
+pub fn the_document_of_a_signature_is_what_it_unfolds_to()
+    ensures { (linked : Linked) (types : Read (Item TypeIndex TypeData)) (pointer : ℕ) (flags : TypeFormatterFlags)
+        (position : ℕ) (name : List ℕ) (index : ℕ)
+        → let w = world_of linked types pointer flags position in
+        Unfolds w (signature w name index) (document_of w (signature w name index)) }
+{}
+
+/// Siblings may repeat: of an argument that stands twice in a list, the same is printed twice.
+pub fn siblings_may_repeat()
+    ensures { (w : World) (inside : List ℕ) (argument : TypeIndex) (d : Document)
+        → Unfolds w (type_of_index inside argument.0) d
+        → Unfolds w (list_of_arguments w inside (argument ∷ argument ∷ []))
+        (Seq d (Seq (Text (comma w.flags)) (Seq d (Text [])))) }
 {}

@@ -1,19 +1,26 @@
-ghost use Rattle.std.specs.Prelude.{◌≡◌, [], IfOk, OnOk, OnErr, MatchResult};
+ghost use Rattle.std.specs.Prelude.{◌≡◌, ◌≢◌, false, [], IfOk, OnOk, OnErr, MatchResult, string_bytes};
 ghost use Rattle.std.specs.Option.{option_copied};
 ghost use Rattle.pdb_types.specs.declared.error.Error.TheVariants.{OutOfMemory};
 ghost use Rattle.pdb_types.specs.FailedParts.{with_met};
 ghost use Rattle.pdb_types.specs.Outcomes.{Gives};
 ghost use Rattle.pdb_types.specs.Standing.{program_pointer_size};
 ghost use Rattle.pdb_types.specs.TypeSizes.{size_of};
+ghost use Rattle.pdb_signatures.specs.Answers.{is_format_error, is_want_of_memory, AnswersText, AnswersWritten};
+ghost use Rattle.pdb_signatures.specs.BrokenParts.{AddsBroken};
+ghost use Rattle.pdb_signatures.specs.Printed.{signature_run};
+ghost use Rattle.pdb_signatures.specs.Progress.{failure_in};
+ghost use Rattle.pdb_signatures.specs.Worlds.{formatter_world};
 
+use crate::signatures::{Printed, print_signature};
 use pdb_records::{
     DebugInformation, IdInformation, Module, StringTable, TypeIndex, TypeInformation,
 };
-use pdb_types::{Findings, ModuleProvider, Result, Standing, TypeFormatterFlags};
-use std::alloc::Global;
+use pdb_types::{Error, Findings, ModuleProvider, Result, Standing, TypeFormatterFlags};
+use std::alloc::{AllocError, Global};
+use std::fmt;
 use std::marker::Model;
 
-/// Tells the sizes of types, and prints them.
+/// Tells the sizes of types, and prints the signatures of functions.
 ///
 /// It stands on the records that it was given. Of what happens between two questions it remembers one
 /// thing that later answers show: which parts of the records it met broken.
@@ -31,6 +38,33 @@ impl<'a, P: ModuleProvider> Model for TypeFormatter<'a, P> {
     ghost view = { λ f. record { standing = f.standing; failed = f.findings.failed } };
 
     ghost invariant = { λ f. Fits P.info f.standing f.findings };
+}
+
+/// Whether there was no memory for an answer.
+fn is_want_of_memory(error: &Error) -> bool
+    ensures { result ≡ is_want_of_memory error.now }
+{
+    match error {
+        Error::OutOfMemory => true,
+        _ => false,
+    }
+}
+
+/// Writes the text that was printed before an error, but for want of memory, and answers that error, or that
+/// the writer refused.
+fn write_before<W: fmt::Write>(writer: &mut W, text: &str, error: Error) -> Error
+    ensures same { is_format_error result ≡ false → result ≡ error }
+    ensures written { result ≢ OutOfMemory → is_format_error result ≡ false
+        → W.write_str_gives writer.old text.now writer.new }
+    ensures unwritten { result ≡ OutOfMemory → writer.new ≡ writer.old }
+{
+    if is_want_of_memory(&error) {
+        return error;
+    }
+    match writer.write_str(text) {
+        Ok(()) => error,
+        Err(refused) => Error::FormatError(refused),
+    }
 }
 
 impl<P: ModuleProvider> Drop for TypeFormatter<'_, P> {
@@ -115,5 +149,94 @@ impl<'a, P: ModuleProvider> TypeFormatter<'a, P> {
             .type_size(&mut self.findings, module_index, index)?;
         self.standing.remember(&mut self.findings, found.met)?;
         Ok(found.size)
+    }
+
+    /// The signature of a function: its name, with the type of this index as the module at `module_index`
+    /// writes it. Index 0 is no type, and then the name stands alone; where the type is no function's, the
+    /// name stands as it is.
+    ///
+    /// # Errors
+    ///
+    /// The first error of what is printed: [`Error::CircularTypeDefinition`](crate::Error) for an index
+    /// that opens inside itself and for an array that is among its own elements, and the errors of types
+    /// that can't be read. A part of the records that is met broken tells its own error the first time, and
+    /// then that it failed before. Types that are missing and of unknown kinds have a note in the text where
+    /// they are printed by themselves.
+    pub fn format_function(
+        &mut self,
+        name: &str,
+        module_index: usize,
+        index: TypeIndex,
+    ) -> Result<String>
+        ensures answer { AnswersText
+            (signature_run P.info self.old.standing module_index name.now index.0 self.old.failed)
+            result self.new.failed }
+        ensures standing { self.new.standing ≡ self.old.standing }
+        ensures broken { AddsBroken (formatter_world P.info self.old.standing module_index)
+            self.old.failed self.new.failed }
+    {
+        let Printed { text, failure } = self.print_function(name, module_index, index)?;
+        match failure {
+            None => Ok(text),
+            Some(failure) => Err(Error::from(failure)),
+        }
+    }
+
+    /// Writes the signature that [`TypeFormatter::format_function`] answers.
+    ///
+    /// # Errors
+    ///
+    /// As of [`TypeFormatter::format_function`]; the writer then has the text that was printed before the
+    /// error, but for want of memory, where it has nothing. [`Error::FormatError`](crate::Error) where the
+    /// writer refused the text.
+    pub fn emit_function<W: fmt::Write>(
+        &mut self,
+        writer: &mut W,
+        name: &str,
+        module_index: usize,
+        index: TypeIndex,
+    ) -> Result<()>
+        ensures answer { AnswersWritten W.write_str_gives
+            (signature_run P.info self.old.standing module_index name.now index.0 self.old.failed)
+            writer.old writer.new result self.new.failed }
+        ensures standing { self.new.standing ≡ self.old.standing }
+        ensures broken { AddsBroken (formatter_world P.info self.old.standing module_index)
+            self.old.failed self.new.failed }
+    {
+        let Printed { text, failure } = self.print_function(name, module_index, index)?;
+        match failure {
+            None => match writer.write_str(text.as_str()) {
+                Ok(()) => Ok(()),
+                Err(error) => Err(Error::FormatError(error)),
+            },
+            Some(failure) => Err(write_before(writer, text.as_str(), Error::from(failure))),
+        }
+    }
+
+    /// Prints the signature of a function.
+    fn print_function(
+        &mut self,
+        name: &str,
+        module_index: usize,
+        index: TypeIndex,
+    ) -> Result<Printed, AllocError>
+        ensures standing { self.new.standing ≡ self.old.standing }
+        ensures broken { AddsBroken (formatter_world P.info self.old.standing module_index)
+            self.old.failed self.new.failed }
+        ensures printed { IfOk result (λ p.
+            signature_run P.info self.old.standing module_index name.now index.0 self.old.failed ≡ record {
+              text = string_bytes p.text;
+              fault = failure_in p.failure;
+              failed = self.new.failed;
+            }) }
+    {
+        print_signature(
+            self.standing.allocator(),
+            &self.standing,
+            &mut self.findings,
+            name,
+            module_index,
+            index,
+        )
     }
 }

@@ -1,5 +1,6 @@
 //! Tests over records that are made here: each public call once, with ample memory, and texts.
 
+mod contexts;
 mod formatters;
 mod lent_records;
 mod records;

@@ -1,8 +1,14 @@
-//! Asks the sizes of types over the records files beside it, and compares them with what is wanted.
+//! Asks the sizes of types and the signatures of functions over the records files beside it, and compares
+//! them with what is wanted.
 //!
 //! `sizes.txt` has a line `file NAME` for each records file, and then a line `MODULE INDEX SIZE` for each
 //! question: the position of the module that asks, the index in hexadecimal, and the size in bytes. The
 //! questions over a file are asked by as many formatters as there are, each of them another one first.
+//!
+//! `signatures.txt` has a line `file NAME` for each records file, and then a line
+//! `FLAGS MODULE INDEX NAME | OUTCOME | TEXT` for each question: what a string holds after the signature was
+//! written into it, and the outcome, which is `ok` or the text of an error. Questions that follow each other
+//! with the same flags go to one formatter, which remembers the parts of the records that it met broken.
 #![tactic(auto)]
 
 #[cfg(test)]
@@ -10,17 +16,22 @@ mod parts;
 mod questions;
 #[cfg(test)]
 mod seen;
+mod signatures;
 
 use pdb_addr2line::{ContextPdbData, TypeFormatter};
 use pdb_json::read_records;
 use pdb_records::TypeIndex;
 use questions::{Question, question_of};
+use signatures::{answers, flags_of, signature_question_of};
 use std::alloc::Global;
 use std::rt::Files;
 use std::{fs, io};
 
 /// The file with the questions.
 const SIZES: &str = "sizes.txt";
+
+/// The file with the questions for signatures.
+const SIGNATURES: &str = "signatures.txt";
 
 /// What was asked, and what differed.
 #[derive(Clone, Copy)]
@@ -40,7 +51,71 @@ fn main(rt: HostRuntime) -> io::Result<()> {
             tally = over_file(&rt, part, tally)?;
         }
     }
-    println!(rt; "{0} sizes, {1} differ", tally.asked, tally.differ)
+    println!(rt; "{0} sizes, {1} differ", tally.asked, tally.differ)?;
+    all_signatures(&rt)
+}
+
+/// Asks the questions for signatures.
+fn all_signatures<R: Files + Print + AllocGlobal>(rt: &R) -> io::Result<()> {
+    let text = fs::read_to_string(rt, SIGNATURES)?;
+    let mut tally = Tally {
+        asked: 0,
+        differ: 0,
+    };
+    for part in text.as_str().split("file ") {
+        if !part.is_empty() {
+            tally = signatures_over_file(rt, part, tally)?;
+        }
+    }
+    println!(rt; "{0} signatures, {1} differ", tally.asked, tally.differ)
+}
+
+/// Asks the questions for signatures over one file.
+fn signatures_over_file<R: Files + Print + AllocGlobal>(
+    rt: &R,
+    part: &str,
+    tally: Tally,
+) -> io::Result<Tally> {
+    let name = part.lines().next().unwrap_or("");
+    let bytes = fs::read(rt, name)?;
+    let Some(data) = data_of(rt.alloc(), &bytes) else {
+        println!(rt; "{name} was refused")?;
+        return Ok(differing(tally));
+    };
+    signatures_over_data(rt, &data, part, tally)
+}
+
+/// Asks the questions for signatures over records: a formatter for each run of equal flags.
+fn signatures_over_data<R: Print + AllocGlobal>(
+    rt: &R,
+    data: &ContextPdbData<'_>,
+    part: &str,
+    tally: Tally,
+) -> io::Result<Tally> {
+    let mut tally = tally;
+    let mut bits = 23;
+    let Ok(mut formatter) = data.make_type_formatter() else {
+        return Ok(differing(tally));
+    };
+    for line in part.lines() {
+        let Some(question) = signature_question_of(line) else {
+            continue;
+        };
+        if question.flags != bits {
+            bits = question.flags;
+            let Ok(other) = data.make_type_formatter_with_flags(flags_of(bits)) else {
+                return Ok(differing(tally));
+            };
+            formatter = other;
+        }
+        if answers(rt.alloc(), &mut formatter, question) {
+            tally.asked = tally.asked.saturating_add(1);
+        } else {
+            println!(rt; "{line} differs")?;
+            tally = differing(tally);
+        }
+    }
+    Ok(tally)
 }
 
 /// Asks the questions over one file. A file that can't be read counts as one that differs.

@@ -133,6 +133,11 @@ impl<'a, P: ModuleProvider> Standing<'a, P> {
         self.modules.modules()
     }
 
+    /// Where memory comes from.
+    pub fn allocator(&self) -> Global {
+        self.alloc
+    }
+
     /// How signatures are printed.
     pub fn flags(&self) -> TypeFormatterFlags
         ensures { result ≡ self.now.flags }

@@ -7,13 +7,13 @@ use Rattle.pdb_reporting.proofs.file_reports.report_records.Goals as goal
 pub returns-clause-lines : goal.returns-clause-lines
 returns-clause-lines g c =
     let kept = c.in_ok-data.ensures in
-    let made : opened c.args.records ≡ Ok c.in_ok-context.context =
-    opened-accepted c.args.records c.in_ok-data.data _ kept.kept kept.refused c.in_ok-context.ensures in
+    let made : opened c.args.records ≡ Ok c.in_ok-context.context.sources =
+    opened-accepted c.args.records c.in_ok-data.data _ kept.kept kept.refused c.in_ok-context.ensures.sources in
     rw made (rw c.deref.ensures.value at c.report.ensures.text)
 
 pub returns-clause-fault : goal.returns-clause-fault
 returns-clause-fault g c =
     let kept = c.in_ok-data.ensures in
-    let made : opened c.args.records ≡ Ok c.in_ok-context.context =
-    opened-accepted c.args.records c.in_ok-data.data _ kept.kept kept.refused c.in_ok-context.ensures in
+    let made : opened c.args.records ≡ Ok c.in_ok-context.context.sources =
+    opened-accepted c.args.records c.in_ok-data.data _ kept.kept kept.refused c.in_ok-context.ensures.sources in
     rw made (IfErr-weaker _ _ _ (ends_amid _ _ _ _) (rw c.deref.ensures.value at c.report.ensures.fault))

@@ -1,5 +1,5 @@
 use Rattle.std.proofs.Common.{◌≡◌, take}
-use Rattle.pdb_addr2line.specs.Sources.{function_at}
+use Rattle.pdb_addr2line.specs.Lookups.{function_at}
 use Rattle.pdb_reporting.specs.Sinks.{Takes}
 use Rattle.pdb_reporting.specs.PrintedLines.{names_text}
 use Rattle.pdb_reporting.proofs.reports.report_names.Given as goal
@@ -8,9 +8,9 @@ use Rattle.pdb_reporting.proofs.reports.report_names.Given as goal
 abbrev pub invariant-loop-address : goal.invariant-loop-address
 invariant-loop-address g l =
     let state = g.W.Sink.state in
-    let function_there = function_at l.initial.context (g.P.ModuleProvider.info l.initial.context.provider) in
+    let function_there = function_at g.P.ModuleProvider.info l.initial.context.sources in
     record {
-      same : l.context ≡ l.initial.context;
+      same : l.context.sources ≡ l.initial.context.sources;
       taken : Takes (state l.initial.sink) (state l.sink)
           (names_text function_there (take l.address-index l.addresses));
     }

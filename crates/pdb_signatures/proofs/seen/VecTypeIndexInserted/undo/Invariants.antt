@@ -1,5 +1,5 @@
 use Rattle.std.proofs.Common.{◌≡◌, ℕ, drop}
-use Rattle.pdb_signatures.specs.Seen.{has, holds, base}
+use Rattle.pdb_signatures.specs.Seen.{base}
 use Rattle.pdb_signatures.proofs.seen.VecTypeIndexInserted.undo.Given as goal
 
 -- without what is left, the set is what all of it leaves

@@ -1,0 +1,156 @@
+-- What the rules say of types of other kinds than those that they tell apart.
+use Rattle.std.proofs.Common.{◌≡◌, ℕ, Bool, true, false, List, [], refl}
+use Rattle.std.specs.Prelude.{codes, Ok, if◌then◌else◌}
+use Rattle.pdb_records.specs.declared.types.TypeIndex.{TypeIndex}
+use Rattle.pdb_records.specs.declared.types.PrimitiveType.{PrimitiveType}
+use Rattle.pdb_records.specs.declared.types.MemberFunctionType.{MemberFunctionType}
+use Rattle.pdb_records.specs.declared.types.ProcedureType.{ProcedureType}
+use Rattle.pdb_records.specs.declared.types.PointerType.{PointerType}
+use Rattle.pdb_records.specs.declared.types.ArrayType.{ArrayType}
+use Rattle.pdb_records.specs.declared.types.ModifierType.{ModifierType}
+use Rattle.pdb_records.specs.declared.types.TypeData.{TypeData}
+use Rattle.pdb_records.specs.declared.types.TypeData.TheVariants.{Primitive, Class, MemberFunction, Procedure, Pointer, Array, Union, Enumeration, Enumerate, Modifier, ArgumentList, Other}
+use Rattle.pdb_types.specs.declared.error.Error.TheVariants.{ArgumentTypeNotArgumentList}
+use Rattle.pdb_types.specs.Errors.{Plain}
+use Rattle.pdb_signatures.specs.declared.attributes.Attribute.{Attribute}
+use Rattle.pdb_signatures.specs.Attributes.{attributes_text}
+use Rattle.pdb_signatures.specs.Wording.{dimensions_text}
+use Rattle.pdb_signatures.specs.Worlds.{World}
+use Rattle.pdb_signatures.specs.Plans.{OfType, Later, Buffered, ◌▸◌, written, failing, met_before}
+use Rattle.pdb_signatures.specs.Rules.{chain_end, behind_modifier, behind_pointer, element, modified, this_by_target, this_by_type, printed_this, on_list}
+use Rattle.pdb_signatures.specs.Signatures.{signature_by_type}
+
+-- any other type than a function ends a chain of pointers before them
+pub chain_end-other : (w : World) (attributes : List Attribute) (inside : List ℕ) (type : TypeData) → ((x : MemberFunctionType) → type ≡ MemberFunction x → ⊥) → ((x : ProcedureType) → type ≡ Procedure x → ⊥) → chain_end w attributes inside type ≡ Buffered (Later inside (OfType type)) (attributes_text w.flags true true attributes) (attributes_text w.flags true false attributes)
+chain_end-other w attributes inside (Primitive x) not0 not1 = refl
+chain_end-other w attributes inside (Class x) not0 not1 = refl
+chain_end-other w attributes inside (MemberFunction x) not0 not1 = absurd (not0 x refl)
+chain_end-other w attributes inside (Procedure x) not0 not1 = absurd (not1 x refl)
+chain_end-other w attributes inside (Pointer x) not0 not1 = refl
+chain_end-other w attributes inside (Array x) not0 not1 = refl
+chain_end-other w attributes inside (Union x) not0 not1 = refl
+chain_end-other w attributes inside (Enumeration x) not0 not1 = refl
+chain_end-other w attributes inside (Enumerate x) not0 not1 = refl
+chain_end-other w attributes inside (Modifier x) not0 not1 = refl
+chain_end-other w attributes inside (ArgumentList x) not0 not1 = refl
+chain_end-other w attributes inside (Other x) not0 not1 = refl
+
+-- any other type than a pointer ends a chain behind a modifier
+pub behind_modifier-other : (w : World) (attributes : List Attribute) (inside : List ℕ) (type : TypeData) → ((x : PointerType) → type ≡ Pointer x → ⊥) → behind_modifier w attributes inside type ≡ chain_end w attributes inside type
+behind_modifier-other w attributes inside (Primitive x) not0 = refl
+behind_modifier-other w attributes inside (Class x) not0 = refl
+behind_modifier-other w attributes inside (MemberFunction x) not0 = refl
+behind_modifier-other w attributes inside (Procedure x) not0 = refl
+behind_modifier-other w attributes inside (Pointer x) not0 = absurd (not0 x refl)
+behind_modifier-other w attributes inside (Array x) not0 = refl
+behind_modifier-other w attributes inside (Union x) not0 = refl
+behind_modifier-other w attributes inside (Enumeration x) not0 = refl
+behind_modifier-other w attributes inside (Enumerate x) not0 = refl
+behind_modifier-other w attributes inside (Modifier x) not0 = refl
+behind_modifier-other w attributes inside (ArgumentList x) not0 = refl
+behind_modifier-other w attributes inside (Other x) not0 = refl
+
+-- any other type than a pointer or a modifier ends a chain behind a pointer
+pub behind_pointer-other : (w : World) (attributes : List Attribute) (inside : List ℕ) (type : TypeData) → ((x : PointerType) → type ≡ Pointer x → ⊥) → ((x : ModifierType) → type ≡ Modifier x → ⊥) → behind_pointer w attributes inside type ≡ chain_end w attributes inside type
+behind_pointer-other w attributes inside (Primitive x) not0 not1 = refl
+behind_pointer-other w attributes inside (Class x) not0 not1 = refl
+behind_pointer-other w attributes inside (MemberFunction x) not0 not1 = refl
+behind_pointer-other w attributes inside (Procedure x) not0 not1 = refl
+behind_pointer-other w attributes inside (Pointer x) not0 not1 = absurd (not0 x refl)
+behind_pointer-other w attributes inside (Array x) not0 not1 = refl
+behind_pointer-other w attributes inside (Union x) not0 not1 = refl
+behind_pointer-other w attributes inside (Enumeration x) not0 not1 = refl
+behind_pointer-other w attributes inside (Enumerate x) not0 not1 = refl
+behind_pointer-other w attributes inside (Modifier x) not0 not1 = absurd (not1 x refl)
+behind_pointer-other w attributes inside (ArgumentList x) not0 not1 = refl
+behind_pointer-other w attributes inside (Other x) not0 not1 = refl
+
+-- any other type than an array is the base of one
+pub element-other : (w : World) (inside elements levels : List ℕ) (index : ℕ) (type : TypeData) → ((x : ArrayType) → type ≡ Array x → ⊥) → element w inside elements levels index type ≡ met_before (w.size index).met (Later inside (OfType type) ▸ written (dimensions_text levels (w.size index).size))
+element-other w inside elements levels index (Primitive x) not0 = refl
+element-other w inside elements levels index (Class x) not0 = refl
+element-other w inside elements levels index (MemberFunction x) not0 = refl
+element-other w inside elements levels index (Procedure x) not0 = refl
+element-other w inside elements levels index (Pointer x) not0 = refl
+element-other w inside elements levels index (Array x) not0 = absurd (not0 x refl)
+element-other w inside elements levels index (Union x) not0 = refl
+element-other w inside elements levels index (Enumeration x) not0 = refl
+element-other w inside elements levels index (Enumerate x) not0 = refl
+element-other w inside elements levels index (Modifier x) not0 = refl
+element-other w inside elements levels index (ArgumentList x) not0 = refl
+element-other w inside elements levels index (Other x) not0 = refl
+
+-- any other type than a pointer or one that the compiler brings has `const` before it
+pub modified-other : (w : World) (constant : Bool) (inside : List ℕ) (type : TypeData) → ((x : PointerType) → type ≡ Pointer x → ⊥) → ((x : PrimitiveType) → type ≡ Primitive x → ⊥) → modified w constant inside type ≡ written (if constant then codes "const " else []) ▸ Later inside (OfType type)
+modified-other w constant inside (Primitive x) not0 not1 = absurd (not1 x refl)
+modified-other w constant inside (Class x) not0 not1 = refl
+modified-other w constant inside (MemberFunction x) not0 not1 = refl
+modified-other w constant inside (Procedure x) not0 not1 = refl
+modified-other w constant inside (Pointer x) not0 not1 = absurd (not0 x refl)
+modified-other w constant inside (Array x) not0 not1 = refl
+modified-other w constant inside (Union x) not0 not1 = refl
+modified-other w constant inside (Enumeration x) not0 not1 = refl
+modified-other w constant inside (Enumerate x) not0 not1 = refl
+modified-other w constant inside (Modifier x) not0 not1 = refl
+modified-other w constant inside (ArgumentList x) not0 not1 = refl
+modified-other w constant inside (Other x) not0 not1 = refl
+
+-- with any other target than a modifier `this` is an argument
+pub this_by_target-other : (class this : TypeIndex) (type : TypeData) → ((x : ModifierType) → type ≡ Modifier x → ⊥) → this_by_target class this type ≡ printed_this this
+this_by_target-other class this (Primitive x) not0 = refl
+this_by_target-other class this (Class x) not0 = refl
+this_by_target-other class this (MemberFunction x) not0 = refl
+this_by_target-other class this (Procedure x) not0 = refl
+this_by_target-other class this (Pointer x) not0 = refl
+this_by_target-other class this (Array x) not0 = refl
+this_by_target-other class this (Union x) not0 = refl
+this_by_target-other class this (Enumeration x) not0 = refl
+this_by_target-other class this (Enumerate x) not0 = refl
+this_by_target-other class this (Modifier x) not0 = absurd (not0 x refl)
+this_by_target-other class this (ArgumentList x) not0 = refl
+this_by_target-other class this (Other x) not0 = refl
+
+-- with any other type than a pointer `this` is an argument
+pub this_by_type-other : (w : World) (class this : TypeIndex) (type : TypeData) → ((x : PointerType) → type ≡ Pointer x → ⊥) → this_by_type w class this type ≡ Ok (printed_this this)
+this_by_type-other w class this (Primitive x) not0 = refl
+this_by_type-other w class this (Class x) not0 = refl
+this_by_type-other w class this (MemberFunction x) not0 = refl
+this_by_type-other w class this (Procedure x) not0 = refl
+this_by_type-other w class this (Pointer x) not0 = absurd (not0 x refl)
+this_by_type-other w class this (Array x) not0 = refl
+this_by_type-other w class this (Union x) not0 = refl
+this_by_type-other w class this (Enumeration x) not0 = refl
+this_by_type-other w class this (Enumerate x) not0 = refl
+this_by_type-other w class this (Modifier x) not0 = refl
+this_by_type-other w class this (ArgumentList x) not0 = refl
+this_by_type-other w class this (Other x) not0 = refl
+
+-- any other type than a list of arguments is none
+pub on_list-other : (w : World) (m : MemberFunctionType) (may_say_const : Bool) (inside : List ℕ) (type : TypeData) → ((x : List TypeIndex) → type ≡ ArgumentList x → ⊥) → on_list w m may_say_const inside type ≡ failing (Plain ArgumentTypeNotArgumentList)
+on_list-other w m may_say_const inside (Primitive x) not0 = refl
+on_list-other w m may_say_const inside (Class x) not0 = refl
+on_list-other w m may_say_const inside (MemberFunction x) not0 = refl
+on_list-other w m may_say_const inside (Procedure x) not0 = refl
+on_list-other w m may_say_const inside (Pointer x) not0 = refl
+on_list-other w m may_say_const inside (Array x) not0 = refl
+on_list-other w m may_say_const inside (Union x) not0 = refl
+on_list-other w m may_say_const inside (Enumeration x) not0 = refl
+on_list-other w m may_say_const inside (Enumerate x) not0 = refl
+on_list-other w m may_say_const inside (Modifier x) not0 = refl
+on_list-other w m may_say_const inside (ArgumentList x) not0 = absurd (not0 x refl)
+on_list-other w m may_say_const inside (Other x) not0 = refl
+
+-- a name with any other type than a function stands alone
+pub signature_by_type-other : (w : World) (name inside : List ℕ) (type : TypeData) → ((x : MemberFunctionType) → type ≡ MemberFunction x → ⊥) → ((x : ProcedureType) → type ≡ Procedure x → ⊥) → signature_by_type w name inside type ≡ written name
+signature_by_type-other w name inside (Primitive x) not0 not1 = refl
+signature_by_type-other w name inside (Class x) not0 not1 = refl
+signature_by_type-other w name inside (MemberFunction x) not0 not1 = absurd (not0 x refl)
+signature_by_type-other w name inside (Procedure x) not0 not1 = absurd (not1 x refl)
+signature_by_type-other w name inside (Pointer x) not0 not1 = refl
+signature_by_type-other w name inside (Array x) not0 not1 = refl
+signature_by_type-other w name inside (Union x) not0 not1 = refl
+signature_by_type-other w name inside (Enumeration x) not0 not1 = refl
+signature_by_type-other w name inside (Enumerate x) not0 not1 = refl
+signature_by_type-other w name inside (Modifier x) not0 not1 = refl
+signature_by_type-other w name inside (ArgumentList x) not0 not1 = refl
+signature_by_type-other w name inside (Other x) not0 not1 = refl

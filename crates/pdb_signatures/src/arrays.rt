@@ -1,0 +1,144 @@
+ghost use Rattle.std.specs.Prelude.{◌≡◌, None, OnOk};
+ghost use Rattle.pdb_records.specs.declared.types.TypeData.TheVariants.{Array};
+ghost use Rattle.pdb_types.specs.Findings.{Fits};
+ghost use Rattle.pdb_signatures.specs.BrokenParts.{AddsBroken};
+ghost use Rattle.pdb_signatures.specs.Frames.{Advances, Stands};
+ghost use Rattle.pdb_signatures.specs.Plans.{OfType, Elements, Later, ◌▸◌, written, met_before};
+ghost use Rattle.pdb_signatures.specs.Progress.{open_in};
+ghost use Rattle.pdb_signatures.specs.Rules.{element};
+ghost use Rattle.pdb_signatures.specs.Wording.{dimensions_text};
+ghost use Rattle.pdb_signatures.specs.Worlds.{World, formatter_world};
+
+use crate::failures::Failure;
+use crate::printer::Printer;
+use crate::progress::Progress;
+use crate::tasks::Task;
+use crate::wording::Wording;
+use pdb_records::{ArrayType, TypeData, TypeIndex};
+use pdb_types::{Error, Findings, ModuleProvider};
+use std::alloc::AllocError;
+use std::collections::BTreeSet;
+
+/// An element of an array that is an array: one more level.
+fn further_level(
+    progress: &mut Progress<'_>,
+    mut elements: BTreeSet<u32>,
+    mut levels: Vec<u32>,
+    index: TypeIndex,
+    a: &ArrayType,
+) -> Result<(), AllocError>
+    ensures { OnOk result ((w : World)
+        → Stands w 0 (element w (open_in progress.old.steps) elements.keys levels.items index.0 (Array a.now))
+        progress.old progress.new) }
+{
+    elements.insert(index.0)?;
+    levels.push(a.first)?;
+    progress.first(Task::Elements(elements, levels, a.element_type))?;
+    Ok(())
+}
+
+impl<'p, 'a, P: ModuleProvider> Printer<'p, 'a, P> {
+    /// The base of an array: its size is asked, and then it is printed with the dimensions behind it.
+    fn base<'s>(
+        &self,
+        findings: &mut Findings<'a>,
+        progress: &mut Progress<'s>,
+        levels: Vec<u32>,
+        index: TypeIndex,
+        type_data: &'s TypeData,
+    ) -> Result<(), AllocError>
+    where
+        'a: 's,
+        requires fits { Fits P.info self.now.standing.now findings.old }
+        requires well { progress.old.failure ≡ None }
+        ensures fits { Fits P.info self.now.standing.now findings.new }
+        ensures broken { AddsBroken (formatter_world P.info self.now.standing.now self.now.position)
+            findings.old.failed findings.new.failed }
+        ensures advances { OnOk result
+            (let w = formatter_world P.info self.now.standing.now self.now.position in
+            Advances w (met_before (w.size index.0).met
+            (Later (open_in progress.old.steps) (OfType type_data.now)
+            ▸ written (dimensions_text levels.items (w.size index.0).size))) 0
+            progress.old findings.old.failed progress.new findings.new.failed) }
+    {
+        let size = match self.standing.type_size(findings, self.position, index) {
+            Ok(size) => size,
+            Err(_) => return Err(AllocError),
+        };
+        self.standing.remember(findings, size.met)?;
+        progress.first(Task::Written(Wording::Dimensions(levels, size.size)))?;
+        progress.first(Task::OfType(type_data))?;
+        Ok(())
+    }
+
+    /// An element of an array that was read: one more level, or the base.
+    fn element<'s>(
+        &self,
+        findings: &mut Findings<'a>,
+        progress: &mut Progress<'s>,
+        elements: BTreeSet<u32>,
+        levels: Vec<u32>,
+        index: TypeIndex,
+        type_data: &'s TypeData,
+    ) -> Result<(), AllocError>
+    where
+        'a: 's,
+        requires fits { Fits P.info self.now.standing.now findings.old }
+        requires well { progress.old.failure ≡ None }
+        ensures fits { Fits P.info self.now.standing.now findings.new }
+        ensures broken { AddsBroken (formatter_world P.info self.now.standing.now self.now.position)
+            findings.old.failed findings.new.failed }
+        ensures advances { OnOk result
+            (let w = formatter_world P.info self.now.standing.now self.now.position in
+            Advances w (element w (open_in progress.old.steps) elements.keys levels.items index.0 type_data.now) 0
+            progress.old findings.old.failed progress.new findings.new.failed) }
+    {
+        match type_data {
+            TypeData::Array(a) => {
+                further_level(progress, elements, levels, index, a)?;
+                Ok(())
+            }
+            _ => {
+                self.base(findings, progress, levels, index, type_data)?;
+                Ok(())
+            }
+        }
+    }
+
+    /// The next element of an array, which may not be one of those so far.
+    pub(crate) fn elements<'s>(
+        &self,
+        findings: &mut Findings<'a>,
+        progress: &mut Progress<'s>,
+        elements: BTreeSet<u32>,
+        levels: Vec<u32>,
+        next: TypeIndex,
+    ) -> Result<(), AllocError>
+    where
+        'a: 's,
+        requires fits { Fits P.info self.now.standing.now findings.old }
+        requires well { progress.old.failure ≡ None }
+        ensures fits { Fits P.info self.now.standing.now findings.new }
+        ensures broken { AddsBroken (formatter_world P.info self.now.standing.now self.now.position)
+            findings.old.failed findings.new.failed }
+        ensures advances { OnOk result
+            (Advances (formatter_world P.info self.now.standing.now self.now.position)
+            (Later (open_in progress.old.steps) (Elements elements.keys levels.items next.0)) 1
+            progress.old findings.old.failed progress.new findings.new.failed) }
+    {
+        if elements.contains(&next.0) {
+            progress.fail(Failure::Told(Error::CircularTypeDefinition(next.0)));
+            return Ok(());
+        }
+        match self.standing.read_type(findings, self.position, next) {
+            Ok((_, type_data)) => {
+                self.element(findings, progress, elements, levels, next, type_data)?;
+                Ok(())
+            }
+            Err(unread) => {
+                self.refuse(findings, progress, unread)?;
+                Ok(())
+            }
+        }
+    }
+}

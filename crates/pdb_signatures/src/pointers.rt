@@ -1,0 +1,147 @@
+ghost use Rattle.std.specs.Prelude.{◌≡◌, ◌∷◌, false, OnOk, reverse};
+ghost use Rattle.pdb_signatures.specs.Attributes.{attribute_of};
+ghost use Rattle.pdb_signatures.specs.Frames.{Stands, StandsHere};
+ghost use Rattle.pdb_signatures.specs.Plans.{Chain, Later};
+ghost use Rattle.pdb_signatures.specs.Progress.{open_in};
+ghost use Rattle.pdb_signatures.specs.Rules.{pointers_to_method, pointers_to_function, chain_end, behind_modifier, behind_pointer};
+ghost use Rattle.pdb_signatures.specs.Worlds.{World};
+
+use crate::attributes::{Attribute, attribute_of, point_to};
+use crate::progress::Progress;
+use crate::tasks::Task;
+use crate::wording::Wording;
+use pdb_records::{MemberFunctionType, PointerType, ProcedureType, TypeData};
+use std::alloc::AllocError;
+
+/// A pointer to a method: what it returns, the class and the pointers in parentheses, and its arguments.
+fn pointers_to_method<'s>(
+    progress: &mut Progress<'s>,
+    attributes: Vec<Attribute>,
+    m: &'s MemberFunctionType,
+) -> Result<(), AllocError>
+    ensures { OnOk result ((w : World)
+        → Stands w 0 (pointers_to_method w (reverse attributes.items) (open_in progress.old.steps) m.now)
+        progress.old progress.new) }
+{
+    progress.first(Task::MethodArguments(m, false))?;
+    progress.first(Task::Written(Wording::Text(")")))?;
+    progress.first(Task::Written(Wording::Pointers(attributes)))?;
+    progress.first(Task::Index(m.class_type))?;
+    progress.first(Task::Written(Wording::Text("(")))?;
+    progress.first(Task::Returned(m.is_constructor, Some(m.return_type)))?;
+    Ok(())
+}
+
+/// A pointer to a function: what it returns, the pointers in parentheses, and its arguments in
+/// parentheses.
+fn pointers_to_function<'s>(
+    progress: &mut Progress<'s>,
+    attributes: Vec<Attribute>,
+    p: &'s ProcedureType,
+) -> Result<(), AllocError>
+    ensures { OnOk result ((w : World)
+        → Stands w 0 (pointers_to_function w (reverse attributes.items) (open_in progress.old.steps) p.now)
+        progress.old progress.new) }
+{
+    progress.first(Task::Written(Wording::Text(")")))?;
+    progress.first(Task::Index(p.argument_list))?;
+    progress.first(Task::Written(Wording::Text(")(")))?;
+    progress.first(Task::Written(Wording::Pointers(attributes)))?;
+    progress.first(Task::Written(Wording::Text("(")))?;
+    progress.first(Task::Returned(p.is_constructor, p.return_type))?;
+    Ok(())
+}
+
+/// The end of a chain of pointers: functions are printed around the pointers, and any other type before
+/// them.
+fn chain_end<'s>(
+    progress: &mut Progress<'s>,
+    attributes: Vec<Attribute>,
+    type_data: &'s TypeData,
+) -> Result<(), AllocError>
+    ensures { OnOk result ((w : World)
+        → StandsHere w (chain_end w (reverse attributes.items) (open_in progress.old.steps) type_data.now)
+        progress.old progress.new) }
+{
+    match type_data {
+        TypeData::MemberFunction(m) => {
+            pointers_to_method(progress, attributes, m)?;
+            Ok(())
+        }
+        TypeData::Procedure(p) => {
+            pointers_to_function(progress, attributes, p)?;
+            Ok(())
+        }
+        _ => {
+            progress.keep_back(attributes)?;
+            progress.first(Task::OfType(type_data))?;
+            Ok(())
+        }
+    }
+}
+
+/// A further pointer of a chain.
+fn further_pointer(
+    progress: &mut Progress<'_>,
+    mut attributes: Vec<Attribute>,
+    p: &PointerType,
+) -> Result<(), AllocError>
+    ensures { OnOk result ((w : World)
+        → Stands w 0 (Later (open_in progress.old.steps)
+        (Chain (attribute_of p.now false ∷ reverse attributes.items) p.now.underlying_type.0))
+        progress.old progress.new) }
+{
+    attributes.push(attribute_of(p, false))?;
+    progress.first(Task::Chain(attributes, p.underlying_type))?;
+    Ok(())
+}
+
+/// What follows a modifier in a chain of pointers: a pointer goes on with the chain, all else ends it.
+pub(crate) fn behind_modifier<'s>(
+    progress: &mut Progress<'s>,
+    attributes: Vec<Attribute>,
+    type_data: &'s TypeData,
+) -> Result<(), AllocError>
+    ensures { OnOk result ((w : World)
+        → StandsHere w (behind_modifier w (reverse attributes.items) (open_in progress.old.steps) type_data.now)
+        progress.old progress.new) }
+{
+    match type_data {
+        TypeData::Pointer(p) => {
+            further_pointer(progress, attributes, p)?;
+            Ok(())
+        }
+        _ => {
+            chain_end(progress, attributes, type_data)?;
+            Ok(())
+        }
+    }
+}
+
+/// What follows a pointer in a chain of pointers: a pointer or a modifier goes on with the chain, all else
+/// ends it.
+pub(crate) fn behind_pointer<'s>(
+    progress: &mut Progress<'s>,
+    mut attributes: Vec<Attribute>,
+    type_data: &'s TypeData,
+) -> Result<(), AllocError>
+    ensures { OnOk result ((w : World)
+        → StandsHere w (behind_pointer w (reverse attributes.items) (open_in progress.old.steps) type_data.now)
+        progress.old progress.new) }
+{
+    match type_data {
+        TypeData::Pointer(p) => {
+            further_pointer(progress, attributes, p)?;
+            Ok(())
+        }
+        TypeData::Modifier(m) => {
+            point_to(&mut attributes, m.constant);
+            progress.first(Task::BehindModifier(attributes, m.underlying_type))?;
+            Ok(())
+        }
+        _ => {
+            chain_end(progress, attributes, type_data)?;
+            Ok(())
+        }
+    }
+}

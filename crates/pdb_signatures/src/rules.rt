@@ -1,0 +1,256 @@
+ghost use Rattle.std.specs.Prelude.{◌≡◌, ◌||◌, ◌∷◌, [], codes, if◌then◌else◌, OnOk};
+ghost use Rattle.pdb_signatures.specs.Flags.{without_return_type};
+ghost use Rattle.pdb_signatures.specs.Frames.{Stands};
+ghost use Rattle.pdb_signatures.specs.Progress.{open_in};
+ghost use Rattle.pdb_signatures.specs.Rules.{returned, further_arguments, list_of_arguments, arguments_behind, modified, by_kind};
+ghost use Rattle.pdb_records.specs.declared.types.TypeData.TheVariants.{MemberFunction, Procedure, Array};
+ghost use Rattle.pdb_signatures.specs.Attributes.{attribute_of};
+ghost use Rattle.pdb_signatures.specs.Plans.{Chain, Later, written};
+ghost use Rattle.pdb_signatures.specs.Wording.{declared_text};
+ghost use Rattle.pdb_signatures.specs.Worlds.{World};
+
+use crate::attributes::attribute_of;
+use crate::options::without_return_type;
+use crate::progress::Progress;
+use crate::tasks::Task;
+use crate::wording::{Wording, class_word, comma};
+use pdb_records::{
+    ArrayType, MemberFunctionType, PointerType, ProcedureType, RawString, TypeData, TypeIndex,
+};
+use pdb_types::TypeFormatterFlags;
+use std::alloc::AllocError;
+use std::collections::BTreeSet;
+
+/// The type that a function returns, with a space behind it, unless it is left out.
+pub(crate) fn returned(
+    progress: &mut Progress<'_>,
+    left_out: bool,
+    index: Option<TypeIndex>,
+) -> Result<(), AllocError>
+    ensures { OnOk result ((w : World) → Stands w 1 (returned (open_in progress.old.steps) left_out index)
+        progress.old progress.new) }
+{
+    let Some(index) = index else {
+        return Ok(());
+    };
+    if left_out {
+        return Ok(());
+    }
+    progress.first(Task::Written(Wording::Text(" ")))?;
+    progress.first(Task::Index(index))?;
+    Ok(())
+}
+
+/// Further arguments, each behind a comma.
+pub(crate) fn further_arguments<'s>(
+    progress: &mut Progress<'s>,
+    flags: TypeFormatterFlags,
+    list: &'s [TypeIndex],
+) -> Result<(), AllocError>
+    ensures { OnOk result ((w : World) → w.flags ≡ flags
+        → Stands w 1 (further_arguments w (open_in progress.old.steps) list.now) progress.old progress.new) }
+{
+    let Some((next, rest)) = list.split_first() else {
+        return Ok(());
+    };
+    progress.first(Task::Arguments(rest))?;
+    progress.first(Task::Index(*next))?;
+    progress.first(Task::Written(Wording::Text(comma(flags))))?;
+    Ok(())
+}
+
+/// A list of arguments, with commas between them, behind `this` where that is one.
+pub(crate) fn list_of_arguments<'s>(
+    progress: &mut Progress<'s>,
+    this: Option<TypeIndex>,
+    list: &'s [TypeIndex],
+) -> Result<(), AllocError>
+    ensures { OnOk result ((w : World)
+        → Stands w 1 (list_of_arguments w (open_in progress.old.steps) (arguments_behind this list.now))
+        progress.old progress.new) }
+{
+    if let Some(this) = this {
+        progress.first(Task::Arguments(list))?;
+        progress.first(Task::Index(this))?;
+        return Ok(());
+    }
+    let Some((next, rest)) = list.split_first() else {
+        return Ok(());
+    };
+    progress.first(Task::Arguments(rest))?;
+    progress.first(Task::Index(*next))?;
+    Ok(())
+}
+
+/// A name, with the word that it was declared with before it, unless names stand alone.
+fn declared<'s>(
+    progress: &mut Progress<'s>,
+    word: &'static str,
+    name: &'s RawString,
+) -> Result<(), AllocError>
+    ensures { OnOk result ((w : World)
+        → Stands w 0 (written (declared_text w.flags word.now name.now)) progress.old progress.new) }
+{
+    progress.first(Task::Written(Wording::Declared(word, name)))
+}
+
+/// Whether the type that a function returns is left out, where the function is printed by itself.
+pub(crate) fn is_left_out(flags: TypeFormatterFlags, constructor: bool) -> bool
+    ensures { result ≡ (constructor || without_return_type flags) }
+{
+    constructor || without_return_type(flags)
+}
+
+/// A method: what it returns where that is wanted, and its arguments.
+fn method<'s>(
+    progress: &mut Progress<'s>,
+    flags: TypeFormatterFlags,
+    m: &'s MemberFunctionType,
+) -> Result<(), AllocError>
+    ensures { OnOk result ((w : World) → w.flags ≡ flags
+        → Stands w 0 (by_kind w (open_in progress.old.steps) (MemberFunction m.now)) progress.old progress.new) }
+{
+    let left_out = is_left_out(flags, m.is_constructor);
+    progress.first(Task::MethodArguments(m, false))?;
+    progress.first(Task::Written(Wording::Text("()")))?;
+    progress.first(Task::Returned(left_out, Some(m.return_type)))?;
+    Ok(())
+}
+
+/// A procedure: what it returns where that is wanted, and its arguments, with no parenthesis behind them.
+fn procedure<'s>(
+    progress: &mut Progress<'s>,
+    flags: TypeFormatterFlags,
+    p: &'s ProcedureType,
+) -> Result<(), AllocError>
+    ensures { OnOk result ((w : World) → w.flags ≡ flags
+        → Stands w 0 (by_kind w (open_in progress.old.steps) (Procedure p.now)) progress.old progress.new) }
+{
+    let left_out = is_left_out(flags, p.is_constructor);
+    progress.first(Task::Index(p.argument_list))?;
+    progress.first(Task::Written(Wording::Text("()(")))?;
+    progress.first(Task::Returned(left_out, p.return_type))?;
+    Ok(())
+}
+
+/// A pointer, constant where it says so or `constant` does: a chain of pointers begins.
+pub(crate) fn pointer(
+    progress: &mut Progress<'_>,
+    p: &PointerType,
+    constant: bool,
+) -> Result<(), AllocError>
+    ensures { OnOk result ((w : World)
+        → Stands w 0 (Later (open_in progress.old.steps)
+        (Chain (attribute_of p.now constant ∷ []) p.now.underlying_type.0)) progress.old progress.new) }
+{
+    let mut attributes = Vec::new(progress.allocator());
+    attributes.push(attribute_of(p, constant))?;
+    progress.first(Task::Chain(attributes, p.underlying_type))?;
+    Ok(())
+}
+
+/// An array: its levels and elements begin.
+fn array(progress: &mut Progress<'_>, a: &ArrayType) -> Result<(), AllocError>
+    ensures { OnOk result ((w : World)
+        → Stands w 0 (by_kind w (open_in progress.old.steps) (Array a.now)) progress.old progress.new) }
+{
+    let elements = BTreeSet::new(progress.allocator());
+    let mut levels = Vec::new(progress.allocator());
+    levels.push(a.first)?;
+    progress.first(Task::Elements(elements, levels, a.element_type))?;
+    Ok(())
+}
+
+/// The word before a type that is constant.
+fn const_word(constant: bool) -> &'static str
+    ensures { result.now ≡ (if constant then codes "const " else []) }
+{
+    if constant { "const " } else { "" }
+}
+
+/// The target of a modifier, constant or not.
+pub(crate) fn modified<'s>(
+    progress: &mut Progress<'s>,
+    constant: bool,
+    type_data: &'s TypeData,
+) -> Result<(), AllocError>
+    ensures { OnOk result ((w : World)
+        → Stands w 0 (modified w constant (open_in progress.old.steps) type_data.now) progress.old progress.new) }
+{
+    match type_data {
+        TypeData::Pointer(p) => {
+            pointer(progress, p, constant)?;
+            Ok(())
+        }
+        TypeData::Primitive(p) => {
+            progress.first(Task::Written(Wording::Primitive(*p, constant)))?;
+            Ok(())
+        }
+        _ => {
+            progress.first(Task::OfType(type_data))?;
+            progress.first(Task::Written(Wording::Text(const_word(constant))))?;
+            Ok(())
+        }
+    }
+}
+
+/// A type, by its kind.
+pub(crate) fn by_kind<'s>(
+    progress: &mut Progress<'s>,
+    flags: TypeFormatterFlags,
+    type_data: &'s TypeData,
+) -> Result<(), AllocError>
+    ensures { OnOk result ((w : World) → w.flags ≡ flags
+        → Stands w 0 (by_kind w (open_in progress.old.steps) type_data.now) progress.old progress.new) }
+{
+    match type_data {
+        TypeData::Primitive(p) => {
+            progress.first(Task::Written(Wording::Primitive(*p, false)))?;
+            Ok(())
+        }
+        TypeData::Class(c) => {
+            declared(progress, class_word(c.class_kind), &c.name)?;
+            Ok(())
+        }
+        TypeData::Union(u) => {
+            declared(progress, "union ", &u.name)?;
+            Ok(())
+        }
+        TypeData::Enumeration(e) => {
+            declared(progress, "enum ", &e.name)?;
+            Ok(())
+        }
+        TypeData::Enumerate(e) => {
+            declared(progress, "enum class ", &e.name)?;
+            Ok(())
+        }
+        TypeData::MemberFunction(m) => {
+            method(progress, flags, m)?;
+            Ok(())
+        }
+        TypeData::Procedure(p) => {
+            procedure(progress, flags, p)?;
+            Ok(())
+        }
+        TypeData::ArgumentList(list) => {
+            list_of_arguments(progress, None, &list.arguments)?;
+            Ok(())
+        }
+        TypeData::Pointer(p) => {
+            pointer(progress, p, false)?;
+            Ok(())
+        }
+        TypeData::Array(a) => {
+            array(progress, a)?;
+            Ok(())
+        }
+        TypeData::Modifier(m) => {
+            progress.first(Task::Modified(m.constant, m.underlying_type))?;
+            Ok(())
+        }
+        TypeData::Other(kind) => {
+            progress.first(Task::Written(Wording::UnhandledKind(kind.kind_name.as_str())))?;
+            Ok(())
+        }
+    }
+}

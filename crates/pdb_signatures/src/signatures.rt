@@ -1,0 +1,177 @@
+ghost use Rattle.std.specs.Prelude.{◌≡◌, None, OnOk, IfOk, IfErr, string_bytes};
+ghost use Rattle.pdb_records.specs.declared.types.TypeData.TheVariants.{MemberFunction, Procedure};
+ghost use Rattle.pdb_types.specs.Findings.{Fits};
+ghost use Rattle.pdb_types.specs.declared.error.Error.TheVariants.{OutOfMemory};
+ghost use Rattle.pdb_signatures.specs.BrokenParts.{AddsBroken};
+ghost use Rattle.pdb_signatures.specs.Frames.{Begins, Stands};
+ghost use Rattle.pdb_signatures.specs.Printed.{signature_run};
+ghost use Rattle.pdb_signatures.specs.Progress.{beginning, failure_in, open_in};
+ghost use Rattle.pdb_signatures.specs.Signatures.{function_arguments, signature_by_type, signature};
+ghost use Rattle.pdb_signatures.specs.Worlds.{World, formatter_world};
+
+use crate::failures::Failure;
+use crate::options::without_arguments;
+use crate::printer::Printer;
+use crate::progress::Progress;
+use crate::rules::is_left_out;
+use crate::tasks::Task;
+use crate::wording::{Wording, function_name, static_word};
+use pdb_records::{MemberFunctionType, ProcedureType, TypeData, TypeIndex};
+use pdb_types::{Findings, ModuleProvider, Standing, TypeFormatterFlags};
+use std::alloc::{AllocError, Global};
+
+/// What printing came to: the text, and why it failed where it did.
+#[derive(Drop)]
+pub(crate) struct Printed {
+    pub(crate) text: String,
+    pub(crate) failure: Option<Failure>,
+}
+
+/// A function's arguments in parentheses, unless functions are printed without them.
+fn function_arguments(
+    progress: &mut Progress<'_>,
+    flags: TypeFormatterFlags,
+    list: TypeIndex,
+) -> Result<(), AllocError>
+    ensures { OnOk result ((w : World) → w.flags ≡ flags
+        → Stands w 0 (function_arguments w (open_in progress.old.steps) list) progress.old progress.new) }
+{
+    if without_arguments(flags) {
+        return Ok(());
+    }
+    progress.first(Task::Written(Wording::Text(")")))?;
+    progress.first(Task::Index(list))?;
+    progress.first(Task::Written(Wording::Text("(")))?;
+    Ok(())
+}
+
+/// The signature of a method with this name.
+fn method<'s>(
+    progress: &mut Progress<'s>,
+    flags: TypeFormatterFlags,
+    name: &'s str,
+    m: &'s MemberFunctionType,
+) -> Result<(), AllocError>
+    ensures { OnOk result ((w : World) → w.flags ≡ flags
+        → Stands w 0 (signature_by_type w name.now (open_in progress.old.steps) (MemberFunction m.now))
+        progress.old progress.new) }
+{
+    let left_out = is_left_out(flags, m.is_constructor);
+    progress.first(Task::MethodArguments(m, true))?;
+    progress.first(Task::Written(Wording::Text(function_name(name))))?;
+    progress.first(Task::Returned(left_out, Some(m.return_type)))?;
+    progress.first(Task::Written(Wording::Text(static_word(flags, m.this_pointer_type))))?;
+    Ok(())
+}
+
+/// The signature of a procedure with this name.
+fn procedure<'s>(
+    progress: &mut Progress<'s>,
+    flags: TypeFormatterFlags,
+    name: &'s str,
+    p: &'s ProcedureType,
+) -> Result<(), AllocError>
+    ensures { OnOk result ((w : World) → w.flags ≡ flags
+        → Stands w 0 (signature_by_type w name.now (open_in progress.old.steps) (Procedure p.now))
+        progress.old progress.new) }
+{
+    let left_out = is_left_out(flags, p.is_constructor);
+    function_arguments(progress, flags, p.argument_list)?;
+    progress.first(Task::Written(Wording::Text(function_name(name))))?;
+    progress.first(Task::Returned(left_out, p.return_type))?;
+    Ok(())
+}
+
+/// The signature of a function with this name and type. Where the type is no function's, the name as it is.
+fn by_type<'s>(
+    progress: &mut Progress<'s>,
+    flags: TypeFormatterFlags,
+    name: &'s str,
+    type_data: &'s TypeData,
+) -> Result<(), AllocError>
+    ensures { OnOk result ((w : World) → w.flags ≡ flags
+        → Stands w 0 (signature_by_type w name.now (open_in progress.old.steps) type_data.now)
+        progress.old progress.new) }
+{
+    match type_data {
+        TypeData::MemberFunction(m) => {
+            method(progress, flags, name, m)?;
+            Ok(())
+        }
+        TypeData::Procedure(p) => {
+            procedure(progress, flags, name, p)?;
+            Ok(())
+        }
+        _ => {
+            progress.first(Task::Written(Wording::Text(name)))?;
+            Ok(())
+        }
+    }
+}
+
+impl<'p, 'a, P: ModuleProvider> Printer<'p, 'a, P> {
+    /// Puts the signature of a function first, with this name and the type of this index. Index 0 is no
+    /// type, and then the name stands alone.
+    fn signature<'s>(
+        &self,
+        findings: &mut Findings<'a>,
+        progress: &mut Progress<'s>,
+        name: &'s str,
+        index: TypeIndex,
+    ) -> Result<(), AllocError>
+    where
+        'a: 's,
+        requires fits { Fits P.info self.now.standing.now findings.old }
+        requires beginning { progress.old ≡ beginning }
+        ensures fits { Fits P.info self.now.standing.now findings.new }
+        ensures broken { AddsBroken (formatter_world P.info self.now.standing.now self.now.position)
+            findings.old.failed findings.new.failed }
+        ensures begins { OnOk result
+            (let w = formatter_world P.info self.now.standing.now self.now.position in
+            Begins w (signature w name.now index.0) findings.old.failed progress.new findings.new.failed) }
+    {
+        if index.0 == 0 {
+            progress.first(Task::Written(Wording::Text(function_name(name))))?;
+            return Ok(());
+        }
+        match self.standing.read_type(findings, self.position, index) {
+            Ok((_, type_data)) => {
+                progress.open(index.0)?;
+                by_type(progress, self.flags(), name, type_data)?;
+                Ok(())
+            }
+            Err(unread) => {
+                self.refuse(findings, progress, unread)?;
+                Ok(())
+            }
+        }
+    }
+}
+
+/// Prints the signature of a function with this name, and the type of this index as the module at a
+/// position writes it.
+pub(crate) fn print_signature<'a, P: ModuleProvider>(
+    alloc: Global,
+    standing: &Standing<'a, P>,
+    findings: &mut Findings<'a>,
+    name: &str,
+    position: usize,
+    index: TypeIndex,
+) -> Result<Printed, AllocError>
+    requires fits { Fits P.info standing.now findings.old }
+    ensures fits { Fits P.info standing.now findings.new }
+    ensures broken { AddsBroken (formatter_world P.info standing.now position)
+        findings.old.failed findings.new.failed }
+    ensures printed { IfOk result (λ p.
+        signature_run P.info standing.now position name.now index.0 findings.old.failed ≡ record {
+          text = string_bytes p.text;
+          fault = failure_in p.failure;
+          failed = findings.new.failed;
+        }) }
+{
+    let printer = Printer { standing, position };
+    let mut progress = Progress::new(alloc);
+    printer.signature(findings, &mut progress, name, index)?;
+    printer.print(findings, &mut progress)?;
+    Ok(progress.into_printed())
+}

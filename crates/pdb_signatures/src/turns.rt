@@ -1,0 +1,265 @@
+ghost use Rattle.std.specs.Prelude.{◌≡◌, None, Ok, OnOk, reverse};
+ghost use Rattle.pdb_types.specs.Findings.{Fits};
+ghost use Rattle.pdb_signatures.specs.BrokenParts.{AddsBroken};
+ghost use Rattle.pdb_signatures.specs.Frames.{Advances, Ends, frames};
+ghost use Rattle.pdb_signatures.specs.Plans.{Index, OfType, Chain, BehindModifier, Modified, Later};
+ghost use Rattle.pdb_signatures.specs.Progress.{open_in, task_plan, stage_run};
+ghost use Rattle.pdb_signatures.specs.FailedParts.{Parts};
+ghost use Rattle.pdb_signatures.specs.Worlds.{World, formatter_world};
+
+use crate::attributes::Attribute;
+use crate::pointers::{behind_modifier, behind_pointer};
+use crate::printer::Printer;
+use crate::progress::{Next, Progress};
+use crate::rules::{by_kind, further_arguments, list_of_arguments, modified, returned};
+use crate::tasks::Task;
+use pdb_records::{TypeData, TypeIndex};
+use pdb_types::{Findings, ModuleProvider, TypeFormatterFlags};
+use std::alloc::AllocError;
+
+/// The type of an index that was read: it is printed while the index is open.
+fn index_read<'s>(
+    progress: &mut Progress<'s>,
+    index: TypeIndex,
+    type_data: &'s TypeData,
+) -> Result<(), AllocError>
+    requires well { progress.old.failure ≡ None }
+    ensures { OnOk result ((w : World) → w.read index.0 ≡ Ok type_data.now → (failed : Parts)
+        → Advances w (Later (open_in progress.old.steps) (Index index.0)) 1
+        progress.old failed progress.new failed) }
+{
+    if !progress.open(index.0)? {
+        return Ok(());
+    }
+    progress.first(Task::OfType(type_data))?;
+    Ok(())
+}
+
+/// A type: what is printed of its kind, and a note where a type is missing in it.
+pub(crate) fn of_type<'s>(
+    progress: &mut Progress<'s>,
+    flags: TypeFormatterFlags,
+    type_data: &'s TypeData,
+) -> Result<(), AllocError>
+    requires well { progress.old.failure ≡ None }
+    ensures { OnOk result ((w : World) → w.flags ≡ flags → (failed : Parts)
+        → Advances w (Later (open_in progress.old.steps) (OfType type_data.now)) 1
+        progress.old failed progress.new failed) }
+{
+    progress.catch()?;
+    by_kind(progress, flags, type_data)?;
+    Ok(())
+}
+
+impl<'p, 'a, P: ModuleProvider> Printer<'p, 'a, P> {
+    /// The type of an index.
+    pub(crate) fn index<'s>(
+        &self,
+        findings: &mut Findings<'a>,
+        progress: &mut Progress<'s>,
+        index: TypeIndex,
+    ) -> Result<(), AllocError>
+    where
+        'a: 's,
+        requires fits { Fits P.info self.now.standing.now findings.old }
+        requires well { progress.old.failure ≡ None }
+        ensures fits { Fits P.info self.now.standing.now findings.new }
+        ensures broken { AddsBroken (formatter_world P.info self.now.standing.now self.now.position)
+            findings.old.failed findings.new.failed }
+        ensures advances { OnOk result
+            (Advances (formatter_world P.info self.now.standing.now self.now.position)
+            (Later (open_in progress.old.steps) (Index index.0)) 1
+            progress.old findings.old.failed progress.new findings.new.failed) }
+    {
+        match self.standing.read_type(findings, self.position, index) {
+            Ok((_, type_data)) => {
+                index_read(progress, index, type_data)?;
+                Ok(())
+            }
+            Err(unread) => {
+                self.note(findings, progress, unread)?;
+                Ok(())
+            }
+        }
+    }
+
+    /// A chain of pointers to the type of an index.
+    pub(crate) fn chain<'s>(
+        &self,
+        findings: &mut Findings<'a>,
+        progress: &mut Progress<'s>,
+        attributes: Vec<Attribute>,
+        target: TypeIndex,
+    ) -> Result<(), AllocError>
+    where
+        'a: 's,
+        requires fits { Fits P.info self.now.standing.now findings.old }
+        requires well { progress.old.failure ≡ None }
+        ensures fits { Fits P.info self.now.standing.now findings.new }
+        ensures broken { AddsBroken (formatter_world P.info self.now.standing.now self.now.position)
+            findings.old.failed findings.new.failed }
+        ensures advances { OnOk result
+            (Advances (formatter_world P.info self.now.standing.now self.now.position)
+            (Later (open_in progress.old.steps) (Chain (reverse attributes.items) target.0)) 1
+            progress.old findings.old.failed progress.new findings.new.failed) }
+    {
+        match self.enter(findings, progress, target)? {
+            None => Ok(()),
+            Some(type_data) => {
+                behind_pointer(progress, attributes, type_data)?;
+                Ok(())
+            }
+        }
+    }
+
+    /// A chain of pointers with a modifier between them and the type of an index.
+    pub(crate) fn behind_modifier<'s>(
+        &self,
+        findings: &mut Findings<'a>,
+        progress: &mut Progress<'s>,
+        attributes: Vec<Attribute>,
+        target: TypeIndex,
+    ) -> Result<(), AllocError>
+    where
+        'a: 's,
+        requires fits { Fits P.info self.now.standing.now findings.old }
+        requires well { progress.old.failure ≡ None }
+        ensures fits { Fits P.info self.now.standing.now findings.new }
+        ensures broken { AddsBroken (formatter_world P.info self.now.standing.now self.now.position)
+            findings.old.failed findings.new.failed }
+        ensures advances { OnOk result
+            (Advances (formatter_world P.info self.now.standing.now self.now.position)
+            (Later (open_in progress.old.steps) (BehindModifier (reverse attributes.items) target.0)) 1
+            progress.old findings.old.failed progress.new findings.new.failed) }
+    {
+        match self.enter(findings, progress, target)? {
+            None => Ok(()),
+            Some(type_data) => {
+                behind_modifier(progress, attributes, type_data)?;
+                Ok(())
+            }
+        }
+    }
+
+    /// The type of an index, constant or not.
+    pub(crate) fn modified<'s>(
+        &self,
+        findings: &mut Findings<'a>,
+        progress: &mut Progress<'s>,
+        constant: bool,
+        target: TypeIndex,
+    ) -> Result<(), AllocError>
+    where
+        'a: 's,
+        requires fits { Fits P.info self.now.standing.now findings.old }
+        requires well { progress.old.failure ≡ None }
+        ensures fits { Fits P.info self.now.standing.now findings.new }
+        ensures broken { AddsBroken (formatter_world P.info self.now.standing.now self.now.position)
+            findings.old.failed findings.new.failed }
+        ensures advances { OnOk result
+            (Advances (formatter_world P.info self.now.standing.now self.now.position)
+            (Later (open_in progress.old.steps) (Modified constant target.0)) 1
+            progress.old findings.old.failed progress.new findings.new.failed) }
+    {
+        match self.enter(findings, progress, target)? {
+            None => Ok(()),
+            Some(type_data) => {
+                modified(progress, constant, type_data)?;
+                Ok(())
+            }
+        }
+    }
+
+    /// One turn: prints a task, or puts what is printed of it first.
+    fn turn<'s>(
+        &self,
+        findings: &mut Findings<'a>,
+        progress: &mut Progress<'s>,
+        task: Task<'s>,
+    ) -> Result<(), AllocError>
+    where
+        'a: 's,
+        requires fits { Fits P.info self.now.standing.now findings.old }
+        requires well { progress.old.failure ≡ None }
+        ensures fits { Fits P.info self.now.standing.now findings.new }
+        ensures broken { AddsBroken (formatter_world P.info self.now.standing.now self.now.position)
+            findings.old.failed findings.new.failed }
+        ensures advances { OnOk result
+            (let w = formatter_world P.info self.now.standing.now self.now.position in
+            Advances w (task_plan w (open_in progress.old.steps) task.entry) 1
+            progress.old findings.old.failed progress.new findings.new.failed) }
+    {
+        match task {
+            Task::Written(wording) => {
+                progress.write(self.flags(), &wording)?;
+                Ok(())
+            }
+            Task::Index(index) => {
+                self.index(findings, progress, index)?;
+                Ok(())
+            }
+            Task::OfType(type_data) => {
+                of_type(progress, self.flags(), type_data)?;
+                Ok(())
+            }
+            Task::Returned(left_out, index) => {
+                returned(progress, left_out, index)?;
+                Ok(())
+            }
+            Task::ArgumentList(this, list) => {
+                list_of_arguments(progress, this, list)?;
+                Ok(())
+            }
+            Task::Arguments(list) => {
+                further_arguments(progress, self.flags(), list)?;
+                Ok(())
+            }
+            Task::MethodArguments(m, may_say_const) => {
+                self.method_arguments(findings, progress, m, may_say_const)?;
+                Ok(())
+            }
+            Task::Chain(attributes, target) => {
+                self.chain(findings, progress, attributes, target)?;
+                Ok(())
+            }
+            Task::BehindModifier(attributes, target) => {
+                self.behind_modifier(findings, progress, attributes, target)?;
+                Ok(())
+            }
+            Task::Modified(constant, target) => {
+                self.modified(findings, progress, constant, target)?;
+                Ok(())
+            }
+            Task::Elements(elements, levels, next) => {
+                self.elements(findings, progress, elements, levels, next)?;
+                Ok(())
+            }
+        }
+    }
+
+    /// Prints until nothing is left to be done.
+    pub(crate) fn print<'s>(
+        &self,
+        findings: &mut Findings<'a>,
+        progress: &mut Progress<'s>,
+    ) -> Result<(), AllocError>
+    where
+        'a: 's,
+        requires fits { Fits P.info self.now.standing.now findings.old }
+        ensures fits { Fits P.info self.now.standing.now findings.new }
+        ensures broken { AddsBroken (formatter_world P.info self.now.standing.now self.now.position)
+            findings.old.failed findings.new.failed }
+        ensures ends { OnOk result
+            (let w = formatter_world P.info self.now.standing.now self.now.position in
+            Ends w (frames w progress.old.steps) (stage_run progress.old findings.old.failed)
+            (stage_run progress.new findings.new.failed)) }
+    {
+        'turns: loop {
+            match progress.next(self.flags())? {
+                Next::Finished => return Ok(()),
+                Next::Ended => {}
+                Next::Print(task) => self.turn(findings, progress, task)?,
+            }
+        }
+    }
+}
