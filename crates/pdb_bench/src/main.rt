@@ -1,8 +1,8 @@
-//! Times reading, making a context, look-ups, sizes of types and signatures over generated records.
+//! Times reading, making a context, look-ups, sizes of types, signatures and ids over generated records.
 //!
 //! `pdb_bench NUMBER ..` does so for each number of public symbols, of inline sites of a procedure, of
-//! nested procedures, of types, of types in a chain, and of types in a signature; with no number for a
-//! thousand.
+//! nested procedures, of types, of types in a chain, of types in a signature, and of scopes; with no number
+//! for a thousand.
 //! Counts go to standard output, and times, in milliseconds, to standard error.
 #![tactic(auto)]
 
@@ -10,6 +10,7 @@ mod chains;
 mod generate;
 mod inline_sites;
 mod nested_procedures;
+mod scopes;
 mod signatures;
 mod types;
 
@@ -21,6 +22,7 @@ use nested_procedures::count_ranges_of_nested;
 use pdb_addr2line::pdb::PDB;
 use pdb_addr2line::{Context, ContextPdbData, ModuleProvider};
 use pdb_json::read_records;
+use scopes::measure_scopes;
 use signatures::measure_signatures;
 use std::env;
 use std::rt::Clock;
@@ -47,6 +49,7 @@ fn main(rt: HostRuntime) -> Result<()> {
         measure_types(&rt, *size)?;
         measure_chains(&rt, *size)?;
         measure_signatures(&rt, *size)?;
+        measure_scopes(&rt, *size)?;
     }
     Ok(())
 }

@@ -4,12 +4,12 @@ use Rattle.pdb_records.specs.declared.types.TypeData.TheVariants.{Primitive, Cla
 use Rattle.pdb_types.specs.FailedParts.{Parts}
 use Rattle.pdb_signatures.specs.Documents.{Document, Run, run}
 use Rattle.pdb_signatures.specs.Worlds.{World}
-use Rattle.pdb_signatures.specs.Plans.{Task, Index, OfType, MethodArguments, Chain, BehindModifier, Modified, Elements, Plan, Done, Later, Seq, Buffered, Catch}
+use Rattle.pdb_signatures.specs.Plans.{Task, Index, OfType, MethodArguments, Chain, BehindModifier, Modified, Elements, Id, Plan, Done, Later, Seq, Buffered, Catch}
 use Rattle.pdb_signatures.specs.Rules.{rule}
 use Rattle.pdb_signatures.specs.Unfolding.{Unfolds, done, later, seq, buffered, catch, Runs}
 use Rattle.pdb_signatures.specs.Printed.{plan_document, task_document, enough_for, document_of}
-use Rattle.pdb_signatures.proofs.FreeLemmas.{free, free_at_most}
-use Rattle.pdb_signatures.proofs.RuleLemmas.{EachTask, IsBelow, Before, rank}
+use Rattle.pdb_signatures.proofs.FreeLemmas.{free_at_most}
+use Rattle.pdb_signatures.proofs.RuleLemmas.{EachTask, IsBelow, Before, room, rank}
 use Rattle.pdb_signatures.proofs.FallLemmas.{rule-each}
 use Rattle.pdb_signatures.proofs.UnfoldingLemmas.{each_unit}
 
@@ -42,24 +42,36 @@ rank-below n (Chain attributes target) = omega arith
 rank-below n (BehindModifier attributes target) = omega arith
 rank-below n (Modified constant target) = omega arith
 rank-below n (Elements elements levels next) = omega (arith, free_at_most n elements)
+rank-below n (Id met index) = omega (arith, free_at_most n met)
+
+-- so is room
+room-below : (n : ℕ) (inside : List ℕ) (task : Task) → room n inside task < n + 2
+room-below n inside (Id met index) = omega arith
+room-below n inside (Index i) = omega (arith, free_at_most n inside)
+room-below n inside (OfType type) = omega (arith, free_at_most n inside)
+room-below n inside (MethodArguments m may_say_const) = omega (arith, free_at_most n inside)
+room-below n inside (Chain attributes target) = omega (arith, free_at_most n inside)
+room-below n inside (BehindModifier attributes target) = omega (arith, free_at_most n inside)
+room-below n inside (Modified constant target) = omega (arith, free_at_most n inside)
+room-below n inside (Elements elements levels next) = omega (arith, free_at_most n inside)
 
 -- how many times rules can lead to rules from a task on
 abbrev pub times_left : ℕ → List ℕ → Task → ℕ
-times_left n inside task = free n inside * (n + 4) + rank n task
+times_left n inside task = room n inside task * (n + 4) + rank n task
 
--- fewer free, or as many and a lower rank, leave fewer times
+-- less room leaves fewer times
 fewer-left : (n f g r s : ℕ) → f < g → r < n + 4 → f * (n + 4) + r < g * (n + 4) + s
 fewer-left n f g r s less below = let more : suc f * (n + 4) ≤ g * (n + 4) = mul-le-mul_right (n + 4) less in omega (arith, more)
 
--- as many free and a lower rank leave fewer times
+-- as much room and a lower rank leave fewer times
 lower-left : (n f g r s : ℕ) → f ≤ g → r < s → f * (n + 4) + r < g * (n + 4) + s
 lower-left n f g r s within lower = let more : f * (n + 4) ≤ g * (n + 4) = mul-le-mul_right (n + 4) within in omega (arith, more)
 
 -- a task that comes before another has fewer times left
 before-left : (n : ℕ) (inside : List ℕ) (task : Task) (inside' : List ℕ) (task' : Task) → Before n inside task inside' task' → times_left n inside' task' < times_left n inside task
 before-left n inside task inside' task' before = elim before [
-  | inl fewer ↦ fewer-left n (free n inside') (free n inside) (rank n task') (rank n task) fewer (rank-below n task')
-  | inr as_many ↦ lower-left n (free n inside') (free n inside) (rank n task') (rank n task) as_many.0 as_many.1
+  | inl fewer ↦ fewer-left n (room n inside' task') (room n inside task) (rank n task') (rank n task) fewer (rank-below n task')
+  | inr as_many ↦ lower-left n (room n inside' task') (room n inside task) (rank n task') (rank n task) as_many.0 as_many.1
 ]
 
 -- a task unfolds to the document that is computed of it, with enough times
@@ -72,14 +84,14 @@ task-unfolds n w below (suc times) inside task enough =
 -- there are enough times for each task
 enough-times : (n : ℕ) (inside : List ℕ) (task : Task) → times_left n inside task < enough_for n
 enough-times n inside task =
-    let enough : times_left n inside task < (n + 1) * (n + 4) + 0 = fewer-left n (free n inside) (n + 1) (rank n task) 0 (omega (arith, free_at_most n inside)) (rank-below n task) in
+    let enough : times_left n inside task < (n + 2) * (n + 4) + 0 = fewer-left n (room n inside task) (n + 2) (rank n task) 0 (room-below n inside task) (rank-below n task) in
     omega arith
 
 -- each plan unfolds to the document that is computed of it
 pub document-by : (n : ℕ) (w : World) → IsBelow n w → (p : Plan) → Unfolds w p (plan_document (task_document w (enough_for n)) p)
 document-by n w below p = plan-unfolds w (task_document w (enough_for n)) (λ inside task. Unit {0}) (λ inside task each. task-unfolds n w below (enough_for n) inside task (enough-times n inside task)) p (each_unit p)
 
--- each plan unfolds to its document, where only indices of 32 bits lead to types
+-- each plan unfolds to its document, where only indices of 32 bits lead to types and to ids
 pub document-unfolds : (w : World) → IsBelow (2 ^ 32) w → (p : Plan) → Unfolds w p (document_of w p)
 unfolding document_of
 document-unfolds w below p = document-by (2 ^ 32) w below p

@@ -1,5 +1,7 @@
+pub mod NamespaceLemmas
 pub mod FreeLemmas
 pub mod RuleLemmas
+pub mod IdLemmas
 pub mod FallLemmas
 pub mod UnfoldingLemmas
 pub mod DocumentLemmas
@@ -15,5 +17,6 @@ pub mod LoopLemmas
 pub mod AnswerLemmas
 pub mod Expansion
 pub mod SignatureExamples
+pub mod IdExamples
 pub mod SeenLemmas
 pub mod AttributeLemmas

@@ -11,13 +11,13 @@ use Rattle.pdb_types.specs.declared.unread.Part.{Part}
 use Rattle.pdb_types.specs.FailedParts.{Parts, with_part}
 use Rattle.pdb_signatures.specs.declared.tasks.Task as tasks
 use Rattle.pdb_signatures.specs.declared.tasks.Pending.{Pending}
-use Rattle.pdb_signatures.specs.declared.tasks.Pending.TheVariants.{Print, Close, EndCatch, EndBuffer}
+use Rattle.pdb_signatures.specs.declared.tasks.Pending.TheVariants.{Print, Close, EndId, EndCatch, EndBuffer}
 use Rattle.pdb_signatures.specs.BrokenParts.{IsBroken, with_parts, AddsBroken}
 use Rattle.pdb_signatures.specs.Documents.{Document, Run, run, then_by}
 use Rattle.pdb_signatures.specs.Worlds.{World}
 use Rattle.pdb_signatures.specs.Plans.{Plan, Done, Later, Seq, Buffered, Catch, is_among, on_read, refusal, written}
 use Rattle.pdb_signatures.specs.Rules.{rule}
-use Rattle.pdb_signatures.specs.Unfolding.{Unfolds, done, later, seq, buffered, catch}
+use Rattle.pdb_signatures.specs.Unfolding.{Unfolds, Runs, done, later, seq, buffered, catch}
 use Rattle.pdb_signatures.specs.Progress.{Stage, beginning, with_step, Opens, open_in, task_plan, stage_run, ended_run, IsPassedOver, Ended}
 use Rattle.pdb_signatures.specs.Frames.{Frame, Ends, Counts, steps_left, Goes, frames, Advances, Begins, Stands}
 use Rattle.pdb_signatures.proofs.RuleLemmas.{IsBelow}
@@ -70,6 +70,7 @@ left-falls w below k k' c c' goes = let a = goes.falls (plan-steps w below) (pla
 step-ended : (w : World) (step : Pending) (rest : List Pending) (c c' : Run) → ((task : tasks.Task) → step ≡ Print task → is_some c.fault ≡ true) → c' ≡ ended_run w.flags step c → Goes w 1 (frames w (step ∷ rest)) c (frames w rest) c'
 step-ended w (Print task) rest c c' over is = subst (λ (r : Run). Goes w 1 (frames w (Print task ∷ rest)) c (frames w rest) r) (sym is) (goes_over w (task_plan w (open_in rest) task) (frames w rest) c (over task refl))
 step-ended w (Close index) rest c c' over is = subst (λ (r : Run). Goes w 1 (frames w (Close index ∷ rest)) c (frames w rest) r) (sym is) (goes_closing w (frames w rest) c)
+step-ended w (EndId outer index) rest c c' over is = subst (λ (r : Run). Goes w 1 (frames w (EndId outer index ∷ rest)) c (frames w rest) r) (sym is) (goes_closing w (frames w rest) c)
 step-ended w EndCatch rest c c' over is = goes_caught w (frames w rest) c c' is
 step-ended w (EndBuffer mark attributes) rest c c' over is = goes_kept w mark _ _ (frames w rest) c c' is
 
@@ -77,6 +78,7 @@ step-ended w (EndBuffer mark attributes) rest c c' over is = goes_kept w mark _ 
 over-failed : (step : Pending) (s : Stage) → IsPassedOver step s → (task : tasks.Task) → step ≡ Print task → is_some s.failure ≡ true
 over-failed (Print other) s over task is = over
 over-failed (Close index) s over task is = cc
+over-failed (EndId outer index) s over task is = cc
 over-failed EndCatch s over task is = cc
 over-failed (EndBuffer mark attributes) s over task is = cc
 
@@ -147,3 +149,9 @@ begins_refused w name index trouble old new f f' some unread is steps ran = λ e
     let done : stage_run new f' ≡ end = subst (λ (xs : List Pending). Ends w (frames w xs) (stage_run new f') end) none ends in
     let same : d ≡ refusal trouble = done-is (subst (λ (p : Plan). Unfolds w p d) plan unfolds) in
     ap (λ (x : Document). run x f) same ∙ (sym whole ∙ done)
+
+-- where a task is all that is to be done, printing comes to what its plan does
+pub begins_task : (w : World) (task : tasks.Task) (old new : Stage) (f : Parts) (end : Run) → old ≡ beginning → new ≡ with_step (Print task) old → Ends w (frames w new.steps) (stage_run new f) end → Runs w (task_plan w [] task) f end
+begins_task w task old new f end is first ends =
+    let all : new ≡ with_step (Print task) beginning = first ∙ ap (with_step (Print task)) is in
+    subst (λ (s : Stage). Ends w (frames w s.steps) (stage_run s f) end) all ends

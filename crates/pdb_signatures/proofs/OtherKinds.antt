@@ -10,14 +10,18 @@ use Rattle.pdb_records.specs.declared.types.ArrayType.{ArrayType}
 use Rattle.pdb_records.specs.declared.types.ModifierType.{ModifierType}
 use Rattle.pdb_records.specs.declared.types.TypeData.{TypeData}
 use Rattle.pdb_records.specs.declared.types.TypeData.TheVariants.{Primitive, Class, MemberFunction, Procedure, Pointer, Array, Union, Enumeration, Enumerate, Modifier, ArgumentList, Other}
-use Rattle.pdb_types.specs.declared.error.Error.TheVariants.{ArgumentTypeNotArgumentList}
+use Rattle.pdb_types.specs.declared.error.Error.TheVariants.{ArgumentTypeNotArgumentList, MemberFunctionIdIsNotMemberFunctionType, FunctionIdIsNotProcedureType}
 use Rattle.pdb_types.specs.Errors.{Plain}
+use Rattle.pdb_records.specs.declared.ids.MemberFunctionId.{MemberFunctionId}
+use Rattle.pdb_records.specs.declared.ids.FunctionId.{FunctionId}
+use Rattle.pdb_signatures.specs.Ids.{method_id, function_id}
 use Rattle.pdb_signatures.specs.declared.attributes.Attribute.{Attribute}
 use Rattle.pdb_signatures.specs.Attributes.{attributes_text}
 use Rattle.pdb_signatures.specs.Wording.{dimensions_text}
 use Rattle.pdb_signatures.specs.Worlds.{World}
 use Rattle.pdb_signatures.specs.Plans.{OfType, Later, Buffered, ◌▸◌, written, failing, met_before}
-use Rattle.pdb_signatures.specs.Rules.{chain_end, behind_modifier, behind_pointer, element, modified, this_by_target, this_by_type, printed_this, on_list}
+use Rattle.pdb_signatures.specs.Rules.{chain_end, behind_modifier, behind_pointer, element, modified}
+use Rattle.pdb_signatures.specs.Methods.{this_by_target, this_by_type, printed_this, on_list}
 use Rattle.pdb_signatures.specs.Signatures.{signature_by_type}
 
 -- any other type than a function ends a chain of pointers before them
@@ -154,3 +158,33 @@ signature_by_type-other w name inside (Enumerate x) not0 not1 = refl
 signature_by_type-other w name inside (Modifier x) not0 not1 = refl
 signature_by_type-other w name inside (ArgumentList x) not0 not1 = refl
 signature_by_type-other w name inside (Other x) not0 not1 = refl
+
+-- a function of a class has a method's type
+pub method_id-other : (w : World) (method : MemberFunctionId) (inside : List ℕ) (type : TypeData) → ((x : MemberFunctionType) → type ≡ MemberFunction x → ⊥) → method_id w method inside type ≡ failing (Plain MemberFunctionIdIsNotMemberFunctionType)
+method_id-other w method inside (Primitive x) not0 = refl
+method_id-other w method inside (Class x) not0 = refl
+method_id-other w method inside (MemberFunction x) not0 = absurd (not0 x refl)
+method_id-other w method inside (Procedure x) not0 = refl
+method_id-other w method inside (Pointer x) not0 = refl
+method_id-other w method inside (Array x) not0 = refl
+method_id-other w method inside (Union x) not0 = refl
+method_id-other w method inside (Enumeration x) not0 = refl
+method_id-other w method inside (Enumerate x) not0 = refl
+method_id-other w method inside (Modifier x) not0 = refl
+method_id-other w method inside (ArgumentList x) not0 = refl
+method_id-other w method inside (Other x) not0 = refl
+
+-- a function of no class has a procedure's type
+pub function_id-other : (w : World) (met : List ℕ) (function : FunctionId) (inside : List ℕ) (type : TypeData) → ((x : ProcedureType) → type ≡ Procedure x → ⊥) → function_id w met function inside type ≡ failing (Plain FunctionIdIsNotProcedureType)
+function_id-other w met function inside (Primitive x) not0 = refl
+function_id-other w met function inside (Class x) not0 = refl
+function_id-other w met function inside (MemberFunction x) not0 = refl
+function_id-other w met function inside (Procedure x) not0 = absurd (not0 x refl)
+function_id-other w met function inside (Pointer x) not0 = refl
+function_id-other w met function inside (Array x) not0 = refl
+function_id-other w met function inside (Union x) not0 = refl
+function_id-other w met function inside (Enumeration x) not0 = refl
+function_id-other w met function inside (Enumerate x) not0 = refl
+function_id-other w met function inside (Modifier x) not0 = refl
+function_id-other w met function inside (ArgumentList x) not0 = refl
+function_id-other w met function inside (Other x) not0 = refl

@@ -6,8 +6,10 @@ use Rattle.pdb_records.specs.declared.types.Item.{Item}
 use Rattle.pdb_records.specs.declared.types.TypeIndex.{TypeIndex}
 use Rattle.pdb_records.specs.declared.types.TypeData.{TypeData}
 use Rattle.pdb_records.specs.declared.types.TypeData.TheVariants.{Primitive, Class, MemberFunction, Procedure, Pointer, Array, Union, Enumeration, Enumerate, Modifier, ArgumentList, Other}
+use Rattle.pdb_records.specs.declared.ids.IdIndex.{IdIndex}
+use Rattle.pdb_records.specs.declared.ids.IdData.{IdData}
 use Rattle.pdb_signatures.specs.declared.methods.This.{This}
-use Rattle.pdb_signatures.specs.Rules.{plain_this, this_by_target, this_by_type, this_of}
+use Rattle.pdb_signatures.specs.Methods.{plain_this, this_by_target, this_by_type, this_of}
 use Rattle.pdb_types.specs.declared.error.Error.{Error}
 use Rattle.pdb_types.specs.declared.unread.Part.{Part}
 use Rattle.pdb_types.specs.declared.unread.Unread.{Unread}
@@ -15,13 +17,14 @@ use Rattle.pdb_types.specs.declared.unread.Unread.TheVariants as code
 use Rattle.pdb_types.specs.Errors.{told}
 use Rattle.pdb_types.specs.FailedParts.{Parts, with_part, with_met}
 use Rattle.pdb_types.specs.Outcomes.{and_then}
+use Rattle.pdb_types.specs.Reading.{reading}
 use Rattle.pdb_types.specs.Standing.{Linked}
 use Rattle.pdb_types.specs.TypeSizes.{read_type}
 use Rattle.pdb_types.specs.Unread.{Trouble, Broken, Tells}
 use Rattle.pdb_signatures.specs.Plans.{refusal, note_or_refusal}
 use Rattle.pdb_signatures.specs.Troubles.{IsTrouble}
 use Rattle.pdb_signatures.specs.BrokenParts.{IsBroken, AddsBroken}
-use Rattle.pdb_signatures.specs.Worlds.{World, type_at}
+use Rattle.pdb_signatures.specs.Worlds.{World, type_at, id_at}
 
 -- the trouble of what can't be read
 pub tells-trouble : {A B : Type 0} (view : A → B) (unread : Unread) (trouble : Trouble) (r : Result B Trouble) → Tells view (Err unread) r → IsTrouble unread trouble → r ≡ Err trouble
@@ -52,6 +55,27 @@ unread-broken w linked types position index same unread tells part e broken =
     let met : w.read index ≡ Err (Broken part (told e)) = same ∙ unread-trouble linked types position index unread (Broken part (told e)) tells (rw broken refl) in
     (index, inl (rw met refl))
 
+-- the id of an index that was read
+pub id_at-read : (linked : Linked) (ids : Read (Item IdIndex IdData)) (position index : ℕ) (read : ℕ × IdData) → reading (λ i. i.0) linked ids position index ≡ Ok read → id_at linked ids position index ≡ Ok read.1
+unfolding id_at
+id_at-read linked ids position index read is = ap (λ r. and_then r (λ (x : ℕ × IdData). Ok x.1)) is
+
+-- the trouble of an id that can't be read
+id_at-unread : (linked : Linked) (ids : Read (Item IdIndex IdData)) (position index : ℕ) (trouble : Trouble) → reading (λ i. i.0) linked ids position index ≡ Err trouble → id_at linked ids position index ≡ Err trouble
+unfolding id_at
+id_at-unread linked ids position index trouble is = ap (λ r. and_then r (λ (x : ℕ × IdData). Ok x.1)) is
+
+-- why an index can't be read is the trouble of its id
+pub unread-id-trouble : (linked : Linked) (ids : Read (Item IdIndex IdData)) (position index : ℕ) (unread : Unread) (trouble : Trouble) → Tells {A = ℕ × IdData} (λ read. read) (Err unread) (reading (λ i. i.0) linked ids position index) → IsTrouble unread trouble → id_at linked ids position index ≡ Err trouble
+unread-id-trouble linked ids position index unread trouble tells known =
+    id_at-unread linked ids position index trouble (tells-trouble {A = ℕ × IdData} (λ read. read) unread trouble (reading (λ i. i.0) linked ids position index) tells known)
+
+-- a part that reading an id meets broken is broken
+pub unread-id-broken : (w : World) (linked : Linked) (ids : Read (Item IdIndex IdData)) (position index : ℕ) → w.read_id index ≡ id_at linked ids position index → (unread : Unread) → Tells {A = ℕ × IdData} (λ read. read) (Err unread) (reading (λ i. i.0) linked ids position index) → (part : Part) (e : Error) → unread ≡ code.Broken part e → IsBroken w part
+unread-id-broken w linked ids position index same unread tells part e broken =
+    let met : w.read_id index ≡ Err (Broken part (told e)) = same ∙ unread-id-trouble linked ids position index unread (Broken part (told e)) tells (rw broken refl) in
+    (index, inr (inr (rw met refl)))
+
 -- where it is neither missing nor of an unknown kind, there is no note of it
 pub note-refusal : (unread : Unread) (trouble : Trouble) → IsTrouble unread trouble → ((n : ℕ) → unread ≡ code.Missing n → ⊥) → ((k : ℕ) → unread ≡ code.Unimplemented k → ⊥) → note_or_refusal trouble ≡ refusal trouble
 note-refusal code.OutOfMemory trouble is not_missing not_unimplemented = absurd is
@@ -71,7 +95,7 @@ adds_one part broken is = record { added = part ∷ []; broken = (broken, tt); i
 -- the part that a size meets broken was added, if there is one
 pub adds_met : {old new : Parts} (w : World) (index : ℕ) (met : Option Part) → (w.size index).met ≡ met → new ≡ with_met old met → AddsBroken w old new
 adds_met w index None is new = adds_none new
-adds_met w index (Some part) is new = adds_one part (index, inr is) new
+adds_met w index (Some part) is new = adds_one part (index, inr (inl is)) new
 
 -- an answer is no trouble
 ok_is_no_err : {A : Type 0} {answer : A} {trouble : Trouble} → ◌≡◌ {A = Result A Trouble} (Ok answer) (Err trouble) → ⊥

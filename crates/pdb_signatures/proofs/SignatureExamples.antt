@@ -88,7 +88,7 @@ linked = record { info = λ position m. Err (record { 0 = 9 }); modules = record
 
 -- a program with these types, printed with these flags
 abbrev pub program : ℕ → List (Item TypeIndex TypeData) → World
-program chosen items = world_of linked (record { items = items; fault = None }) 8 (record { 0 = chosen }) 0
+program chosen items = world_of linked (record { items = items; fault = None }) (record { items = []; fault = None }) 8 (record { 0 = chosen }) 0
 
 -- printing the signature of a function with this name and type does this
 pub record PrintingDoes (w : World) (name : List ℕ) (index : ℕ) (failed : Parts) (r : Run) : Type 0 where

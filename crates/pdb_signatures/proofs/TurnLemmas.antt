@@ -15,10 +15,14 @@ use Rattle.std.specs.Borrow.{Bor}
 use Rattle.pdb_signatures.specs.Documents.{Failure, Told, Document, Run, run, then_by}
 use Rattle.pdb_signatures.specs.Documents as document
 use Rattle.pdb_signatures.specs.Worlds.{World}
-use Rattle.pdb_signatures.specs.Plans.{Task, Index, OfType, Elements, Plan, Done, Later, is_among, on_read, on_printed, opened, opening, circular, refusal, note_or_refusal, written, met_before}
+use Rattle.pdb_signatures.specs.Plans.{Task, Index, OfType, Elements, Id, Plan, Done, Later, is_among, on_read, on_printed, opened, opening, circular, refusal, note_or_refusal, written, met_before}
+use Rattle.pdb_signatures.specs.Ids.{id_by_kind}
 use Rattle.pdb_signatures.specs.Rules.{rule, by_kind, element}
-use Rattle.pdb_signatures.specs.Progress.{Stage, with_step, with_text, with_failure, open_in, stage_run}
-use Rattle.pdb_signatures.specs.Frames.{Frame, Then, Ends, Goes, frames, Advances, Stands, StandsHere, IsEntered}
+use Rattle.std.specs.BTreeSet.{insert_key}
+use Rattle.std.specs.Ordering.{nat_cmp}
+use Rattle.pdb_records.specs.declared.ids.IdData.{IdData}
+use Rattle.pdb_signatures.specs.Progress.{Stage, with_step, with_text, with_failure, open_in, alone, OpensAlone, stage_run}
+use Rattle.pdb_signatures.specs.Frames.{Frame, Then, Ends, Goes, frames, Advances, AdvancesClosing, Stands, StandsHere, IsEntered, IsEnteredAlone}
 use Rattle.pdb_signatures.proofs.GoesLemmas.{goes_then, goes_fewer, goes_later, goes_seq, goes_done, goes_catch}
 use Rattle.pdb_signatures.proofs.StandsLemmas.{stands_empty}
 
@@ -136,6 +140,11 @@ index_opened w index type old mid new f read absent entered is =
           omega arith;
     })
 
+-- a task that is one document is printed
+pub turned_done : (w : World) (task : Task) (d : Document) (old new : Stage) (f f' : Parts) → rule w (open_in old.steps) task ≡ Done d → old.failure ≡ None → new.steps ≡ old.steps → stage_run new f' ≡ then_by None (stage_run old f) (run d) → Advances w (Later (open_in old.steps) task) 1 old f new f'
+turned_done w task d old new f f' plan well steps ran =
+    advances_fewer w (Later (open_in old.steps) task) 3 1 old new f f' (omega arith) (advances_later w (open_in old.steps) task (Done d) 1 old new f f' plan (advances_done w d old new f f' well steps ran))
+
 -- the type of an index that is open is circular
 pub index_circular : (w : World) (index : ℕ) (type : TypeData) (old new : Stage) (f : Parts) → w.read index ≡ Ok type → old.failure ≡ None → is_among index (open_in old.steps) ≡ true → new ≡ with_failure (Told (Plain (CircularTypeDefinition index))) old → Advances w (Later (open_in old.steps) (Index index)) 1 old f new f
 index_circular w index type old new f read well among is =
@@ -143,14 +152,14 @@ index_circular w index type old new f read well among is =
     let d : Document = document.Fail (Told (Plain (CircularTypeDefinition index))) in
     let plan : rule w inside (Index index) ≡ Done d = ap (λ (r : Result TypeData Trouble). on_printed r (λ type. opened inside index (Later (index ∷ inside) (OfType type)))) read ∙ ap (λ b. cond b (circular index) (Later (index ∷ inside) (OfType type))) among in
     let ran = failed_run (Told (Plain (CircularTypeDefinition index))) old new f is in
-    advances_fewer w (Later inside (Index index)) 3 1 old new f f (omega arith) (advances_later w inside (Index index) (Done d) 1 old new f f plan (advances_done w d old new f f well ran.0 ran.1))
+    turned_done w (Index index) d old new f f plan well ran.0 ran.1
 
 -- the type of an index that can't be read is noted, or printing fails
 pub index_noted : (w : World) (index : ℕ) (trouble : Trouble) (old new : Stage) (f f' : Parts) → w.read index ≡ Err trouble → old.failure ≡ None → new.steps ≡ old.steps → stage_run new f' ≡ then_by None (stage_run old f) (run (note_or_refusal trouble)) → Advances w (Later (open_in old.steps) (Index index)) 1 old f new f'
 index_noted w index trouble old new f f' unread well steps ran =
     let inside : List ℕ = open_in old.steps in
     let plan : rule w inside (Index index) ≡ Done (note_or_refusal trouble) = ap (λ (r : Result TypeData Trouble). on_printed r (λ type. opened inside index (Later (index ∷ inside) (OfType type)))) unread in
-    advances_fewer w (Later inside (Index index)) 3 1 old new f f' (omega arith) (advances_later w inside (Index index) (Done (note_or_refusal trouble)) 1 old new f f' plan (advances_done w (note_or_refusal trouble) old new f f' well steps ran))
+    turned_done w (Index index) (note_or_refusal trouble) old new f f' plan well steps ran
 
 -- nothing is printed
 pub advances_nothing : (w : World) (s : Stage) (f : Parts) → Advances w (written []) 1 s f s f
@@ -181,7 +190,8 @@ elements_circular w elements levels next old new f among well is =
     let inside : List ℕ = open_in old.steps in
     let d : Document = document.Fail (Told (Plain (CircularTypeDefinition next))) in
     let plan : rule w inside (Elements elements levels next) ≡ Done d = ap (λ b. cond b (circular next) (on_read (w.read next) (element w inside elements levels next))) among in
-    advances_fewer w (Later inside (Elements elements levels next)) 3 1 old new f f (omega arith) (advances_later w inside (Elements elements levels next) (Done d) 1 old new f f plan (advances_failed w (Told (Plain (CircularTypeDefinition next))) old new f well is))
+    let ran = failed_run (Told (Plain (CircularTypeDefinition next))) old new f is in
+    turned_done w (Elements elements levels next) d old new f f plan well ran.0 ran.1
 
 -- an element of an array that is none yet is read, and what follows it is settled so far
 pub elements_read : (w : World) (elements levels : List ℕ) (next : ℕ) (old new : Stage) (f f' : Parts) → is_among next elements ≡ false → Advances w (on_read (w.read next) (element w (open_in old.steps) elements levels next)) 0 old f new f' → Advances w (Later (open_in old.steps) (Elements elements levels next)) 1 old f new f'
@@ -194,3 +204,52 @@ elements_read w elements levels next old new f f' absent advances =
 -- what follows what was read is settled so far
 pub advances_read : {A : Type 0} (w : World) (n : ℕ) (r : Result A Trouble) (answer : A) (next : A → Plan) (old new : Stage) (f f' : Parts) → r ≡ Ok answer → Advances w (next answer) n old f new f' → Advances w (on_read r next) n old f new f'
 advances_read {A = A} w n r answer next old new f f' is advances = subst (λ (x : Result A Trouble). Advances w (on_read x next) n old f new f') (sym is) advances
+
+-- an id that was met before is circular
+pub id_circular : (w : World) (met : List ℕ) (index : ℕ) (old new : Stage) (f : Parts) → is_among index met ≡ true → old.failure ≡ None → new ≡ with_failure (Told (Plain (CircularTypeDefinition index))) old → Advances w (Later (open_in old.steps) (Id met index)) 1 old f new f
+id_circular w met index old new f among well is =
+    let ran = failed_run (Told (Plain (CircularTypeDefinition index))) old new f is in
+    let plan = ap (λ b. cond b (circular index) (on_printed (w.read_id index) (id_by_kind w (insert_key nat_cmp met index)))) among in
+    turned_done w (Id met index) (document.Fail (Told (Plain (CircularTypeDefinition index)))) old new f f plan well ran.0 ran.1
+
+-- an id that can't be read is noted, or printing fails
+pub id_noted : (w : World) (met : List ℕ) (index : ℕ) (trouble : Trouble) (old new : Stage) (f f' : Parts) → is_among index met ≡ false → w.read_id index ≡ Err trouble → old.failure ≡ None → new.steps ≡ old.steps → stage_run new f' ≡ then_by None (stage_run old f) (run (note_or_refusal trouble)) → Advances w (Later (open_in old.steps) (Id met index)) 1 old f new f'
+id_noted w met index trouble old new f f' absent unread well steps ran =
+    let next = id_by_kind w (insert_key nat_cmp met index) in
+    let plan : rule w (open_in old.steps) (Id met index) ≡ Done (note_or_refusal trouble) = ap (λ b. cond b (circular index) (on_printed (w.read_id index) next)) absent ∙ ap (λ (r : Result IdData Trouble). on_printed r next) unread in
+    turned_done w (Id met index) (note_or_refusal trouble) old new f f' plan well steps ran
+
+-- an id that was read is settled as far as its kind is
+pub id_read : (w : World) (met : List ℕ) (index : ℕ) (content : IdData) (old new : Stage) (f f' : Parts) → is_among index met ≡ false → w.read_id index ≡ Ok content → AdvancesClosing w (id_by_kind w (insert_key nat_cmp met index) content) old f new f' → Advances w (Later (open_in old.steps) (Id met index)) 1 old f new f'
+id_read w met index content old new f f' absent read settled =
+    let inside : List ℕ = open_in old.steps in
+    let next = id_by_kind w (insert_key nat_cmp met index) in
+    let q : Plan = next content in
+    let plan : rule w inside (Id met index) ≡ q = ap (λ b. cond b (circular index) (on_printed (w.read_id index) next)) absent ∙ ap (λ (r : Result IdData Trouble). on_printed r next) read in
+    let first = goes_later w inside (Id met index) (frames w old.steps) (stage_run old f) in
+    record {
+      ends = λ end ends. first.ends end (subst (λ (p : Plan). Ends w (Then p ∷ frames w old.steps) (stage_run old f) end) (sym plan) (settled.ends end ends));
+      falls = λ cost counts.
+          let a = settled.falls cost counts in
+          let b : cost (Later inside (Id met index)) ≡ cost q + 2 = counts.later inside (Id met index) ∙ ap (λ (p : Plan). cost p + 2) plan in
+          omega arith;
+    }
+
+-- what is settled so far leaves no step more
+pub closing_advances : (w : World) (n : ℕ) (p : Plan) (old new : Stage) (f f' : Parts) → Advances w p n old f new f' → AdvancesClosing w p old f new f'
+closing_advances w n p old new f f' advances = record {
+  ends = advances.ends;
+  falls = λ cost counts. let a = advances.falls cost counts in omega arith;
+}
+
+-- what is settled in an id leaves its end
+pub alone_advances : (w : World) (index : Option ℕ) (next : List ℕ → Plan) (old mid new : Stage) (f f' : Parts) → OpensAlone index old mid → Advances w (next (open_in mid.steps)) 0 mid f new f' → AdvancesClosing w (next (alone index)) old f new f'
+alone_advances w index next old mid new f f' opens advances =
+    subst (λ (s : Stage). Advances w (next (open_in s.steps)) 0 s f new f') opens.1 advances
+
+-- what follows the type that an id was entered with is settled so far
+pub alone_entered : (w : World) (index : ℕ) (next : List ℕ → TypeData → Plan) (type : TypeData) (old mid new : Stage) (f f' : Parts) → IsEnteredAlone w index old f mid f' type → Advances w (next (open_in mid.steps) type) 0 mid f' new f' → AdvancesClosing w (on_read (w.read index) (next (index ∷ []))) old f new f'
+alone_entered w index next type old mid new f f' entered advances =
+    let here : Advances w (next (open_in mid.steps) type) 0 mid f new f' = subst (λ (g : Parts). Advances w (next (open_in mid.steps) type) 0 mid g new f') entered.parts advances in
+    let settled : AdvancesClosing w (next (index ∷ []) type) old f new f' = alone_advances w (Some index) (λ inside. next inside type) old mid new f f' entered.opens here in
+    subst (λ (r : Result TypeData Trouble). AdvancesClosing w (on_read r (next (index ∷ []))) old f new f') (sym entered.read) settled

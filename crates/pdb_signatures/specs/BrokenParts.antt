@@ -1,23 +1,23 @@
 -- The parts of the records that printing meets broken.
 use Rattle.std.specs.Prelude.{◌≡◌, ◌⊎◌, ℕ, List, [], ◌∷◌, Some, Result, Ok, Err}
 use Rattle.std.specs.List.{AllByRecursion}
-use Rattle.pdb_records.specs.declared.types.TypeData.{TypeData}
 use Rattle.pdb_types.specs.declared.unread.Part.{Part}
 use Rattle.pdb_types.specs.FailedParts.{Parts, with_part}
 use Rattle.pdb_types.specs.Unread.{Trouble, Missing, Unimplemented, Refused, Broken}
 use Rattle.pdb_signatures.specs.Worlds.{World}
 
--- reading a type meets this part broken
-abbrev pub MeetsBroken : Result TypeData Trouble → Part → Type 0
-MeetsBroken (Ok type) part = ⊥
+-- reading something meets this part broken
+abbrev pub MeetsBroken : {A : Type 0} → Result A Trouble → Part → Type 0
+MeetsBroken (Ok answer) part = ⊥
 MeetsBroken (Err (Missing index)) part = ⊥
 MeetsBroken (Err (Unimplemented kind)) part = ⊥
 MeetsBroken (Err (Refused e)) part = ⊥
 MeetsBroken (Err (Broken met e)) part = met ≡ part
 
--- a part is broken: the type of some index can't be read for it, or the size of some type
+-- a part is broken: the type of some index can't be read for it, or its size, or the id of some index
 abbrev pub IsBroken : World → Part → Type 0
-IsBroken w part = (index : ℕ) × (MeetsBroken (w.read index) part ⊎ ((w.size index).met ≡ Some part))
+IsBroken w part = (index : ℕ)
+    × (MeetsBroken (w.read index) part ⊎ ((w.size index).met ≡ Some part) ⊎ MeetsBroken (w.read_id index) part)
 
 -- these parts, and more
 abbrev pub with_parts : Parts → List Part → Parts

@@ -5,21 +5,21 @@ use Rattle.pdb_types.specs.declared.unread.Unread.{Unread}
 use Rattle.pdb_types.specs.FailedParts.{Parts}
 use Rattle.pdb_types.specs.Unread.{Trouble}
 use Rattle.pdb_signatures.specs.declared.tasks.Pending.{Pending}
-use Rattle.pdb_signatures.specs.declared.tasks.Pending.TheVariants.{Print, Close, EndCatch, EndBuffer}
+use Rattle.pdb_signatures.specs.declared.tasks.Pending.TheVariants.{Print, Close, EndId, EndCatch, EndBuffer}
 use Rattle.pdb_signatures.specs.Attributes.{attributes_text}
 use Rattle.pdb_signatures.specs.Documents.{Document, Run, run, then_by, caught_by}
 use Rattle.pdb_signatures.specs.Troubles.{IsTrouble}
 use Rattle.pdb_signatures.specs.Worlds.{World}
-use Rattle.pdb_signatures.specs.Plans.{Task, Plan, Done, Later, Seq, Buffered, Catch, is_among, opening, refusal, note_or_refusal}
+use Rattle.pdb_signatures.specs.Plans.{Task, Plan, Done, Later, Seq, Buffered, Catch, is_among, on_read, opening, refusal, note_or_refusal}
 use Rattle.pdb_signatures.specs.Rules.{rule}
 use Rattle.pdb_signatures.specs.Unfolding.{Unfolds, Runs}
-use Rattle.pdb_signatures.specs.Progress.{Stage, with_step, open_in, task_plan, released_by, stage_run}
+use Rattle.pdb_signatures.specs.Progress.{Stage, with_step, open_in, OpensAlone, task_plan, released_by, stage_run}
 
 -- something that is still to be done
 pub data Frame : Type 0 where
   -- this plan is printed
   Then : Plan → Frame
-  -- an index closes
+  -- an index closes, or an id ends
   Closing : Frame
   -- a type ends, and a note follows it where one was missing in it
   Caught : Frame
@@ -30,6 +30,7 @@ pub data Frame : Type 0 where
 abbrev pub frame : World → List ℕ → Pending → Frame
 frame w inside (Print task) = Then (task_plan w inside task)
 frame w inside (Close index) = Closing
+frame w inside (EndId outer index) = Closing
 frame w inside EndCatch = Caught
 frame w inside (EndBuffer mark attributes) =
     Kept mark
@@ -76,6 +77,13 @@ abbrev pub Advances : World → Plan → ℕ → Stage → Parts → Stage → P
 Advances w p fewer old failed new failed_then =
     Goes w fewer (Then p ∷ frames w old.steps) (stage_run old failed) (frames w new.steps) (stage_run new failed_then)
 
+-- a plan that was to be printed first is settled as far as a stage has come then, in which one step more may be left for
+-- what closes behind it
+abbrev pub AdvancesClosing : World → Plan → Stage → Parts → Stage → Parts → Type 0
+AdvancesClosing w p old failed new failed_then =
+    Goes w 0 (Then p ∷ Closing ∷ frames w old.steps) (stage_run old failed) (frames w new.steps)
+    (stage_run new failed_then)
+
 -- a plan that is to be printed first stands among the steps of a stage now, in at least so many steps fewer, and nothing
 -- else changed
 pub record Stands (w : World) (fewer : ℕ) (p : Plan) (old new : Stage) : Type 0 where
@@ -106,6 +114,20 @@ Entered w index old failed new failed_then None =
     (next : List ℕ → TypeData → Plan)
     → Advances w (opening w (open_in old.steps) index next) 0 old failed new failed_then
 
+-- the type of an index was read, and an id begins in which that index alone is open
+pub record IsEnteredAlone (w : World) (index : ℕ) (old : Stage) (failed : Parts) (new : Stage) (failed_then : Parts)
+    (type : TypeData) : Type 0 where
+  pub read : w.read index ≡ Ok type
+  pub opens : OpensAlone (Some index) old new
+  pub parts : failed_then ≡ failed
+
+-- the type of an index was read and an id begins, or printing failed
+abbrev pub EnteredAlone : World → ℕ → Stage → Parts → Stage → Parts → Option TypeData → Type 0
+EnteredAlone w index old failed new failed_then (Some type) =
+    IsEnteredAlone w index old failed new failed_then type
+EnteredAlone w index old failed new failed_then None =
+    (next : TypeData → Plan) → AdvancesClosing w (on_read (w.read index) next) old failed new failed_then
+
 -- something that is needed can't be read, and printing failed for it
 pub record IsRefused (unread : Unread) (old : Stage) (failed : Parts) (new : Stage) (failed_then : Parts) : Type 0 where
   pub trouble : Trouble
@@ -113,7 +135,7 @@ pub record IsRefused (unread : Unread) (old : Stage) (failed : Parts) (new : Sta
   pub steps : new.steps ≡ old.steps
   pub ran : stage_run new failed_then ≡ then_by None (stage_run old failed) (run (refusal trouble))
 
--- a type that is printed where it stands can't be read: there is a note of it, or printing failed for it
+-- what is printed where it stands can't be read: there is a note of it, or printing failed for it
 pub record IsNoted (unread : Unread) (old : Stage) (failed : Parts) (new : Stage) (failed_then : Parts) : Type 0 where
   pub trouble : Trouble
   pub known : IsTrouble unread trouble

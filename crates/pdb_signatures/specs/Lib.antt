@@ -2,12 +2,16 @@ pub use Rattle.pdb_types.specs.FailedParts
 pub use Rattle.pdb_types.specs.Outcomes
 pub mod Formatters
 pub mod Flags
+pub mod Namespaces
 pub mod Wording
 pub mod Documents
 pub mod Primitives
 pub mod Attributes
 pub mod Worlds
 pub mod Plans
+pub mod Functions
+pub mod Methods
+pub mod Ids
 pub mod Rules
 pub mod Unfolding
 pub mod Signatures

@@ -31,6 +31,8 @@ pub data Task : Type 0 where
   -- an array: the indices of its elements so far, in order, the sizes of its levels so far, and the index of its next
   -- element
   Elements : List ℕ → List ℕ → ℕ → Task
+  -- the id of an index, which is a scope of these ids, in order
+  Id : List ℕ → ℕ → Task
 
 -- what is to be printed, as far as one rule settles it
 pub data Plan : Type 0 where
@@ -66,15 +68,15 @@ circular index = failing (Plain (CircularTypeDefinition index))
 abbrev pub is_among : ℕ → List ℕ → Bool
 is_among index indices = list_any (λ other. index == other) indices
 
--- why a type that is needed can't be read: that is the error
+-- why what is needed can't be read: that is the error
 abbrev pub refusal : Trouble → Document
 refusal (Missing index) = document.Fail (TypeNotFound index)
 refusal (Unimplemented kind) = document.Fail (Told (Plain (PdbError (UnimplementedTypeKind kind))))
 refusal (Refused e) = document.Fail (Told e)
 refusal (Broken part e) = document.Ask part e
 
--- why a type that is printed where it stands can't be read: a note of one that is missing or of a kind that isn't known,
--- else the error
+-- why what is printed where it stands can't be read: a note of what is missing or of a kind that isn't known, else the
+-- error
 abbrev pub note_or_refusal : Trouble → Document
 note_or_refusal (Missing index) = document.Text (missing_text index)
 note_or_refusal (Unimplemented kind) = document.Text (unimplemented_text kind)
@@ -86,9 +88,9 @@ abbrev pub on_read : {A : Type 0} → Result A Trouble → (A → Plan) → Plan
 on_read (Ok answer) next = next answer
 on_read (Err trouble) next = Done (refusal trouble)
 
--- what follows a type that is printed where it stands
-abbrev pub on_printed : Result TypeData Trouble → (TypeData → Plan) → Plan
-on_printed (Ok type) next = next type
+-- what follows what is printed where it stands
+abbrev pub on_printed : {A : Type 0} → Result A Trouble → (A → Plan) → Plan
+on_printed (Ok answer) next = next answer
 on_printed (Err trouble) next = Done (note_or_refusal trouble)
 
 -- an index opens: it may not be open already

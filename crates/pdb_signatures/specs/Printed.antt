@@ -6,6 +6,7 @@ use Rattle.pdb_signatures.specs.Documents.{Failure, TypeNotFound, Told, Document
 use Rattle.pdb_signatures.specs.Documents as document
 use Rattle.pdb_signatures.specs.Worlds.{World, formatter_world}
 use Rattle.pdb_signatures.specs.Plans.{Task, Plan, Done, Later, Seq, Buffered, Catch}
+use Rattle.pdb_signatures.specs.Ids.{id_of_index}
 use Rattle.pdb_signatures.specs.Rules.{rule}
 use Rattle.pdb_signatures.specs.Signatures.{signature}
 
@@ -23,10 +24,10 @@ unfoldable pub task_document : World → ℕ → List ℕ → Task → Document
 task_document w zero inside task = document.Text []
 task_document w (suc times) inside task = plan_document (task_document w times) (rule w inside task)
 
--- more times than rules can lead to rules, where so many indices may lead to types: each time fewer of them are free to
--- open, or as many and what is left to be printed is simpler
+-- more times than rules can lead to rules, where so many indices may lead to types and to ids: each time fewer of them
+-- are free to open or to be met, or as many and what is left to be printed is simpler
 abbrev pub enough_for : ℕ → ℕ
-enough_for indices = (indices + 1) * (indices + 4)
+enough_for indices = (indices + 2) * (indices + 4)
 
 -- the document that a plan unfolds to: the one that the rules give, and no other, as the laws say
 unfoldable pub document_of : World → Plan → Document
@@ -38,6 +39,10 @@ abbrev pub signature_run : {P : Type 0} → (P → Infos) → Basis P → ℕ �
 signature_run info s position name index =
     let w = formatter_world info s position in
     run (document_of w (signature w name index))
+
+-- what printing an id does: its index as the module at a position writes it
+abbrev pub id_run : {P : Type 0} → (P → Infos) → Basis P → ℕ → ℕ → Parts → Run
+id_run info s position index = run (document_of (formatter_world info s position) (id_of_index index))
 
 -- printing succeeded or failed in two runs alike: with the same text, and for the same missing type or for another error
 -- in both

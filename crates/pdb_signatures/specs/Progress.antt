@@ -14,15 +14,17 @@ use Rattle.pdb_signatures.specs.declared.failures.Failure.TheVariants as code_fa
 use Rattle.pdb_signatures.specs.declared.tasks.Task as tasks
 use Rattle.pdb_signatures.specs.declared.tasks.Task.TheVariants as task
 use Rattle.pdb_signatures.specs.declared.tasks.Pending.{Pending}
-use Rattle.pdb_signatures.specs.declared.tasks.Pending.TheVariants.{Print, Close, EndCatch, EndBuffer}
+use Rattle.pdb_signatures.specs.declared.tasks.Pending.TheVariants.{Print, Close, EndId, EndCatch, EndBuffer}
 use Rattle.pdb_signatures.specs.declared.progress.Next.{Next}
 use Rattle.pdb_signatures.specs.declared.progress.Next.TheVariants as next
 use Rattle.pdb_signatures.specs.Attributes.{attributes_text}
 use Rattle.pdb_signatures.specs.Wording.{wording_text}
 use Rattle.pdb_signatures.specs.Documents.{Failure, TypeNotFound, Told, Run, caught_by, ends_in_sigil}
 use Rattle.pdb_signatures.specs.Worlds.{World}
-use Rattle.pdb_signatures.specs.Plans.{Plan, Index, OfType, MethodArguments, Chain, BehindModifier, Modified, Elements, Later, written, is_among}
-use Rattle.pdb_signatures.specs.Rules.{returned, further_arguments, list_of_arguments, arguments_behind}
+use Rattle.pdb_signatures.specs.Plans.{Plan, Index, OfType, MethodArguments, Chain, BehindModifier, Modified, Elements, Id, Later, written, is_among}
+use Rattle.pdb_signatures.specs.Functions.{returned, further_types, types_between, function_arguments}
+use Rattle.pdb_signatures.specs.Ids.{scope}
+use Rattle.pdb_signatures.specs.Methods.{arguments_behind}
 
 -- how far printing has come: what is still to be done, the next first, the text so far, and why printing fails, where it
 -- does
@@ -62,10 +64,16 @@ abbrev pub failure_in : Option code.Failure → Option Failure
 failure_in None = None
 failure_in (Some failure) = Some (failure_of failure)
 
--- the indices that are open: those that are closed later
+-- an index alone, or none
+abbrev pub alone : Option ℕ → List ℕ
+alone None = []
+alone (Some index) = index ∷ []
+
+-- the indices that are open: those that are closed later. In an id none of those outside it is
 abbrev pub open_in : List Pending → List ℕ
 open_in [] = []
 open_in (Close index ∷ rest) = index ∷ open_in rest
+open_in (EndId outer index ∷ rest) = alone index
 open_in (other ∷ rest) = open_in rest
 
 -- where in the text the targets of pointers begin that haven't ended, the innermost first
@@ -84,6 +92,12 @@ pub record IsSetOf (set : BTreeSet ℕ) (indices : List ℕ) : Type 0 where
   pub same : (q : ℕ) → contains nat_cmp set q ≡ is_among q indices
   pub distinct : AreDistinct indices
 
+-- the set that is put back where an id ends has the indices that were open around it
+abbrev pub PutsBack : List Pending → Type 0
+PutsBack [] = Unit {0}
+PutsBack (EndId outer index ∷ rest) = IsSetOf outer (open_in rest) × PutsBack rest
+PutsBack (other ∷ rest) = PutsBack rest
+
 -- a text may be cut at each of these places, at the first of them first
 abbrev pub MayBeCut : List ℕ → List ℕ → Type 0
 MayBeCut text [] = Unit {0}
@@ -95,8 +109,10 @@ task_plan w inside (task.Written wording) = written (wording_text w.flags wordin
 task_plan w inside (task.Index index) = Later inside (Index index.0)
 task_plan w inside (task.OfType type) = Later inside (OfType type.now)
 task_plan w inside (task.Returned left_out index) = returned inside left_out index
-task_plan w inside (task.ArgumentList this list) = list_of_arguments w inside (arguments_behind this list.now)
-task_plan w inside (task.Arguments list) = further_arguments w inside list.now
+task_plan w inside (task.Types separator this list) =
+    types_between separator.now inside (arguments_behind this list.now)
+task_plan w inside (task.FurtherTypes separator list) = further_types separator.now inside list.now
+task_plan w inside (task.FunctionArguments list) = function_arguments w inside list
 task_plan w inside (task.MethodArguments m may_say_const) = Later inside (MethodArguments m.now may_say_const)
 task_plan w inside (task.Chain attributes target) = Later inside (Chain (reverse attributes.items) target.0)
 task_plan w inside (task.BehindModifier attributes target) =
@@ -104,6 +120,8 @@ task_plan w inside (task.BehindModifier attributes target) =
 task_plan w inside (task.Modified constant target) = Later inside (Modified constant target.0)
 task_plan w inside (task.Elements elements levels next) =
     Later inside (Elements elements.keys levels.items next.0)
+task_plan w inside (task.Id met index) = Later inside (Id met.keys index.0)
+task_plan w inside (task.Scope met index) = scope met.keys inside index
 
 -- a run as far as printing has come, where these parts of the records have failed
 abbrev pub stage_run : Stage → Parts → Run
@@ -124,11 +142,16 @@ Opens index old new true = (is_among index (open_in old.steps) ≡ false) × (ne
 Opens index old new false =
     (is_among index (open_in old.steps) ≡ true) × (new ≡ with_failure (Told (Plain (CircularTypeDefinition index))) old)
 
--- what the end of something does to a run: what is printed no longer is, where printing failed; an index that closes
--- does nothing to the run
+-- an id begins, in which this index of a type is open, or none
+abbrev pub OpensAlone : Option ℕ → Stage → Stage → Type 0
+OpensAlone index old new = (outer : BTreeSet ℕ) × (new ≡ with_step (EndId outer index) old)
+
+-- what the end of something does to a run: what is printed no longer is, where printing failed; an index that closes and
+-- an id that ends do nothing to the run
 abbrev pub ended_run : TypeFormatterFlags → Pending → Run → Run
 ended_run chosen (Print task) r = r
 ended_run chosen (Close index) r = r
+ended_run chosen (EndId outer index) r = r
 ended_run chosen EndCatch r = caught_by r.fault r
 ended_run chosen (EndBuffer mark attributes) r =
     released_by r.fault r mark
@@ -139,6 +162,7 @@ ended_run chosen (EndBuffer mark attributes) r =
 abbrev pub IsPassedOver : Pending → Stage → Type 0
 IsPassedOver (Print task) s = is_some s.failure ≡ true
 IsPassedOver (Close index) s = Unit {0}
+IsPassedOver (EndId outer index) s = Unit {0}
 IsPassedOver EndCatch s = Unit {0}
 IsPassedOver (EndBuffer mark attributes) s = Unit {0}
 

@@ -1,96 +1,20 @@
--- The rules by which types are printed, each of them one step deep. The list `inside` has the indices that are open.
-use Rattle.std.specs.Prelude.{ℕ, ◌==◌, ◌&&◌, ◌||◌, ◌++◌, Bool, true, false, List, [], ◌∷◌, Option, Some, None, Result, Ok, codes, if◌then◌else◌}
+-- The rules by which types and ids are printed, each of them one step deep. The list `inside` has the indices of types
+-- that are open.
+use Rattle.std.specs.Prelude.{ℕ, ◌++◌, Bool, true, false, List, [], ◌∷◌, Some, codes, if◌then◌else◌}
 use Rattle.std.specs.BTreeSet.{insert_key}
 use Rattle.std.specs.Ordering.{nat_cmp}
-use Rattle.pdb_records.specs.declared.types.TypeIndex.{TypeIndex}
 use Rattle.pdb_records.specs.declared.types.MemberFunctionType.{MemberFunctionType}
 use Rattle.pdb_records.specs.declared.types.ProcedureType.{ProcedureType}
 use Rattle.pdb_records.specs.declared.types.TypeData.{TypeData}
 use Rattle.pdb_records.specs.declared.types.TypeData.TheVariants.{Primitive, Class, MemberFunction, Procedure, Pointer, Array, Union, Enumeration, Enumerate, Modifier, ArgumentList, Other}
-use Rattle.pdb_types.specs.declared.error.Error.TheVariants.{ArgumentTypeNotArgumentList}
-use Rattle.pdb_types.specs.Errors.{Plain}
-use Rattle.pdb_types.specs.Outcomes.{and_then}
-use Rattle.pdb_types.specs.Unread.{Trouble}
-use Rattle.pdb_signatures.specs.declared.methods.This.{This}
-use Rattle.pdb_signatures.specs.Flags.{without_return_type, without_arguments}
 use Rattle.pdb_signatures.specs.Primitives.{primitive_text}
 use Rattle.pdb_signatures.specs.Attributes.{Attribute, attribute_of, with_target, attributes_text}
-use Rattle.pdb_signatures.specs.Wording.{unhandled_text, class_word, declared_text, comma, dimensions_text}
+use Rattle.pdb_signatures.specs.Wording.{unhandled_text, class_word, declared_text, dimensions_text}
 use Rattle.pdb_signatures.specs.Worlds.{World}
-use Rattle.pdb_signatures.specs.Plans.{Task, Index, OfType, MethodArguments, Chain, BehindModifier, Modified, Elements, Plan, Later, Buffered, Catch, ◌▸◌, written, failing, circular, is_among, on_read, on_printed, opened, opening, met_before}
-
--- the type that a function returns, with a space behind it: nothing where it is left out, or where there is none
-abbrev pub returned : List ℕ → Bool → Option TypeIndex → Plan
-returned inside left_out None = written []
-returned inside left_out (Some index) =
-    if left_out then written [] else Later inside (Index index.0) ▸ written (codes " ")
-
--- the same, for a function that is printed by itself: left out for a constructor, and where functions are printed
--- without it
-abbrev pub returned_if_wanted : World → List ℕ → Bool → Option TypeIndex → Plan
-returned_if_wanted w inside constructor index = returned inside (constructor || without_return_type w.flags) index
-
--- further arguments, each behind a comma
-abbrev pub further_arguments : World → List ℕ → List TypeIndex → Plan
-further_arguments w inside [] = written []
-further_arguments w inside (next ∷ rest) =
-    written (comma w.flags) ▸ Later inside (Index next.0) ▸ further_arguments w inside rest
-
--- a list of arguments, with commas between them
-abbrev pub list_of_arguments : World → List ℕ → List TypeIndex → Plan
-list_of_arguments w inside [] = written []
-list_of_arguments w inside (next ∷ rest) = Later inside (Index next.0) ▸ further_arguments w inside rest
-
--- a method's `this` that says nothing but that the method is constant or not
-abbrev pub plain_this : Bool → This
-plain_this constant = record { constant = constant; argument = None }
-
--- a method's `this` that is printed as its first argument
-abbrev pub printed_this : TypeIndex → This
-printed_this this = record { constant = false; argument = Some this }
-
--- what the target of `this` tells: a modifier of the class says whether the method is constant. Else `this` is an
--- argument
-abbrev pub this_by_target : TypeIndex → TypeIndex → TypeData → This
-this_by_target class this (Modifier m) =
-    if m.underlying_type.0 == class.0 then plain_this m.constant else printed_this this
-this_by_target class this other = printed_this this
-
--- what the type of `this` tells: with a pointer to the class the method is not constant. With another pointer its target
--- decides, and else `this` is an argument
-abbrev pub this_by_type : World → TypeIndex → TypeIndex → TypeData → Result This Trouble
-this_by_type w class this (Pointer p) =
-    if p.underlying_type.0 == class.0 then Ok (plain_this false)
-    else and_then (w.read p.underlying_type.0) (λ target. Ok (this_by_target class this target))
-this_by_type w class this other = Ok (printed_this this)
-
--- what a method's `this` tells, where there is one
-abbrev pub this_of : World → TypeIndex → Option TypeIndex → Result This Trouble
-this_of w class None = Ok (plain_this false)
-this_of w class (Some this) = and_then (w.read this.0) (this_by_type w class this)
-
--- a list of arguments, behind `this` where that is an argument
-abbrev pub arguments_behind : Option TypeIndex → List TypeIndex → List TypeIndex
-arguments_behind None list = list
-arguments_behind (Some this) list = this ∷ list
-
--- a method's arguments in parentheses, and `const` behind them where the method is constant and that may be said
-abbrev pub method_list : World → List ℕ → Bool → List TypeIndex → This → Plan
-method_list w inside may_say_const list this =
-    written (codes "(")
-    ▸ list_of_arguments w inside (arguments_behind this.argument list)
-    ▸ written (if this.constant && may_say_const then codes ") const" else codes ")")
-
--- what follows the type of a method's list of arguments
-abbrev pub on_list : World → MemberFunctionType → Bool → List ℕ → TypeData → Plan
-on_list w m may_say_const inside (ArgumentList list) =
-    on_read (this_of w m.class_type m.this_pointer_type) (method_list w inside may_say_const list)
-on_list w m may_say_const inside other = failing (Plain ArgumentTypeNotArgumentList)
-
--- a method's arguments, unless functions are printed without them; then nothing is read
-abbrev pub method_arguments : World → List ℕ → MemberFunctionType → Bool → Plan
-method_arguments w inside m may_say_const =
-    if without_arguments w.flags then written [] else opening w inside m.argument_list.0 (on_list w m may_say_const)
+use Rattle.pdb_signatures.specs.Plans.{Task, Index, OfType, MethodArguments, Chain, BehindModifier, Modified, Elements, Id, Plan, Later, Buffered, Catch, ◌▸◌, written, circular, is_among, on_read, on_printed, opened, opening, met_before}
+use Rattle.pdb_signatures.specs.Functions.{returned, returned_if_wanted, list_of_arguments}
+use Rattle.pdb_signatures.specs.Methods.{method_arguments}
+use Rattle.pdb_signatures.specs.Ids.{id_by_kind}
 
 -- a pointer to a method: what it returns, the class and the pointers in parentheses, and its arguments
 abbrev pub pointers_to_method : World → List Attribute → List ℕ → MemberFunctionType → Plan
@@ -182,3 +106,6 @@ rule w inside (BehindModifier attributes target) = opening w inside target (behi
 rule w inside (Modified constant target) = opening w inside target (modified w constant)
 rule w inside (Elements elements levels next) =
     if is_among next elements then circular next else on_read (w.read next) (element w inside elements levels next)
+rule w inside (Id met index) =
+    if is_among index met then circular index
+    else on_printed (w.read_id index) (id_by_kind w (insert_key nat_cmp met index))

@@ -1,19 +1,11 @@
 -- Signatures of functions.
-use Rattle.std.specs.Prelude.{ℕ, ◌==◌, true, List, [], ◌∷◌, Some, codes, if◌then◌else◌}
-use Rattle.pdb_records.specs.declared.types.TypeIndex.{TypeIndex}
+use Rattle.std.specs.Prelude.{ℕ, ◌==◌, true, List, [], ◌∷◌, Some, if◌then◌else◌}
 use Rattle.pdb_records.specs.declared.types.TypeData.{TypeData}
 use Rattle.pdb_records.specs.declared.types.TypeData.TheVariants.{MemberFunction, Procedure}
-use Rattle.pdb_signatures.specs.Flags.{without_arguments}
 use Rattle.pdb_signatures.specs.Wording.{function_name, static_text}
 use Rattle.pdb_signatures.specs.Worlds.{World}
 use Rattle.pdb_signatures.specs.Plans.{Index, MethodArguments, Plan, Later, ◌▸◌, written, on_read}
-use Rattle.pdb_signatures.specs.Rules.{returned_if_wanted}
-
--- a function's arguments in parentheses, unless functions are printed without them
-abbrev pub function_arguments : World → List ℕ → TypeIndex → Plan
-function_arguments w inside list =
-    if without_arguments w.flags then written []
-    else written (codes "(") ▸ Later inside (Index list.0) ▸ written (codes ")")
+use Rattle.pdb_signatures.specs.Functions.{returned_if_wanted, function_arguments}
 
 -- the signature of a function with this name and type; where the type is no function's, the name as it is
 abbrev pub signature_by_type : World → List ℕ → List ℕ → TypeData → Plan

@@ -7,8 +7,9 @@ use Rattle.pdb_records.specs.declared.types.ClassKind.TheVariants as class
 use Rattle.pdb_records.specs.declared.types.TypeIndex.{TypeIndex}
 use Rattle.pdb_types.specs.declared.flags.TypeFormatterFlags.{TypeFormatterFlags}
 use Rattle.pdb_signatures.specs.declared.wording.Wording.{Wording}
-use Rattle.pdb_signatures.specs.declared.wording.Wording.TheVariants.{Text, MissingType, UnimplementedKind, UnhandledKind, Declared, Primitive, Pointers, Dimensions}
+use Rattle.pdb_signatures.specs.declared.wording.Wording.TheVariants.{Text, MissingType, UnimplementedKind, UnhandledKind, UnhandledScope, Declared, FunctionName, Namespace, Primitive, Pointers, Dimensions}
 use Rattle.pdb_signatures.specs.Flags.{with_names_alone, with_space_after_comma, without_static}
+use Rattle.pdb_signatures.specs.Namespaces.{namespace_text}
 use Rattle.pdb_signatures.specs.Primitives.{primitive_text}
 use Rattle.pdb_signatures.specs.Attributes.{attributes_text}
 
@@ -16,17 +17,21 @@ use Rattle.pdb_signatures.specs.Attributes.{attributes_text}
 abbrev pub hexadecimal : ℕ → List ℕ
 hexadecimal n = codes "0x" ++ digits 16 false n
 
--- the note of a type that is missing
+-- the note of a type or an id that is missing
 abbrev pub missing_text : ℕ → List ℕ
 missing_text index = codes "<missing type " ++ hexadecimal index ++ codes ">"
 
--- the note of a type of a kind that the reader of the records doesn't know
+-- the note of a type or an id of a kind that the reader of the records doesn't know
 abbrev pub unimplemented_text : ℕ → List ℕ
 unimplemented_text kind = codes "<unimplemented type kind " ++ hexadecimal kind ++ codes ">"
 
 -- the note of a type of a kind that is read and not printed
 abbrev pub unhandled_text : List ℕ → List ℕ
 unhandled_text kind = codes "unhandled type /* " ++ kind ++ codes " */"
+
+-- what stands for a scope of a kind that is read and not printed
+abbrev pub unhandled_scope_text : List ℕ → List ℕ
+unhandled_scope_text kind = codes "<unhandled id scope " ++ kind ++ codes ">::"
 
 -- the word that a class was declared with
 abbrev pub class_word : ClassKind → List ℕ
@@ -72,7 +77,10 @@ wording_text chosen (Text known) = known.now
 wording_text chosen (MissingType index) = missing_text index
 wording_text chosen (UnimplementedKind kind) = unimplemented_text kind
 wording_text chosen (UnhandledKind kind) = unhandled_text kind.now
+wording_text chosen (UnhandledScope kind) = unhandled_scope_text kind.now
 wording_text chosen (Declared word name) = declared_text chosen word.now name.now
+wording_text chosen (FunctionName name) = function_name (lossy name.now)
+wording_text chosen (Namespace name) = namespace_text (lossy name.now)
 wording_text chosen (Primitive primitive constant) = primitive_text chosen primitive constant
 wording_text chosen (Pointers attributes) = attributes_text chosen false false (reverse attributes.items)
 wording_text chosen (Dimensions levels base) = dimensions_text levels.items base

@@ -1,15 +1,19 @@
-//! C++ signatures of functions and types, as they are printed, and the sizes of types.
+//! C++ signatures of functions, types and ids, as they are printed, and the sizes of types.
 //!
 //! [`TypeFormatter`] prints a signature by one loop over the steps that are still to be done, so that types
 //! may be nested as deep as memory allows. What it answers is what the definitions say, which have laws.
 #![tactic(auto)]
 
+mod answers;
 mod arrays;
 mod attributes;
 mod dimensions;
 mod failures;
+mod functions;
+mod ids;
 pub mod laws;
 mod methods;
+mod namespaces;
 mod options;
 mod pointers;
 mod primitives;

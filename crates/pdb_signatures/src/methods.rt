@@ -5,7 +5,7 @@ ghost use Rattle.pdb_signatures.specs.BrokenParts.{AddsBroken};
 ghost use Rattle.pdb_signatures.specs.Frames.{Advances, Stands};
 ghost use Rattle.pdb_signatures.specs.Plans.{MethodArguments, Later, on_read};
 ghost use Rattle.pdb_signatures.specs.Progress.{open_in};
-ghost use Rattle.pdb_signatures.specs.Rules.{this_by_target, this_of, method_list, on_list};
+ghost use Rattle.pdb_signatures.specs.Methods.{this_by_target, this_of, method_list, on_list};
 ghost use Rattle.pdb_signatures.specs.Worlds.{World, formatter_world};
 
 use crate::failures::Failure;
@@ -13,9 +13,9 @@ use crate::options::without_arguments;
 use crate::printer::Printer;
 use crate::progress::Progress;
 use crate::tasks::Task;
-use crate::wording::Wording;
+use crate::wording::{Wording, comma};
 use pdb_records::{MemberFunctionType, TypeData, TypeIndex};
-use pdb_types::{Error, Findings, ModuleProvider, Unread};
+use pdb_types::{Error, Findings, ModuleProvider, TypeFormatterFlags, Unread};
 use std::alloc::AllocError;
 
 /// What a method's `this` tells.
@@ -65,16 +65,17 @@ fn closing(constant: bool, may_say_const: bool) -> &'static str
 /// be said.
 pub(crate) fn method_list<'s>(
     progress: &mut Progress<'s>,
+    flags: TypeFormatterFlags,
     may_say_const: bool,
     list: &'s [TypeIndex],
     this: This,
 ) -> Result<(), AllocError>
-    ensures { OnOk result ((w : World)
+    ensures { OnOk result ((w : World) → w.flags ≡ flags
         → Stands w 0 (method_list w (open_in progress.old.steps) may_say_const list.now this)
         progress.old progress.new) }
 {
     progress.first(Task::Written(Wording::Text(closing(this.constant, may_say_const))))?;
-    progress.first(Task::ArgumentList(this.argument, list))?;
+    progress.first(Task::Types(comma(flags), this.argument, list))?;
     progress.first(Task::Written(Wording::Text("(")))?;
     Ok(())
 }
@@ -136,7 +137,7 @@ impl<'p, 'a, P: ModuleProvider> Printer<'p, 'a, P> {
     {
         match self.read_this(findings, m.class_type, m.this_pointer_type) {
             Ok(this) => {
-                method_list(progress, may_say_const, list, this)?;
+                method_list(progress, self.flags(), may_say_const, list, this)?;
                 Ok(())
             }
             Err(unread) => {

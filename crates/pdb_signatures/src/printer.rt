@@ -7,7 +7,7 @@ ghost use Rattle.pdb_types.specs.Findings.{Fits};
 ghost use Rattle.pdb_types.specs.Unread.{Trouble};
 ghost use Rattle.pdb_signatures.specs.BrokenParts.{IsBroken, AddsBroken};
 ghost use Rattle.pdb_signatures.specs.Documents.{run, then_by};
-ghost use Rattle.pdb_signatures.specs.Frames.{Advances, IsRefused, IsNoted, Entered, Ends, frames};
+ghost use Rattle.pdb_signatures.specs.Frames.{Advances, IsRefused, IsNoted, Entered, EnteredAlone, Ends, frames};
 ghost use Rattle.pdb_signatures.specs.Plans.{Plan, Done, refusal, note_or_refusal, opening};
 ghost use Rattle.pdb_signatures.specs.Progress.{Stage, open_in, task_plan, stage_run};
 ghost use Rattle.pdb_signatures.specs.Troubles.{IsTrouble};
@@ -20,7 +20,7 @@ use pdb_records::{TypeData, TypeIndex};
 use pdb_types::{Error, Findings, ModuleProvider, Standing, TypeFormatterFlags, Unread};
 use std::alloc::AllocError;
 
-/// Prints types on what a formatter stands on, where the module at a position asks.
+/// Prints types and ids on what a formatter stands on, where the module at a position asks.
 #[derive(Drop)]
 pub(crate) struct Printer<'p, 'a, P: ModuleProvider> {
     pub(crate) standing: &'p Standing<'a, P>,
@@ -74,8 +74,8 @@ impl<'p, 'a, P: ModuleProvider> Printer<'p, 'a, P> {
         }
     }
 
-    /// A type that is printed where it stands can't be read: a note of one that is missing or of a kind that
-    /// isn't known stands for it, and else printing fails.
+    /// What is printed where it stands can't be read: a note of what is missing or of a kind that isn't known
+    /// stands for it, and else printing fails.
     pub(crate) fn note(
         &self,
         findings: &mut Findings<'a>,
@@ -129,6 +129,34 @@ impl<'p, 'a, P: ModuleProvider> Printer<'p, 'a, P> {
         }
         match self.standing.read_type(findings, self.position, index) {
             Ok((_, type_data)) => Ok(Some(type_data)),
+            Err(unread) => {
+                self.refuse(findings, progress, unread)?;
+                Ok(None)
+            }
+        }
+    }
+    /// Reads the type of an index, which is needed, and begins an id in which that index alone is open. Where
+    /// it can't be read, printing fails.
+    pub(crate) fn enter_alone(
+        &self,
+        findings: &mut Findings<'a>,
+        progress: &mut Progress<'_>,
+        index: TypeIndex,
+    ) -> Result<Option<&'a TypeData>, AllocError>
+        requires fits { Fits P.info self.now.standing.now findings.old }
+        requires well { progress.old.failure ≡ None }
+        ensures fits { Fits P.info self.now.standing.now findings.new }
+        ensures broken { AddsBroken (formatter_world P.info self.now.standing.now self.now.position)
+            findings.old.failed findings.new.failed }
+        ensures entered { IfOk result (λ found.
+            EnteredAlone (formatter_world P.info self.now.standing.now self.now.position) index.0
+            progress.old findings.old.failed progress.new findings.new.failed (option_copied found)) }
+    {
+        match self.standing.read_type(findings, self.position, index) {
+            Ok((_, type_data)) => {
+                progress.open_alone(Some(index.0))?;
+                Ok(Some(type_data))
+            }
             Err(unread) => {
                 self.refuse(findings, progress, unread)?;
                 Ok(None)

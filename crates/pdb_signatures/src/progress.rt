@@ -3,18 +3,19 @@ ghost use Rattle.std.specs.String.Boundary.{IsSplitPoint};
 ghost use Rattle.pdb_types.specs.FailedParts.{Parts};
 ghost use Rattle.pdb_signatures.specs.Attributes.{attributes_text};
 ghost use Rattle.pdb_signatures.specs.Documents.{caught_by, is_sigil, ends_in_sigil};
-ghost use Rattle.pdb_signatures.specs.Progress.{released_by, Stage, beginning, with_step, with_text, with_failure, failure_of, failure_in, MayBeCut, Opens, Takes};
+ghost use Rattle.pdb_signatures.specs.Progress.{released_by, Stage, beginning, with_step, with_text, with_failure, failure_of, failure_in, MayBeCut, Opens, OpensAlone, Takes};
 ghost use Rattle.pdb_signatures.specs.Wording.{wording_text, missing_text};
 
+use crate::answers::Printed;
 use crate::attributes::{Attribute, write_attributes};
 use crate::failures::Failure;
-use crate::signatures::Printed;
 use crate::tasks::{Pending, Task};
 use crate::wording::{Wording, write, write_missing};
 use pdb_types::{Error, TypeFormatterFlags};
 use std::alloc::{AllocError, Global};
 use std::collections::BTreeSet;
 use std::marker::Model;
+use std::mem;
 
 /// How far printing has come: what is still to be done, and the text so far.
 ///
@@ -24,7 +25,7 @@ use std::marker::Model;
 pub(crate) struct Progress<'s> {
     /// What is still to be done; the next step is the last.
     steps: Vec<Pending<'s>>,
-    /// The indices that are open. Each of them has a step that closes it.
+    /// The indices of types that are open. Each of them has a step that closes it.
     open_indices: BTreeSet<u32>,
     text: String,
     failure: Option<Failure>,
@@ -32,7 +33,7 @@ pub(crate) struct Progress<'s> {
 
 impl<'s> Model for Progress<'s> {
     ghost use Rattle.std.specs.Prelude.{reverse, string_bytes};
-    ghost use Rattle.pdb_signatures.specs.Progress.{released_by, Stage, failure_in, open_in, marks_in, IsSetOf, MayBeCut};
+    ghost use Rattle.pdb_signatures.specs.Progress.{released_by, Stage, failure_in, open_in, marks_in, IsSetOf, PutsBack, MayBeCut};
 
     ghost Value = { Stage };
 
@@ -44,6 +45,7 @@ impl<'s> Model for Progress<'s> {
 
     ghost invariant = { λ p. record {
       opened : IsSetOf p.open_indices (open_in (reverse p.steps.items));
+      outer : PutsBack (reverse p.steps.items);
       marks : MayBeCut (string_bytes p.text) (marks_in (reverse p.steps.items));
     } };
 }
@@ -121,6 +123,25 @@ impl<'s> Progress<'s> {
         }
     }
 
+    /// An id begins: until what is next now is next again, this index alone is open, or none.
+    pub(crate) fn open_alone(&mut self, index: Option<u32>) -> Result<(), AllocError>
+        ensures { OnOk result (OpensAlone index self.old self.new) }
+    {
+        let mut inner = BTreeSet::new(self.allocator());
+        if let Some(index) = index {
+            inner.insert(index)?;
+        }
+        let outer = mem::replace(&mut self.open_indices, inner);
+        match self.steps.push(Pending::EndId(outer, index)) {
+            Ok(()) => Ok(()),
+            Err(_) => {
+                self.steps.clear();
+                self.open_indices.clear();
+                Err(AllocError)
+            }
+        }
+    }
+
     /// A type begins that may be part of another one: where it is missing something, a note follows what
     /// was printed of it.
     pub(crate) fn catch(&mut self) -> Result<(), AllocError>
@@ -173,6 +194,10 @@ impl<'s> Progress<'s> {
             }
             Pending::Close(closed) => {
                 self.open_indices.remove(&closed);
+                return Ok(Next::Ended);
+            }
+            Pending::EndId(outer, _) => {
+                self.open_indices = outer;
                 return Ok(Next::Ended);
             }
             Pending::EndCatch => {

@@ -1,8 +1,7 @@
-ghost use Rattle.std.specs.Prelude.{◌≡◌, ◌||◌, ◌∷◌, [], codes, if◌then◌else◌, OnOk};
-ghost use Rattle.pdb_signatures.specs.Flags.{without_return_type};
+ghost use Rattle.std.specs.Prelude.{◌≡◌, ◌∷◌, [], codes, if◌then◌else◌, OnOk};
 ghost use Rattle.pdb_signatures.specs.Frames.{Stands};
 ghost use Rattle.pdb_signatures.specs.Progress.{open_in};
-ghost use Rattle.pdb_signatures.specs.Rules.{returned, further_arguments, list_of_arguments, arguments_behind, modified, by_kind};
+ghost use Rattle.pdb_signatures.specs.Rules.{modified, by_kind};
 ghost use Rattle.pdb_records.specs.declared.types.TypeData.TheVariants.{MemberFunction, Procedure, Array};
 ghost use Rattle.pdb_signatures.specs.Attributes.{attribute_of};
 ghost use Rattle.pdb_signatures.specs.Plans.{Chain, Later, written};
@@ -10,7 +9,7 @@ ghost use Rattle.pdb_signatures.specs.Wording.{declared_text};
 ghost use Rattle.pdb_signatures.specs.Worlds.{World};
 
 use crate::attributes::attribute_of;
-use crate::options::without_return_type;
+use crate::functions::{is_left_out, types_between};
 use crate::progress::Progress;
 use crate::tasks::Task;
 use crate::wording::{Wording, class_word, comma};
@@ -20,67 +19,6 @@ use pdb_records::{
 use pdb_types::TypeFormatterFlags;
 use std::alloc::AllocError;
 use std::collections::BTreeSet;
-
-/// The type that a function returns, with a space behind it, unless it is left out.
-pub(crate) fn returned(
-    progress: &mut Progress<'_>,
-    left_out: bool,
-    index: Option<TypeIndex>,
-) -> Result<(), AllocError>
-    ensures { OnOk result ((w : World) → Stands w 1 (returned (open_in progress.old.steps) left_out index)
-        progress.old progress.new) }
-{
-    let Some(index) = index else {
-        return Ok(());
-    };
-    if left_out {
-        return Ok(());
-    }
-    progress.first(Task::Written(Wording::Text(" ")))?;
-    progress.first(Task::Index(index))?;
-    Ok(())
-}
-
-/// Further arguments, each behind a comma.
-pub(crate) fn further_arguments<'s>(
-    progress: &mut Progress<'s>,
-    flags: TypeFormatterFlags,
-    list: &'s [TypeIndex],
-) -> Result<(), AllocError>
-    ensures { OnOk result ((w : World) → w.flags ≡ flags
-        → Stands w 1 (further_arguments w (open_in progress.old.steps) list.now) progress.old progress.new) }
-{
-    let Some((next, rest)) = list.split_first() else {
-        return Ok(());
-    };
-    progress.first(Task::Arguments(rest))?;
-    progress.first(Task::Index(*next))?;
-    progress.first(Task::Written(Wording::Text(comma(flags))))?;
-    Ok(())
-}
-
-/// A list of arguments, with commas between them, behind `this` where that is one.
-pub(crate) fn list_of_arguments<'s>(
-    progress: &mut Progress<'s>,
-    this: Option<TypeIndex>,
-    list: &'s [TypeIndex],
-) -> Result<(), AllocError>
-    ensures { OnOk result ((w : World)
-        → Stands w 1 (list_of_arguments w (open_in progress.old.steps) (arguments_behind this list.now))
-        progress.old progress.new) }
-{
-    if let Some(this) = this {
-        progress.first(Task::Arguments(list))?;
-        progress.first(Task::Index(this))?;
-        return Ok(());
-    }
-    let Some((next, rest)) = list.split_first() else {
-        return Ok(());
-    };
-    progress.first(Task::Arguments(rest))?;
-    progress.first(Task::Index(*next))?;
-    Ok(())
-}
 
 /// A name, with the word that it was declared with before it, unless names stand alone.
 fn declared<'s>(
@@ -92,13 +30,6 @@ fn declared<'s>(
         → Stands w 0 (written (declared_text w.flags word.now name.now)) progress.old progress.new) }
 {
     progress.first(Task::Written(Wording::Declared(word, name)))
-}
-
-/// Whether the type that a function returns is left out, where the function is printed by itself.
-pub(crate) fn is_left_out(flags: TypeFormatterFlags, constructor: bool) -> bool
-    ensures { result ≡ (constructor || without_return_type flags) }
-{
-    constructor || without_return_type(flags)
 }
 
 /// A method: what it returns where that is wanted, and its arguments.
@@ -233,7 +164,7 @@ pub(crate) fn by_kind<'s>(
             Ok(())
         }
         TypeData::ArgumentList(list) => {
-            list_of_arguments(progress, None, &list.arguments)?;
+            types_between(progress, comma(flags), None, &list.arguments)?;
             Ok(())
         }
         TypeData::Pointer(p) => {

@@ -6,44 +6,18 @@ ghost use Rattle.pdb_signatures.specs.BrokenParts.{AddsBroken};
 ghost use Rattle.pdb_signatures.specs.Frames.{Begins, Stands};
 ghost use Rattle.pdb_signatures.specs.Printed.{signature_run};
 ghost use Rattle.pdb_signatures.specs.Progress.{beginning, failure_in, open_in};
-ghost use Rattle.pdb_signatures.specs.Signatures.{function_arguments, signature_by_type, signature};
+ghost use Rattle.pdb_signatures.specs.Signatures.{signature_by_type, signature};
 ghost use Rattle.pdb_signatures.specs.Worlds.{World, formatter_world};
 
-use crate::failures::Failure;
-use crate::options::without_arguments;
+use crate::answers::Printed;
+use crate::functions::is_left_out;
 use crate::printer::Printer;
 use crate::progress::Progress;
-use crate::rules::is_left_out;
 use crate::tasks::Task;
 use crate::wording::{Wording, function_name, static_word};
 use pdb_records::{MemberFunctionType, ProcedureType, TypeData, TypeIndex};
 use pdb_types::{Findings, ModuleProvider, Standing, TypeFormatterFlags};
 use std::alloc::{AllocError, Global};
-
-/// What printing came to: the text, and why it failed where it did.
-#[derive(Drop)]
-pub(crate) struct Printed {
-    pub(crate) text: String,
-    pub(crate) failure: Option<Failure>,
-}
-
-/// A function's arguments in parentheses, unless functions are printed without them.
-fn function_arguments(
-    progress: &mut Progress<'_>,
-    flags: TypeFormatterFlags,
-    list: TypeIndex,
-) -> Result<(), AllocError>
-    ensures { OnOk result ((w : World) → w.flags ≡ flags
-        → Stands w 0 (function_arguments w (open_in progress.old.steps) list) progress.old progress.new) }
-{
-    if without_arguments(flags) {
-        return Ok(());
-    }
-    progress.first(Task::Written(Wording::Text(")")))?;
-    progress.first(Task::Index(list))?;
-    progress.first(Task::Written(Wording::Text("(")))?;
-    Ok(())
-}
 
 /// The signature of a method with this name.
 fn method<'s>(
@@ -76,7 +50,7 @@ fn procedure<'s>(
         progress.old progress.new) }
 {
     let left_out = is_left_out(flags, p.is_constructor);
-    function_arguments(progress, flags, p.argument_list)?;
+    progress.first(Task::FunctionArguments(p.argument_list))?;
     progress.first(Task::Written(Wording::Text(function_name(name))))?;
     progress.first(Task::Returned(left_out, p.return_type))?;
     Ok(())

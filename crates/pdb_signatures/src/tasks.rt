@@ -1,6 +1,6 @@
 use crate::attributes::Attribute;
 use crate::wording::Wording;
-use pdb_records::{MemberFunctionType, TypeData, TypeIndex};
+use pdb_records::{IdIndex, MemberFunctionType, TypeData, TypeIndex};
 use std::collections::BTreeSet;
 
 /// What is to be printed.
@@ -14,10 +14,12 @@ pub(crate) enum Task<'s> {
     OfType(&'s TypeData),
     /// The type that a function returns, unless it is left out.
     Returned(bool, Option<TypeIndex>),
-    /// A list of arguments, with commas between them, behind `this` where that is one.
-    ArgumentList(Option<TypeIndex>, &'s [TypeIndex]),
-    /// Further arguments, each behind a comma.
-    Arguments(&'s [TypeIndex]),
+    /// Types, with a separator between them, behind `this` where that is one of them.
+    Types(&'static str, Option<TypeIndex>, &'s [TypeIndex]),
+    /// Further types, each behind a separator.
+    FurtherTypes(&'static str, &'s [TypeIndex]),
+    /// The arguments of a function in parentheses, by the index of their list.
+    FunctionArguments(TypeIndex),
     /// The arguments of a method in parentheses, and whether `const` may be said behind them.
     MethodArguments(&'s MemberFunctionType, bool),
     /// A chain of pointers, the last one last, to the type of an index.
@@ -29,6 +31,10 @@ pub(crate) enum Task<'s> {
     /// An array: the indices of its elements so far, the sizes of its levels so far, and the index of its
     /// next element.
     Elements(BTreeSet<u32>, Vec<u32>, TypeIndex),
+    /// The id of an index, which is a scope of these ids.
+    Id(BTreeSet<u32>, IdIndex),
+    /// The scope of an id, if it has one, and `::` behind it; it is a scope of these ids.
+    Scope(BTreeSet<u32>, Option<IdIndex>),
 }
 
 /// What is still to be done.
@@ -38,6 +44,8 @@ pub(crate) enum Pending<'s> {
     Print(Task<'s>),
     /// An index is no longer open.
     Close(u32),
+    /// An id ends, in which this index alone was open, or none. Those that were open around it are put back.
+    EndId(BTreeSet<u32>, Option<u32>),
     /// A type ends. Where one was missing in it, a note follows what was printed of it.
     EndCatch,
     /// The target of pointers ends, which begins at this byte of the text. The pointers follow it; where

@@ -8,10 +8,12 @@ ghost use Rattle.pdb_signatures.specs.FailedParts.{Parts};
 ghost use Rattle.pdb_signatures.specs.Worlds.{World, formatter_world};
 
 use crate::attributes::Attribute;
+use crate::functions::{function_arguments, further_types, returned, types_between};
+use crate::ids::scope;
 use crate::pointers::{behind_modifier, behind_pointer};
 use crate::printer::Printer;
 use crate::progress::{Next, Progress};
-use crate::rules::{by_kind, further_arguments, list_of_arguments, modified, returned};
+use crate::rules::{by_kind, modified};
 use crate::tasks::Task;
 use pdb_records::{TypeData, TypeIndex};
 use pdb_types::{Findings, ModuleProvider, TypeFormatterFlags};
@@ -206,12 +208,16 @@ impl<'p, 'a, P: ModuleProvider> Printer<'p, 'a, P> {
                 returned(progress, left_out, index)?;
                 Ok(())
             }
-            Task::ArgumentList(this, list) => {
-                list_of_arguments(progress, this, list)?;
+            Task::Types(separator, this, list) => {
+                types_between(progress, separator, this, list)?;
                 Ok(())
             }
-            Task::Arguments(list) => {
-                further_arguments(progress, self.flags(), list)?;
+            Task::FurtherTypes(separator, list) => {
+                further_types(progress, separator, list)?;
+                Ok(())
+            }
+            Task::FunctionArguments(list) => {
+                function_arguments(progress, self.flags(), list)?;
                 Ok(())
             }
             Task::MethodArguments(m, may_say_const) => {
@@ -232,6 +238,14 @@ impl<'p, 'a, P: ModuleProvider> Printer<'p, 'a, P> {
             }
             Task::Elements(elements, levels, next) => {
                 self.elements(findings, progress, elements, levels, next)?;
+                Ok(())
+            }
+            Task::Id(met, index) => {
+                self.id(findings, progress, met, index)?;
+                Ok(())
+            }
+            Task::Scope(met, index) => {
+                scope(progress, met, index)?;
                 Ok(())
             }
         }

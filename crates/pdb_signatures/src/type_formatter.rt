@@ -1,26 +1,28 @@
-ghost use Rattle.std.specs.Prelude.{◌≡◌, ◌≢◌, false, [], IfOk, OnOk, OnErr, MatchResult, string_bytes};
+ghost use Rattle.std.specs.Prelude.{◌≡◌, [], IfOk, OnOk, OnErr, MatchResult, string_bytes};
 ghost use Rattle.std.specs.Option.{option_copied};
 ghost use Rattle.pdb_types.specs.declared.error.Error.TheVariants.{OutOfMemory};
 ghost use Rattle.pdb_types.specs.FailedParts.{with_met};
 ghost use Rattle.pdb_types.specs.Outcomes.{Gives};
 ghost use Rattle.pdb_types.specs.Standing.{program_pointer_size};
 ghost use Rattle.pdb_types.specs.TypeSizes.{size_of};
-ghost use Rattle.pdb_signatures.specs.Answers.{is_format_error, is_want_of_memory, AnswersText, AnswersWritten};
+ghost use Rattle.pdb_signatures.specs.Answers.{AnswersText, AnswersWritten};
 ghost use Rattle.pdb_signatures.specs.BrokenParts.{AddsBroken};
-ghost use Rattle.pdb_signatures.specs.Printed.{signature_run};
+ghost use Rattle.pdb_signatures.specs.Printed.{signature_run, id_run};
 ghost use Rattle.pdb_signatures.specs.Progress.{failure_in};
 ghost use Rattle.pdb_signatures.specs.Worlds.{formatter_world};
 
-use crate::signatures::{Printed, print_signature};
+use crate::answers::{Printed, printed_text, write_printed};
+use crate::ids::print_id;
+use crate::signatures::print_signature;
 use pdb_records::{
-    DebugInformation, IdInformation, Module, StringTable, TypeIndex, TypeInformation,
+    DebugInformation, IdIndex, IdInformation, Module, StringTable, TypeIndex, TypeInformation,
 };
-use pdb_types::{Error, Findings, ModuleProvider, Result, Standing, TypeFormatterFlags};
+use pdb_types::{Findings, ModuleProvider, Result, Standing, TypeFormatterFlags};
 use std::alloc::{AllocError, Global};
 use std::fmt;
 use std::marker::Model;
 
-/// Tells the sizes of types, and prints the signatures of functions.
+/// Tells the sizes of types, and prints the signatures of functions and ids.
 ///
 /// It stands on the records that it was given. Of what happens between two questions it remembers one
 /// thing that later answers show: which parts of the records it met broken.
@@ -38,33 +40,6 @@ impl<'a, P: ModuleProvider> Model for TypeFormatter<'a, P> {
     ghost view = { λ f. record { standing = f.standing; failed = f.findings.failed } };
 
     ghost invariant = { λ f. Fits P.info f.standing f.findings };
-}
-
-/// Whether there was no memory for an answer.
-fn is_want_of_memory(error: &Error) -> bool
-    ensures { result ≡ is_want_of_memory error.now }
-{
-    match error {
-        Error::OutOfMemory => true,
-        _ => false,
-    }
-}
-
-/// Writes the text that was printed before an error, but for want of memory, and answers that error, or that
-/// the writer refused.
-fn write_before<W: fmt::Write>(writer: &mut W, text: &str, error: Error) -> Error
-    ensures same { is_format_error result ≡ false → result ≡ error }
-    ensures written { result ≢ OutOfMemory → is_format_error result ≡ false
-        → W.write_str_gives writer.old text.now writer.new }
-    ensures unwritten { result ≡ OutOfMemory → writer.new ≡ writer.old }
-{
-    if is_want_of_memory(&error) {
-        return error;
-    }
-    match writer.write_str(text) {
-        Ok(()) => error,
-        Err(refused) => Error::FormatError(refused),
-    }
 }
 
 impl<P: ModuleProvider> Drop for TypeFormatter<'_, P> {
@@ -175,11 +150,7 @@ impl<'a, P: ModuleProvider> TypeFormatter<'a, P> {
         ensures broken { AddsBroken (formatter_world P.info self.old.standing module_index)
             self.old.failed self.new.failed }
     {
-        let Printed { text, failure } = self.print_function(name, module_index, index)?;
-        match failure {
-            None => Ok(text),
-            Some(failure) => Err(Error::from(failure)),
-        }
+        printed_text(self.print_function(name, module_index, index)?)
     }
 
     /// Writes the signature that [`TypeFormatter::format_function`] answers.
@@ -203,14 +174,55 @@ impl<'a, P: ModuleProvider> TypeFormatter<'a, P> {
         ensures broken { AddsBroken (formatter_world P.info self.old.standing module_index)
             self.old.failed self.new.failed }
     {
-        let Printed { text, failure } = self.print_function(name, module_index, index)?;
-        match failure {
-            None => match writer.write_str(text.as_str()) {
-                Ok(()) => Ok(()),
-                Err(error) => Err(Error::FormatError(error)),
-            },
-            Some(failure) => Err(write_before(writer, text.as_str(), Error::from(failure))),
-        }
+        let printed = self.print_function(name, module_index, index)?;
+        write_printed(writer, printed)
+    }
+
+    /// An id as text, for an index as the module at `module_index` writes it: a function of a class with its
+    /// class, a function of no class with the scopes that it stands in, a text, or texts in quotation marks.
+    ///
+    /// # Errors
+    ///
+    /// The first error of what is printed: [`Error::CircularTypeDefinition`](crate::Error) for an id that is
+    /// a scope of itself and as of [`TypeFormatter::format_function`],
+    /// [`Error::MemberFunctionIdIsNotMemberFunctionType`](crate::Error) and
+    /// [`Error::FunctionIdIsNotProcedureType`](crate::Error) for a function whose type is of another kind, and
+    /// the errors of types and ids that can't be read. A part of the records that is met broken tells its own
+    /// error the first time, whether for a type or for an id, and then that it failed before. Ids that are
+    /// missing and of unknown kinds have a note in the text, and so have types that are printed by themselves.
+    pub fn format_id(&mut self, module_index: usize, index: IdIndex) -> Result<String>
+        ensures answer { AnswersText
+            (id_run P.info self.old.standing module_index index.0 self.old.failed)
+            result self.new.failed }
+        ensures standing { self.new.standing ≡ self.old.standing }
+        ensures broken { AddsBroken (formatter_world P.info self.old.standing module_index)
+            self.old.failed self.new.failed }
+    {
+        printed_text(self.print_id(module_index, index)?)
+    }
+
+    /// Writes the text that [`TypeFormatter::format_id`] answers.
+    ///
+    /// # Errors
+    ///
+    /// As of [`TypeFormatter::format_id`]; the writer then has the text that was printed before the error,
+    /// but for want of memory, where it has nothing. [`Error::FormatError`](crate::Error) where the writer
+    /// refused the text.
+    pub fn emit_id<W: fmt::Write>(
+        &mut self,
+        writer: &mut W,
+        module_index: usize,
+        index: IdIndex,
+    ) -> Result<()>
+        ensures answer { AnswersWritten W.write_str_gives
+            (id_run P.info self.old.standing module_index index.0 self.old.failed)
+            writer.old writer.new result self.new.failed }
+        ensures standing { self.new.standing ≡ self.old.standing }
+        ensures broken { AddsBroken (formatter_world P.info self.old.standing module_index)
+            self.old.failed self.new.failed }
+    {
+        let printed = self.print_id(module_index, index)?;
+        write_printed(writer, printed)
     }
 
     /// Prints the signature of a function.
@@ -235,6 +247,26 @@ impl<'a, P: ModuleProvider> TypeFormatter<'a, P> {
             &self.standing,
             &mut self.findings,
             name,
+            module_index,
+            index,
+        )
+    }
+    /// Prints an id.
+    fn print_id(&mut self, module_index: usize, index: IdIndex) -> Result<Printed, AllocError>
+        ensures standing { self.new.standing ≡ self.old.standing }
+        ensures broken { AddsBroken (formatter_world P.info self.old.standing module_index)
+            self.old.failed self.new.failed }
+        ensures printed { IfOk result (λ p.
+            id_run P.info self.old.standing module_index index.0 self.old.failed ≡ record {
+              text = string_bytes p.text;
+              fault = failure_in p.failure;
+              failed = self.new.failed;
+            }) }
+    {
+        print_id(
+            self.standing.allocator(),
+            &self.standing,
+            &mut self.findings,
             module_index,
             index,
         )

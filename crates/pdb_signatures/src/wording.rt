@@ -1,8 +1,11 @@
 ghost use Rattle.std.specs.Prelude.{◌≡◌, ◌++◌, OnOk, string_bytes};
-ghost use Rattle.pdb_signatures.specs.Wording.{missing_text, unimplemented_text, unhandled_text, class_word, declared_text, function_name, static_text, comma, wording_text};
+ghost use Rattle.pdb_records.specs.Names.{lossy};
+ghost use Rattle.pdb_signatures.specs.Namespaces.{namespace_text};
+ghost use Rattle.pdb_signatures.specs.Wording.{missing_text, unimplemented_text, unhandled_text, unhandled_scope_text, class_word, declared_text, function_name, static_text, comma, wording_text};
 
 use crate::attributes::{Attribute, write_attributes};
 use crate::dimensions::write_dimensions;
+use crate::namespaces::namespace_name;
 use crate::options::{with_names_alone, with_space_after_comma, without_static};
 use crate::primitives::write_primitive;
 use pdb_records::{ClassKind, PrimitiveType, RawString, TypeIndex};
@@ -14,14 +17,20 @@ use std::alloc::AllocError;
 pub(crate) enum Wording<'s> {
     /// This text.
     Text(&'s str),
-    /// A note of a type that is missing.
+    /// A note of a type or an id that is missing.
     MissingType(u32),
-    /// A note of a type of a kind that the reader of the records doesn't know.
+    /// A note of a type or an id of a kind that the reader of the records doesn't know.
     UnimplementedKind(u16),
     /// A note of a type of a kind that is read and not printed.
     UnhandledKind(&'s str),
+    /// What stands for a scope of a kind that is read and not printed.
+    UnhandledScope(&'s str),
     /// A name, with the word that it was declared with before it unless names stand alone.
     Declared(&'static str, &'s RawString),
+    /// The name of a function, or a note where it is empty.
+    FunctionName(&'s RawString),
+    /// The name of a namespace.
+    Namespace(&'s RawString),
     /// A type that the compiler brings, constant or not.
     Primitive(PrimitiveType, bool),
     /// The pointers to a function, which stand in parentheses; the last collected stands last.
@@ -47,7 +56,10 @@ pub(crate) fn write(
         Wording::MissingType(index) => write_missing(text, *index),
         Wording::UnimplementedKind(kind) => write_unimplemented(text, *kind),
         Wording::UnhandledKind(kind) => write_unhandled(text, kind),
+        Wording::UnhandledScope(kind) => write_unhandled_scope(text, kind),
         Wording::Declared(word, name) => write_declared(text, flags, word, name),
+        Wording::FunctionName(name) => write_function_name(text, name),
+        Wording::Namespace(name) => write_namespace(text, name),
         Wording::Primitive(primitive, constant) => {
             write_primitive(text, flags, primitive, *constant)
         }
@@ -58,14 +70,14 @@ pub(crate) fn write(
     }
 }
 
-/// Appends the note of a type that is missing.
+/// Appends the note of a type or an id that is missing.
 pub(crate) fn write_missing(text: &mut String, index: u32) -> Result<(), AllocError>
     ensures { OnOk result (string_bytes text.new ≡ string_bytes text.old ++ missing_text index) }
 {
     write!(text, "<missing type 0x{index:x}>")
 }
 
-/// Appends the note of a type of a kind that the reader of the records doesn't know.
+/// Appends the note of a type or an id of a kind that the reader of the records doesn't know.
 fn write_unimplemented(text: &mut String, kind: u16) -> Result<(), AllocError>
     ensures { OnOk result (string_bytes text.new ≡ string_bytes text.old ++ unimplemented_text kind) }
 {
@@ -77,6 +89,29 @@ fn write_unhandled(text: &mut String, kind: &str) -> Result<(), AllocError>
     ensures { OnOk result (string_bytes text.new ≡ string_bytes text.old ++ unhandled_text kind.now) }
 {
     write!(text, "unhandled type /* {kind} */")
+}
+
+/// Appends what stands for a scope of a kind that is read and not printed.
+fn write_unhandled_scope(text: &mut String, kind: &str) -> Result<(), AllocError>
+    ensures { OnOk result (string_bytes text.new ≡ string_bytes text.old ++ unhandled_scope_text kind.now) }
+{
+    write!(text, "<unhandled id scope {kind}>::")
+}
+
+/// Appends the name of a function, or a note where it is empty.
+fn write_function_name(text: &mut String, name: &RawString) -> Result<(), AllocError>
+    ensures { OnOk result (string_bytes text.new ≡ string_bytes text.old ++ function_name (lossy name.now)) }
+{
+    let name = name.to_string_lossy(*text.allocator())?;
+    text.push_str(function_name(name.as_str()))
+}
+
+/// Appends what a namespace is called in print.
+fn write_namespace(text: &mut String, name: &RawString) -> Result<(), AllocError>
+    ensures { OnOk result (string_bytes text.new ≡ string_bytes text.old ++ namespace_text (lossy name.now)) }
+{
+    let name = name.to_string_lossy(*text.allocator())?;
+    text.push_str(namespace_name(name.as_str()))
 }
 
 /// Appends a name as text, with the word that it was declared with before it, unless names stand

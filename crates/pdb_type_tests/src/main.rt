@@ -1,5 +1,5 @@
-//! Asks the sizes of types and the signatures of functions over the records files beside it, and compares
-//! them with what is wanted.
+//! Asks the sizes of types, the signatures of functions and the texts of ids over the records files beside it,
+//! and compares them with what is wanted.
 //!
 //! `sizes.txt` has a line `file NAME` for each records file, and then a line `MODULE INDEX SIZE` for each
 //! question: the position of the module that asks, the index in hexadecimal, and the size in bytes. The
@@ -9,20 +9,24 @@
 //! `FLAGS MODULE INDEX NAME | OUTCOME | TEXT` for each question: what a string holds after the signature was
 //! written into it, and the outcome, which is `ok` or the text of an error. Questions that follow each other
 //! with the same flags go to one formatter, which remembers the parts of the records that it met broken.
+//!
+//! `ids.txt` is such a file too. A line with no NAME asks for the id of the index; one with a NAME asks for a
+//! signature, where a formatter is to be asked for both. Its last records file is a genuine program's, and a
+//! link to the one in the data of `pdb_tests`.
 #![tactic(auto)]
 
 #[cfg(test)]
 mod parts;
+mod printed;
 mod questions;
 #[cfg(test)]
 mod seen;
-mod signatures;
 
 use pdb_addr2line::{ContextPdbData, TypeFormatter};
 use pdb_json::read_records;
 use pdb_records::TypeIndex;
+use printed::{answers, flags_of, printed_question_of};
 use questions::{Question, question_of};
-use signatures::{answers, flags_of, signature_question_of};
 use std::alloc::Global;
 use std::rt::Files;
 use std::{fs, io};
@@ -32,6 +36,9 @@ const SIZES: &str = "sizes.txt";
 
 /// The file with the questions for signatures.
 const SIGNATURES: &str = "signatures.txt";
+
+/// The file with the questions for ids.
+const IDS: &str = "ids.txt";
 
 /// What was asked, and what differed.
 #[derive(Clone, Copy)]
@@ -52,26 +59,32 @@ fn main(rt: HostRuntime) -> io::Result<()> {
         }
     }
     println!(rt; "{0} sizes, {1} differ", tally.asked, tally.differ)?;
-    all_signatures(&rt)
+    let signatures = all_printed(&rt, SIGNATURES)?;
+    println!(rt;
+        "{0} signatures, {1} differ",
+        signatures.asked, signatures.differ
+    )?;
+    let ids = all_printed(&rt, IDS)?;
+    println!(rt; "{0} ids, {1} differ", ids.asked, ids.differ)
 }
 
-/// Asks the questions for signatures.
-fn all_signatures<R: Files + Print + AllocGlobal>(rt: &R) -> io::Result<()> {
-    let text = fs::read_to_string(rt, SIGNATURES)?;
+/// Asks the questions of a file for signatures and ids.
+fn all_printed<R: Files + Print + AllocGlobal>(rt: &R, questions: &str) -> io::Result<Tally> {
+    let text = fs::read_to_string(rt, questions)?;
     let mut tally = Tally {
         asked: 0,
         differ: 0,
     };
     for part in text.as_str().split("file ") {
         if !part.is_empty() {
-            tally = signatures_over_file(rt, part, tally)?;
+            tally = printed_over_file(rt, part, tally)?;
         }
     }
-    println!(rt; "{0} signatures, {1} differ", tally.asked, tally.differ)
+    Ok(tally)
 }
 
-/// Asks the questions for signatures over one file.
-fn signatures_over_file<R: Files + Print + AllocGlobal>(
+/// Asks the questions for signatures and ids over one file.
+fn printed_over_file<R: Files + Print + AllocGlobal>(
     rt: &R,
     part: &str,
     tally: Tally,
@@ -82,11 +95,11 @@ fn signatures_over_file<R: Files + Print + AllocGlobal>(
         println!(rt; "{name} was refused")?;
         return Ok(differing(tally));
     };
-    signatures_over_data(rt, &data, part, tally)
+    printed_over_data(rt, &data, part, tally)
 }
 
-/// Asks the questions for signatures over records: a formatter for each run of equal flags.
-fn signatures_over_data<R: Print + AllocGlobal>(
+/// Asks the questions for signatures and ids over records: a formatter for each run of equal flags.
+fn printed_over_data<R: Print + AllocGlobal>(
     rt: &R,
     data: &ContextPdbData<'_>,
     part: &str,
@@ -98,7 +111,7 @@ fn signatures_over_data<R: Print + AllocGlobal>(
         return Ok(differing(tally));
     };
     for line in part.lines() {
-        let Some(question) = signature_question_of(line) else {
+        let Some(question) = printed_question_of(line) else {
             continue;
         };
         if question.flags != bits {

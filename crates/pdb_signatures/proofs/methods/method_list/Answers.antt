@@ -3,8 +3,8 @@ use Rattle.pdb_signatures.proofs.StandsLemmas.{stands_first, stands_before, stan
 use Rattle.pdb_signatures.proofs.methods.method_list.Goals as goal
 
 pub returns : goal.returns
-returns c = λ w.
+returns c = λ w flags.
     let last = stands_first w _ _ _ c.in_ok-first.ensures in
     let row = stands_before w _ _ _ _ _ _ last c.in_ok-first-2.ensures in
     let all = stands_fewer 0 (omega arith) (stands_before w _ _ _ _ _ _ row c.in_ok-first-3.ensures) in
-    rw c.closing.ensures at all
+    rw (c.closing.ensures, c.comma.ensures, ← flags) at all

@@ -20,8 +20,8 @@ returns-in_ok-method-in-MemberFunction c = λ w flags. rw c.in-MemberFunction.is
 pub returns-in_ok-procedure-in-Procedure : goal.returns-in_ok-procedure-in-Procedure
 returns-in_ok-procedure-in-Procedure c = λ w flags. rw c.in-Procedure.is (c.in_ok-procedure-in-Procedure.ensures w flags)
 
-pub returns-in_ok-list_of_arguments-in-ArgumentList : goal.returns-in_ok-list_of_arguments-in-ArgumentList
-returns-in_ok-list_of_arguments-in-ArgumentList c = λ w flags. let told = rw (c.deref.ensures.value, c.list.view_is) at (stands_fewer 0 (omega arith) (c.in_ok-list_of_arguments-in-ArgumentList.ensures w)) in rw c.in-ArgumentList.is told
+pub returns-in_ok-types_between-in-ArgumentList : goal.returns-in_ok-types_between-in-ArgumentList
+returns-in_ok-types_between-in-ArgumentList c = λ w flags. let told = rw (c.deref.ensures.value, c.list.view_is, c.comma.ensures, ← flags) at (stands_fewer 0 (omega arith) (c.in_ok-types_between-in-ArgumentList.ensures w)) in rw c.in-ArgumentList.is told
 
 pub returns-in_ok-pointer-in-Pointer : goal.returns-in_ok-pointer-in-Pointer
 returns-in_ok-pointer-in-Pointer c = λ w flags. rw c.in-Pointer.is (c.in_ok-pointer-in-Pointer.ensures w)

@@ -1,9 +1,8 @@
-use Rattle.pdb_types.specs.Standing.{linked}
 use Rattle.pdb_signatures.specs.Signatures.{signature}
 use Rattle.pdb_signatures.specs.Worlds.{formatter_world}
 use Rattle.pdb_signatures.proofs.DocumentLemmas.{document-runs}
 use Rattle.pdb_signatures.proofs.LoopLemmas.{adds-then}
-use Rattle.pdb_signatures.proofs.UnfoldingLemmas.{type_at-below}
+use Rattle.pdb_signatures.proofs.UnfoldingLemmas.{formatter-below}
 use Rattle.pdb_signatures.proofs.signatures.print_signature.Goals as goal
 
 pub returns-in_err-print-clause-broken : goal.returns-in_err-print-clause-broken
@@ -17,5 +16,5 @@ returns-clause-printed g c =
     let s = c.args.standing.now in
     let w = formatter_world g.P.ModuleProvider.info s c.args.position in
     let runs = c.in_ok-signature.ensures.begins _ c.in_ok-print.ensures.ends in
-    let is = document-runs w (type_at-below (linked g.P.ModuleProvider.info s) s.types c.args.position) (signature w c.args.name.now c.args.index.0) c.args.findings.now.failed _ runs in
+    let is = document-runs w (formatter-below g.P.ModuleProvider.info s c.args.position) (signature w c.args.name.now c.args.index.0) c.args.findings.now.failed _ runs in
     rw (c.into_printed.ensures.text, c.into_printed.ensures.failure) is

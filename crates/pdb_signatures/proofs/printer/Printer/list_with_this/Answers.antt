@@ -1,8 +1,8 @@
-use Rattle.std.proofs.Common.{arith}
+use Rattle.std.proofs.Common.{sym, arith}
 use Rattle.pdb_signatures.specs.declared.methods.This.{This}
 use Rattle.pdb_signatures.specs.Plans.{on_read}
 use Rattle.pdb_signatures.specs.Progress.{open_in}
-use Rattle.pdb_signatures.specs.Rules.{this_of, method_list}
+use Rattle.pdb_signatures.specs.Methods.{this_of, method_list}
 use Rattle.pdb_signatures.specs.Worlds.{formatter_world}
 use Rattle.pdb_signatures.proofs.TurnLemmas.{advances_fewer, advances_stands, advances_refused}
 use Rattle.pdb_signatures.proofs.ReadLemmas.{tells-trouble, this-broken}
@@ -27,7 +27,7 @@ returns-in_ok-method_list-in-Ok-clause-advances g c =
     let s = c.args.self.now.standing.now in
     let position = c.args.self.now.position in
     let w = formatter_world g.P.ModuleProvider.info s position in
-    let stands = advances_stands w 0 _ c.args.progress.now _ (c.in_ok-method_list-in-Ok.ensures w) c.args.findings.now.failed in
+    let stands = advances_stands w 0 _ c.args.progress.now _ (c.in_ok-method_list-in-Ok.ensures w (sym c.flags.ensures)) c.args.findings.now.failed in
     rw (c.in-Ok.ensures.this, c.in-Ok.ensures.kept.failed) stands
 
 pub returns-in_ok-refuse-in-Err-clause-advances : goal.returns-in_ok-refuse-in-Err-clause-advances

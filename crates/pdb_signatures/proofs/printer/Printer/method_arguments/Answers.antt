@@ -2,7 +2,7 @@ use Rattle.std.proofs.Common.{ap, sym, ◌≡◌, false, cond, []}
 use Rattle.pdb_signatures.specs.Flags.{without_arguments}
 use Rattle.pdb_signatures.specs.Plans.{MethodArguments, opening, written}
 use Rattle.pdb_signatures.specs.Progress.{open_in}
-use Rattle.pdb_signatures.specs.Rules.{on_list}
+use Rattle.pdb_signatures.specs.Methods.{on_list}
 use Rattle.pdb_signatures.specs.Worlds.{formatter_world}
 use Rattle.pdb_signatures.proofs.TurnLemmas.{turned_entered, turned_none}
 use Rattle.pdb_signatures.proofs.printer.Printer.method_arguments.Goals as goal

@@ -1,9 +1,8 @@
 use Rattle.std.proofs.Common.{arith, sym}
-use Rattle.pdb_types.specs.Standing.{linked}
 use Rattle.pdb_signatures.specs.Worlds.{formatter_world}
 use Rattle.pdb_signatures.proofs.GoesLemmas.{goes_then, goes_fewer}
 use Rattle.pdb_signatures.proofs.LoopLemmas.{left-falls, ended-goes, printed-goes, adds-then}
-use Rattle.pdb_signatures.proofs.UnfoldingLemmas.{type_at-below}
+use Rattle.pdb_signatures.proofs.UnfoldingLemmas.{formatter-below}
 use Rattle.pdb_signatures.proofs.printer.Printer.print.Goals as goal
 
 pub turns-smaller-in-Ended : goal.turns-smaller-in-Ended
@@ -13,7 +12,7 @@ turns-smaller-in-Ended g c =
     let w = formatter_world g.P.ModuleProvider.info s position in
     let taken = rw c.in-Ended.is at c.in_ok-next.ensures in
     let goes = ended-goes w c.flags.result c.turns.progress c.next.new.self c.turns.findings.failed (sym c.flags.ensures) taken in
-    left-falls w (type_at-below (linked g.P.ModuleProvider.info s) s.types position) _ _ _ _ goes
+    left-falls w (formatter-below g.P.ModuleProvider.info s position) _ _ _ _ goes
 
 pub turns-preserved-in-Ended : goal.turns-preserved-in-Ended
 turns-preserved-in-Ended g c =
@@ -35,7 +34,7 @@ turns-smaller g c =
     let w = formatter_world g.P.ModuleProvider.info s position in
     let taken = rw c.in-Print.is at c.in_ok-next.ensures in
     let goes = printed-goes w c.in-Print.task c.turns.progress c.next.new.self c.turn.new.progress c.turns.findings.failed _ taken.0 c.in_ok-turn-in-Print.ensures.advances in
-    left-falls w (type_at-below (linked g.P.ModuleProvider.info s) s.types position) _ _ _ _ goes
+    left-falls w (formatter-below g.P.ModuleProvider.info s position) _ _ _ _ goes
 
 pub turns-preserved : goal.turns-preserved
 turns-preserved g c =

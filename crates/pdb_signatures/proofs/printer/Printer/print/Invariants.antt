@@ -1,11 +1,10 @@
 use Rattle.pdb_types.specs.Findings.{Fits}
-use Rattle.pdb_types.specs.Standing.{linked}
 use Rattle.pdb_signatures.specs.BrokenParts.{AddsBroken}
 use Rattle.pdb_signatures.specs.Frames.{Goes, frames}
 use Rattle.pdb_signatures.specs.Progress.{stage_run}
 use Rattle.pdb_signatures.specs.Worlds.{formatter_world}
 use Rattle.pdb_signatures.proofs.LoopLemmas.{left}
-use Rattle.pdb_signatures.proofs.UnfoldingLemmas.{type_at-below}
+use Rattle.pdb_signatures.proofs.UnfoldingLemmas.{formatter-below}
 use Rattle.pdb_signatures.proofs.printer.Printer.print.Given as goal
 
 -- what is still to be done comes to what was to be done at first
@@ -22,4 +21,4 @@ abbrev pub decreases-turns : goal.decreases-turns
 decreases-turns g l =
     let s = l.self.standing.now in
     let w = formatter_world g.P.ModuleProvider.info s l.self.position in
-    left w (type_at-below (linked g.P.ModuleProvider.info s) s.types l.self.position) (frames w l.progress.steps)
+    left w (formatter-below g.P.ModuleProvider.info s l.self.position) (frames w l.progress.steps)

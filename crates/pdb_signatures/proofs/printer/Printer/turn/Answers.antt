@@ -8,12 +8,22 @@ returns-in_ok-returned-in-Returned-clause-advances g c =
     let w = formatter_world g.P.ModuleProvider.info c.args.self.now.standing.now c.args.self.now.position in
     rw c.in-Returned.is (advances_stands w 1 _ c.args.progress.now _ (c.in_ok-returned-in-Returned.ensures w) c.args.findings.now.failed)
 
-pub returns-in_ok-list_of_arguments-in-ArgumentList-clause-advances : goal.returns-in_ok-list_of_arguments-in-ArgumentList-clause-advances
-returns-in_ok-list_of_arguments-in-ArgumentList-clause-advances g c =
+pub returns-in_ok-types_between-in-Types-clause-advances : goal.returns-in_ok-types_between-in-Types-clause-advances
+returns-in_ok-types_between-in-Types-clause-advances g c =
     let w = formatter_world g.P.ModuleProvider.info c.args.self.now.standing.now c.args.self.now.position in
-    rw c.in-ArgumentList.is (advances_stands w 1 _ c.args.progress.now _ (c.in_ok-list_of_arguments-in-ArgumentList.ensures w) c.args.findings.now.failed)
+    rw c.in-Types.is (advances_stands w 1 _ c.args.progress.now _ (c.in_ok-types_between-in-Types.ensures w) c.args.findings.now.failed)
 
-pub returns-in_ok-further_arguments-in-Arguments-clause-advances : goal.returns-in_ok-further_arguments-in-Arguments-clause-advances
-returns-in_ok-further_arguments-in-Arguments-clause-advances g c =
+pub returns-in_ok-further_types-in-FurtherTypes-clause-advances : goal.returns-in_ok-further_types-in-FurtherTypes-clause-advances
+returns-in_ok-further_types-in-FurtherTypes-clause-advances g c =
     let w = formatter_world g.P.ModuleProvider.info c.args.self.now.standing.now c.args.self.now.position in
-    rw c.in-Arguments.is (advances_stands w 1 _ c.args.progress.now _ (c.in_ok-further_arguments-in-Arguments.ensures w (sym c.flags-in-Arguments.ensures)) c.args.findings.now.failed)
+    rw c.in-FurtherTypes.is (advances_stands w 1 _ c.args.progress.now _ (c.in_ok-further_types-in-FurtherTypes.ensures w) c.args.findings.now.failed)
+
+pub returns-in_ok-function_arguments-in-FunctionArguments-clause-advances : goal.returns-in_ok-function_arguments-in-FunctionArguments-clause-advances
+returns-in_ok-function_arguments-in-FunctionArguments-clause-advances g c =
+    let w = formatter_world g.P.ModuleProvider.info c.args.self.now.standing.now c.args.self.now.position in
+    rw c.in-FunctionArguments.is (advances_stands w 1 _ c.args.progress.now _ (c.in_ok-function_arguments-in-FunctionArguments.ensures w (sym c.flags-in-FunctionArguments.ensures)) c.args.findings.now.failed)
+
+pub returns-in_ok-scope-in-Scope-clause-advances : goal.returns-in_ok-scope-in-Scope-clause-advances
+returns-in_ok-scope-in-Scope-clause-advances g c =
+    let w = formatter_world g.P.ModuleProvider.info c.args.self.now.standing.now c.args.self.now.position in
+    rw c.in-Scope.is (advances_stands w 1 _ c.args.progress.now _ (c.in_ok-scope-in-Scope.ensures w) c.args.findings.now.failed)

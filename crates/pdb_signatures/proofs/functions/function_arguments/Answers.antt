@@ -1,11 +1,12 @@
-use Rattle.std.proofs.Common.{arith}
+use Rattle.std.proofs.Common.{arith, sym}
 use Rattle.pdb_signatures.proofs.StandsLemmas.{stands_first, stands_before, stands_fewer}
-use Rattle.pdb_signatures.proofs.rules.further_arguments.Goals as goal
+use Rattle.pdb_signatures.proofs.functions.function_arguments.Goals as goal
 
 pub returns : goal.returns
 returns c = λ w flags.
     let last = stands_first w _ _ _ c.in_ok-first.ensures in
     let row = stands_before w _ _ _ _ _ _ last c.in_ok-first-2.ensures in
     let all = stands_fewer 1 (omega arith) (stands_before w _ _ _ _ _ _ row c.in_ok-first-3.ensures) in
-    let told = rw (c.comma.ensures, ← flags) at all in
-    rw c.in-Some.ensures.cases.0 told
+    let wanted = sym c.if-without_arguments.ensures in
+    let told = rw (← flags) at wanted in
+    rw told all

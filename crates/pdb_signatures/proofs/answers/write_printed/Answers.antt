@@ -1,10 +1,10 @@
 use Rattle.std.proofs.Common.{ap, ◌∙◌}
 use Rattle.pdb_signatures.proofs.AnswerLemmas.{fails_with}
-use Rattle.pdb_signatures.proofs.type_formatter.TypeFormatter.emit_function.Goals as goal
+use Rattle.pdb_signatures.proofs.answers.write_printed.Goals as goal
 
-pub returns-clause-answer : goal.returns-clause-answer
-returns-clause-answer g c =
-    let ran = rw c.in-Some.is at c.in_ok-text.ensures.printed in
+pub returns : goal.returns
+returns g c = λ r failed is.
+    let ran = rw c.in-Some.is at is in
     record {
       error = λ memory other. (fails_with c.in-Some.failure _ _ _ _ ran (c.write_before.ensures.same other ∙ c.from.ensures), rw (ap (λ x. x.text) ran) (rw c.as_str-in-Some.ensures.value at (c.write_before.ensures.written memory other)));
       refused = λ format. ap (λ x. x.failed) ran;

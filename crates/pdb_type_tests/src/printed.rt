@@ -1,45 +1,69 @@
-//! Signatures that are asked for, and what is wanted of them.
+//! Signatures and ids that are asked for, and what is wanted of them.
 
 use bitflags::Flags;
 use pdb_addr2line::{ContextPdbData, Error, TypeFormatter, TypeFormatterFlags};
-use pdb_records::TypeIndex;
+use pdb_records::{IdIndex, TypeIndex};
 use std::alloc::Global;
 use std::fmt;
 
-/// A signature that is asked for, with what is wanted.
+/// What is to be printed.
 #[derive(Clone, Copy)]
-pub(crate) struct SignatureQuestion<'t> {
+pub(crate) enum Asked<'t> {
+    /// The signature of a function with this name, and the type of this index.
+    Signature(&'t str, TypeIndex),
+    /// The id of this index.
+    Id(IdIndex),
+}
+
+/// A signature or an id that is asked for, with what is wanted.
+#[derive(Clone, Copy)]
+pub(crate) struct PrintedQuestion<'t> {
     /// The bits of the flags.
     pub(crate) flags: u32,
     /// The position of the module that asks.
     pub(crate) module: usize,
-    /// The index of the function's type.
-    pub(crate) index: u32,
-    /// The function's name.
-    pub(crate) name: &'t str,
+    /// What is to be printed.
+    pub(crate) asked: Asked<'t>,
     /// `ok`, or the text of the error.
     pub(crate) outcome: &'t str,
     /// What a string holds afterwards.
     pub(crate) text: &'t str,
 }
 
-/// The question in a line `FLAGS MODULE INDEX NAME | OUTCOME | TEXT`, if it is one.
-pub(crate) fn signature_question_of(line: &str) -> Option<SignatureQuestion<'_>> {
+/// The question in a line `FLAGS MODULE INDEX NAME | OUTCOME | TEXT` for a signature, or
+/// `FLAGS MODULE INDEX | OUTCOME | TEXT` for an id, if it is one.
+pub(crate) fn printed_question_of(line: &str) -> Option<PrintedQuestion<'_>> {
     let (numbers, rest) = line.split_once(" | ")?;
     let (outcome, text) = rest.split_once(" | ")?;
     let mut words = numbers.splitn(4, ' ');
     let flags = words.next()?.parse::<u32>().ok()?;
     let module = words.next()?.parse::<usize>().ok()?;
     let index = u32::from_str_radix(words.next()?, 16).ok()?;
-    let name = words.next()?;
-    Some(SignatureQuestion {
+    let asked = match words.next() {
+        Some(name) => Asked::Signature(name, TypeIndex(index)),
+        None => Asked::Id(IdIndex(index)),
+    };
+    Some(PrintedQuestion {
         flags,
         module,
-        index,
-        name,
+        asked,
         outcome,
         text,
     })
+}
+
+/// Has a formatter write what is asked for.
+fn emit<W: fmt::Write>(
+    formatter: &mut TypeFormatter<'_, ContextPdbData<'_>>,
+    writer: &mut W,
+    question: PrintedQuestion<'_>,
+) -> Result<(), Error> {
+    match question.asked {
+        Asked::Signature(name, index) => {
+            formatter.emit_function(writer, name, question.module, index)
+        }
+        Asked::Id(index) => formatter.emit_id(writer, question.module, index),
+    }
 }
 
 /// Whether an outcome is the one that is wanted, and nothing else.
@@ -66,35 +90,25 @@ impl fmt::Write for Refusing {
 /// Whether a formatter tells of a writer that refuses.
 fn tells_of_refusal(
     formatter: &mut TypeFormatter<'_, ContextPdbData<'_>>,
-    question: SignatureQuestion<'_>,
+    question: PrintedQuestion<'_>,
 ) -> bool {
     let mut writer = Refusing;
-    let outcome = formatter.emit_function(
-        &mut writer,
-        question.name,
-        question.module,
-        TypeIndex(question.index),
-    );
+    let outcome = emit(formatter, &mut writer, question);
     matches!(outcome, Err(Error::FormatError(_)))
 }
 
-/// Whether a formatter answers a question as is wanted. Where a signature is wanted, a writer that refuses is
-/// told of first, and the formatter then answers as before.
+/// Whether a formatter answers a question as is wanted. Where a text is wanted, a writer that refuses is told
+/// of first, and the formatter then answers as before.
 pub(crate) fn answers(
     alloc: Global,
     formatter: &mut TypeFormatter<'_, ContextPdbData<'_>>,
-    question: SignatureQuestion<'_>,
+    question: PrintedQuestion<'_>,
 ) -> bool {
     if question.outcome == "ok" && !tells_of_refusal(formatter, question) {
         return false;
     }
     let mut text = String::new(alloc);
-    let outcome = formatter.emit_function(
-        &mut text,
-        question.name,
-        question.module,
-        TypeIndex(question.index),
-    );
+    let outcome = emit(formatter, &mut text, question);
     is_wanted(alloc, &outcome, question.outcome) && text.as_str() == question.text
 }
 

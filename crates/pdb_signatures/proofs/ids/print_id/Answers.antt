@@ -1,0 +1,15 @@
+use Rattle.pdb_signatures.specs.Ids.{id_of_index}
+use Rattle.pdb_signatures.specs.Worlds.{formatter_world}
+use Rattle.pdb_signatures.proofs.DocumentLemmas.{document-runs}
+use Rattle.pdb_signatures.proofs.LoopLemmas.{begins_task}
+use Rattle.pdb_signatures.proofs.UnfoldingLemmas.{formatter-below}
+use Rattle.pdb_signatures.proofs.ids.print_id.Goals as goal
+
+pub returns-clause-printed : goal.returns-clause-printed
+returns-clause-printed g c =
+    let s = c.args.standing.now in
+    let w = formatter_world g.P.ModuleProvider.info s c.args.position in
+    let plan = id_of_index c.args.index.0 in
+    let runs = begins_task w _ _ _ c.args.findings.now.failed _ c.new-progress.ensures c.in_ok-first.ensures c.in_ok-print.ensures.ends in
+    let is = document-runs w (formatter-below g.P.ModuleProvider.info s c.args.position) plan c.args.findings.now.failed _ (rw c.new.ensures.empty at runs) in
+    rw (c.into_printed.ensures.text, c.into_printed.ensures.failure) is

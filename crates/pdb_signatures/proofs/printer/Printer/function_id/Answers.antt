@@ -1,0 +1,23 @@
+use Rattle.std.proofs.Common.{sym}
+use Rattle.std.specs.Prelude.{◌∷◌, []}
+use Rattle.pdb_signatures.specs.Ids.{function_id}
+use Rattle.pdb_signatures.specs.Worlds.{formatter_world}
+use Rattle.pdb_signatures.proofs.TurnLemmas.{alone_entered}
+use Rattle.pdb_signatures.proofs.printer.Printer.function_id.Goals as goal
+
+pub returns-in-None-clause-advances : goal.returns-in-None-clause-advances
+returns-in-None-clause-advances g c =
+    let s = c.args.self.now.standing.now in
+    let position = c.args.self.now.position in
+    let w = formatter_world g.P.ModuleProvider.info s position in
+    let failed = rw c.in-None.is at c.in_ok-enter_alone.ensures.entered in
+    failed (function_id w c.args.met.keys c.args.id.now (c.args.id.now.function_type.0 ∷ []))
+
+pub returns-in_ok-function_by_type-in-Some-clause-advances : goal.returns-in_ok-function_by_type-in-Some-clause-advances
+returns-in_ok-function_by_type-in-Some-clause-advances g c =
+    let s = c.args.self.now.standing.now in
+    let position = c.args.self.now.position in
+    let w = formatter_world g.P.ModuleProvider.info s position in
+    let entered = rw c.in-Some.is at c.in_ok-enter_alone.ensures.entered in
+    let advances = c.in_ok-function_by_type-in-Some.ensures w (sym c.flags.ensures) _ in
+    alone_entered w c.args.id.now.function_type.0 (function_id w c.args.met.keys c.args.id.now) c.in-Some.type_data.now c.args.progress.now _ _ c.args.findings.now.failed _ entered advances

@@ -1,0 +1,102 @@
+ghost use Rattle.std.specs.Prelude.{◌≡◌, ◌||◌, OnOk};
+ghost use Rattle.pdb_signatures.specs.Flags.{without_return_type};
+ghost use Rattle.pdb_signatures.specs.Frames.{Stands};
+ghost use Rattle.pdb_signatures.specs.Functions.{returned, further_types, types_between, function_arguments};
+ghost use Rattle.pdb_signatures.specs.Methods.{arguments_behind};
+ghost use Rattle.pdb_signatures.specs.Progress.{open_in};
+ghost use Rattle.pdb_signatures.specs.Worlds.{World};
+
+use crate::options::{without_arguments, without_return_type};
+use crate::progress::Progress;
+use crate::tasks::Task;
+use crate::wording::Wording;
+use pdb_records::TypeIndex;
+use pdb_types::TypeFormatterFlags;
+use std::alloc::AllocError;
+
+/// Whether the type that a function returns is left out, where the function is printed by itself.
+pub(crate) fn is_left_out(flags: TypeFormatterFlags, constructor: bool) -> bool
+    ensures { result ≡ (constructor || without_return_type flags) }
+{
+    constructor || without_return_type(flags)
+}
+
+/// The type that a function returns, with a space behind it, unless it is left out.
+pub(crate) fn returned(
+    progress: &mut Progress<'_>,
+    left_out: bool,
+    index: Option<TypeIndex>,
+) -> Result<(), AllocError>
+    ensures { OnOk result ((w : World) → Stands w 1 (returned (open_in progress.old.steps) left_out index)
+        progress.old progress.new) }
+{
+    let Some(index) = index else {
+        return Ok(());
+    };
+    if left_out {
+        return Ok(());
+    }
+    progress.first(Task::Written(Wording::Text(" ")))?;
+    progress.first(Task::Index(index))?;
+    Ok(())
+}
+
+/// Further types, each behind a separator.
+pub(crate) fn further_types<'s>(
+    progress: &mut Progress<'s>,
+    separator: &'static str,
+    list: &'s [TypeIndex],
+) -> Result<(), AllocError>
+    ensures { OnOk result ((w : World)
+        → Stands w 1 (further_types separator.now (open_in progress.old.steps) list.now) progress.old progress.new) }
+{
+    let Some((next, rest)) = list.split_first() else {
+        return Ok(());
+    };
+    progress.first(Task::FurtherTypes(separator, rest))?;
+    progress.first(Task::Index(*next))?;
+    progress.first(Task::Written(Wording::Text(separator)))?;
+    Ok(())
+}
+
+/// Types, with a separator between them, behind `this` where that is one of them.
+pub(crate) fn types_between<'s>(
+    progress: &mut Progress<'s>,
+    separator: &'static str,
+    this: Option<TypeIndex>,
+    list: &'s [TypeIndex],
+) -> Result<(), AllocError>
+    ensures { OnOk result ((w : World)
+        → Stands w 1 (types_between separator.now (open_in progress.old.steps) (arguments_behind this list.now))
+        progress.old progress.new) }
+{
+    if let Some(this) = this {
+        progress.first(Task::FurtherTypes(separator, list))?;
+        progress.first(Task::Index(this))?;
+        return Ok(());
+    }
+    let Some((next, rest)) = list.split_first() else {
+        return Ok(());
+    };
+    progress.first(Task::FurtherTypes(separator, rest))?;
+    progress.first(Task::Index(*next))?;
+    Ok(())
+}
+
+/// A function's arguments in parentheses, unless functions are printed without them.
+pub(crate) fn function_arguments(
+    progress: &mut Progress<'_>,
+    flags: TypeFormatterFlags,
+    list: TypeIndex,
+) -> Result<(), AllocError>
+    ensures { OnOk result ((w : World) → w.flags ≡ flags
+        → Stands w 1 (function_arguments w (open_in progress.old.steps) list) progress.old progress.new) }
+{
+    if without_arguments(flags) {
+        return Ok(());
+    }
+    progress.first(Task::Written(Wording::Text(")")))?;
+    progress.first(Task::Index(list))?;
+    progress.first(Task::Written(Wording::Text("(")))?;
+    Ok(())
+}
