@@ -15,9 +15,15 @@ pub use Rattle.pdb_inline.specs.InlineRows
 pub use Rattle.pdb_inline.specs.InlineRanges
 pub use Rattle.pdb_inline.specs.InlineStacks
 pub use Rattle.pdb_inline.specs.WellNested
+pub use Rattle.pdb_frames.specs.Lines
+pub use Rattle.pdb_frames.specs.ExtendedInfo
+pub use Rattle.pdb_frames.specs.Origins
+pub use Rattle.pdb_frames.specs.Frame
 pub mod Sources
 pub mod Names
 pub mod Function
 pub mod Lookups
+pub mod Frames
+pub mod FrameLaws
 pub mod ContextData
 pub mod Keeper

@@ -1,16 +1,17 @@
--- The names of procedures.
-use Rattle.std.specs.Prelude.{ℕ, ◌==◌, ◌&&◌, not, Bool, false, List, [], ◌∷◌, Option, Some, None, option_and_then, if◌then◌else◌}
+-- The names of functions.
+use Rattle.std.specs.Prelude.{ℕ, ◌==◌, ◌&&◌, not, Bool, false, List, [], ◌∷◌, Option, Some, None, option_map, option_and_then, if◌then◌else◌}
 use Rattle.std.specs.Option.{option_or, option_map_or}
 use Rattle.pdb_records.specs.Names.{lossy}
 use Rattle.pdb_records.specs.declared.addresses.PdbInternalSectionOffset.{PdbInternalSectionOffset}
+use Rattle.pdb_records.specs.declared.ids.IdIndex.{IdIndex}
 use Rattle.pdb_types.specs.FailedParts.{Parts}
 use Rattle.pdb_types.specs.Standing.{Basis, Infos}
 use Rattle.pdb_functions.specs.GlobalFunctions.{GlobalFunction}
 use Rattle.pdb_functions.specs.Procedures.{ModuleProcedure}
-use Rattle.pdb_functions.specs.Lookup.{global_at}
+use Rattle.pdb_functions.specs.Lookup.{FoundFunction, found_procedure, found_global, global_at}
 use Rattle.pdb_signatures.specs.BrokenParts.{AddsBroken}
 use Rattle.pdb_signatures.specs.Documents.{Failure, Run}
-use Rattle.pdb_signatures.specs.Printed.{signature_run}
+use Rattle.pdb_signatures.specs.Printed.{signature_run, id_run}
 use Rattle.pdb_signatures.specs.Worlds.{formatter_world}
 
 -- a name that a compiler decorated begins with a question mark
@@ -58,6 +59,29 @@ abbrev pub failed_by_name : {P : Type 0} → (P → Infos) → Basis P → List 
 failed_by_name info basis globals position p failed =
     let run = signature_run info basis position (lossy p.name) p.type_index.0 failed in
     option_map_or (λ name. failed) (decorated_instead globals p) run.failed
+
+-- the name of a function that was found, if one is known: that of a global function as text, or that of a procedure
+abbrev pub function_name : {P : Type 0} → (P → Infos) → Basis P → List GlobalFunction → FoundFunction
+    → Option (List ℕ)
+function_name info basis globals (found_global m f) = option_map lossy f.name
+function_name info basis globals (found_procedure m p) = procedure_name info basis globals m p
+
+-- the parts that failed once that is named: a global function breaks none
+abbrev pub failed_by_function_name : {P : Type 0} → (P → Infos) → Basis P → List GlobalFunction → FoundFunction
+    → Parts → Parts
+failed_by_function_name info basis globals (found_global m f) failed = failed
+failed_by_function_name info basis globals (found_procedure m p) failed =
+    failed_by_name info basis globals m p failed
+
+-- the name of a function whose body was inlined, by its id as the module at a position writes it, if it can be printed
+abbrev pub id_name : {P : Type 0} → (P → Infos) → Basis P → ℕ → IdIndex → Option (List ℕ)
+id_name info basis position id = text_of_run (id_run info basis position id.0 [])
+
+-- the parts that failed once such a function is named: those that failed by the printing of its id
+abbrev pub failed_by_id : {P : Type 0} → (P → Infos) → Basis P → ℕ → IdIndex → Parts → Parts
+failed_by_id info basis position id failed =
+    let run = id_run info basis position id.0 failed in
+    run.failed
 
 -- the parts that failed are those from before, and others that some module that asks meets broken
 abbrev pub GainsBroken : {P : Type 0} → (P → Infos) → Basis P → Parts → Parts → Type 0

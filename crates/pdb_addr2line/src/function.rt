@@ -9,12 +9,12 @@ ghost use Rattle.pdb_functions.specs.Lookup.{found_function};
 ghost use Rattle.pdb_addr2line.specs.Names.{procedure_name, failed_by_name, GainsBroken};
 ghost use Rattle.pdb_addr2line.specs.Function.{description, global_end, described_global, described_procedure, described, failed_by_telling};
 
-use crate::names::{name_of_procedure, text_of};
+use crate::names::{name_of_procedure, text_of_name};
 use pdb_functions::{
     ProcedureSymbolFunction, PublicOrProcedureSymbol, PublicSymbolFunctionOrPlaceholder,
     next_function,
 };
-use pdb_records::{AddressMap, RawString};
+use pdb_records::AddressMap;
 use pdb_signatures::TypeFormatter;
 use pdb_types::{ModuleProvider, Result};
 use std::alloc::{AllocError, Global};
@@ -30,6 +30,23 @@ pub struct Function {
     /// That of a public symbol may be decorated: it then begins with a question mark, and a demangler can
     /// take it apart.
     pub name: Option<String>,
+}
+
+impl Function {
+    /// An equal function.
+    pub fn clone(&self) -> Result<Self, AllocError>
+        ensures { IfOk result (λ f. description f ≡ description self.now) }
+    {
+        let name = match &self.name {
+            None => None,
+            Some(name) => Some(name.clone()?),
+        };
+        Ok(Function {
+            start_rva: self.start_rva,
+            end_rva: self.end_rva,
+            name,
+        })
+    }
 }
 
 /// What is told of a procedure of a module.
@@ -77,19 +94,6 @@ fn end_of_global(
         Some(next) => {
             let end = next.start_offset.to_rva(address_map)?;
             Some(Some(end.0))
-        }
-    }
-}
-
-/// A name as text, where there is one.
-fn text_of_name(alloc: Global, name: Option<&RawString>) -> Result<Option<String>, AllocError>
-    ensures { IfOk result (λ text. option_map string_bytes text ≡ option_map lossy (option_copied name.entry)) }
-{
-    match name {
-        None => Ok(None),
-        Some(name) => {
-            let text = text_of(alloc, name)?;
-            Ok(Some(text))
         }
     }
 }

@@ -2,6 +2,21 @@
 //!
 //! Each function here does nothing. Its contract is a law, for all records, and the check proves it.
 
+ghost use Rattle.std.specs.Prelude.{◌≡◌, ℕ, ◌+◌, length, reverse, slice_get, Some, Ok};
+ghost use Rattle.pdb_records.specs.Addresses.{internal_offset};
+ghost use Rattle.pdb_records.specs.declared.addresses.PdbInternalSectionOffset.{PdbInternalSectionOffset};
+ghost use Rattle.pdb_records.specs.declared.modules.ModuleInfo.{ModuleInfo};
+ghost use Rattle.pdb_functions.specs.Lookup.{FoundFunction, found_procedure};
+ghost use Rattle.pdb_functions.specs.Procedures.{ModuleProcedure};
+ghost use Rattle.pdb_inline.specs.InlineStacks.{IsSoleOver};
+ghost use Rattle.pdb_frames.specs.ExtendedInfo.{inlinee_ids};
+ghost use Rattle.pdb_frames.specs.Frame.{FrameDescription, FramesDescription};
+ghost use Rattle.pdb_addr2line.specs.FrameLaws.{levels_over, sites_of, EndIn, Agree, AreNestedFrames};
+ghost use Rattle.pdb_addr2line.specs.Function.{Description};
+ghost use Rattle.pdb_addr2line.specs.Lookups.{found_at, function_at, records_of, frames_at};
+ghost use Rattle.pdb_addr2line.specs.Names.{function_name, id_name};
+ghost use Rattle.pdb_addr2line.specs.Sources.{Sources, global_functions_of};
+
 pub use pdb_functions::laws::{
     first_global_function_of_each_start_is_kept, merged_contributions_are_apart,
     merged_contributions_hold_all, order_of_contributions_agrees_with_equality,
@@ -18,3 +33,48 @@ pub use pdb_records::laws::{
     hash_of_indices_agrees_with_equality, order_of_indices_agrees_with_equality,
 };
 pub use pdb_signatures::laws::text_does_not_depend_on_failed_parts;
+use pdb_types::ModuleProvider;
+
+/// Where frames are told, there is at least one, and the last is that of the function over the address.
+pub fn frames_end_in_the_function<P: ModuleProvider>()
+    ensures { (s : Sources P) (address : ℕ) (found : FoundFunction) (told : FramesDescription)
+        → found_at P.info s address ≡ Some found
+        → frames_at P.info s address ≡ Ok (Some told)
+        → EndIn told.frames (function_name P.info s.basis (global_functions_of s) found) }
+{}
+
+/// Where frames are told, there is one for each depth at which the rows of inline sites of the function cover
+/// the address, and one more, that of the function itself. So no inlined body is left out.
+pub fn frames_have_all_levels<P: ModuleProvider>()
+    ensures { (s : Sources P) (address : ℕ) (place : PdbInternalSectionOffset) (found : FoundFunction)
+        (told : FramesDescription)
+        → internal_offset s.address_map (record { 0 = address }) ≡ Some place
+        → found_at P.info s address ≡ Some found
+        → frames_at P.info s address ≡ Ok (Some told)
+        → length told.frames ≡ levels_over (records_of P.info s found) found place.offset + 1 }
+{}
+
+/// Where both a function and its frames are told of an address, they start and end alike, and the last frame
+/// has the name of the function.
+pub fn functions_and_frames_agree<P: ModuleProvider>()
+    ensures { (s : Sources P) (address : ℕ) (function : Description) (told : FramesDescription)
+        → function_at P.info s address ≡ Some function
+        → frames_at P.info s address ≡ Ok (Some told)
+        → Agree function told }
+{}
+
+/// Where for each depth one inline site of a procedure alone has ranges over an address, the site of each
+/// frame lies directly inside that of the next outer one. Frames are counted from outside here, those of
+/// inlined bodies from 1 on.
+pub fn frames_lie_directly_inside<P: ModuleProvider>()
+    ensures { (s : Sources P) (address : ℕ) (place : PdbInternalSectionOffset) (position : ℕ) (p : ModuleProcedure)
+        (info : ModuleInfo) (told : FramesDescription) (level : ℕ) (frame under : FrameDescription)
+        → internal_offset s.address_map (record { 0 = address }) ≡ Some place
+        → found_at P.info s address ≡ Some (found_procedure position p)
+        → records_of P.info s (found_procedure position p) ≡ Some info
+        → frames_at P.info s address ≡ Ok (Some told)
+        → IsSoleOver (inlinee_ids info.inlinees.items) (sites_of info p) place.offset
+        → slice_get (reverse told.frames) (level + 1) ≡ Some frame
+        → slice_get (reverse told.frames) (level + 2) ≡ Some under
+        → AreNestedFrames s.strings (id_name P.info s.basis position) info p place.offset frame under }
+{}

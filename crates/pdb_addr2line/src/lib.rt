@@ -1,5 +1,5 @@
-//! Turns addresses of a Windows program into the names of functions, over the records of its program
-//! database.
+//! Turns addresses of a Windows program into functions, files, lines and stacks of inlined calls, over the
+//! records of its program database.
 //!
 //! Records come from a reader as a [`pdb::PDB`]. [`ContextPdbData`] keeps them, and makes a [`Context`]
 //! that answers questions:
@@ -7,8 +7,11 @@
 //! ```
 //! let data = ContextPdbData::try_from_pdb(alloc, records)?;
 //! let mut context = data.make_context()?;
-//! if let Some(function) = context.find_function(0x1020)? {
-//!     // function.start_rva, function.end_rva, function.name
+//! if let Some(found) = context.find_frames(0x1020)? {
+//!     // found.start_rva, found.end_rva
+//!     for frame in &found.frames {
+//!         // frame.function, frame.file, frame.line
+//!     }
 //! }
 //! ```
 //!
@@ -20,8 +23,8 @@ pub use pdb_records as pdb;
 
 mod context;
 mod context_data;
+mod frames;
 mod function;
-mod inline_ranges;
 pub mod laws;
 mod lookups;
 mod names;
@@ -30,6 +33,7 @@ pub mod parts;
 pub use context::Context;
 pub use context_data::ContextPdbData;
 pub use function::Function;
+pub use pdb_frames::{Frame, FunctionFrames};
 pub use pdb_functions::ModuleSectionContribution;
 pub use pdb_ranges::RangeSet;
 pub use pdb_signatures::TypeFormatter;

@@ -5,12 +5,17 @@ ghost use Rattle.pdb_types.specs.declared.error.Error.TheVariants.{OutOfMemory};
 ghost use Rattle.pdb_functions.specs.GlobalFunctions.{global_function};
 ghost use Rattle.pdb_functions.specs.Procedures.{module_procedure};
 ghost use Rattle.pdb_signatures.specs.Printed.{signature_run};
-ghost use Rattle.pdb_addr2line.specs.Names.{is_decorated, decorated_at, decorated_instead, signature_text, procedure_name, failed_by_name, GainsBroken};
+ghost use Rattle.pdb_signatures.specs.BrokenParts.{AddsBroken};
+ghost use Rattle.pdb_signatures.specs.Worlds.{formatter_world};
+ghost use Rattle.pdb_functions.specs.Lookup.{found_function};
+ghost use Rattle.pdb_addr2line.specs.Names.{is_decorated, decorated_at, decorated_instead, signature_text, procedure_name, failed_by_name, function_name, failed_by_function_name, id_name, failed_by_id};
+ghost use Rattle.pdb_frames.specs.Origins.{function_module};
 
 use pdb_functions::{
-    ProcedureSymbolFunction, PublicSymbolFunctionOrPlaceholder, global_function_at,
+    ProcedureSymbolFunction, PublicOrProcedureSymbol, PublicSymbolFunctionOrPlaceholder,
+    global_function_at,
 };
-use pdb_records::{PdbInternalSectionOffset, RawString, TypeIndex};
+use pdb_records::{IdIndex, PdbInternalSectionOffset, RawString, TypeIndex};
 use pdb_signatures::TypeFormatter;
 use pdb_types::{Error, ModuleProvider, Result};
 use std::alloc::{AllocError, Global};
@@ -23,10 +28,26 @@ fn is_mangled(name: &RawString) -> bool
 }
 
 /// A name as text.
-pub(crate) fn text_of(alloc: Global, name: &RawString) -> Result<String, AllocError>
+fn text_of(alloc: Global, name: &RawString) -> Result<String, AllocError>
     ensures { IfOk result (λ s. string_bytes s ≡ lossy name.now) }
 {
     name.to_string_lossy(alloc)?.into_owned(alloc)
+}
+
+/// A name as text, where there is one.
+pub(crate) fn text_of_name(
+    alloc: Global,
+    name: Option<&RawString>,
+) -> Result<Option<String>, AllocError>
+    ensures { IfOk result (λ text. option_map string_bytes text ≡ option_map lossy (option_copied name.entry)) }
+{
+    match name {
+        None => Ok(None),
+        Some(name) => {
+            let text = text_of(alloc, name)?;
+            Ok(Some(text))
+        }
+    }
 }
 
 /// The decorated name of the global function that starts at a place.
@@ -81,7 +102,8 @@ fn signature_of<P: ModuleProvider>(
     ensures failed { OnOk result
         (let run = signature_run P.info formatter.old.standing module_index name.now index.0 formatter.old.failed in
         formatter.new.failed ≡ run.failed) }
-    ensures broken { GainsBroken P.info formatter.old.standing formatter.old.failed formatter.new.failed }
+    ensures broken { AddsBroken (formatter_world P.info formatter.old.standing module_index)
+        formatter.old.failed formatter.new.failed }
 {
     match formatter.format_function(name, module_index, index) {
         Ok(text) => Ok(Some(text)),
@@ -104,7 +126,8 @@ pub(crate) fn name_of_procedure<P: ModuleProvider>(
     ensures standing { formatter.new.standing ≡ formatter.old.standing }
     ensures failed { OnOk result (formatter.new.failed ≡ failed_by_name P.info formatter.old.standing
         (map global_function functions.now) module_index (module_procedure procedure.entry) formatter.old.failed) }
-    ensures broken { GainsBroken P.info formatter.old.standing formatter.old.failed formatter.new.failed }
+    ensures broken { AddsBroken (formatter_world P.info formatter.old.standing module_index)
+        formatter.old.failed formatter.new.failed }
 {
     if let Some(name) = mangled_name_instead(functions, procedure) {
         let name = text_of(alloc, name)?;
@@ -112,4 +135,55 @@ pub(crate) fn name_of_procedure<P: ModuleProvider>(
     }
     let name = procedure.name.to_string_lossy(alloc)?;
     signature_of(formatter, name.as_str(), module_index, procedure.type_index)
+}
+
+/// The name of a function that was found, if one is known.
+pub(crate) fn name_of_function<P: ModuleProvider>(
+    alloc: Global,
+    functions: &[PublicSymbolFunctionOrPlaceholder<'_>],
+    formatter: &mut TypeFormatter<'_, P>,
+    function: PublicOrProcedureSymbol<'_>,
+) -> Result<Option<String>>
+    ensures name { MatchResult result
+        (λ name. option_map string_bytes name ≡ function_name P.info formatter.old.standing
+        (map global_function functions.now) (found_function function.entry))
+        (λ e. e ≡ OutOfMemory) }
+    ensures standing { formatter.new.standing ≡ formatter.old.standing }
+    ensures failed { OnOk result (formatter.new.failed ≡ failed_by_function_name P.info formatter.old.standing
+        (map global_function functions.now) (found_function function.entry) formatter.old.failed) }
+    ensures broken { AddsBroken
+        (formatter_world P.info formatter.old.standing (function_module (found_function function.entry)))
+        formatter.old.failed formatter.new.failed }
+{
+    match function {
+        PublicOrProcedureSymbol::Public(_, function) => {
+            let name = text_of_name(alloc, function.name)?;
+            Ok(name)
+        }
+        PublicOrProcedureSymbol::Procedure(module_index, procedure) => {
+            name_of_procedure(alloc, functions, formatter, module_index, procedure)
+        }
+    }
+}
+
+/// The name of a function whose body was inlined, by its id as the module at this position writes it, if it
+/// can be printed. Only want of memory is an error.
+pub(crate) fn name_of_id<P: ModuleProvider>(
+    formatter: &mut TypeFormatter<'_, P>,
+    module_index: usize,
+    id: IdIndex,
+) -> Result<Option<String>>
+    ensures name { MatchResult result
+        (λ name. option_map string_bytes name ≡ id_name P.info formatter.old.standing module_index id)
+        (λ e. e ≡ OutOfMemory) }
+    ensures standing { formatter.new.standing ≡ formatter.old.standing }
+    ensures failed { OnOk result (formatter.new.failed
+        ≡ failed_by_id P.info formatter.old.standing module_index id formatter.old.failed) }
+    ensures broken { AddsBroken (formatter_world P.info formatter.old.standing module_index)
+        formatter.old.failed formatter.new.failed }
+{
+    match formatter.format_id(module_index, id) {
+        Ok(text) => Ok(Some(text)),
+        Err(error) => no_text_for(error),
+    }
 }

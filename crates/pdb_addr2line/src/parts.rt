@@ -1,6 +1,6 @@
 //! The parts that a [`Context`](crate::Context) is made of, for callers who need one of them alone.
 
-pub use crate::inline_ranges::compute_procedure_inline_ranges;
+pub use pdb_frames::compute_procedure_inline_ranges;
 pub use pdb_functions::{
     BasicModuleInfo, ModuleSectionContribution, ProcedureSymbolFunction,
     compute_section_contributions,

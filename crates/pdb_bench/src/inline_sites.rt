@@ -17,11 +17,11 @@ pub(crate) enum Shape {
 }
 
 /// The id of every site.
-const INLINEE: IdIndex = IdIndex(0x1000);
+pub(crate) const INLINEE: IdIndex = IdIndex(0x1000);
 
 /// How many inline ranges a procedure with so many sites has.
 pub(crate) fn count_ranges(alloc: Global, shape: Shape, sites: u32) -> Result<usize> {
-    let info = module_info(alloc, shape, sites)?;
+    let info = sites_of(alloc, other(), shape, sites)?;
     let name = RawString(Vec::new(alloc));
     let procedure = ProcedureSymbolFunction {
         offset: PdbInternalSectionOffset {
@@ -40,10 +40,15 @@ pub(crate) fn count_ranges(alloc: Global, shape: Shape, sites: u32) -> Result<us
     Ok(ranges.len())
 }
 
-/// A module whose symbols are so many sites, behind one symbol for their procedure.
-fn module_info(alloc: Global, shape: Shape, sites: u32) -> Result<ModuleInfo, AllocError> {
+/// A module whose symbols are so many sites, behind the symbol of their procedure.
+pub(crate) fn sites_of(
+    alloc: Global,
+    procedure: Symbol,
+    shape: Shape,
+    sites: u32,
+) -> Result<ModuleInfo, AllocError> {
     let mut symbols = Vec::new(alloc);
-    symbols.push(other())?;
+    symbols.push(procedure)?;
     for number in 0..sites {
         symbols.push(site(alloc, shape, number, sites)?)?;
         if let Shape::SideBySide = shape

@@ -1,4 +1,5 @@
-//! Times reading, making a context, look-ups, sizes of types, signatures and ids over generated records.
+//! Times reading, making a context, look-ups, sizes of types, signatures, ids and frames over generated
+//! records.
 //!
 //! `pdb_bench NUMBER ..` does so for each number of public symbols, of inline sites of a procedure, of
 //! nested procedures, of types, of types in a chain, of types in a signature, and of scopes; with no number
@@ -7,6 +8,7 @@
 #![tactic(auto)]
 
 mod chains;
+mod frames;
 mod generate;
 mod inline_sites;
 mod nested_procedures;
@@ -16,6 +18,7 @@ mod types;
 
 use anyhow::Result;
 use chains::measure_chains;
+use frames::measure_frames;
 use generate::{ADDRESS_STEP, records_text};
 use inline_sites::{Shape, count_ranges};
 use nested_procedures::count_ranges_of_nested;
@@ -46,6 +49,7 @@ fn main(rt: HostRuntime) -> Result<()> {
         measure_sites(&rt, "nested", Shape::Nested, *size)?;
         measure_sites(&rt, "side by side", Shape::SideBySide, *size)?;
         measure_nested_procedures(&rt, *size)?;
+        measure_frames(&rt, *size)?;
         measure_types(&rt, *size)?;
         measure_chains(&rt, *size)?;
         measure_signatures(&rt, *size)?;

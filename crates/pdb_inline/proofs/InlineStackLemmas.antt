@@ -68,7 +68,7 @@ pub not_covered_past : (inlinees : List IdIndex) (sites : List Site) (d x : ℕ)
 not_covered_past inlinees sites d x nested deep = not_covered_by_steps inlinees sites 0 d x (nested_steps 0 [] sites nested) (omega arith)
 
 -- no range is as deep as the depths are many
-no_range_past : (ranges : List InlineRange) (d x : ℕ) → depths ranges ≤ d → has_range_over ranges d x ≡ false
+pub no_range_past : (ranges : List InlineRange) (d x : ℕ) → depths ranges ≤ d → has_range_over ranges d x ≡ false
 no_range_past [] d x deep = refl
 no_range_past (range ∷ ranges) d x deep = rw (ne_eqb range.call_depth d (λ same. omega arith)) (no_range_past ranges d x (omega arith))
 

@@ -7,3 +7,4 @@ pub mod CoverLemmas
 pub mod InlineStackLemmas
 pub mod WellNestedLemmas
 pub mod DirectlyInsideLemmas
+pub mod PickedLemmas

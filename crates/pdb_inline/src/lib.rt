@@ -1,13 +1,16 @@
 //! The ranges of a procedure's code that came from inlined bodies.
 //!
 //! A walk over the procedure's symbols finds the sites where a call was replaced by the callee's body; the
-//! rows of each site say which code that is. What lies inside a site lies in its ranges too.
+//! rows of each site say which code that is. What lies inside a site lies in its ranges too. The ranges over
+//! one place of the code are a stack of inlined bodies.
 #![tactic(auto)]
 
 mod inline_ranges;
 mod inline_rows;
+mod inline_stacks;
 pub mod laws;
 mod missing_rows;
 mod sites;
 
 pub use inline_ranges::{InlineRange, inline_ranges_of_procedure};
+pub use inline_stacks::inline_stack;

@@ -5,11 +5,12 @@ use Rattle.pdb_types.specs.declared.error.Error.{Error}
 use Rattle.pdb_types.specs.Outcomes.{unless}
 use Rattle.pdb_addr2line.specs.Sources.{Sources}
 use Rattle.pdb_addr2line.specs.ContextData.{records_refusal, default_flags, context_of}
+use Rattle.pdb_reporting.specs.declared.reports.Command.{Command}
 use Rattle.pdb_reporting.specs.declared.reports.ReportFault.{ReportFault}
 use Rattle.pdb_reporting.specs.declared.reports.ReportFault.TheVariants.{Lookup, Write}
 use Rattle.pdb_reporting.specs.Sinks.{SinkState}
 use Rattle.pdb_reporting.specs.Reports.{EndsEarly}
-use Rattle.pdb_reporting.specs.FileReports.{opened, function_over_records, EndsOver}
+use Rattle.pdb_reporting.specs.FileReports.{opened, text_over_records, EndsOver}
 
 -- records whose streams were read are opened as their context is made
 pub opened-accepted : (records given : Records) (made : Result (Sources Records) Error)
@@ -20,9 +21,9 @@ opened-accepted records given made kept accepted is_made =
     let same : context records ≡ context given = ap context (sym kept) in
     ap refused accepted ∙ (same ∙ is_made)
 
--- a report that ends early over records that are not refused ends amid its lines
-pub ends_amid : (addresses : List ℕ) (sources : Sources Records) (before after : SinkState) (fault : ReportFault)
-    → EndsEarly (function_over_records sources) addresses before after fault
-    → EndsOver addresses (Ok sources) before after fault
-ends_amid addresses sources before after (Lookup error) early = inr early
-ends_amid addresses sources before after Write early = early
+-- a report that ends early over records that are not refused ends amid its texts
+pub ends_amid : (command : Command) (addresses : List ℕ) (sources : Sources Records) (before after : SinkState) (fault : ReportFault)
+    → EndsEarly (text_over_records sources command) addresses before after fault
+    → EndsOver command addresses (Ok sources) before after fault
+ends_amid command addresses sources before after (Lookup error) early = inr early
+ends_amid command addresses sources before after Write early = early

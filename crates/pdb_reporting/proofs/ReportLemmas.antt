@@ -1,11 +1,12 @@
--- A report line by line.
+-- A report address by address.
 use Rattle.std.proofs.Common.{◌≡◌, ◌∙◌, ℕ, ◌+◌, ◌<◌, List, [], ◌∷◌, ◌++◌, length, take}
 use Rattle.std.proofs.Common.{get_or, refl, sym, ap, append_assoc, append-nil}
-use Rattle.std.specs.Prelude.{Option, Some, None}
+use Rattle.std.specs.Prelude.{Option, Some, None, Result, Ok, Err}
 use Rattle.std.proofs.lemmas.List.{take_more}
-use Rattle.pdb_addr2line.specs.Function.{Description}
+use Rattle.pdb_types.specs.declared.error.Error.{Error}
+use Rattle.pdb_types.specs.Outcomes.{and_then}
 use Rattle.pdb_reporting.specs.Sinks.{SinkState, Grows, Takes}
-use Rattle.pdb_reporting.specs.PrintedLines.{names_line, names_text}
+use Rattle.pdb_reporting.specs.Reports.{addresses_text, TakesText}
 
 -- bytes that grow by one piece and then by another grow by both
 grows_more : (before between after : Option (List ℕ)) (xs ys : List ℕ)
@@ -31,21 +32,54 @@ takes_more before between after xs ys first second = record {
   kept = second.kept ∙ first.kept;
 }
 
--- the lines of two lists of addresses are those of the one and those of the other
-pub names_text-append : (function_there : ℕ → Option Description) (xs ys : List ℕ)
-    → names_text function_there (xs ++ ys) ≡ names_text function_there xs ++ names_text function_there ys
-names_text-append f [] ys = refl
-names_text-append f (x ∷ xs) ys =
-    ap (λ (rest : List ℕ). names_line x (f x) ++ rest) (names_text-append f xs ys)
-    ∙ sym (append_assoc (names_line x (f x)) (names_text f xs) (names_text f ys))
+-- what a sink takes of two texts, one after the other, it takes of both
+pub takes_both : (before between after : SinkState) (first second : Result (List ℕ) Error)
+    → TakesText first before between → TakesText second between after
+    → TakesText (and_then first (λ text. and_then second (λ texts. Ok (text ++ texts)))) before after
+takes_both before between after (Ok xs) (Ok ys) one other = takes_more before between after xs ys one other
+takes_both before between after (Ok xs) (Err e) one other = absurd other
+takes_both before between after (Err e) second one other = absurd one
 
--- one line more
-pub names_text-take_more : (function_there : ℕ → Option Description) (addresses : List ℕ) (i : ℕ) → i < length addresses
-    → names_text function_there (take (i + 1) addresses)
-    ≡ names_text function_there (take i addresses)
-    ++ names_line (get_or addresses i 0) (function_there (get_or addresses i 0))
-names_text-take_more f addresses i below =
+-- a text with nothing behind it
+text_alone : (first : Result (List ℕ) Error) → and_then first (λ text. Ok (text ++ [])) ≡ first
+text_alone (Ok text) = ap Ok (append-nil text)
+text_alone (Err e) = refl
+
+-- three texts in a row, however they are put together
+texts_append : (first second third : Result (List ℕ) Error)
+    → and_then first (λ a. and_then (and_then second (λ b. and_then third (λ c. Ok (b ++ c)))) (λ rest. Ok (a ++ rest)))
+    ≡ and_then (and_then first (λ a. and_then second (λ b. Ok (a ++ b)))) (λ front. and_then third (λ c. Ok (front ++ c)))
+texts_append (Ok a) (Ok b) (Ok c) = ap Ok (sym (append_assoc a b c))
+texts_append (Ok a) (Ok b) (Err e) = refl
+texts_append (Ok a) (Err e) third = refl
+texts_append (Err e) second third = refl
+
+-- nothing, and then a text
+text_behind_none : (second : Result (List ℕ) Error) → second ≡ and_then second (λ text. Ok text)
+text_behind_none (Ok text) = refl
+text_behind_none (Err e) = refl
+
+-- the texts of two lists of addresses are those of the one and those of the other
+addresses_text-append : (text_of : ℕ → Result (List ℕ) Error) (xs ys : List ℕ)
+    → addresses_text text_of (xs ++ ys)
+    ≡ and_then (addresses_text text_of xs) (λ text. and_then (addresses_text text_of ys) (λ texts. Ok (text ++ texts)))
+addresses_text-append f [] ys = text_behind_none (addresses_text f ys)
+addresses_text-append f (x ∷ xs) ys =
+    ap (λ (rest : Result (List ℕ) Error). and_then (f x) (λ text. and_then rest (λ texts. Ok (text ++ texts)))) (addresses_text-append f xs ys)
+    ∙ texts_append (f x) (addresses_text f xs) (addresses_text f ys)
+
+-- the text of one address more
+pub takes_one_more : (text_of : ℕ → Result (List ℕ) Error) (addresses : List ℕ) (i : ℕ) (before between after : SinkState)
+    → i < length addresses
+    → TakesText (addresses_text text_of (take i addresses)) before between
+    → TakesText (text_of (get_or addresses i 0)) between after
+    → TakesText (addresses_text text_of (take (i + 1) addresses)) before after
+takes_one_more f addresses i before between after below taken next =
     let address = get_or addresses i 0 in
-    ap (λ (done : List ℕ). names_text f done) (take_more addresses i 0 below)
-    ∙ (names_text-append f (take i addresses) (address ∷ [])
-    ∙ ap (λ (line : List ℕ). names_text f (take i addresses) ++ line) (append-nil (names_line address (f address))))
+    let front : Result (List ℕ) Error = addresses_text f (take i addresses) in
+    let alone : addresses_text f (address ∷ []) ≡ f address = text_alone (f address) in
+    let whole : addresses_text f (take (i + 1) addresses) ≡ and_then front (λ text. and_then (f address) (λ texts. Ok (text ++ texts))) =
+    ap (addresses_text f) (take_more addresses i 0 below)
+    ∙ (addresses_text-append f (take i addresses) (address ∷ [])
+    ∙ ap (λ (last : Result (List ℕ) Error). and_then front (λ text. and_then last (λ texts. Ok (text ++ texts)))) alone) in
+    rw whole (takes_both before between after front (f address) taken next)

@@ -5,7 +5,7 @@ use Rattle.std.specs.List.{starts_with}
 use Rattle.std.specs.Cmp.Lexicographic.{pointwise}
 use Rattle.pdb_reporting.specs.declared.arguments.Request.{Request}
 use Rattle.pdb_reporting.specs.declared.reports.Command.{Command}
-use Rattle.pdb_reporting.specs.declared.reports.Command.TheVariants.{Names}
+use Rattle.pdb_reporting.specs.declared.reports.Command.TheVariants.{Names, Frames}
 
 -- what follows from a value, where there is one
 infixl 10 ◌>>=◌
@@ -62,7 +62,10 @@ pub record Asked : Type 0 where
 
 -- the command of a word
 abbrev pub command_of : List ℕ → Option Command
-command_of word = if pointwise nat_eq word (codes "names") then Some Names else None
+command_of word =
+    if pointwise nat_eq word (codes "names") then Some Names
+    else if pointwise nat_eq word (codes "frames") then Some Frames
+    else None
 
 -- what the words behind the program's name ask for; no answer asks for the usage line
 abbrev pub asked : List (List ℕ) → Option Asked

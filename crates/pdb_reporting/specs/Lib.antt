@@ -1,5 +1,6 @@
 pub mod Sinks
 pub mod PrintedLines
+pub mod PrintedFrames
 pub mod Reports
 pub mod Arguments
 pub mod FileReports

@@ -1,4 +1,4 @@
--- What is written of functions.
+-- The line that is written of a function.
 use Rattle.std.specs.Prelude.{ℕ, false, List, [], ◌∷◌, ◌++◌, codes, Option, Some, None}
 use Rattle.std.specs.Fmt.{digits}
 use Rattle.pdb_addr2line.specs.Function.{Description}
@@ -12,13 +12,13 @@ abbrev pub name_text : Option (List ℕ) → List ℕ
 name_text None = codes "<unknown>"
 name_text (Some name) = name
 
--- two question marks, for an end that isn't known
-abbrev pub unknown_end : List ℕ
-unknown_end = 63 ∷ 63 ∷ []
+-- two question marks, for what isn't known
+abbrev pub unknown : List ℕ
+unknown = 63 ∷ 63 ∷ []
 
 -- an end, where it is known
 abbrev pub end_text : Option ℕ → List ℕ
-end_text None = unknown_end
+end_text None = unknown
 end_text (Some address) = codes "0x" ++ hex address
 
 -- the line of an address: the function there, or that there is none
@@ -27,9 +27,3 @@ names_line address (Some f) =
     codes "0x" ++ (hex address ++ (codes " - " ++ (name_text f.name
     ++ (codes " 0x" ++ (hex f.start_rva ++ (codes ".." ++ (end_text f.end_rva ++ codes "\n")))))))
 names_line address None = hex address ++ codes " - no function found\n"
-
--- the lines of addresses, in order
-abbrev pub names_text : (ℕ → Option Description) → List ℕ → List ℕ
-names_text function_there [] = []
-names_text function_there (address ∷ addresses) =
-    names_line address (function_there address) ++ names_text function_there addresses

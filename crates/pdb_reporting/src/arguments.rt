@@ -79,6 +79,8 @@ fn parse_command(word: &str) -> Option<Command>
 {
     if word == "names" {
         Some(Command::Names)
+    } else if word == "frames" {
+        Some(Command::Frames)
     } else {
         None
     }

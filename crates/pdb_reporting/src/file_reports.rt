@@ -1,6 +1,6 @@
 ghost use Rattle.std.specs.Prelude.{OnOk, IfErr};
 ghost use Rattle.pdb_json.specs.RecordsFile.{records_of_file};
-ghost use Rattle.pdb_reporting.specs.FileReports.{opened, TakesLines, EndsOver};
+ghost use Rattle.pdb_reporting.specs.FileReports.{opened, TakesTexts, EndsOver};
 ghost use Rattle.pdb_reporting.specs.Stops.{Ends, EndsOverFile};
 
 use crate::arguments::Request;
@@ -20,9 +20,9 @@ fn report_records<W: Sink>(
     sink: &mut W,
 ) -> Result<(), ReportFault>
     ensures lines { OnOk result
-        (TakesLines request.now.addresses.items (opened records) (W.state sink.old) (W.state sink.new)) }
+        (TakesTexts request.now.command request.now.addresses.items (opened records) (W.state sink.old) (W.state sink.new)) }
     ensures fault { IfErr result
-        (EndsOver request.now.addresses.items (opened records) (W.state sink.old) (W.state sink.new)) }
+        (EndsOver request.now.command request.now.addresses.items (opened records) (W.state sink.old) (W.state sink.new)) }
 {
     let data = ContextPdbData::try_from_pdb(alloc, records)?;
     let mut context = data.make_context()?;
@@ -40,15 +40,16 @@ fn report_records<W: Sink>(
 /// # Errors
 ///
 /// [`Stop::Records`] with the path and the fault where the file holds no records, [`Stop::Refused`] where the
-/// records are refused or memory ran out, and [`Stop::CannotWrite`] where the sink refused a line. The sink
-/// holds nothing of it then but the lines that stand before an address for which there was no memory.
+/// records or an address are refused or memory ran out, and [`Stop::CannotWrite`] where the sink refused a text. The sink
+/// holds nothing of it then but the texts of the addresses before one that had an error, or for which there was
+/// no memory.
 pub fn report_read<'w, W: Sink>(
     alloc: Global,
     request: &Request<'w>,
     read: Result<PDB, RecordFault>,
     sink: &mut W,
 ) -> Result<(), Stop<'w>>
-    ensures { Ends request.now.records.now request.now.addresses.items read
+    ensures { Ends request.now.records.now request.now.command request.now.addresses.items read
         (W.state sink.old) (W.state sink.new) result }
 {
     match read {
@@ -71,7 +72,7 @@ pub fn report_file<'w, W: Sink>(
     bytes: &[u8],
     sink: &mut W,
 ) -> Result<(), Stop<'w>>
-    ensures { EndsOverFile request.now.records.now request.now.addresses.items (records_of_file bytes.now)
+    ensures { EndsOverFile request.now.records.now request.now.command request.now.addresses.items (records_of_file bytes.now)
         (W.state sink.old) (W.state sink.new) result }
 {
     let read = read_records(alloc, bytes);

@@ -1,8 +1,10 @@
-//! What the program `pdb_report` writes: one line for each address that it is asked about.
+//! What the program `pdb_report` writes of each address that it is asked about: a line with the function
+//! there, or a line for each frame.
 #![tactic(auto)]
 
 mod arguments;
 mod file_reports;
+mod printed_frames;
 mod printed_lines;
 mod reports;
 mod runs;

@@ -8,8 +8,11 @@ use std::alloc::{AllocError, Global};
 /// What stands for a name that isn't known.
 const UNKNOWN_NAME: &str = "<unknown>";
 
+/// What stands for anything else that isn't known.
+pub(crate) const UNKNOWN: &str = "??";
+
 /// A name, where it is known.
-fn name_of(name: &Option<String>) -> &str
+pub(crate) fn name_of(name: &Option<String>) -> &str
     ensures { result.now ≡ name_text (option_map string_bytes name.now) }
 {
     match name {
@@ -24,7 +27,7 @@ fn end_of(alloc: Global, end: Option<u32>) -> Result<String, AllocError>
 {
     match end {
         Some(address) => format!(in alloc; "0x{address:x}"),
-        None => String::from_str(alloc, "??"),
+        None => String::from_str(alloc, UNKNOWN),
     }
 }
 

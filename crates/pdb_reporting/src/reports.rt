@@ -1,11 +1,10 @@
 ghost use Rattle.std.specs.Prelude.{◌≡◌, OnOk, IfErr};
 ghost use Rattle.pdb_types.specs.declared.error.Error.TheVariants.{OutOfMemory};
-ghost use Rattle.pdb_addr2line.specs.Lookups.{function_at};
+ghost use Rattle.pdb_reporting.specs.declared.reports.Command.TheVariants.{Names, Frames};
 ghost use Rattle.pdb_reporting.specs.declared.reports.ReportFault.TheVariants.{Lookup, Write};
-ghost use Rattle.pdb_reporting.specs.Sinks.{Takes};
-ghost use Rattle.pdb_reporting.specs.PrintedLines.{names_line, names_text};
-ghost use Rattle.pdb_reporting.specs.Reports.{EndsAtOnce, EndsEarly};
+ghost use Rattle.pdb_reporting.specs.Reports.{address_text, addresses_text, TakesText, EndsAtOnce, EndsEarly};
 
+use crate::printed_frames::frames_text;
 use crate::printed_lines::line_of;
 use crate::sinks::{Sink, SinkFault};
 use pdb_addr2line::{Context, Error, ModuleProvider};
@@ -16,12 +15,14 @@ use std::alloc::{AllocError, Global};
 pub enum Command {
     /// The function that each address lies in.
     Names,
+    /// The functions in whose code each address lies, with files and lines, from inside to outside.
+    Frames,
 }
 
 /// Why a report ended early.
 #[derive(Debug, Drop)]
 pub enum ReportFault {
-    /// A look-up had no answer. The sink holds the text of the addresses before it.
+    /// A look-up had no answer. The sink holds the texts of the addresses before it.
     Lookup(Error),
     /// The sink refused a piece of text.
     Write,
@@ -59,10 +60,10 @@ fn put_function<P: ModuleProvider, W: Sink>(
     sink: &mut W,
 ) -> Result<(), ReportFault>
     ensures sources { context.new.sources ≡ context.old.sources }
-    ensures line { OnOk result
-        (let there = function_at P.info context.old.sources address in
-        Takes (W.state sink.old) (W.state sink.new) (names_line address there)) }
-    ensures fault { IfErr result (EndsAtOnce (W.state sink.old) (W.state sink.new)) }
+    ensures text { OnOk result
+        (TakesText (address_text P.info context.old.sources Names address) (W.state sink.old) (W.state sink.new)) }
+    ensures fault { IfErr result
+        (EndsAtOnce (address_text P.info context.old.sources Names address) (W.state sink.old) (W.state sink.new)) }
 {
     let function = context.find_function(address)?;
     let line = line_of(alloc, address, &function)?;
@@ -70,13 +71,51 @@ fn put_function<P: ModuleProvider, W: Sink>(
     Ok(())
 }
 
-/// Writes what is asked of each address, a line for each, in order. A line is written whole after its
-/// look-up.
+/// Writes the lines of the frames of one address, after its look-up.
+fn put_frames<P: ModuleProvider, W: Sink>(
+    alloc: Global,
+    context: &mut Context<'_, P>,
+    address: u32,
+    sink: &mut W,
+) -> Result<(), ReportFault>
+    ensures sources { context.new.sources ≡ context.old.sources }
+    ensures text { OnOk result
+        (TakesText (address_text P.info context.old.sources Frames address) (W.state sink.old) (W.state sink.new)) }
+    ensures fault { IfErr result
+        (EndsAtOnce (address_text P.info context.old.sources Frames address) (W.state sink.old) (W.state sink.new)) }
+{
+    let frames = context.find_frames(address)?;
+    let text = frames_text(alloc, address, &frames)?;
+    sink.put(text.as_bytes())?;
+    Ok(())
+}
+
+/// Writes what is asked of one address, after its look-up.
+fn put_text<P: ModuleProvider, W: Sink>(
+    alloc: Global,
+    context: &mut Context<'_, P>,
+    command: Command,
+    address: u32,
+    sink: &mut W,
+) -> Result<(), ReportFault>
+    ensures sources { context.new.sources ≡ context.old.sources }
+    ensures text { OnOk result
+        (TakesText (address_text P.info context.old.sources command address) (W.state sink.old) (W.state sink.new)) }
+    ensures fault { IfErr result
+        (EndsAtOnce (address_text P.info context.old.sources command address) (W.state sink.old) (W.state sink.new)) }
+{
+    match command {
+        Command::Names => put_function(alloc, context, address, sink),
+        Command::Frames => put_frames(alloc, context, address, sink),
+    }
+}
+
+/// Writes what is asked of each address, in order. The text of an address is written whole after its look-up.
 ///
 /// # Errors
 ///
-/// [`ReportFault::Lookup`] for a look-up with no answer: the sink then holds the lines before it.
-/// [`ReportFault::Write`] where the sink refused a line.
+/// [`ReportFault::Lookup`] for a look-up with no answer: the sink then holds the texts before it.
+/// [`ReportFault::Write`] where the sink refused a text.
 pub fn report<P: ModuleProvider, W: Sink>(
     alloc: Global,
     context: &mut Context<'_, P>,
@@ -86,34 +125,14 @@ pub fn report<P: ModuleProvider, W: Sink>(
 ) -> Result<(), ReportFault>
     ensures sources { context.new.sources ≡ context.old.sources }
     ensures text { OnOk result
-        (let there = function_at P.info context.old.sources in
-        Takes (W.state sink.old) (W.state sink.new) (names_text there addresses.now)) }
+        (let text_of = address_text P.info context.old.sources command in
+        TakesText (addresses_text text_of addresses.now) (W.state sink.old) (W.state sink.new)) }
     ensures fault { IfErr result
-        (let there = function_at P.info context.old.sources in
-        EndsEarly there addresses.now (W.state sink.old) (W.state sink.new)) }
-{
-    match command {
-        Command::Names => report_names(alloc, context, addresses, sink),
-    }
-}
-
-/// Writes the function of each address.
-fn report_names<P: ModuleProvider, W: Sink>(
-    alloc: Global,
-    context: &mut Context<'_, P>,
-    addresses: &[u32],
-    sink: &mut W,
-) -> Result<(), ReportFault>
-    ensures sources { context.new.sources ≡ context.old.sources }
-    ensures text { OnOk result
-        (let there = function_at P.info context.old.sources in
-        Takes (W.state sink.old) (W.state sink.new) (names_text there addresses.now)) }
-    ensures fault { IfErr result
-        (let there = function_at P.info context.old.sources in
-        EndsEarly there addresses.now (W.state sink.old) (W.state sink.new)) }
+        (let text_of = address_text P.info context.old.sources command in
+        EndsEarly text_of addresses.now (W.state sink.old) (W.state sink.new)) }
 {
     for address in addresses {
-        put_function(alloc, context, *address, sink)?;
+        put_text(alloc, context, command, *address, sink)?;
     }
     Ok(())
 }

@@ -2,6 +2,7 @@
 
 mod contexts;
 mod formatters;
+mod frames;
 mod lent_records;
 mod records;
 mod reports;

@@ -16,4 +16,4 @@ returns-clause-fault g c =
     let kept = c.in_ok-data.ensures in
     let made : opened c.args.records ≡ Ok c.in_ok-context.context.sources =
     opened-accepted c.args.records c.in_ok-data.data _ kept.kept kept.refused c.in_ok-context.ensures.sources in
-    rw made (IfErr-weaker _ _ _ (ends_amid _ _ _ _) (rw c.deref.ensures.value at c.report.ensures.fault))
+    rw made (IfErr-weaker _ _ _ (ends_amid _ _ _ _ _) (rw c.deref.ensures.value at c.report.ensures.fault))

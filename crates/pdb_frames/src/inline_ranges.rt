@@ -17,7 +17,7 @@ use std::collections::BTreeSet;
 ///
 /// # Errors
 ///
-/// [`Error::PdbError`](crate::Error::PdbError) where the procedure's symbols go on to the end of the
+/// [`Error::PdbError`](pdb_types::Error::PdbError) where the procedure's symbols go on to the end of the
 /// list, and that has a fault.
 pub fn compute_procedure_inline_ranges(
     alloc: Global,

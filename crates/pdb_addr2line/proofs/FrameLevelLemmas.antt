@@ -1,0 +1,121 @@
+-- A function has one frame for each level, and its own.
+use Rattle.std.proofs.Common.{◌≡◌, ℕ, ◌+◌, List, [], ◌∷◌, ◌++◌, length, refl, sym, ap, arith, length-append}
+use Rattle.std.proofs.lemmas.List.{length-reverse, length-map}
+use Rattle.std.specs.Prelude.{Option, Some, None, Result, Ok, Err, reverse, option_map}
+use Rattle.pdb_records.specs.LinePrograms.{Lines}
+use Rattle.pdb_records.specs.declared.error.Error.TheVariants.{Stream}
+use Rattle.pdb_records.specs.declared.error.StreamError.{StreamError}
+use Rattle.pdb_records.specs.declared.modules.Inlinee.{Inlinee}
+use Rattle.pdb_types.specs.Resolution.{streamed}
+use Rattle.pdb_types.specs.declared.error.Error.TheVariants.{PdbError}
+use Rattle.pdb_records.specs.declared.addresses.PdbInternalSectionOffset.{PdbInternalSectionOffset}
+use Rattle.pdb_records.specs.Addresses.{internal_offset}
+use Rattle.pdb_records.specs.declared.ids.IdIndex.{IdIndex}
+use Rattle.pdb_records.specs.declared.modules.ModuleInfo.{ModuleInfo}
+use Rattle.pdb_types.specs.Outcomes.{unless, and_then}
+use Rattle.pdb_types.specs.Standing.{Infos}
+use Rattle.pdb_types.specs.declared.error.Error.{Error}
+use Rattle.pdb_functions.specs.Lookup.{FoundFunction, found_procedure, found_global}
+use Rattle.pdb_inline.specs.InlineRanges.{inline_ranges}
+use Rattle.pdb_inline.specs.InlineStacks.{inline_stack}
+use Rattle.pdb_inline.specs.Sites.{walk}
+use Rattle.pdb_inline.specs.declared.inline_ranges.InlineRange.{InlineRange}
+use Rattle.pdb_inline.proofs.InlineStackLemmas.{length-inline_stack}
+use Rattle.pdb_inline.proofs.NestingLemmas.{procedure_nested}
+use Rattle.pdb_frames.specs.ExtendedInfo.{ExtendedInfo, inlinee_ids, extended_info}
+use Rattle.pdb_frames.specs.Frame.{FrameDescription, FramesDescription}
+use Rattle.pdb_frames.specs.Lines.{function_row, read_whole}
+use Rattle.pdb_frames.specs.Origins.{Origin, function_module, function_start, function_ranges, origin}
+use Rattle.pdb_addr2line.specs.FrameLaws.{levels_over}
+use Rattle.pdb_addr2line.specs.Frames.{Strings, own_frame, inlined_frames, function_frames}
+use Rattle.pdb_addr2line.specs.Lookups.{found_at, frames_at, records_of}
+use Rattle.pdb_addr2line.specs.Names.{function_name, id_name}
+use Rattle.pdb_addr2line.specs.Sources.{Sources, global_functions_of}
+use Rattle.pdb_addr2line.proofs.FrameLawLemmas.{told_at}
+
+-- where what follows an answer succeeds, the answer did
+pub and_then-ok : {A B E : Type 0} (r : Result A E) (next : A → Result B E) (b : B) → and_then r next ≡ Ok b
+    → (a : A) × (r ≡ Ok a) × (next a ≡ Ok b)
+and_then-ok (Ok a) next b is = (a, refl, is)
+and_then-ok (Err e) next b is = absurd cc
+
+-- what isn't refused is the answer
+pub unless-ok : {A : Type 0} (refusal : Option Error) (answer : Result A Error) (a : A) → unless refusal answer ≡ Ok a → answer ≡ Ok a
+unless-ok None answer a is = is
+unless-ok (Some e) answer a is = absurd cc
+
+-- what is known of a module's code with this line program and these inlinees
+abbrev pub known_with : Lines → List Inlinee → ExtendedInfo
+known_with program inlinees = record { line_program = program; inlinees = inlinee_ids inlinees }
+
+-- the inlinees that are known are those of the module
+pub known_inlinees : (info : ModuleInfo) (known : ExtendedInfo) → extended_info info ≡ Ok known
+    → known.inlinees ≡ inlinee_ids info.inlinees.items
+known_inlinees info known is = by_program (streamed info.line_program) is where
+  ids_in : Result ExtendedInfo Error → List IdIndex
+  ids_in (Ok here) = here.inlinees
+  ids_in (Err e) = []
+
+  by_fault : (program : Lines) (fault : Option StreamError)
+      → and_then (unless (option_map (λ f. PdbError (Stream f)) fault) (Ok info.inlinees.items)) (λ items. Ok (known_with program items)) ≡ Ok known
+      → known.inlinees ≡ inlinee_ids info.inlinees.items
+  by_fault program None told = sym (ap ids_in told)
+  by_fault program (Some fault) told = absurd cc
+
+  by_program : (program : Result Lines Error)
+      → and_then program (λ lines. and_then (read_whole info.inlinees) (λ items. Ok (known_with lines items))) ≡ Ok known
+      → known.inlinees ≡ inlinee_ids info.inlinees.items
+  by_program (Ok program) told = by_fault program info.inlinees.fault told
+  by_program (Err e) told = absurd cc
+
+-- of the ranges of a function there is a stack with an entry for each level
+stack_levels : (info : ModuleInfo) (found : FoundFunction) (x : ℕ) (ids : List IdIndex) (ranges : List InlineRange)
+    → ids ≡ inlinee_ids info.inlinees.items → function_ranges ids info found ≡ Ok ranges
+    → length (inline_stack ranges x) ≡ levels_over (Some info) found x
+stack_levels info (found_global m f) x ids ranges of_module is = let none : [] ≡ ranges = cc in rw (← none) refl
+stack_levels info (found_procedure m p) x ids ranges of_module is =
+    let w = walk info.symbols.items info.symbols.fault p.symbol_index.0 p.end_symbol_index.0 in
+    let ok = unless-ok _ (Ok (inline_ranges ids w.sites)) ranges is in
+    let same : inline_ranges ids w.sites ≡ ranges = cc in
+    rw (← same, ← of_module) (length-inline_stack ids w.sites x
+    (procedure_nested info.symbols.items info.symbols.fault p.symbol_index.0 p.end_symbol_index.0))
+
+-- where code comes from has an inlined body for each level
+origin_levels : (info : ModuleInfo) (found : FoundFunction) (x : ℕ) (o : Origin) → origin info found x ≡ Ok o
+    → length o.stack ≡ levels_over (Some info) found x
+origin_levels info found x o is =
+    let known = and_then-ok (extended_info info) _ o is in
+    let row = and_then-ok (function_row known.0.line_program (function_start found) x) _ o known.2 in
+    let ranges = and_then-ok (function_ranges known.0.inlinees info found) _ o row.2 in
+    let same : inline_stack ranges.0 x ≡ o.stack = ap (λ (r : Result Origin Error). stack_in r) ranges.2 in
+    rw (← same) (stack_levels info found x known.0.inlinees ranges.0 (known_inlinees info known.0 known.1) ranges.1)
+  where
+    stack_in : Result Origin Error → List InlineRange
+    stack_in (Ok here) = here.stack
+    stack_in (Err e) = []
+
+-- a function has a frame for each level, and its own
+level_frames : (strings : Strings) (name_of : IdIndex → Option (List ℕ)) (name : Option (List ℕ))
+    (records : Option ModuleInfo) (found : FoundFunction) (x : ℕ) (frames : List FrameDescription)
+    → function_frames strings name_of name records found x ≡ Ok frames → length frames ≡ levels_over records found x + 1
+level_frames strings name_of name None found x frames is =
+    let alone : FrameDescription = record { function = name; file = None; line = None } in
+    let same : alone ∷ [] ≡ frames = cc in
+    rw (← same) refl
+level_frames strings name_of name (Some info) found x frames is =
+    let here = and_then-ok (origin info found x) _ frames is in
+    let o = here.0 in
+    let bodies = inlined_frames strings o.line_program name_of o.stack in
+    let same : reverse bodies ++ own_frame strings name o.line_program o.row ∷ [] ≡ frames = cc in
+    rw (← same, ← origin_levels info found x o here.1) (simp (length-append, length-reverse, length-map) (omega arith))
+
+-- over an address there is a frame for each level, and that of the function
+pub frames_by_level : {P : Type 0} (info : P → Infos) (s : Sources P) (address : ℕ) (place : PdbInternalSectionOffset)
+    (found : FoundFunction) (told : FramesDescription)
+    → internal_offset s.address_map (record { 0 = address }) ≡ Some place → found_at info s address ≡ Some found
+    → frames_at info s address ≡ Ok (Some told)
+    → length told.frames ≡ levels_over (records_of info s found) found place.offset + 1
+frames_by_level info s address place found told lies over answered =
+    let is = told_at info s address place found told lies over answered in
+    level_frames s.strings (id_name info s.basis (function_module found))
+    (function_name info s.basis (global_functions_of s) found) (records_of info s found) found place.offset told.frames is.frames

@@ -1,0 +1,152 @@
+-- The inlined frames over an address are those of sites that lie inside one another.
+use Rattle.std.proofs.Common.{◌≡◌, ◌∙◌, ℕ, ◌+◌, List, [], ◌∷◌, ◌++◌, map, refl, sym, ap, arith, add-one}
+use Rattle.std.proofs.lemmas.List.{reverse-append, reverse-reverse}
+use Rattle.std.proofs.lemmas.Option.{slice_get-map}
+use Rattle.std.specs.Prelude.{Option, Some, None, Result, Ok, Err, reverse, slice_get, option_map}
+use Rattle.pdb_records.specs.Addresses.{internal_offset}
+use Rattle.pdb_records.specs.LinePrograms.{Lines}
+use Rattle.pdb_records.specs.declared.addresses.PdbInternalSectionOffset.{PdbInternalSectionOffset}
+use Rattle.pdb_records.specs.declared.error.StreamError.{StreamError}
+use Rattle.pdb_records.specs.declared.ids.IdIndex.{IdIndex}
+use Rattle.pdb_records.specs.declared.modules.ModuleInfo.{ModuleInfo}
+use Rattle.pdb_types.specs.Outcomes.{and_then}
+use Rattle.pdb_types.specs.Resolution.{streamed}
+use Rattle.pdb_types.specs.Standing.{Infos}
+use Rattle.pdb_types.specs.declared.error.Error.{Error}
+use Rattle.pdb_functions.specs.Lookup.{found_procedure}
+use Rattle.pdb_functions.specs.Procedures.{ModuleProcedure}
+use Rattle.pdb_inline.specs.InlineRanges.{inline_ranges}
+use Rattle.pdb_inline.specs.InlineStacks.{inline_stack, IsSoleOver}
+use Rattle.pdb_inline.specs.declared.inline_ranges.InlineRange.{InlineRange}
+use Rattle.pdb_inline.proofs.DirectlyInsideLemmas.{entry_of_site, stack_directly_inside}
+use Rattle.pdb_inline.proofs.NestingLemmas.{procedure_nested}
+use Rattle.pdb_frames.specs.ExtendedInfo.{ExtendedInfo, inlinee_ids, extended_info}
+use Rattle.pdb_frames.specs.Frame.{FrameDescription, FramesDescription}
+use Rattle.pdb_frames.specs.Lines.{function_row, read_whole}
+use Rattle.pdb_frames.specs.Origins.{Origin, function_ranges, origin}
+use Rattle.pdb_addr2line.specs.FrameLaws.{sites_of, AreNestedFrames}
+use Rattle.pdb_addr2line.specs.Frames.{Strings, own_frame, inlined_frame, function_frames}
+use Rattle.pdb_addr2line.specs.Lookups.{found_at, frames_at, records_of}
+use Rattle.pdb_addr2line.specs.Names.{function_name, id_name}
+use Rattle.pdb_addr2line.specs.Sources.{Sources, global_functions_of}
+use Rattle.pdb_addr2line.proofs.FrameLawLemmas.{told_at}
+use Rattle.pdb_addr2line.proofs.FrameLevelLemmas.{and_then-ok, unless-ok, known_inlinees, known_with}
+
+-- the parts of where code comes from, where that is known
+abbrev stack_in : Result Origin Error → List InlineRange
+stack_in (Ok here) = here.stack
+stack_in (Err e) = []
+
+abbrev program_in : Result Origin Error → Lines
+program_in (Ok here) = here.line_program
+program_in (Err e) = record { entries = []; files = [] }
+
+abbrev known_in : Result ExtendedInfo Error → Lines
+known_in (Ok here) = here.line_program
+known_in (Err e) = record { entries = []; files = [] }
+
+-- the line program that is known is that of the module
+known_program : (info : ModuleInfo) (known : ExtendedInfo) → extended_info info ≡ Ok known
+    → info.line_program ≡ Ok known.line_program
+known_program info known is = by_stream info.line_program refl is where
+  by_stream : (program : Result Lines StreamError) → info.line_program ≡ program
+      → and_then (streamed program) (λ lines. and_then (read_whole info.inlinees) (λ items. Ok (known_with lines items))) ≡ Ok known
+      → info.line_program ≡ Ok known.line_program
+  by_stream (Err fault) here told = absurd cc
+  by_stream (Ok program) here told =
+      let items = and_then-ok (read_whole info.inlinees) (λ list. Ok (known_with program list)) known told in
+      let same : program ≡ known.line_program = ap known_in items.2 in
+      rw same at here
+
+-- where the code of a procedure comes from: its line program is the module's, and its stack that of the procedure's ranges
+origin_parts : (info : ModuleInfo) (m : ℕ) (p : ModuleProcedure) (x : ℕ) (o : Origin) → origin info (found_procedure m p) x ≡ Ok o
+    → (info.line_program ≡ Ok o.line_program) × (o.stack ≡ inline_stack (inline_ranges (inlinee_ids info.inlinees.items) (sites_of info p)) x)
+origin_parts info m p x o is =
+    let known = and_then-ok (extended_info info) _ o is in
+    let row = and_then-ok (function_row known.0.line_program p.offset x) _ o known.2 in
+    let ranges = and_then-ok (function_ranges known.0.inlinees info (found_procedure m p)) _ o row.2 in
+    let program : known.0.line_program ≡ o.line_program = ap program_in ranges.2 in
+    let stack : inline_stack ranges.0 x ≡ o.stack = ap stack_in ranges.2 in
+    let ok = unless-ok _ (Ok (inline_ranges known.0.inlinees (sites_of info p))) ranges.0 ranges.1 in
+    let all : inline_ranges known.0.inlinees (sites_of info p) ≡ ranges.0 = cc in
+    let ids = known_inlinees info known.0 known.1 in (
+      known_program info known.0 known.1 ∙ ap (λ (lines : Lines). Ok lines) program,
+      sym stack ∙ (ap (λ (list : List InlineRange). inline_stack list x) (sym all)
+          ∙ ap (λ (list : List IdIndex). inline_stack (inline_ranges list (sites_of info p)) x) ids),
+    )
+
+-- counted from outside, behind the function's own frame, each frame is that of an entry of the stack
+frame_of_entry : (f : InlineRange → FrameDescription) (own : FrameDescription) (stack : List InlineRange) (frames : List FrameDescription)
+    (level : ℕ) (frame : FrameDescription) → frames ≡ reverse (map f stack) ++ own ∷ [] → slice_get (reverse frames) (level + 1) ≡ Some frame
+    → (range : InlineRange) × (slice_get stack level ≡ Some range) × (frame ≡ f range)
+frame_of_entry f own stack frames level frame is got =
+    let turned : reverse frames ≡ own ∷ map f stack =
+    rw is (reverse-append (reverse (map f stack)) (own ∷ []) ∙ ap (λ (xs : List FrameDescription). own ∷ xs) (reverse-reverse (map f stack))) in
+    let there : slice_get (map f stack) level ≡ Some frame = rw (turned, add-one level) at got in
+    by_entry (slice_get stack level) refl (sym (slice_get-map f stack level) ∙ there)
+  where
+    by_entry : (entry : Option InlineRange) → slice_get stack level ≡ entry → option_map f entry ≡ Some frame
+        → (range : InlineRange) × (slice_get stack level ≡ Some range) × (frame ≡ f range)
+    by_entry None here none = absurd cc
+    by_entry (Some range) here some = let same : f range ≡ frame = cc in (range, here, sym same)
+
+-- neighbours among the frames of a procedure are of sites that lie directly inside one another
+nested_frames : (strings : Strings) (name_of : IdIndex → Option (List ℕ)) (name : Option (List ℕ)) (info : ModuleInfo)
+    (m : ℕ) (p : ModuleProcedure) (x : ℕ) (frames : List FrameDescription) (level : ℕ) (frame under : FrameDescription)
+    → function_frames strings name_of name (Some info) (found_procedure m p) x ≡ Ok frames
+    → IsSoleOver (inlinee_ids info.inlinees.items) (sites_of info p) x
+    → slice_get (reverse frames) (level + 1) ≡ Some frame → slice_get (reverse frames) (level + 2) ≡ Some under
+    → AreNestedFrames strings name_of info p x frame under
+nested_frames strings name_of name info m p x frames level frame under is sole first second =
+    let here = and_then-ok (origin info (found_procedure m p) x) _ frames is in
+    let o = here.0 in
+    let parts = origin_parts info m p x o here.1 in
+    let ids = inlinee_ids info.inlinees.items in
+    let sites = sites_of info p in
+    let f : InlineRange → FrameDescription = λ range. inlined_frame strings o.line_program (name_of range.inlinee) range in
+    let own = own_frame strings name o.line_program o.row in
+    let all : reverse (map f o.stack) ++ own ∷ [] ≡ frames = cc in
+    let next : level + 2 ≡ (level + 1) + 1 = omega arith in
+    let one = frame_of_entry f own o.stack frames level frame (sym all) first in
+    let two = frame_of_entry f own o.stack frames (level + 1) under (sym all) (rw next at second) in
+    let range_in = sym (ap (λ (list : List InlineRange). slice_get list level) parts.1) ∙ one.1 in
+    let under_in = sym (ap (λ (list : List InlineRange). slice_get list (level + 1)) parts.1) ∙ two.1 in
+    let outer = entry_of_site ids sites x level one.0 range_in in
+    let inner = entry_of_site ids sites x (level + 1) two.0 under_in in
+    let nested = procedure_nested info.symbols.items info.symbols.fault p.symbol_index.0 p.end_symbol_index.0 in
+    record {
+      outer = outer.0;
+      inner = inner.0;
+      has_outer = outer.1;
+      has_inner = inner.1;
+      of_outer = record {
+        range = one.0;
+        of_site = outer.2;
+        over = rw outer.3 outer.4;
+        program = o.line_program;
+        read = parts.0;
+        told = one.2;
+      };
+      of_inner = record {
+        range = two.0;
+        of_site = inner.2;
+        over = rw inner.3 inner.4;
+        program = o.line_program;
+        read = parts.0;
+        told = two.2;
+      };
+      directly = stack_directly_inside ids sites x level outer.0 inner.0 one.0 two.0 nested sole outer.1 inner.1 range_in under_in outer.2 inner.2;
+    }
+
+-- the same for the frames over an address
+pub frames_nested : {P : Type 0} (infos : P → Infos) (s : Sources P) (address : ℕ) (place : PdbInternalSectionOffset)
+    (m : ℕ) (p : ModuleProcedure) (info : ModuleInfo) (told : FramesDescription) (level : ℕ) (frame under : FrameDescription)
+    → internal_offset s.address_map (record { 0 = address }) ≡ Some place → found_at infos s address ≡ Some (found_procedure m p)
+    → records_of infos s (found_procedure m p) ≡ Some info → frames_at infos s address ≡ Ok (Some told)
+    → IsSoleOver (inlinee_ids info.inlinees.items) (sites_of info p) place.offset
+    → slice_get (reverse told.frames) (level + 1) ≡ Some frame → slice_get (reverse told.frames) (level + 2) ≡ Some under
+    → AreNestedFrames s.strings (id_name infos s.basis m) info p place.offset frame under
+frames_nested infos s address place m p info told level frame under lies over records answered sole first second =
+    let is = told_at infos s address place (found_procedure m p) told lies over answered in
+    nested_frames s.strings (id_name infos s.basis m) (function_name infos s.basis (global_functions_of s) (found_procedure m p))
+    info m p place.offset told.frames level frame under (rw records at is.frames) sole first second

@@ -1,0 +1,61 @@
+-- What follows from the definition of frames.
+use Rattle.std.specs.Prelude.{◌≡◌, ℕ, List, [], ◌∷◌, ◌++◌, Option, Some, None, Ok, Contains, IsTrue}
+use Rattle.pdb_records.specs.LinePrograms.{Lines}
+use Rattle.pdb_records.specs.declared.ids.IdIndex.{IdIndex}
+use Rattle.pdb_records.specs.declared.modules.ModuleInfo.{ModuleInfo}
+use Rattle.pdb_functions.specs.Lookup.{FoundFunction, found_procedure, found_global}
+use Rattle.pdb_functions.specs.Procedures.{ModuleProcedure}
+use Rattle.pdb_inline.specs.InlineStacks.{levels, lies_over, site_ranges, IsDirectlyInside}
+use Rattle.pdb_inline.specs.Sites.{Site, depth, walk}
+use Rattle.pdb_inline.specs.declared.inline_ranges.InlineRange.{InlineRange}
+use Rattle.pdb_frames.specs.ExtendedInfo.{inlinee_ids}
+use Rattle.pdb_frames.specs.Frame.{FrameDescription, FramesDescription}
+use Rattle.pdb_addr2line.specs.Frames.{Strings, inlined_frame}
+use Rattle.pdb_addr2line.specs.Function.{Description}
+
+-- the inline sites of a procedure, by the records of its module
+abbrev pub sites_of : ModuleInfo → ModuleProcedure → List Site
+sites_of info p = (walk info.symbols.items info.symbols.fault p.symbol_index.0 p.end_symbol_index.0).sites
+
+-- at how many depths the rows of inline sites of a function cover an offset: at none where there are no records of its
+-- module, and at none in a global function
+abbrev pub levels_over : Option ModuleInfo → FoundFunction → ℕ → ℕ
+levels_over None found x = 0
+levels_over (Some info) (found_global m f) x = 0
+levels_over (Some info) (found_procedure m p) x =
+    levels (inlinee_ids info.inlinees.items) (sites_of info p) x
+
+-- there are frames, and the last has this name
+pub record EndIn (frames : List FrameDescription) (name : Option (List ℕ)) : Type 0 where
+  pub inner : List FrameDescription
+  pub own : FrameDescription
+  pub split : frames ≡ inner ++ own ∷ []
+  pub named : own.function ≡ name
+
+-- what is told of a function and of its frames agrees: where it starts and ends, and the name of the last frame
+pub record Agree (function : Description) (told : FramesDescription) : Type 0 where
+  pub start_rva : told.start_rva ≡ function.start_rva
+  pub end_rva : told.end_rva ≡ function.end_rva
+  pub name : EndIn told.frames function.name
+
+-- a frame is of an inline site of a procedure: it tells of a range of the site that lies over an offset, with the files
+-- of the module's line program, and with the name of the site's id
+pub record IsFrameOf (strings : Strings) (name_of : IdIndex → Option (List ℕ)) (info : ModuleInfo) (p : ModuleProcedure)
+    (x : ℕ) (site : Site) (frame : FrameDescription) : Type 0 where
+  pub range : InlineRange
+  pub of_site : Contains (site_ranges (inlinee_ids info.inlinees.items) (sites_of info p) site) range
+  pub over : IsTrue (lies_over (depth site) x range)
+  pub program : Lines
+  pub read : info.line_program ≡ Ok program
+  pub told : frame ≡ inlined_frame strings program (name_of range.inlinee) range
+
+-- two frames are of two sites of a procedure, and that of the second lies directly inside that of the first
+pub record AreNestedFrames (strings : Strings) (name_of : IdIndex → Option (List ℕ)) (info : ModuleInfo)
+    (p : ModuleProcedure) (x : ℕ) (frame under : FrameDescription) : Type 0 where
+  pub outer : Site
+  pub inner : Site
+  pub has_outer : Contains (sites_of info p) outer
+  pub has_inner : Contains (sites_of info p) inner
+  pub of_outer : IsFrameOf strings name_of info p x outer frame
+  pub of_inner : IsFrameOf strings name_of info p x inner under
+  pub directly : IsDirectlyInside outer inner

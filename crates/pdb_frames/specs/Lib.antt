@@ -1,0 +1,4 @@
+pub mod Lines
+pub mod ExtendedInfo
+pub mod Origins
+pub mod Frame

@@ -1,0 +1,53 @@
+-- Where the code at an offset of a function comes from.
+use Rattle.std.specs.Prelude.{ℕ, List, [], Option, Result, Ok}
+use Rattle.pdb_records.specs.LinePrograms.{Lines}
+use Rattle.pdb_records.specs.declared.addresses.PdbInternalSectionOffset.{PdbInternalSectionOffset}
+use Rattle.pdb_records.specs.declared.ids.IdIndex.{IdIndex}
+use Rattle.pdb_records.specs.declared.lines.LineInfo.{LineInfo}
+use Rattle.pdb_records.specs.declared.modules.ModuleInfo.{ModuleInfo}
+use Rattle.pdb_types.specs.Outcomes.{and_then}
+use Rattle.pdb_types.specs.declared.error.Error.{Error}
+use Rattle.pdb_functions.specs.Lookup.{FoundFunction, found_procedure, found_global}
+use Rattle.pdb_inline.specs.InlineRanges.{procedure_inline_ranges}
+use Rattle.pdb_inline.specs.InlineStacks.{inline_stack}
+use Rattle.pdb_inline.specs.declared.inline_ranges.InlineRange.{InlineRange}
+use Rattle.pdb_frames.specs.Lines.{function_row}
+use Rattle.pdb_frames.specs.ExtendedInfo.{extended_info}
+use Rattle.pdb_frames.specs.declared.origins.Origin as code
+
+-- where code comes from: the module's line program, which names the files, the line row over the code, and the inlined
+-- bodies over it, the outermost first
+pub record Origin : Type 0 where
+  pub line_program : Lines
+  pub row : Option LineInfo
+  pub stack : List InlineRange
+
+-- the same, as the code keeps it
+abbrev pub kept_origin : code.Origin → Origin
+kept_origin o = record { line_program = o.line_program.now; row = o.row; stack = o.stack.items }
+
+-- the position of the module that a function was found in
+abbrev pub function_module : FoundFunction → ℕ
+function_module (found_procedure m p) = m
+function_module (found_global m f) = m
+
+-- where a function starts
+abbrev pub function_start : FoundFunction → PdbInternalSectionOffset
+function_start (found_procedure m p) = p.offset
+function_start (found_global m f) = f.start
+
+-- the ranges of a function's code that came from inlined bodies, of which those of these ids count: a global function
+-- has no sites, and so no ranges
+abbrev pub function_ranges : List IdIndex → ModuleInfo → FoundFunction → Result (List InlineRange) Error
+function_ranges inlinees info (found_global m f) = Ok []
+function_ranges inlinees info (found_procedure m p) =
+    procedure_inline_ranges inlinees info p.symbol_index.0 p.end_symbol_index.0
+
+-- where the code at an offset of a function comes from, by the records of the function's module: refused for what is
+-- known of the module's code, then for the function's line rows, and then for its inline ranges
+abbrev pub origin : ModuleInfo → FoundFunction → ℕ → Result Origin Error
+origin info found x =
+    and_then (extended_info info) (λ known.
+    and_then (function_row known.line_program (function_start found) x) (λ row.
+    and_then (function_ranges known.inlinees info found) (λ ranges.
+    Ok (record { line_program = known.line_program; row = row; stack = inline_stack ranges x }))))

@@ -1,0 +1,63 @@
+ghost use Rattle.std.specs.Prelude.{◌≡◌, IfOk, OnOk};
+ghost use Rattle.std.specs.BTreeSet.{insert_key};
+ghost use Rattle.pdb_types.specs.Outcomes.{Gives};
+ghost use Rattle.pdb_frames.specs.ExtendedInfo.{kept_info, id_cmp, inlinee_ids, extended_info};
+
+use pdb_records::{IdIndex, Inlinee, LineProgram, ModuleInfo};
+use pdb_types::{Error, Result};
+use std::alloc::{AllocError, Global};
+use std::collections::BTreeSet;
+
+/// What is known of a module's code, beside its procedures.
+#[derive(Drop)]
+pub struct ExtendedModuleInfo<'a> {
+    /// The source lines of the code.
+    pub line_program: &'a LineProgram,
+    /// The functions whose bodies stand in the code.
+    pub inlinees: BTreeSet<IdIndex>,
+}
+
+/// Adds an id to a set.
+fn add_id(ids: &mut BTreeSet<IdIndex>, id: IdIndex) -> Result<(), AllocError>
+    ensures { OnOk result (ids.new.keys ≡ insert_key id_cmp ids.old.keys id) }
+{
+    ids.insert(id)?;
+    Ok(())
+}
+
+/// The ids of functions whose bodies stand in a module's code, as a set.
+fn inlinee_ids(alloc: Global, inlinees: &[Inlinee]) -> Result<BTreeSet<IdIndex>, AllocError>
+    ensures { IfOk result (λ ids. ids.keys ≡ inlinee_ids inlinees.now) }
+{
+    let mut ids = BTreeSet::new(alloc);
+    for inlinee in inlinees {
+        add_id(&mut ids, inlinee.index)?;
+    }
+    Ok(ids)
+}
+
+/// What is known of a module's code.
+///
+/// # Errors
+///
+/// [`Error::PdbError`] for a line program that could not be read, and then for the fault of the list of
+/// inlinees.
+pub fn compute_extended_module_info(
+    alloc: Global,
+    module_info: &ModuleInfo,
+) -> Result<ExtendedModuleInfo<'_>>
+    ensures { Gives kept_info result (extended_info module_info.now) }
+{
+    let line_program = match &module_info.line_program {
+        Ok(line_program) => line_program,
+        Err(fault) => return Err(Error::from(pdb_records::Error::Stream(*fault))),
+    };
+    if let Some(fault) = module_info.inlinees.fault {
+        return Err(Error::from(pdb_records::Error::Stream(fault)));
+    }
+    let inlinees = inlinee_ids(alloc, &module_info.inlinees.items)?;
+    Ok(ExtendedModuleInfo {
+        line_program,
+        inlinees,
+    })
+}

@@ -1,0 +1,108 @@
+ghost use Rattle.std.specs.Prelude.{◌≡◌, option_map, string_bytes, IfOk};
+ghost use Rattle.std.specs.Cow.{cow_str_bytes};
+
+use std::alloc::{AllocError, Global};
+use std::borrow::CowStr;
+use std::marker::Model;
+
+/// A function in whose code an address lies: the one that was called, or one whose body was inlined there.
+#[derive(Drop)]
+pub struct Frame<'a> {
+    /// The function's name, if one is known. That of a procedure is its signature, as the formatter's flags
+    /// want it. That of a public symbol may be decorated.
+    pub function: Option<String>,
+    /// The name of the source file that the code comes from, if it is known.
+    pub file: Option<CowStr<'a>>,
+    /// The line in that file, if it is known.
+    pub line: Option<u32>,
+}
+
+impl<'a> Model for Frame<'a> {
+    ghost use Rattle.std.specs.Prelude.{option_map, string_bytes};
+    ghost use Rattle.std.specs.Cow.{cow_str_bytes};
+    ghost use Rattle.pdb_frames.specs.Frame.{FrameDescription};
+
+    ghost Value = { FrameDescription };
+
+    ghost view = { λ f. record {
+      function = option_map string_bytes f.function;
+      file = option_map cow_str_bytes f.file;
+      line = f.line;
+    } };
+}
+
+/// A function's addresses, and its frames at an address in its code.
+#[derive(Drop)]
+pub struct FunctionFrames<'a> {
+    /// Where the function starts, relative to where the program is loaded.
+    pub start_rva: u32,
+    /// Where it ends: the address of the first byte behind it, if it is known and fits 32 bits.
+    pub end_rva: Option<u32>,
+    /// The frames from inside to outside: the innermost inlined body first, and the function itself last.
+    pub frames: Vec<Frame<'a>>,
+}
+
+impl<'a> Model for FunctionFrames<'a> {
+    ghost use Rattle.pdb_frames.specs.Frame.{FramesDescription};
+
+    ghost Value = { FramesDescription };
+
+    ghost view = { λ f. record { start_rva = f.start_rva; end_rva = f.end_rva; frames = f.frames.items } };
+}
+
+/// A copy of a name, where there is one.
+fn copy_of_name(name: &Option<String>) -> Result<Option<String>, AllocError>
+    ensures { IfOk result (λ copy. option_map string_bytes copy ≡ option_map string_bytes name.now) }
+{
+    match name {
+        None => Ok(None),
+        Some(name) => Ok(Some(name.clone()?)),
+    }
+}
+
+/// The name of a file once more, where there is one. A name that is lent is lent again.
+fn copy_of_file<'a>(file: &Option<CowStr<'a>>) -> Result<Option<CowStr<'a>>, AllocError>
+    ensures { IfOk result (λ copy. option_map cow_str_bytes copy ≡ option_map cow_str_bytes file.now) }
+{
+    match file {
+        None => Ok(None),
+        Some(file) => Ok(Some(file.clone()?)),
+    }
+}
+
+/// Copies of frames.
+fn copies_of<'a>(alloc: Global, frames: &[Frame<'a>]) -> Result<Vec<Frame<'a>>, AllocError>
+    ensures { IfOk result (λ v. v.items ≡ frames.now) }
+{
+    let mut copies = Vec::new(alloc);
+    for frame in frames {
+        copies.push(frame.clone()?)?;
+    }
+    Ok(copies)
+}
+
+impl<'a> Frame<'a> {
+    /// An equal frame.
+    pub fn clone(&self) -> Result<Self, AllocError>
+        ensures { IfOk result (λ f. f ≡ self.now) }
+    {
+        Ok(Frame {
+            function: copy_of_name(&self.function)?,
+            file: copy_of_file(&self.file)?,
+            line: self.line,
+        })
+    }
+}
+
+impl<'a> FunctionFrames<'a> {
+    /// An equal list of frames, with the same addresses.
+    pub fn clone(&self) -> Result<Self, AllocError>
+        ensures { IfOk result (λ f. f ≡ self.now) }
+    {
+        Ok(FunctionFrames {
+            start_rva: self.start_rva,
+            end_rva: self.end_rva,
+            frames: copies_of(*self.frames.allocator(), &self.frames)?,
+        })
+    }
+}
