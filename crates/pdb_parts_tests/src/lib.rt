@@ -9,3 +9,5 @@ mod inline_ranges;
 mod procedures;
 #[cfg(test)]
 mod range_sets;
+#[cfg(test)]
+mod segments;

@@ -8,3 +8,11 @@ pub mod MissingRunLemmas
 pub mod NumberLemmas
 pub mod SortLemmas
 pub mod PickLemmas
+pub mod SegmentLemmas
+pub mod PaintingLemmas
+pub mod OverlaidLemmas
+pub mod CutLemmas
+pub mod DigitLemmas
+pub mod SearchLemmas
+pub mod TurnLemmas
+pub mod EdgeLemmas

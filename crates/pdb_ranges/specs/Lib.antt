@@ -2,3 +2,6 @@ pub mod RangeSet
 pub mod Runs
 pub mod InOrder
 pub mod Pick
+pub mod Probes
+pub mod Segments
+pub mod Painting

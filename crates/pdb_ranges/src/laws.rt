@@ -1,8 +1,10 @@
-//! Laws of runs. The functions do nothing when they are called.
+//! Laws of runs and of painted segments. The functions do nothing when they are called.
 
-ghost use Rattle.std.specs.Prelude.{◌≡◌, ℕ, ◌&&◌, not, List};
+ghost use Rattle.std.specs.Prelude.{◌≡◌, ℕ, ◌&&◌, not, List, None, reverse};
+ghost use Rattle.pdb_ranges.specs.declared.segment.Segment.{Segment};
 ghost use Rattle.pdb_ranges.specs.RangeSet.{has, IsRunsFrom};
 ghost use Rattle.pdb_ranges.specs.Runs.{runs_of, missing_runs};
+ghost use Rattle.pdb_ranges.specs.Segments.{painted_in_turn, value_at};
 
 /// A set of numbers has one list of runs: two lists of runs that hold the same numbers are equal.
 ///
@@ -25,4 +27,9 @@ pub fn missing_runs_hold_what_is_missing()
     ensures maximal { (ranges others : List (ℕ × ℕ)) → IsRunsFrom 0 (missing_runs ranges others) }
     ensures numbers { (ranges others : List (ℕ × ℕ)) (x : ℕ)
         → has (missing_runs ranges others) x ≡ (has ranges x && not (has others x)) }
+{}
+
+/// Of segments that are painted one after the other, the last one over a number gives its value.
+pub fn last_painted_gives_the_value<T: Copy>()
+    ensures { (segments : List (Segment T)) (x : ℕ) → painted_in_turn segments None x ≡ value_at (reverse segments) x }
 {}

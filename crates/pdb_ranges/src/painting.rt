@@ -1,0 +1,157 @@
+// What painting does to lists of segments.
+
+ghost use Rattle.std.specs.Prelude.{◌≡◌, ℕ, ◌*◌, Bool, None, ◌+◌, ◌<◌, ◌≤◌, ◌++◌, length, IfOk, IsOk, OnOk, OnErr};
+ghost use Rattle.pdb_ranges.specs.Segments.{painted, painted_in_turn, value_at, IsOrderedFrom};
+ghost use Rattle.pdb_ranges.specs.Painting.{part, parts_within, parts_from, going_past, overlaid, end_from, HaveEdges};
+
+use crate::segment::Segment;
+use std::alloc::{AllocError, Global};
+
+// Appends the part of a segment from lo to hi, if there is any.
+fn push_part<T: Copy>(
+    all: &mut Vec<Segment<T>>,
+    segment: Segment<T>,
+    lo: u64,
+    hi: u64,
+) -> Result<(), AllocError>
+    ensures { OnOk result (all.new.items ≡ all.old.items ++ part lo hi segment) }
+{
+    let start = lo.max(segment.start);
+    let end = hi.min(segment.end);
+    if start < end {
+        let value = segment.value;
+        all.push(Segment { start, end, value })?;
+    }
+    Ok(())
+}
+
+// Appends the parts of the segments from lo to hi, and returns the segments from the first one on that goes past hi. It
+// reads no further.
+fn push_parts_within<'a, T: Copy>(
+    all: &mut Vec<Segment<T>>,
+    segments: &'a [Segment<T>],
+    lo: u64,
+    hi: u64,
+) -> Result<&'a [Segment<T>], AllocError>
+    requires { IsOrderedFrom 0 segments.now }
+    ensures parts { OnOk result (all.new.items ≡ all.old.items ++ parts_within lo hi segments.now) }
+    ensures rest { IfOk result (λ rest. rest.now ≡ going_past hi segments.now) }
+{
+    for (at, &segment) in segments.iter().enumerate() {
+        push_part(all, segment, lo, hi)?;
+        if hi < segment.end {
+            return Ok(&segments[at..]);
+        }
+    }
+    Ok(&[])
+}
+
+// Appends the parts of the segments from lo on.
+fn push_parts_from<T: Copy>(
+    all: &mut Vec<Segment<T>>,
+    segments: &[Segment<T>],
+    lo: u64,
+) -> Result<(), AllocError>
+    ensures { OnOk result (all.new.items ≡ all.old.items ++ parts_from lo segments.now) }
+{
+    for &segment in segments {
+        push_part(all, segment, lo, segment.end)?;
+    }
+    Ok(())
+}
+
+// The segments of the first list, and what they leave uncovered of the second. Each list is gone through once.
+pub(crate) fn overlaid<T: Copy>(
+    alloc: Global,
+    tops: &[Segment<T>],
+    under: &[Segment<T>],
+) -> Result<Vec<Segment<T>>, AllocError>
+    requires tops { IsOrderedFrom 0 tops.now }
+    requires under { IsOrderedFrom 0 under.now }
+    ensures { IfOk result (λ all. all.items ≡ overlaid 0 tops.now under.now) }
+{
+    let mut all = Vec::new(alloc);
+    let mut rest = under;
+    let mut from = 0;
+    for &top in tops {
+        rest = push_parts_within(&mut all, rest, from, top.start)?;
+        all.push(top)?;
+        from = top.end;
+    }
+    push_parts_from(&mut all, rest, from)?;
+    Ok(all)
+}
+
+// Where the last segment ends: 0 where there is none.
+fn end_of<T: Copy>(segments: &[Segment<T>]) -> u64
+    ensures { result ≡ end_from 0 segments.now }
+{
+    match segments.last() {
+        Some(last) => last.end,
+        None => 0,
+    }
+}
+
+// Gives the numbers from lo up to the one before hi a value. It takes constant time, but for the growth of the list,
+// where no segment goes past lo.
+pub(crate) fn paint<T: Copy>(
+    segments: &mut Vec<Segment<T>>,
+    lo: u64,
+    hi: u64,
+    value: T,
+) -> Result<(), AllocError>
+    requires { IsOrderedFrom 0 segments.old.items }
+    ensures ordered { IsOrderedFrom 0 segments.new.items }
+    ensures ok { OnOk result
+        ((x : ℕ) → value_at segments.new.items x ≡ painted lo hi value (value_at segments.old.items x) x) }
+    ensures few { length segments.new.items ≤ length segments.old.items + 2 }
+    ensures empty { hi ≤ lo → IsOk result }
+    ensures no_change { hi ≤ lo → segments.new.items ≡ segments.old.items }
+    ensures err { OnErr result (segments.new.items ≡ segments.old.items) }
+{
+    if hi <= lo {
+        return Ok(());
+    }
+    let top = Segment {
+        start: lo,
+        end: hi,
+        value,
+    };
+    if end_of(segments) <= lo {
+        segments.push(top)?;
+    } else {
+        *segments = overlaid(*segments.allocator(), &[top], segments)?;
+    }
+    Ok(())
+}
+
+// One segment, or none where it is empty.
+fn one_or_none<T: Copy>(alloc: Global, segment: Segment<T>) -> Result<Vec<Segment<T>>, AllocError>
+    ensures { IfOk result (λ all. all.items ≡ part segment.start segment.end segment) }
+{
+    let mut all = Vec::new(alloc);
+    push_part(&mut all, segment, segment.start, segment.end)?;
+    Ok(all)
+}
+
+// The segments after those of the list were painted one after the other: those of the later half lie over those of the
+// earlier one, so each is copied as often as the list can be halved.
+pub(crate) fn painted_in_turn<T: Copy>(
+    alloc: Global,
+    segments: &[Segment<T>],
+) -> Result<Vec<Segment<T>>, AllocError>
+    ensures ordered { IfOk result (λ all. IsOrderedFrom 0 all.items) }
+    ensures values { IfOk result (λ all. (x : ℕ) → value_at all.items x ≡ painted_in_turn segments.now None x) }
+    ensures edges { IfOk result (λ all. (p : ℕ → Bool) → HaveEdges p segments.now → HaveEdges p all.items) }
+{
+    match segments {
+        [] => Ok(Vec::new(alloc)),
+        [only] => one_or_none(alloc, *only),
+        _ => {
+            let (earlier, later) = segments.split_at(segments.len() / 2);
+            let under = painted_in_turn(alloc, earlier)?;
+            let tops = painted_in_turn(alloc, later)?;
+            overlaid(alloc, &tops, &under)
+        }
+    }
+}

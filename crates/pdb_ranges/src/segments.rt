@@ -1,0 +1,109 @@
+ghost use Rattle.std.specs.Prelude.{◌≡◌, ℕ, ◌+◌, ◌*◌, ◌≤◌, [], length, None, IfOk, IsOk, OnOk, OnErr};
+ghost use Rattle.pdb_ranges.specs.Probes.{digits};
+ghost use Rattle.pdb_ranges.specs.Segments.{painted, painted_in_turn, value_at};
+
+use crate::entries::Entries;
+use crate::probes::Probes;
+use crate::segment::Segment;
+use std::alloc::{AllocError, Global};
+use std::marker::Model;
+
+/// A table of values of 64-bit numbers, kept as segments: ranges of numbers that have one value.
+///
+/// It takes memory for each segment and not for each number. No two segments overlap, and they stand in order, so the
+/// value of a number is found by a binary search. The end of a range is not in it, so `u64::MAX` has no value.
+#[derive(Drop)]
+pub struct Segments<T: Copy> {
+    entries: Entries<T>,
+}
+
+// Clauses see a table as the list of its segments, which tells the value of each number.
+impl<T: Copy> Model for Segments<T> {
+    ghost use Rattle.std.specs.Prelude.{List};
+    ghost use Rattle.pdb_ranges.specs.declared.segment.Segment.{Segment};
+
+    ghost Value = { List (Segment T) };
+
+    ghost view = { λ table. table.entries };
+}
+
+impl<T: Copy> Segments<T> {
+    /// The table in which no number has a value. It takes no memory; what is painted later comes from `alloc`.
+    pub fn new(alloc: Global) -> Self
+        ensures { result ≡ [] }
+    {
+        Segments {
+            entries: Entries::new(alloc),
+        }
+    }
+
+    /// The table after the segments were painted one after the other, in the order of the list, so that the last one over
+    /// a number gives its value. They may overlap, and be empty.
+    ///
+    /// Its time grows with n log n for n segments, whatever they are. The error is that memory ran out.
+    pub fn of_painted(alloc: Global, segments: &[Segment<T>]) -> Result<Self, AllocError>
+        ensures values { IfOk result (λ table.
+            (x : ℕ) → value_at table x ≡ painted_in_turn segments.now None x) }
+        ensures at_most_two_each { IfOk result (λ table. length table ≤ 2 * length segments.now) }
+    {
+        let entries = Entries::of_painted(alloc, segments)?;
+        Ok(Segments { entries })
+    }
+
+    /// The number of segments.
+    pub fn len(&self) -> usize
+        ensures { result ≡ length self.now }
+    {
+        self.entries.len()
+    }
+
+    /// Gives the numbers from `lo` up to the one before `hi` a value, whatever they had, and leaves all others as they
+    /// were. Nothing changes where `hi` is not above `lo`.
+    ///
+    /// A range that begins where the last segment ends, or later, costs constant time on average, and any other range the
+    /// time to copy the segments. The error is that memory ran out.
+    pub fn paint(&mut self, lo: u64, hi: u64, value: T) -> Result<(), AllocError>
+        ensures ok { OnOk result
+            ((x : ℕ) → value_at self.new x ≡ painted lo hi value (value_at self.old x) x) }
+        ensures at_most_two_more { length self.new ≤ length self.old + 2 }
+        ensures empty { hi ≤ lo → IsOk result }
+        ensures no_change { hi ≤ lo → self.new ≡ self.old }
+        ensures err { OnErr result (self.new ≡ self.old) }
+    {
+        self.entries.paint(lo, hi, value)
+    }
+
+    /// The value of `x`, by a binary search that takes no memory.
+    ///
+    /// Each entry that is looked at is counted in `probes`. They are no more than the number of segments has binary
+    /// digits: at most 10 of 1,000 segments, and none of none.
+    pub fn find(&self, x: u64, probes: &mut Probes) -> Option<T>
+        ensures value { result ≡ value_at self.now x }
+        ensures no_fewer { probes.old ≤ probes.new }
+        ensures few { probes.new ≤ probes.old + digits (length self.now) }
+    {
+        search(&self.entries, x, probes)
+    }
+}
+
+// The value of x.
+fn search<T: Copy>(entries: &Entries<T>, x: u64, probes: &mut Probes) -> Option<T>
+    ensures value { result ≡ value_at entries.now x }
+    ensures no_fewer { probes.old ≤ probes.new }
+    ensures few { probes.new ≤ probes.old + digits (length entries.now) }
+{
+    let mut from = 0;
+    let mut to = entries.len();
+    while from < to {
+        let middle = from + (to - from) / 2;
+        let segment = entries.look(middle, probes);
+        if x < segment.start {
+            to = middle;
+        } else if segment.end <= x {
+            from = middle + 1;
+        } else {
+            return Some(segment.value);
+        }
+    }
+    None
+}
