@@ -4,3 +4,9 @@ pub mod FrameLawLemmas
 pub mod FrameLevelLemmas
 pub mod AgreeLemmas
 pub mod FrameSiteLemmas
+pub mod GainLemmas
+pub mod CallLemmas
+pub mod FunctionLemmas
+pub mod FunctionStepLemmas
+pub mod StartLemmas
+pub mod RunLemmas

@@ -16,7 +16,7 @@ alike-faultless None (Some e) text alike = absurd alike
 alike-faultless (Some e) None text alike = absurd alike
 
 -- a document has the same text, if it has one, whatever failed before
-same-text : (d : Document) (failed failed' : Parts) → text_of_run (run d failed) ≡ text_of_run (run d failed')
+pub same-text : (d : Document) (failed failed' : Parts) → text_of_run (run d failed) ≡ text_of_run (run d failed')
 same-text d failed failed' =
     let alike = alike-runs d failed failed' in
     let first : text_of_run (run d failed) ≡ faultless (run d failed').fault (run d failed).text =

@@ -23,7 +23,11 @@ pub mod Sources
 pub mod Names
 pub mod Function
 pub mod Lookups
+pub mod Functions
+pub mod FunctionSteps
+pub mod FunctionLaws
 pub mod Frames
+pub mod Calls
 pub mod FrameLaws
 pub mod ContextData
 pub mod Keeper

@@ -1,22 +1,23 @@
 -- What a context answers.
-use Rattle.std.specs.Prelude.{ℕ, List, Option, Some, None, Result, Ok, find, is_none, slice_get, option_and_then, if◌then◌else◌}
+use Rattle.std.specs.Prelude.{ℕ, Option, Some, None, Result, Ok, Err, find, option_map, option_and_then}
 use Rattle.std.specs.Option.{option_map_or}
-use Rattle.std.specs.Result.{result_unwrap_or}
 use Rattle.pdb_records.specs.Addresses.{internal_offset}
 use Rattle.pdb_records.specs.declared.addresses.PdbInternalSectionOffset.{PdbInternalSectionOffset}
-use Rattle.pdb_records.specs.declared.debug_information.Module.{Module}
 use Rattle.pdb_records.specs.declared.modules.ModuleInfo.{ModuleInfo}
 use Rattle.pdb_types.specs.FailedParts.{Parts}
 use Rattle.pdb_types.specs.Standing.{Infos}
 use Rattle.pdb_functions.specs.declared.contributions.ModuleSectionContribution.{ModuleSectionContribution}
 use Rattle.pdb_functions.specs.Spans.{contribution_covers}
 use Rattle.pdb_functions.specs.Lookup.{FoundFunction, function_over}
+use Rattle.pdb_functions.specs.ModuleInfos.{readable_info}
 use Rattle.pdb_types.specs.declared.error.Error.{Error}
+use Rattle.pdb_frames.specs.CodeParts.{CodeParts, part_to_blame, code_part_error, with_code_part}
 use Rattle.pdb_frames.specs.Frame.{FramesDescription}
+use Rattle.pdb_frames.specs.declared.code_parts.CodePart.{CodePart}
 use Rattle.pdb_addr2line.specs.Frames.{described_frames, failed_by_frames}
 use Rattle.pdb_frames.specs.Origins.{function_module}
 use Rattle.pdb_addr2line.specs.Function.{Description, described, failed_by_telling}
-use Rattle.pdb_addr2line.specs.Sources.{Sources, contributions_of, global_functions_of}
+use Rattle.pdb_addr2line.specs.Sources.{Sources, ContextState, contributions_of, global_functions_of}
 
 -- the contribution over an address
 abbrev pub contribution_at : {P : Type 0} → Sources P → ℕ → Option ModuleSectionContribution
@@ -41,13 +42,6 @@ failed_after info s address failed =
     let telling = λ (found : FoundFunction).
     failed_by_telling info s.basis s.address_map (global_functions_of s) found failed in
     option_map_or telling (found_at info s address) failed
-
--- the records of the module at a position, if the provider has them and its symbols were read to their end
-abbrev pub readable_info : Infos → List Module → ℕ → Option ModuleInfo
-readable_info infos modules position =
-    let whole = λ (info : ModuleInfo). if is_none info.symbols.fault then Some info else None in
-    let of_module = λ (m : Module). option_and_then whole (result_unwrap_or (infos position m) None) in
-    option_and_then of_module (slice_get modules position)
 
 -- the records of the module that a function was found in, if there are any that can be read
 abbrev pub records_of : {P : Type 0} → (P → Infos) → Sources P → FoundFunction → Option ModuleInfo
@@ -78,3 +72,42 @@ failed_after_frames info s address failed =
     let at_place = λ (place : PdbInternalSectionOffset).
     option_map_or (failed_by_frames_of info s place.offset failed) (found_at info s address) failed in
     option_map_or at_place (internal_offset s.address_map (record { 0 = address })) failed
+
+-- the part that is to blame where the frames of a function that was found are refused, by the records of its module
+abbrev pub blamed_for : {P : Type 0} → (P → Infos) → Sources P → FoundFunction → Option CodePart
+blamed_for info s found = option_map (λ records. part_to_blame records found) (records_of info s found)
+
+-- the part that is to blame where the frames over an address are refused
+abbrev pub blamed_at : {P : Type 0} → (P → Infos) → Sources P → ℕ → Option CodePart
+blamed_at info s address = option_and_then (blamed_for info s) (found_at info s address)
+
+-- the error that is told where a part is to blame: that it failed before, where it did, else its own error
+abbrev pub told_error : CodeParts → Option CodePart → Error → Error
+told_error failed (Some part) e = code_part_error failed part e
+told_error failed None e = e
+
+-- these parts, and the one that is to blame, if one is
+abbrev pub with_blamed : CodeParts → Option CodePart → CodeParts
+with_blamed failed (Some part) = with_code_part failed part
+with_blamed failed None = failed
+
+-- an answer as it is, and in place of a refusal what the part tells that is to blame
+abbrev pub told_refusal : {A : Type 0} → CodeParts → Option CodePart → Result A Error → Result A Error
+told_refusal failed part (Ok answer) = Ok answer
+told_refusal failed part (Err e) = Err (told_error failed part e)
+
+-- the parts that failed once an answer is told: with the one that is to blame, where it is refused
+abbrev pub failed_by_refusal : {A : Type 0} → CodeParts → Option CodePart → Result A Error → CodeParts
+failed_by_refusal failed part (Ok answer) = failed
+failed_by_refusal failed part (Err e) = with_blamed failed part
+
+-- what is told of the frames over an address: what stands there by the records, and of a part of the records of code that
+-- failed before that it did
+abbrev pub frames_told : {P : Type 0} → (P → Infos) → ContextState P → ℕ → Result (Option FramesDescription) Error
+frames_told info c address =
+    told_refusal c.code_failed (blamed_at info c.sources address) (frames_at info c.sources address)
+
+-- the parts of the records of code that failed once that is told
+abbrev pub code_failed_after : {P : Type 0} → (P → Infos) → ContextState P → ℕ → CodeParts
+code_failed_after info c address =
+    failed_by_refusal c.code_failed (blamed_at info c.sources address) (frames_at info c.sources address)

@@ -1,5 +1,6 @@
 -- The names of functions.
-use Rattle.std.specs.Prelude.{ℕ, ◌==◌, ◌&&◌, not, Bool, false, List, [], ◌∷◌, Option, Some, None, option_map, option_and_then, if◌then◌else◌}
+use Rattle.std.specs.Prelude.{◌≡◌, ℕ, ◌==◌, ◌&&◌, not, Bool, false, List, [], ◌∷◌, Option, Some, None, option_map, option_and_then, if◌then◌else◌}
+use Rattle.std.specs.List.{AllByRecursion}
 use Rattle.std.specs.Option.{option_or, option_map_or}
 use Rattle.pdb_records.specs.Names.{lossy}
 use Rattle.pdb_records.specs.declared.addresses.PdbInternalSectionOffset.{PdbInternalSectionOffset}
@@ -9,7 +10,8 @@ use Rattle.pdb_types.specs.Standing.{Basis, Infos}
 use Rattle.pdb_functions.specs.GlobalFunctions.{GlobalFunction}
 use Rattle.pdb_functions.specs.Procedures.{ModuleProcedure}
 use Rattle.pdb_functions.specs.Lookup.{FoundFunction, found_procedure, found_global, global_at}
-use Rattle.pdb_signatures.specs.BrokenParts.{AddsBroken}
+use Rattle.pdb_types.specs.declared.unread.Part.{Part}
+use Rattle.pdb_signatures.specs.BrokenParts.{AddsBroken, IsBroken, with_parts}
 use Rattle.pdb_signatures.specs.Documents.{Failure, Run}
 use Rattle.pdb_signatures.specs.Printed.{signature_run, id_run}
 use Rattle.pdb_signatures.specs.Worlds.{formatter_world}
@@ -86,3 +88,13 @@ failed_by_id info basis position id failed =
 -- the parts that failed are those from before, and others that some module that asks meets broken
 abbrev pub GainsBroken : {P : Type 0} → (P → Infos) → Basis P → Parts → Parts → Type 0
 GainsBroken info basis old new = (position : ℕ) × AddsBroken (formatter_world info basis position) old new
+
+-- a part is broken for some module that asks
+abbrev pub IsBrokenForSome : {P : Type 0} → (P → Infos) → Basis P → Part → Type 0
+IsBrokenForSome info basis part = (position : ℕ) × IsBroken (formatter_world info basis position) part
+
+-- the parts that failed are those from before, and others that are each broken for some module that asks
+pub record GainsBrokenParts {P : Type 0} (info : P → Infos) (basis : Basis P) (old new : Parts) : Type 0 where
+  pub added : List Part
+  pub broken : AllByRecursion (IsBrokenForSome info basis) added
+  pub is : new ≡ with_parts old added

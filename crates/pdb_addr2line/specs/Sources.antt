@@ -13,6 +13,7 @@ use Rattle.pdb_functions.specs.declared.contributions.ModuleSectionContribution.
 use Rattle.pdb_types.specs.FailedParts.{Parts}
 use Rattle.pdb_types.specs.Outcomes.{unless, and_then}
 use Rattle.pdb_types.specs.Standing.{Basis}
+use Rattle.pdb_frames.specs.CodeParts.{CodeParts}
 use Rattle.pdb_functions.specs.Contributions.{merged_contributions}
 use Rattle.pdb_functions.specs.GlobalFunctions.{GlobalFunction, global_functions}
 
@@ -27,10 +28,12 @@ pub record Sources (P : Type 0) : Type 0 where
   pub debug_information : DebugInformation
   pub basis : Basis P
 
--- a context: what it stands on, and the parts of the records that its formatter met broken
+-- a context: what it stands on, the parts of the records that its formatter met broken, and those of the records of code
+-- that it met broken itself
 pub record ContextState (P : Type 0) : Type 0 where
   pub sources : Sources P
   pub failed : Parts
+  pub code_failed : CodeParts
 
 -- the contributions of these records, merged; a context stands on none that are refused
 abbrev pub contributions_of : {P : Type 0} → Sources P → List ModuleSectionContribution

@@ -1,10 +1,12 @@
-ghost use Rattle.std.specs.Prelude.{◌≡◌, Ok, map, length, IfOk};
+ghost use Rattle.std.specs.Prelude.{◌≡◌, [], Ok, map, length, IfOk};
 ghost use Rattle.std.specs.Option.{option_copied};
 ghost use Rattle.pdb_types.specs.Outcomes.{Gives};
 ghost use Rattle.pdb_functions.specs.Contributions.{merged_contributions};
 ghost use Rattle.pdb_functions.specs.GlobalFunctions.{global_function, global_functions as functions_told};
 ghost use Rattle.pdb_addr2line.specs.Sources.{searched_contributions, accepted, global_functions_of};
 
+use crate::caches::Caches;
+use pdb_frames::FailedCodeParts;
 use pdb_functions::{
     ModuleSectionContribution, PublicSymbolFunctionOrPlaceholder, compute_global_functions,
     compute_section_contributions,
@@ -59,8 +61,9 @@ fn tables_of<'a>(
 ///
 /// A context stands on records that it borrows, on a [`ModuleProvider`] for those of each module, and on a
 /// [`TypeFormatter`], by which procedures get their names. What it answers is what a plain scan of the
-/// records would answer. Of what happens between two questions it remembers what its formatter remembers:
-/// which parts of the records it met broken. No answer of the context depends on that.
+/// records would answer. Of what happens between two questions it remembers one thing that later answers
+/// show: which parts of the records it met broken. Such a part tells its own error when it is met first, and
+/// from then on that it failed before.
 #[derive(Drop)]
 pub struct Context<'a, P: ModuleProvider> {
     pub(crate) alloc: Global,
@@ -70,7 +73,9 @@ pub struct Context<'a, P: ModuleProvider> {
     pub(crate) string_table: Option<&'a StringTable>,
     pub(crate) debug_information: &'a DebugInformation,
     pub(crate) formatter: TypeFormatter<'a, P>,
+    pub(crate) code_failed: FailedCodeParts,
     pub(crate) tables: Tables<'a>,
+    pub(crate) caches: Caches<'a, P>,
 }
 
 impl<'a, P: ModuleProvider> Model for Context<'a, P> {
@@ -93,12 +98,14 @@ impl<'a, P: ModuleProvider> Model for Context<'a, P> {
         basis = c.formatter.standing;
       };
       failed = c.formatter.failed;
+      code_failed = c.code_failed;
     } };
 
     ghost invariant = { λ c. record {
       merged : merged_contributions c.tables.sections.items c.debug_information.now ≡ Ok c.tables.contributions.items;
       told : map global_function c.tables.global_functions.items ≡ functions_told
           c.tables.sections.items c.global_symbols.now.symbols.items c.debug_information.now;
+      infos : c.caches.infos.provider ≡ c.provider.now;
     } };
 }
 
@@ -131,6 +138,7 @@ impl<'a, P: ModuleProvider> Context<'a, P> {
           basis = formatter.entry.standing;
         })) }
         ensures failed { IfOk result (λ c. c.failed ≡ formatter.entry.failed) }
+        ensures code_failed { IfOk result (λ c. c.code_failed ≡ []) }
     {
         let tables = tables_of(alloc, sections, global_symbols, debug_information)?;
         Ok(Context {
@@ -141,7 +149,9 @@ impl<'a, P: ModuleProvider> Context<'a, P> {
             string_table,
             debug_information,
             formatter,
+            code_failed: FailedCodeParts::new(alloc),
             tables,
+            caches: Caches::new(alloc, provider),
         })
     }
 

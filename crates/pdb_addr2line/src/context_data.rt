@@ -115,7 +115,7 @@ impl<'p> ContextPdbData<'p> {
     /// As [`ContextPdbData::make_context_with_formatter_flags`].
     pub fn make_context(&self) -> Result<Context<'_, Self>>
         ensures sources { Gives (λ c. c.sources) result (context_of default_flags self.now) }
-        ensures none_failed { IfOk result (λ c. c.failed ≡ []) }
+        ensures none_failed { IfOk result (λ c. (c.failed ≡ []) × (c.code_failed ≡ [])) }
     {
         self.make_context_with_formatter_flags(TypeFormatterFlags::default())
     }
@@ -133,7 +133,7 @@ impl<'p> ContextPdbData<'p> {
         flags: TypeFormatterFlags,
     ) -> Result<Context<'_, Self>>
         ensures sources { Gives (λ c. c.sources) result (context_of flags self.now) }
-        ensures none_failed { IfOk result (λ c. c.failed ≡ []) }
+        ensures none_failed { IfOk result (λ c. (c.failed ≡ []) × (c.code_failed ≡ [])) }
     {
         let formatter = self.make_type_formatter_with_flags(flags)?;
         self.context_with(formatter)
@@ -143,6 +143,7 @@ impl<'p> ContextPdbData<'p> {
     fn context_with<'c>(&'c self, formatter: TypeFormatter<'c, Self>) -> Result<Context<'c, Self>>
         ensures sources { Gives (λ c. c.sources) result (context_over self.now formatter.entry.standing) }
         ensures failed { IfOk result (λ c. c.failed ≡ formatter.entry.failed) }
+        ensures code_failed { IfOk result (λ c. c.code_failed ≡ []) }
     {
         let pdb = self.pdb();
         let (Ok(debug), Ok(symbols), Ok(address_map)) = (

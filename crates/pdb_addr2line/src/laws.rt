@@ -2,7 +2,7 @@
 //!
 //! Each function here does nothing. Its contract is a law, for all records, and the check proves it.
 
-ghost use Rattle.std.specs.Prelude.{◌≡◌, ℕ, ◌+◌, length, reverse, slice_get, Some, Ok};
+ghost use Rattle.std.specs.Prelude.{◌≡◌, ℕ, ◌+◌, List, length, map, reverse, slice_get, Some, Ok};
 ghost use Rattle.pdb_records.specs.Addresses.{internal_offset};
 ghost use Rattle.pdb_records.specs.declared.addresses.PdbInternalSectionOffset.{PdbInternalSectionOffset};
 ghost use Rattle.pdb_records.specs.declared.modules.ModuleInfo.{ModuleInfo};
@@ -11,12 +11,15 @@ ghost use Rattle.pdb_functions.specs.Procedures.{ModuleProcedure};
 ghost use Rattle.pdb_inline.specs.InlineStacks.{IsSoleOver};
 ghost use Rattle.pdb_frames.specs.ExtendedInfo.{inlinee_ids};
 ghost use Rattle.pdb_frames.specs.Frame.{FrameDescription, FramesDescription};
+ghost use Rattle.pdb_addr2line.specs.Calls.{answer_to, answers_to, fresh, successful};
+ghost use Rattle.pdb_addr2line.specs.declared.calls.Call.{Call};
 ghost use Rattle.pdb_addr2line.specs.FrameLaws.{levels_over, sites_of, EndIn, Agree, AreNestedFrames};
 ghost use Rattle.pdb_addr2line.specs.Function.{Description};
 ghost use Rattle.pdb_addr2line.specs.Lookups.{found_at, function_at, records_of, frames_at};
 ghost use Rattle.pdb_addr2line.specs.Names.{function_name, id_name};
-ghost use Rattle.pdb_addr2line.specs.Sources.{Sources, global_functions_of};
+ghost use Rattle.pdb_addr2line.specs.Sources.{Sources, ContextState, global_functions_of};
 
+pub use crate::function_laws::{start_addresses_are_all_starts, start_addresses_ascend};
 pub use pdb_functions::laws::{
     first_global_function_of_each_start_is_kept, merged_contributions_are_apart,
     merged_contributions_hold_all, order_of_contributions_agrees_with_equality,
@@ -77,4 +80,11 @@ pub fn frames_lie_directly_inside<P: ModuleProvider>()
         → slice_get (reverse told.frames) (level + 1) ≡ Some frame
         → slice_get (reverse told.frames) (level + 2) ≡ Some under
         → AreNestedFrames s.strings (id_name P.info s.basis position) info p place.offset frame under }
+{}
+
+/// Which parts of the records failed before changes no answer but an error: in any list of calls, an answer is
+/// successful exactly where that of a context of which no part has failed is, and then it is the same.
+pub fn successful_answers_are_those_of_a_fresh_context<P: ModuleProvider>()
+    ensures { (c : ContextState P) (calls : List Call) → map successful (answers_to P.info c calls)
+        ≡ map (λ call. successful (answer_to P.info (fresh c.sources) call)) calls }
 {}

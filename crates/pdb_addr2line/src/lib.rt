@@ -21,18 +21,26 @@
 
 pub use pdb_records as pdb;
 
+mod caches;
+mod calls;
 mod context;
 mod context_data;
 mod frames;
 mod function;
+mod function_laws;
+mod functions;
 pub mod laws;
 mod lookups;
 mod names;
 pub mod parts;
+mod run_calls;
+mod start_addresses;
 
+pub use calls::{Answer, Call};
 pub use context::Context;
 pub use context_data::ContextPdbData;
 pub use function::Function;
+pub use functions::FunctionIter;
 pub use pdb_frames::{Frame, FunctionFrames};
 pub use pdb_functions::ModuleSectionContribution;
 pub use pdb_ranges::RangeSet;

@@ -1,28 +1,31 @@
-ghost use Rattle.std.specs.Prelude.{◌≡◌, Ok, None, [], map, find, option_map, OnOk, MatchResult};
-ghost use Rattle.std.specs.Option.{option_copied, option_map_or};
+ghost use Rattle.std.specs.Prelude.{◌≡◌, ◌≢◌, Ok, None, map, find, option_map, IfOk, OnOk, IfErr, MatchResult};
+ghost use Rattle.std.specs.Option.{option_copied};
 ghost use Rattle.pdb_types.specs.Outcomes.{Gives};
 ghost use Rattle.pdb_types.specs.declared.error.Error.TheVariants.{OutOfMemory};
 ghost use Rattle.pdb_functions.specs.GlobalFunctions.{global_function};
 ghost use Rattle.pdb_functions.specs.Lookup.{found_function, procedures_of_module, function_in_contribution, function_over};
-ghost use Rattle.pdb_functions.specs.Procedures.{module_procedure, info_procedures};
+ghost use Rattle.pdb_functions.specs.ModuleInfos.{readable_info};
+ghost use Rattle.pdb_functions.specs.Procedures.{module_procedure};
+ghost use Rattle.pdb_frames.specs.CodeParts.{part_to_blame};
 ghost use Rattle.pdb_functions.specs.Spans.{contribution_covers, procedure_covers};
 ghost use Rattle.pdb_ranges.specs.Pick.{pick};
 ghost use Rattle.pdb_addr2line.specs.Names.{GainsBroken};
 ghost use Rattle.pdb_addr2line.specs.Function.{description, described, failed_by_telling};
 ghost use Rattle.pdb_addr2line.specs.Sources.{contributions_of, global_functions_of};
 ghost use Rattle.pdb_addr2line.specs.Frames.{ButForMemory};
-ghost use Rattle.pdb_addr2line.specs.Lookups.{contribution_at, found_at, function_at, failed_after, readable_info, frames_of, frames_at, failed_by_frames_of, failed_after_frames};
+ghost use Rattle.pdb_addr2line.specs.Lookups.{contribution_at, found_at, function_at, failed_after, frames_of, failed_by_frames_of, failed_after_frames, records_of, blamed_for, told_refusal, failed_by_refusal, frames_told, code_failed_after, told_error, with_blamed};
 
+use crate::caches::{procedure_in, readable_info};
 use crate::context::Context;
 use crate::frames::describe_frames;
 use crate::function::{Function, describe};
-use pdb_frames::{FunctionFrames, function_module};
+use pdb_frames::{CodePart, FunctionFrames, function_module, part_to_blame};
 use pdb_functions::{
-    BasicModuleInfo, ModuleSectionContribution, ProcedureSymbolFunction, PublicOrProcedureSymbol,
+    ModuleSectionContribution, ProcedureSymbolFunction, PublicOrProcedureSymbol,
     PublicSymbolFunctionOrPlaceholder, contribution_over, global_function_in, global_function_over,
     procedure_over,
 };
-use pdb_records::{AddressMap, Module, ModuleInfo, PdbInternalSectionOffset, Rva};
+use pdb_records::{AddressMap, ModuleInfo, PdbInternalSectionOffset, Rva};
 use pdb_types::{Error, ModuleProvider, Result};
 
 impl<'a, P: ModuleProvider> Context<'a, P> {
@@ -42,6 +45,7 @@ impl<'a, P: ModuleProvider> Context<'a, P> {
         ensures sources { self.new.sources ≡ self.old.sources }
         ensures failed { OnOk result
             (self.new.failed ≡ failed_after P.info self.old.sources address self.old.failed) }
+        ensures code_failed { self.new.code_failed ≡ self.old.code_failed }
         ensures broken { GainsBroken P.info self.old.sources.basis self.old.failed self.new.failed }
         // Outside every section and every contribution no memory is needed.
         ensures outside { contribution_at self.old.sources address ≡ None
@@ -59,17 +63,22 @@ impl<'a, P: ModuleProvider> Context<'a, P> {
     /// `None` where no section or no contribution of a module holds the address, or where no function is
     /// known there. Without records of its module, or where the module's symbols could not be read to their
     /// end, the function is the only frame. A function or an inlined body whose name can't be printed has
-    /// none. A part of the records that printing meets broken is remembered.
+    /// none. A part of the records that is met broken is remembered.
     ///
     /// # Errors
     ///
     /// [`Error::PdbError`] where the module's line program could not be read, then for the fault of its
-    /// inlinees, and then for the fault of the function's line rows.
+    /// inlinees, and then for the fault of the function's line rows. From then on it is
+    /// [`Error::ExtendedModuleInfoUnsuccessful`] for the first two, and [`Error::ProcedureLinesUnsuccessful`]
+    /// for the last.
     pub fn find_frames(&mut self, address: u32) -> Result<Option<FunctionFrames<'a>>>
-        ensures answer { Gives (λ f. f) result (frames_at P.info self.old.sources address) }
+        ensures answer { Gives (λ f. f) result (frames_told P.info self.old address) }
         ensures sources { self.new.sources ≡ self.old.sources }
         ensures failed { ButForMemory result
             (self.new.failed ≡ failed_after_frames P.info self.old.sources address self.old.failed) }
+        ensures code_failed { ButForMemory result
+            (self.new.code_failed ≡ code_failed_after P.info self.old address) }
+        ensures code_kept { IfErr result (λ e. e ≡ OutOfMemory → self.new.code_failed ≡ self.old.code_failed) }
         ensures broken { GainsBroken P.info self.old.sources.basis self.old.failed self.new.failed }
         // Outside every section and every contribution no memory is needed.
         ensures outside { contribution_at self.old.sources address ≡ None
@@ -80,24 +89,98 @@ impl<'a, P: ModuleProvider> Context<'a, P> {
         };
         match self.found_over(place)? {
             None => Ok(None),
-            Some(found) => self.describe_frames(found, place.offset),
+            Some(found) => self.tell_frames(found, place.offset),
         }
     }
 
-    /// What is told of a function that was found, and of its frames at an offset.
-    fn describe_frames(
+    /// What is told of the frames of a function that was found, at an offset: a part of the records of code that
+    /// refuses them is remembered.
+    fn tell_frames(
         &mut self,
         found: PublicOrProcedureSymbol<'a>,
         offset: u32,
     ) -> Result<Option<FunctionFrames<'a>>>
+        ensures told { let blamed = blamed_for P.info self.old.sources (found_function found.entry) in
+            Gives (λ f. f) result (told_refusal self.old.code_failed blamed
+            (frames_of P.info self.old.sources offset (found_function found.entry))) }
+        ensures sources { self.new.sources ≡ self.old.sources }
+        ensures failed { ButForMemory result (self.new.failed
+            ≡ failed_by_frames_of P.info self.old.sources offset self.old.failed (found_function found.entry)) }
+        ensures code_failed { let blamed = blamed_for P.info self.old.sources (found_function found.entry) in
+            ButForMemory result (self.new.code_failed ≡ failed_by_refusal self.old.code_failed blamed
+            (frames_of P.info self.old.sources offset (found_function found.entry))) }
+        ensures code_kept { IfErr result (λ e. e ≡ OutOfMemory → self.new.code_failed ≡ self.old.code_failed) }
+        ensures broken { GainsBroken P.info self.old.sources.basis self.old.failed self.new.failed }
+    {
+        let module_info = self.readable_info(function_module(found))?;
+        self.tell_frames_by(found, module_info, offset)
+    }
+
+    /// The same, by the records of the function's module.
+    fn tell_frames_by(
+        &mut self,
+        found: PublicOrProcedureSymbol<'a>,
+        module_info: Option<&'a ModuleInfo>,
+        offset: u32,
+    ) -> Result<Option<FunctionFrames<'a>>>
+        requires records { option_copied module_info
+            ≡ records_of P.info self.old.sources (found_function found) }
+        ensures told { let blamed = blamed_for P.info self.old.sources (found_function found.entry) in
+            Gives (λ f. f) result (told_refusal self.old.code_failed blamed
+            (frames_of P.info self.old.sources offset (found_function found.entry))) }
+        ensures sources { self.new.sources ≡ self.old.sources }
+        ensures failed { ButForMemory result (self.new.failed
+            ≡ failed_by_frames_of P.info self.old.sources offset self.old.failed (found_function found.entry)) }
+        ensures code_failed { let blamed = blamed_for P.info self.old.sources (found_function found.entry) in
+            ButForMemory result (self.new.code_failed ≡ failed_by_refusal self.old.code_failed blamed
+            (frames_of P.info self.old.sources offset (found_function found.entry))) }
+        ensures code_kept { IfErr result (λ e. e ≡ OutOfMemory → self.new.code_failed ≡ self.old.code_failed) }
+        ensures broken { GainsBroken P.info self.old.sources.basis self.old.failed self.new.failed }
+    {
+        match self.describe_frames(found, module_info, offset) {
+            Ok(frames) => Ok(frames),
+            Err(error) => {
+                let blamed = part_blamed(module_info, found);
+                Err(self.error_told(blamed, error)?)
+            }
+        }
+    }
+
+    /// The error that is told where a part is to blame, which is remembered. Want of memory is no part's.
+    fn error_told(&mut self, blamed: Option<CodePart>, error: Error) -> Result<Error>
+        ensures known { IfOk result (λ e. error ≢ OutOfMemory) }
+        ensures told { IfOk result (λ e. e ≡ told_error self.old.code_failed blamed error) }
+        ensures added { OnOk result (self.new
+            ≡ record self.old { code_failed = with_blamed self.old.code_failed blamed }) }
+        ensures refused { IfErr result (λ e. (e ≡ OutOfMemory) × (self.new ≡ self.old)) }
+    {
+        match (error, blamed) {
+            (Error::OutOfMemory, _) => Err(Error::OutOfMemory),
+            (error, Some(part)) => {
+                let error = self.code_failed.ask(part, error)?;
+                Ok(error)
+            }
+            (error, None) => Ok(error),
+        }
+    }
+
+    /// What is told of a function that was found, and of its frames at an offset, by the records of its module.
+    fn describe_frames(
+        &mut self,
+        found: PublicOrProcedureSymbol<'a>,
+        module_info: Option<&'a ModuleInfo>,
+        offset: u32,
+    ) -> Result<Option<FunctionFrames<'a>>>
+        requires records { option_copied module_info
+            ≡ records_of P.info self.old.sources (found_function found) }
         ensures told { Gives (λ f. f) result
             (frames_of P.info self.old.sources offset (found_function found.entry)) }
         ensures sources { self.new.sources ≡ self.old.sources }
         ensures failed { ButForMemory result (self.new.failed
             ≡ failed_by_frames_of P.info self.old.sources offset self.old.failed (found_function found.entry)) }
+        ensures code_failed { self.new.code_failed ≡ self.old.code_failed }
         ensures broken { GainsBroken P.info self.old.sources.basis self.old.failed self.new.failed }
     {
-        let module_info = self.readable_info(function_module(found));
         describe_frames(
             self.alloc,
             self.address_map,
@@ -120,6 +203,7 @@ impl<'a, P: ModuleProvider> Context<'a, P> {
         ensures failed { OnOk result (self.new.failed
             ≡ failed_by_telling P.info self.old.sources.basis self.old.sources.address_map
             (global_functions_of self.old.sources) (found_function found.entry) self.old.failed) }
+        ensures code_failed { self.new.code_failed ≡ self.old.code_failed }
         ensures broken { GainsBroken P.info self.old.sources.basis self.old.failed self.new.failed }
     {
         describe(
@@ -149,18 +233,13 @@ impl<'a, P: ModuleProvider> Context<'a, P> {
         &self.tables.global_functions
     }
 
-    fn modules(&self) -> &[Module]
-        ensures { result.now ≡ self.now.sources.basis.modules }
-    {
-        self.formatter.modules()
-    }
-
     /// What lies over an address.
-    fn found(&self, address: u32) -> Result<Option<PublicOrProcedureSymbol<'a>>>
+    fn found(&mut self, address: u32) -> Result<Option<PublicOrProcedureSymbol<'a>>>
         ensures answer { MatchResult result
-            (λ found. option_map found_function found ≡ found_at P.info self.now.sources address)
+            (λ found. option_map found_function found ≡ found_at P.info self.old.sources address)
             (λ e. e ≡ OutOfMemory) }
-        ensures outside { contribution_at self.now.sources address ≡ None → result ≡ Ok None }
+        ensures kept { self.new ≡ self.old }
+        ensures outside { contribution_at self.old.sources address ≡ None → result ≡ Ok None }
     {
         match Rva(address).to_internal_offset(self.address_map()) {
             Some(place) => self.found_over(place),
@@ -170,15 +249,16 @@ impl<'a, P: ModuleProvider> Context<'a, P> {
 
     /// What lies over a place.
     fn found_over(
-        &self,
+        &mut self,
         place: PdbInternalSectionOffset,
     ) -> Result<Option<PublicOrProcedureSymbol<'a>>>
         ensures answer { MatchResult result
             (λ found. option_map found_function found
-            ≡ function_over (P.info self.now.sources.provider) self.now.sources.basis.modules
-            (contributions_of self.now.sources) (global_functions_of self.now.sources) place)
+            ≡ function_over (P.info self.old.sources.provider) self.old.sources.basis.modules
+            (contributions_of self.old.sources) (global_functions_of self.old.sources) place)
             (λ e. e ≡ OutOfMemory) }
-        ensures outside { find (contribution_covers place) (contributions_of self.now.sources) ≡ None
+        ensures kept { self.new ≡ self.old }
+        ensures outside { find (contribution_covers place) (contributions_of self.old.sources) ≡ None
             → result ≡ Ok None }
     {
         match contribution_over(self.contributions(), place) {
@@ -189,15 +269,16 @@ impl<'a, P: ModuleProvider> Context<'a, P> {
 
     /// What lies over a place in a contribution.
     fn function_in(
-        &self,
+        &mut self,
         place: PdbInternalSectionOffset,
         contribution: ModuleSectionContribution,
     ) -> Result<Option<PublicOrProcedureSymbol<'a>>>
-        ensures { MatchResult result
+        ensures answer { MatchResult result
             (λ found. option_map found_function found
-            ≡ function_in_contribution (P.info self.now.sources.provider) self.now.sources.basis.modules
-            (global_functions_of self.now.sources) place contribution)
+            ≡ function_in_contribution (P.info self.old.sources.provider) self.old.sources.basis.modules
+            (global_functions_of self.old.sources) place contribution)
             (λ e. e ≡ OutOfMemory) }
+        ensures kept { self.new ≡ self.old }
     {
         let module_index = contribution.module_index;
         if let Some(procedure) = self.procedure_in(place, module_index)? {
@@ -209,52 +290,44 @@ impl<'a, P: ModuleProvider> Context<'a, P> {
 
     /// The procedure of a module over a place.
     fn procedure_in(
-        &self,
+        &mut self,
         place: PdbInternalSectionOffset,
         module_index: usize,
     ) -> Result<Option<ProcedureSymbolFunction<'a>>>
-        ensures { MatchResult result
+        ensures answer { MatchResult result
             (λ found. option_map module_procedure found
             ≡ pick (procedure_covers place) (λ p. p.offset.offset)
-            (procedures_of_module (P.info self.now.sources.provider) self.now.sources.basis.modules module_index))
+            (procedures_of_module (P.info self.old.sources.provider) self.old.sources.basis.modules module_index))
             (λ e. e ≡ OutOfMemory) }
+        ensures kept { self.new ≡ self.old }
     {
-        let info = self.module_info(module_index)?;
-        match info {
-            Some(info) => Ok(procedure_over(info.procedures(), place)),
-            None => Ok(None),
-        }
-    }
-
-    /// The procedures of the module at a position, where it has records that could be read.
-    fn module_info(&self, module_index: usize) -> Result<Option<BasicModuleInfo<'a>>>
-        ensures { MatchResult result
-            (λ info. option_map_or info_procedures info []
-            ≡ procedures_of_module (P.info self.now.sources.provider) self.now.sources.basis.modules module_index)
-            (λ e. e ≡ OutOfMemory) }
-    {
-        let Some(module) = self.modules().get(module_index) else {
-            return Ok(None);
-        };
-        match self.provider.get_module_info(module_index, module) {
-            Ok(Some(info)) => match BasicModuleInfo::try_from_module_info(self.alloc, info) {
-                Ok(info) => Ok(Some(info)),
-                Err(Error::OutOfMemory) => Err(Error::OutOfMemory),
-                Err(_) => Ok(None),
-            },
-            _ => Ok(None),
-        }
+        let modules = self.formatter.modules();
+        let found = procedure_in(&mut self.caches.infos, modules, module_index, place)?;
+        Ok(found)
     }
 
     /// The records of the module at a position, where there are any and its symbols have no fault.
-    fn readable_info(&self, module_index: usize) -> Option<&'a ModuleInfo>
-        ensures { option_copied result
-            ≡ readable_info (P.info self.now.sources.provider) self.now.sources.basis.modules module_index }
+    fn readable_info(&mut self, module_index: usize) -> Result<Option<&'a ModuleInfo>>
+        ensures answer { MatchResult result
+            (λ info. option_copied info
+            ≡ readable_info (P.info self.old.sources.provider) self.old.sources.basis.modules module_index)
+            (λ e. e ≡ OutOfMemory) }
+        ensures kept { self.new ≡ self.old }
     {
-        let module = self.modules().get(module_index)?;
-        match self.provider.get_module_info(module_index, module) {
-            Ok(Some(info)) if info.symbols.fault.is_none() => Some(info),
-            _ => None,
-        }
+        let modules = self.formatter.modules();
+        let info = readable_info(&mut self.caches.infos, modules, module_index)?;
+        Ok(info)
     }
+}
+
+/// The part that is to blame where the frames of a function that was found are refused, by the records of its
+/// module.
+fn part_blamed(
+    module_info: Option<&ModuleInfo>,
+    found: PublicOrProcedureSymbol<'_>,
+) -> Option<CodePart>
+    ensures { result
+        ≡ option_map (λ records. part_to_blame records (found_function found.entry)) (option_copied module_info.entry) }
+{
+    Some(part_to_blame(module_info?, found))
 }

@@ -1,4 +1,7 @@
 pub mod Lines
 pub mod ExtendedInfo
 pub mod Origins
+pub mod CodeParts
 pub mod Frame
+pub mod CodeCaches
+pub mod CodeCache

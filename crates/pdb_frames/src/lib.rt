@@ -5,14 +5,25 @@
 //! frames themselves.
 #![tactic(auto)]
 
+mod code_cache;
+mod code_keys;
+mod code_parts;
 mod extended_info;
+mod extended_infos;
 mod frame;
+mod function_lines;
 mod inline_ranges;
 mod lines;
 mod origins;
+mod procedure_ranges;
 
+pub use code_cache::CodeCache;
+pub use code_parts::{CodePart, FailedCodeParts, part_to_blame};
 pub use extended_info::{ExtendedModuleInfo, compute_extended_module_info};
+pub use extended_infos::ExtendedInfos;
 pub use frame::{Frame, FunctionFrames};
+pub use function_lines::FunctionLines;
 pub use inline_ranges::compute_procedure_inline_ranges;
 pub use lines::{file_name, function_row};
 pub use origins::{Origin, function_module, function_start, origin_of};
+pub use procedure_ranges::ProcedureRanges;

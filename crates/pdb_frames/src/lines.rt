@@ -1,10 +1,15 @@
 ghost use Rattle.std.specs.Prelude.{◌≡◌, Some, option_map, IfOk};
 ghost use Rattle.std.specs.Cow.{cow_str_bytes};
 ghost use Rattle.std.specs.Option.{option_copied};
+ghost use Rattle.pdb_records.specs.LinePrograms.{Lines};
+ghost use Rattle.pdb_records.specs.Lines.{lines_at};
+ghost use Rattle.pdb_records.specs.declared.addresses.PdbInternalSectionOffset.{PdbInternalSectionOffset};
 ghost use Rattle.pdb_ranges.specs.Pick.{later_start};
 ghost use Rattle.pdb_frames.specs.Lines.{row_over, function_row, file_name};
 
-use pdb_records::{FileIndex, LineInfo, LineProgram, PdbInternalSectionOffset, StringTable};
+use pdb_records::{
+    FileIndex, LineInfo, LineProgram, PdbInternalSectionOffset, Reading, StringTable,
+};
 use pdb_types::{Error, Result};
 use std::alloc::{AllocError, Global};
 use std::borrow::CowStr;
@@ -33,6 +38,20 @@ fn row_over(rows: &[LineInfo], offset: u32) -> Option<LineInfo>
     picked
 }
 
+/// The line row over an offset, among the rows that a line program has for a function, if it has any.
+pub(crate) fn row_of(rows: Option<&Reading<LineInfo>>, offset: u32) -> Result<Option<LineInfo>>
+    ensures { (program : Lines) (start : PdbInternalSectionOffset)
+        → lines_at start program.entries ≡ option_copied rows.entry → result ≡ function_row program start offset }
+{
+    let Some(rows) = rows else {
+        return Ok(None);
+    };
+    if let Some(fault) = rows.fault {
+        return Err(Error::from(pdb_records::Error::Stream(fault)));
+    }
+    Ok(row_over(&rows.items, offset))
+}
+
 /// The line row over an offset in the function that starts at a place. It is the last at or below the
 /// offset, wherever it stands among the function's rows, and the first that is read of those that share
 /// its offset. A function that the line program doesn't tell of has no rows.
@@ -47,13 +66,7 @@ pub fn function_row(
 ) -> Result<Option<LineInfo>>
     ensures { result ≡ function_row line_program.now start offset }
 {
-    let Some(rows) = line_program.lines_for_symbol(start) else {
-        return Ok(None);
-    };
-    if let Some(fault) = rows.fault {
-        return Err(Error::from(pdb_records::Error::Stream(fault)));
-    }
-    Ok(row_over(&rows.items, offset))
+    row_of(line_program.lines_for_symbol(start), offset)
 }
 
 /// The name of a file of a module. A name in UTF-8 is lent by the string table. It is absent where there is

@@ -3,3 +3,4 @@ pub mod ContributionLemmas
 pub mod StartLemmas
 pub mod RunLemmas
 pub mod GlobalFunctionLemmas
+pub mod ModuleInfoLemmas

@@ -5,4 +5,5 @@ pub mod GlobalFunctions
 pub mod Procedures
 pub mod Spans
 pub mod Lookup
+pub mod ModuleInfos
 pub mod Laws

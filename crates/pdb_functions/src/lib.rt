@@ -9,6 +9,8 @@ mod global_functions;
 pub mod laws;
 mod lookup;
 mod module_info;
+mod module_infos;
+mod named_info;
 mod procedures;
 mod sections;
 mod starts;
@@ -20,4 +22,5 @@ pub use lookup::{
     global_function_over, next_function, procedure_over,
 };
 pub use module_info::BasicModuleInfo;
+pub use module_infos::BasicModuleInfoCache;
 pub use procedures::ProcedureSymbolFunction;

@@ -1,7 +1,8 @@
 //! Tells which functions addresses of a Windows program lie in, over the records of a file.
 //!
 //! `pdb_report RECORDS frames ADDRESS...` prints for each address the functions in whose code it lies, with
-//! files and lines, and `pdb_report RECORDS names ADDRESS...` a line with the function.
+//! files and lines, and `pdb_report RECORDS names ADDRESS...` a line with the function. `pdb_report RECORDS
+//! list` prints a line for each function of the program.
 #![tactic(auto)]
 
 use pdb_addr2line::Error;

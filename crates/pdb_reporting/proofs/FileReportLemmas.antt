@@ -9,8 +9,7 @@ use Rattle.pdb_reporting.specs.declared.reports.Command.{Command}
 use Rattle.pdb_reporting.specs.declared.reports.ReportFault.{ReportFault}
 use Rattle.pdb_reporting.specs.declared.reports.ReportFault.TheVariants.{Lookup, Write}
 use Rattle.pdb_reporting.specs.Sinks.{SinkState}
-use Rattle.pdb_reporting.specs.Reports.{EndsEarly}
-use Rattle.pdb_reporting.specs.FileReports.{opened, text_over_records, EndsOver}
+use Rattle.pdb_reporting.specs.FileReports.{opened, EndsOverRecords, EndsOver}
 
 -- records whose streams were read are opened as their context is made
 pub opened-accepted : (records given : Records) (made : Result (Sources Records) Error)
@@ -23,7 +22,7 @@ opened-accepted records given made kept accepted is_made =
 
 -- a report that ends early over records that are not refused ends amid its texts
 pub ends_amid : (command : Command) (addresses : List ℕ) (sources : Sources Records) (before after : SinkState) (fault : ReportFault)
-    → EndsEarly (text_over_records sources command) addresses before after fault
+    → EndsOverRecords sources command addresses before after fault
     → EndsOver command addresses (Ok sources) before after fault
 ends_amid command addresses sources before after (Lookup error) early = inr early
 ends_amid command addresses sources before after Write early = early

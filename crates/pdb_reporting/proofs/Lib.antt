@@ -1,2 +1,3 @@
 pub mod ReportLemmas
 pub mod FileReportLemmas
+pub mod ListLemmas

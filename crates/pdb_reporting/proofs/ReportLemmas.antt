@@ -1,12 +1,19 @@
 -- A report address by address.
 use Rattle.std.proofs.Common.{◌≡◌, ◌∙◌, ℕ, ◌+◌, ◌<◌, List, [], ◌∷◌, ◌++◌, length, take}
-use Rattle.std.proofs.Common.{get_or, refl, sym, ap, append_assoc, append-nil}
-use Rattle.std.specs.Prelude.{Option, Some, None, Result, Ok, Err}
+use Rattle.std.proofs.Common.{get_or, refl, sym, ap, subst, append_assoc, append-nil}
+use Rattle.std.specs.Prelude.{Option, Some, None, Result, Ok, Err, IfErr}
+use Rattle.std.specs.Result.{IsErrAnd}
+use Rattle.std.proofs.lemmas.Option.{slice_get-get_or}
 use Rattle.std.proofs.lemmas.List.{take_more}
 use Rattle.pdb_types.specs.declared.error.Error.{Error}
 use Rattle.pdb_types.specs.Outcomes.{and_then}
+use Rattle.pdb_frames.specs.CodeParts.{CodeParts}
+use Rattle.pdb_frames.specs.declared.code_parts.CodePart.{CodePart}
+use Rattle.pdb_addr2line.specs.Lookups.{told_refusal, failed_by_refusal}
 use Rattle.pdb_reporting.specs.Sinks.{SinkState, Grows, Takes}
-use Rattle.pdb_reporting.specs.Reports.{addresses_text, TakesText}
+use Rattle.pdb_reporting.specs.declared.reports.ReportFault.{ReportFault}
+use Rattle.pdb_reporting.specs.declared.reports.ReportFault.TheVariants.{Lookup, Write}
+use Rattle.pdb_reporting.specs.Reports.{addresses_text, TakesText, EndsAtOnce, EndsAmidTexts}
 
 -- bytes that grow by one piece and then by another grow by both
 grows_more : (before between after : Option (List ℕ)) (xs ys : List ℕ)
@@ -83,3 +90,30 @@ takes_one_more f addresses i before between after below taken next =
     ∙ (addresses_text-append f (take i addresses) (address ∷ [])
     ∙ ap (λ (last : Result (List ℕ) Error). and_then front (λ text. and_then last (λ texts. Ok (text ++ texts)))) alone) in
     rw whole (takes_both before between after front (f address) taken next)
+
+-- a report that ends at an address, once those before it are told, ends amid its texts
+pub ends_at_address : (text_of : ℕ → Result (List ℕ) Error) (addresses : List ℕ) (i : ℕ) (before between after : SinkState)
+    (fault : ReportFault) → i < length addresses
+    → TakesText (addresses_text text_of (take i addresses)) before between
+    → EndsAtOnce (text_of (get_or addresses i 0)) between after fault
+    → EndsAmidTexts text_of addresses before after fault
+ends_at_address f addresses i before between after (Lookup e) below taken ends = record {
+  done = i;
+  address = get_or addresses i 0;
+  next = slice_get-get_or addresses i 0 below;
+  refused = ends.0;
+  taken = rw ends.1 taken;
+}
+ends_at_address f addresses i before between after Write below taken ends = ends
+
+-- a call that ends with a fault
+pub fails_with : {A : Type 0} (r : Result A ReportFault) (fault : ReportFault) (ends : ReportFault → Type 0)
+    → IsErrAnd r (λ given. given ≡ fault) → ends fault → IfErr r ends
+fails_with (Ok done) fault ends is at_fault = tt
+fails_with (Err given) fault ends is at_fault = subst ends (sym is) at_fault
+
+-- what isn't refused makes no part of the records of code fail
+pub unrefused : {A : Type 0} (failed : CodeParts) (part : Option CodePart) (answer : Result A Error) (a : A)
+    → told_refusal failed part answer ≡ Ok a → failed_by_refusal failed part answer ≡ failed
+unrefused failed part (Ok b) a is = refl
+unrefused failed part (Err e) a is = absurd cc

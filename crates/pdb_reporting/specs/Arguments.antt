@@ -6,6 +6,7 @@ use Rattle.std.specs.Cmp.Lexicographic.{pointwise}
 use Rattle.pdb_reporting.specs.declared.arguments.Request.{Request}
 use Rattle.pdb_reporting.specs.declared.reports.Command.{Command}
 use Rattle.pdb_reporting.specs.declared.reports.Command.TheVariants.{Names, Frames}
+use Rattle.pdb_reporting.specs.declared.reports.Command.TheVariants as wanted
 
 -- what follows from a value, where there is one
 infixl 10 ◌>>=◌
@@ -65,13 +66,21 @@ abbrev pub command_of : List ℕ → Option Command
 command_of word =
     if pointwise nat_eq word (codes "names") then Some Names
     else if pointwise nat_eq word (codes "frames") then Some Frames
+    else if pointwise nat_eq word (codes "list") then Some wanted.List
     else None
+
+-- the addresses that the words behind a command ask about: a list takes no words
+abbrev pub asked_addresses : Command → List (List ℕ) → Option (List ℕ)
+asked_addresses Names words = addresses_of words
+asked_addresses Frames words = addresses_of words
+asked_addresses wanted.List [] = Some []
+asked_addresses wanted.List (word ∷ words) = None
 
 -- what the words behind the program's name ask for; no answer asks for the usage line
 abbrev pub asked : List (List ℕ) → Option Asked
 asked (program ∷ records ∷ command ∷ words) = do
   command ← command_of command
-  addresses ← addresses_of words
+  addresses ← asked_addresses command words
   Some (record { records = records; command = command; addresses = addresses })
 asked [] = None
 asked (program ∷ []) = None

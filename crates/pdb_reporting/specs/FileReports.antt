@@ -1,5 +1,5 @@
 -- A report over the records of a file.
-use Rattle.std.specs.Prelude.{◌≡◌, ◌≢◌, ◌⊎◌, ℕ, List, Result, Ok, Err}
+use Rattle.std.specs.Prelude.{◌≡◌, ◌≢◌, ◌⊎◌, ℕ, List, [], Result, Ok, Err}
 use Rattle.pdb_records.specs.Records.{Records}
 use Rattle.pdb_types.specs.declared.error.Error.{Error}
 use Rattle.pdb_types.specs.declared.error.Error.TheVariants.{OutOfMemory}
@@ -10,26 +10,31 @@ use Rattle.pdb_reporting.specs.declared.reports.Command.{Command}
 use Rattle.pdb_reporting.specs.declared.reports.ReportFault.{ReportFault}
 use Rattle.pdb_reporting.specs.declared.reports.ReportFault.TheVariants.{Lookup, Write}
 use Rattle.pdb_reporting.specs.Sinks.{SinkState}
-use Rattle.pdb_reporting.specs.Reports.{address_text, addresses_text, TakesText, EndsEarly}
+use Rattle.pdb_reporting.specs.Reports.{report_text, TakesText, EndsEarly}
 
 -- the context of these records with the default flags, where their streams and their contents are not refused
 abbrev pub opened : Records → Result (Sources Records) Error
 opened records = unless (records_refusal records) (context_of default_flags records)
 
--- the text of an address, as a command wants it, by a plain scan of records
-abbrev pub text_over_records : Sources Records → Command → ℕ → Result (List ℕ) Error
-text_over_records = address_text (λ records index m. info_at records index)
+-- the text of a report, as a command wants it, by a plain scan of records, of which no part has failed
+abbrev pub text_over_records : Sources Records → Command → List ℕ → Result (List ℕ) Error
+text_over_records sources = report_text (λ records index m. info_at records index) sources []
 
--- a sink takes the texts of addresses over records, which are not refused
+-- why a report over records ends early, of which no part has failed
+abbrev pub EndsOverRecords : Sources Records → Command → List ℕ → SinkState → SinkState → ReportFault → Type 0
+EndsOverRecords sources = EndsEarly (λ records index m. info_at records index) sources []
+
+-- a sink takes the text of a report over records, which are not refused
 abbrev pub TakesTexts : Command → List ℕ → Result (Sources Records) Error → SinkState → SinkState → Type 0
 TakesTexts command addresses (Ok sources) before after =
-    TakesText (addresses_text (text_over_records sources command) addresses) before after
+    TakesText (text_over_records sources command addresses) before after
 TakesTexts command addresses (Err error) before after = ⊥
 
 -- a report over records that are not refused ends early
-abbrev pub EndsAmid : Command → List ℕ → Result (Sources Records) Error → SinkState → SinkState → ReportFault → Type 0
+abbrev pub EndsAmid : Command → List ℕ → Result (Sources Records) Error → SinkState → SinkState → ReportFault
+    → Type 0
 EndsAmid command addresses (Ok sources) before after fault =
-    EndsEarly (text_over_records sources command) addresses before after fault
+    EndsOverRecords sources command addresses before after fault
 EndsAmid command addresses (Err error) before after fault = ⊥
 
 -- a report ends before its first text: the records are refused for this error, or memory ran out; the sink is as it was

@@ -27,3 +27,14 @@ names_line address (Some f) =
     codes "0x" ++ (hex address ++ (codes " - " ++ (name_text f.name
     ++ (codes " 0x" ++ (hex f.start_rva ++ (codes ".." ++ (end_text f.end_rva ++ codes "\n")))))))
 names_line address None = hex address ++ codes " - no function found\n"
+
+-- the line of a function in a list: where it starts and ends, and its name
+abbrev pub list_line : Description → List ℕ
+list_line f =
+    codes "0x" ++ (hex f.start_rva ++ (codes ".." ++ (end_text f.end_rva
+    ++ (codes " " ++ (name_text f.name ++ codes "\n")))))
+
+-- the lines of functions, in order
+abbrev pub list_text : List Description → List ℕ
+list_text [] = []
+list_text (f ∷ fs) = list_line f ++ list_text fs

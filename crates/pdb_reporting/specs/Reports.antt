@@ -1,24 +1,33 @@
 -- What a report writes, and why it ends early.
-use Rattle.std.specs.Prelude.{◌≡◌, ◌≢◌, ℕ, true, List, [], ◌∷◌, ◌++◌, Some, Result, Ok, Err, take, slice_get}
+use Rattle.std.specs.Prelude.{◌≡◌, ◌≢◌, ◌≤◌, ℕ, true, List, [], ◌∷◌, ◌++◌, Some, Result, Ok, Err, length, take, slice_get}
 use Rattle.pdb_types.specs.declared.error.Error.{Error}
 use Rattle.pdb_types.specs.declared.error.Error.TheVariants.{OutOfMemory}
 use Rattle.pdb_types.specs.Outcomes.{and_then}
 use Rattle.pdb_types.specs.Standing.{Infos}
-use Rattle.pdb_addr2line.specs.Lookups.{function_at, frames_at}
+use Rattle.pdb_addr2line.specs.Function.{Description}
+use Rattle.pdb_addr2line.specs.Functions.{functions_of}
+use Rattle.pdb_frames.specs.CodeParts.{CodeParts}
+use Rattle.pdb_addr2line.specs.Lookups.{function_at, frames_at, blamed_at, told_refusal}
 use Rattle.pdb_addr2line.specs.Sources.{Sources}
 use Rattle.pdb_reporting.specs.declared.reports.Command.{Command}
 use Rattle.pdb_reporting.specs.declared.reports.Command.TheVariants.{Names, Frames}
+use Rattle.pdb_reporting.specs.declared.reports.Command.TheVariants as wanted
 use Rattle.pdb_reporting.specs.declared.reports.ReportFault.{ReportFault}
 use Rattle.pdb_reporting.specs.declared.reports.ReportFault.TheVariants.{Lookup, Write}
 use Rattle.pdb_reporting.specs.Sinks.{SinkState, Takes}
 use Rattle.pdb_reporting.specs.PrintedFrames.{frames_text}
-use Rattle.pdb_reporting.specs.PrintedLines.{names_line}
+use Rattle.pdb_reporting.specs.PrintedLines.{names_line, list_text}
 
--- the text of an address, as a command wants it, or the error of its look-up
-abbrev pub address_text : {P : Type 0} → (P → Infos) → Sources P → Command → ℕ → Result (List ℕ) Error
-address_text info sources Names address = Ok (names_line address (function_at info sources address))
-address_text info sources Frames address =
-    and_then (frames_at info sources address) (λ frames. Ok (frames_text address frames))
+-- the text of an address: the line of the function there
+abbrev pub function_text : {P : Type 0} → (P → Infos) → Sources P → ℕ → Result (List ℕ) Error
+function_text info sources address = Ok (names_line address (function_at info sources address))
+
+-- the text of an address, where these parts of the records of code failed before: the lines of the frames there, or the
+-- error of the look-up
+abbrev pub stack_text : {P : Type 0} → (P → Infos) → Sources P → CodeParts → ℕ → Result (List ℕ) Error
+stack_text info sources failed address =
+    and_then (told_refusal failed (blamed_at info sources address) (frames_at info sources address)) (λ frames.
+    Ok (frames_text address frames))
 
 -- the texts of addresses in order, where each of them has one; else the first error
 abbrev pub addresses_text : (ℕ → Result (List ℕ) Error) → List ℕ → Result (List ℕ) Error
@@ -27,6 +36,14 @@ addresses_text text_of (address ∷ addresses) =
     and_then (text_of address) (λ text.
     and_then (addresses_text text_of addresses) (λ texts.
     Ok (text ++ texts)))
+
+-- the text of a report, as a command wants it, where these parts of the records of code failed before: a list tells of all
+-- functions, whatever the addresses are
+abbrev pub report_text : {P : Type 0} → (P → Infos) → Sources P → CodeParts → Command → List ℕ
+    → Result (List ℕ) Error
+report_text info sources failed Names addresses = addresses_text (function_text info sources) addresses
+report_text info sources failed Frames addresses = addresses_text (stack_text info sources failed) addresses
+report_text info sources failed wanted.List addresses = Ok (list_text (functions_of info sources))
 
 -- a sink takes the text, where there is one
 abbrev pub TakesText : Result (List ℕ) Error → SinkState → SinkState → Type 0
@@ -47,7 +64,29 @@ pub record EndsAt (text_of : ℕ → Result (List ℕ) Error) (addresses : List 
   pub refused : error ≢ OutOfMemory → text_of address ≡ Err error
   pub taken : TakesText (addresses_text text_of (take done addresses)) before after
 
--- why a report ends early: at a look-up, or where the sink refused a text
-abbrev pub EndsEarly : (ℕ → Result (List ℕ) Error) → List ℕ → SinkState → SinkState → ReportFault → Type 0
-EndsEarly text_of addresses before after (Lookup error) = EndsAt text_of addresses before after error
-EndsEarly text_of addresses before after Write = after.failed ≡ true
+-- why a report of addresses ends early: at a look-up, or where the sink refused a text
+abbrev pub EndsAmidTexts : (ℕ → Result (List ℕ) Error) → List ℕ → SinkState → SinkState → ReportFault → Type 0
+EndsAmidTexts text_of addresses before after (Lookup error) = EndsAt text_of addresses before after error
+EndsAmidTexts text_of addresses before after Write = after.failed ≡ true
+
+-- memory ran out, and the sink took the lines of the functions before
+pub record EndsAmidList (functions : List Description) (before after : SinkState) (error : Error) : Type 0 where
+  pub done : ℕ
+  pub within : done ≤ length functions
+  pub memory : error ≡ OutOfMemory
+  pub taken : Takes before after (list_text (take done functions))
+
+-- why a list of functions ends early: memory ran out, or the sink refused a text
+abbrev pub EndsListEarly : List Description → SinkState → SinkState → ReportFault → Type 0
+EndsListEarly functions before after (Lookup error) = EndsAmidList functions before after error
+EndsListEarly functions before after Write = after.failed ≡ true
+
+-- why a report ends early, by its command
+abbrev pub EndsEarly : {P : Type 0} → (P → Infos) → Sources P → CodeParts → Command → List ℕ → SinkState → SinkState
+    → ReportFault → Type 0
+EndsEarly info sources failed Names addresses before after fault =
+    EndsAmidTexts (function_text info sources) addresses before after fault
+EndsEarly info sources failed Frames addresses before after fault =
+    EndsAmidTexts (stack_text info sources failed) addresses before after fault
+EndsEarly info sources failed wanted.List addresses before after fault =
+    EndsListEarly (functions_of info sources) before after fault

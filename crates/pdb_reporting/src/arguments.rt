@@ -1,6 +1,6 @@
 ghost use Rattle.std.specs.Prelude.{◌≡◌, ◌++◌, map, option_map, string_bytes, IfOk};
 ghost use Rattle.pdb_reporting.specs.Arguments.{hex_digit, hex_after, without_prefix, digits_address};
-ghost use Rattle.pdb_reporting.specs.Arguments.{address_of, addresses_of, command_of, asked, request};
+ghost use Rattle.pdb_reporting.specs.Arguments.{address_of, addresses_of, command_of, asked_addresses, asked, request};
 
 use crate::reports::Command;
 use std::alloc::{AllocError, Global};
@@ -15,7 +15,7 @@ pub struct Request<'w> {
     pub records: &'w str,
     /// What to tell.
     pub command: Command,
-    /// Of which addresses, in order.
+    /// Of which addresses, in order. A list has none.
     pub addresses: Vec<u32>,
 }
 
@@ -81,8 +81,26 @@ fn parse_command(word: &str) -> Option<Command>
         Some(Command::Names)
     } else if word == "frames" {
         Some(Command::Frames)
+    } else if word == "list" {
+        Some(Command::List)
     } else {
         None
+    }
+}
+
+/// The addresses that the words behind a command ask about. A list takes no words.
+fn parse_words(
+    alloc: Global,
+    command: Command,
+    words: &[String],
+) -> Result<Option<Vec<u32>>, AllocError>
+    ensures { IfOk result (λ found. option_map (λ v. v.items) found
+        ≡ asked_addresses command (map string_bytes words.now)) }
+{
+    match command {
+        Command::Names | Command::Frames => parse_addresses(alloc, words),
+        Command::List if words.is_empty() => Ok(Some(Vec::new(alloc))),
+        Command::List => Ok(None),
     }
 }
 
@@ -96,7 +114,7 @@ pub fn parse(alloc: Global, words: &[String]) -> Result<Option<Request<'_>>, All
     let Some(command) = parse_command(command.as_str()) else {
         return Ok(None);
     };
-    let Some(addresses) = parse_addresses(alloc, words)? else {
+    let Some(addresses) = parse_words(alloc, command, words)? else {
         return Ok(None);
     };
     Ok(Some(Request {

@@ -1,5 +1,5 @@
-//! What the program `pdb_report` writes of each address that it is asked about: a line with the function
-//! there, or a line for each frame.
+//! What the program `pdb_report` writes: of each address that it is asked about a line with the function
+//! there, or a line for each frame; or a line for each function of the program.
 #![tactic(auto)]
 
 mod arguments;

@@ -1,6 +1,6 @@
 ghost use Rattle.std.specs.Prelude.{◌≡◌, Some, option_map, string_bytes, IfOk};
 ghost use Rattle.pdb_addr2line.specs.Function.{description};
-ghost use Rattle.pdb_reporting.specs.PrintedLines.{name_text, end_text, names_line};
+ghost use Rattle.pdb_reporting.specs.PrintedLines.{name_text, end_text, names_line, list_line};
 
 use pdb_addr2line::Function;
 use std::alloc::{AllocError, Global};
@@ -39,6 +39,16 @@ fn function_line(alloc: Global, address: u32, function: &Function) -> Result<Str
     let start = function.start_rva;
     let end = end_of(alloc, function.end_rva)?;
     format!(in alloc; "0x{address:x} - {name} 0x{start:x}..{end}\n")
+}
+
+/// The line of a function in a list.
+pub(crate) fn list_line(alloc: Global, function: &Function) -> Result<String, AllocError>
+    ensures { IfOk result (λ s. string_bytes s ≡ list_line (description function.now)) }
+{
+    let name = name_of(&function.name);
+    let start = function.start_rva;
+    let end = end_of(alloc, function.end_rva)?;
+    format!(in alloc; "0x{start:x}..{end} {name}\n")
 }
 
 /// The line of an address: the function there, or that there is none.

@@ -1,28 +1,32 @@
-ghost use Rattle.std.specs.Prelude.{◌≡◌, OnOk, IfErr};
+ghost use Rattle.std.specs.Prelude.{◌≡◌, [], ◌∷◌, Ok, OnOk, IfErr};
 ghost use Rattle.pdb_types.specs.declared.error.Error.TheVariants.{OutOfMemory};
-ghost use Rattle.pdb_reporting.specs.declared.reports.Command.TheVariants.{Names, Frames};
 ghost use Rattle.pdb_reporting.specs.declared.reports.ReportFault.TheVariants.{Lookup, Write};
-ghost use Rattle.pdb_reporting.specs.Reports.{address_text, addresses_text, TakesText, EndsAtOnce, EndsEarly};
+ghost use Rattle.pdb_addr2line.specs.Functions.{functions_at, functions_of};
+ghost use Rattle.pdb_reporting.specs.PrintedLines.{list_text};
+ghost use Rattle.pdb_reporting.specs.Reports.{function_text, stack_text, addresses_text, report_text, TakesText, EndsAtOnce, EndsAmidTexts, EndsListEarly, EndsEarly};
 
 use crate::printed_frames::frames_text;
-use crate::printed_lines::line_of;
+use crate::printed_lines::{line_of, list_line};
 use crate::sinks::{Sink, SinkFault};
 use pdb_addr2line::{Context, Error, ModuleProvider};
 use std::alloc::{AllocError, Global};
 
-/// What is asked of the addresses.
+/// What is asked of the program.
 #[derive(Clone, Copy)]
 pub enum Command {
     /// The function that each address lies in.
     Names,
     /// The functions in whose code each address lies, with files and lines, from inside to outside.
     Frames,
+    /// All functions of the program, by where they start. No addresses are asked about.
+    List,
 }
 
 /// Why a report ended early.
 #[derive(Debug, Drop)]
 pub enum ReportFault {
-    /// A look-up had no answer. The sink holds the texts of the addresses before it.
+    /// A look-up had no answer. The sink holds the texts of the addresses before it, or in a list the lines of
+    /// the functions before it.
     Lookup(Error),
     /// The sink refused a piece of text.
     Write,
@@ -61,9 +65,9 @@ fn put_function<P: ModuleProvider, W: Sink>(
 ) -> Result<(), ReportFault>
     ensures sources { context.new.sources ≡ context.old.sources }
     ensures text { OnOk result
-        (TakesText (address_text P.info context.old.sources Names address) (W.state sink.old) (W.state sink.new)) }
+        (TakesText (function_text P.info context.old.sources address) (W.state sink.old) (W.state sink.new)) }
     ensures fault { IfErr result
-        (EndsAtOnce (address_text P.info context.old.sources Names address) (W.state sink.old) (W.state sink.new)) }
+        (EndsAtOnce (function_text P.info context.old.sources address) (W.state sink.old) (W.state sink.new)) }
 {
     let function = context.find_function(address)?;
     let line = line_of(alloc, address, &function)?;
@@ -79,10 +83,13 @@ fn put_frames<P: ModuleProvider, W: Sink>(
     sink: &mut W,
 ) -> Result<(), ReportFault>
     ensures sources { context.new.sources ≡ context.old.sources }
+    ensures code_failed { OnOk result (context.new.code_failed ≡ context.old.code_failed) }
     ensures text { OnOk result
-        (TakesText (address_text P.info context.old.sources Frames address) (W.state sink.old) (W.state sink.new)) }
+        (let text = stack_text P.info context.old.sources context.old.code_failed address in
+        TakesText text (W.state sink.old) (W.state sink.new)) }
     ensures fault { IfErr result
-        (EndsAtOnce (address_text P.info context.old.sources Frames address) (W.state sink.old) (W.state sink.new)) }
+        (let text = stack_text P.info context.old.sources context.old.code_failed address in
+        EndsAtOnce text (W.state sink.old) (W.state sink.new)) }
 {
     let frames = context.find_frames(address)?;
     let text = frames_text(alloc, address, &frames)?;
@@ -90,31 +97,94 @@ fn put_frames<P: ModuleProvider, W: Sink>(
     Ok(())
 }
 
-/// Writes what is asked of one address, after its look-up.
-fn put_text<P: ModuleProvider, W: Sink>(
+/// Writes the line of the function over a start address, after its look-up: nothing where there is none.
+fn put_listed<P: ModuleProvider, W: Sink>(
     alloc: Global,
     context: &mut Context<'_, P>,
-    command: Command,
-    address: u32,
+    start: u32,
+    sink: &mut W,
+) -> Result<(), ReportFault>
+    ensures sources { context.new.sources ≡ context.old.sources }
+    ensures text { OnOk result (TakesText
+        (Ok (list_text (functions_at P.info context.old.sources (start ∷ [])))) (W.state sink.old) (W.state sink.new)) }
+    ensures fault { IfErr result (EndsListEarly [] (W.state sink.old) (W.state sink.new)) }
+{
+    let Some(function) = context.find_function(start)? else {
+        return Ok(());
+    };
+    let line = list_line(alloc, &function)?;
+    sink.put(line.as_bytes())?;
+    Ok(())
+}
+
+/// Writes the lines of the functions over addresses, in order. The line of an address is written whole after
+/// its look-up.
+fn report_names<P: ModuleProvider, W: Sink>(
+    alloc: Global,
+    context: &mut Context<'_, P>,
+    addresses: &[u32],
+    sink: &mut W,
+) -> Result<(), ReportFault>
+    ensures sources { context.new.sources ≡ context.old.sources }
+    ensures text { OnOk result (TakesText
+        (addresses_text (function_text P.info context.old.sources) addresses.now) (W.state sink.old) (W.state sink.new)) }
+    ensures fault { IfErr result (EndsAmidTexts
+        (function_text P.info context.old.sources) addresses.now (W.state sink.old) (W.state sink.new)) }
+{
+    for address in addresses {
+        put_function(alloc, context, *address, sink)?;
+    }
+    Ok(())
+}
+
+/// Writes the lines of the frames over addresses, in order. The lines of an address are written whole after
+/// its look-up.
+fn report_frames<P: ModuleProvider, W: Sink>(
+    alloc: Global,
+    context: &mut Context<'_, P>,
+    addresses: &[u32],
     sink: &mut W,
 ) -> Result<(), ReportFault>
     ensures sources { context.new.sources ≡ context.old.sources }
     ensures text { OnOk result
-        (TakesText (address_text P.info context.old.sources command address) (W.state sink.old) (W.state sink.new)) }
+        (let text_of = stack_text P.info context.old.sources context.old.code_failed in
+        TakesText (addresses_text text_of addresses.now) (W.state sink.old) (W.state sink.new)) }
     ensures fault { IfErr result
-        (EndsAtOnce (address_text P.info context.old.sources command address) (W.state sink.old) (W.state sink.new)) }
+        (let text_of = stack_text P.info context.old.sources context.old.code_failed in
+        EndsAmidTexts text_of addresses.now (W.state sink.old) (W.state sink.new)) }
 {
-    match command {
-        Command::Names => put_function(alloc, context, address, sink),
-        Command::Frames => put_frames(alloc, context, address, sink),
+    for address in addresses {
+        put_frames(alloc, context, *address, sink)?;
     }
+    Ok(())
 }
 
-/// Writes what is asked of each address, in order. The text of an address is written whole after its look-up.
+/// Writes the lines of all functions, by where they start. The line of a function is written whole after its
+/// look-up.
+fn report_list<P: ModuleProvider, W: Sink>(
+    alloc: Global,
+    context: &mut Context<'_, P>,
+    sink: &mut W,
+) -> Result<(), ReportFault>
+    ensures sources { context.new.sources ≡ context.old.sources }
+    ensures text { OnOk result (TakesText
+        (Ok (list_text (functions_of P.info context.old.sources))) (W.state sink.old) (W.state sink.new)) }
+    ensures fault { IfErr result
+        (EndsListEarly (functions_of P.info context.old.sources) (W.state sink.old) (W.state sink.new)) }
+{
+    let starts = context.start_addresses()?;
+    for start in &starts {
+        put_listed(alloc, context, *start, sink)?;
+    }
+    Ok(())
+}
+
+/// Writes what is asked of the program: of each address, in order, or of each function. Each text is written
+/// whole after its look-up. A list doesn't look at the addresses.
 ///
 /// # Errors
 ///
-/// [`ReportFault::Lookup`] for a look-up with no answer: the sink then holds the texts before it.
+/// [`ReportFault::Lookup`] at the first address whose look-up has an error, or for want of memory, and
 /// [`ReportFault::Write`] where the sink refused a text.
 pub fn report<P: ModuleProvider, W: Sink>(
     alloc: Global,
@@ -125,14 +195,14 @@ pub fn report<P: ModuleProvider, W: Sink>(
 ) -> Result<(), ReportFault>
     ensures sources { context.new.sources ≡ context.old.sources }
     ensures text { OnOk result
-        (let text_of = address_text P.info context.old.sources command in
-        TakesText (addresses_text text_of addresses.now) (W.state sink.old) (W.state sink.new)) }
-    ensures fault { IfErr result
-        (let text_of = address_text P.info context.old.sources command in
-        EndsEarly text_of addresses.now (W.state sink.old) (W.state sink.new)) }
+        (let text = report_text P.info context.old.sources context.old.code_failed command addresses.now in
+        TakesText text (W.state sink.old) (W.state sink.new)) }
+    ensures fault { IfErr result (EndsEarly P.info context.old.sources context.old.code_failed
+        command addresses.now (W.state sink.old) (W.state sink.new)) }
 {
-    for address in addresses {
-        put_text(alloc, context, command, *address, sink)?;
+    match command {
+        Command::Names => report_names(alloc, context, addresses, sink),
+        Command::Frames => report_frames(alloc, context, addresses, sink),
+        Command::List => report_list(alloc, context, sink),
     }
-    Ok(())
 }

@@ -11,8 +11,8 @@
 //! with the same flags go to one formatter, which remembers the parts of the records that it met broken.
 //!
 //! `ids.txt` is such a file too. A line with no NAME asks for the id of the index; one with a NAME asks for a
-//! signature, where a formatter is to be asked for both. Its last records file is a genuine program's, and a
-//! link to the one in the data of `pdb_tests`.
+//! signature, where a formatter is to be asked for both. Its last records file, `small_x64_types.json`, has the
+//! types and ids of a genuine program.
 #![tactic(auto)]
 
 #[cfg(test)]

@@ -9,11 +9,11 @@ returns-clause-lines g c =
     let kept = c.in_ok-data.ensures in
     let made : opened c.args.records ≡ Ok c.in_ok-context.context.sources =
     opened-accepted c.args.records c.in_ok-data.data _ kept.kept kept.refused c.in_ok-context.ensures.sources in
-    rw made (rw c.deref.ensures.value at c.report.ensures.text)
+    rw made (rw (c.deref.ensures.value, c.in_ok-context.ensures.none_failed.1) at c.report.ensures.text)
 
 pub returns-clause-fault : goal.returns-clause-fault
 returns-clause-fault g c =
     let kept = c.in_ok-data.ensures in
     let made : opened c.args.records ≡ Ok c.in_ok-context.context.sources =
     opened-accepted c.args.records c.in_ok-data.data _ kept.kept kept.refused c.in_ok-context.ensures.sources in
-    rw made (IfErr-weaker _ _ _ (ends_amid _ _ _ _ _) (rw c.deref.ensures.value at c.report.ensures.fault))
+    rw made (IfErr-weaker _ _ _ (ends_amid _ _ _ _ _) (rw (c.deref.ensures.value, c.in_ok-context.ensures.none_failed.1) at c.report.ensures.fault))

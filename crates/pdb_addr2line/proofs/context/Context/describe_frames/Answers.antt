@@ -2,12 +2,12 @@ use Rattle.pdb_addr2line.proofs.context.Context.describe_frames.Goals as goal
 
 pub returns-clause-told : goal.returns-clause-told
 returns-clause-told g c =
-    let records = rw (← c.self.view_is, c.function_module.ensures) at c.readable_info-module_info.ensures in
+    let records = rw (← c.self.view_is) at c.requires.records in
     rw (← c.self.view_is)
     (rw (c.deref.ensures.value, c.self.invariant.told, records) at c.describe_frames.ensures.told)
 
 pub returns-clause-failed : goal.returns-clause-failed
 returns-clause-failed g c =
-    let records = rw (← c.self.view_is, c.function_module.ensures) at c.readable_info-module_info.ensures in
+    let records = rw (← c.self.view_is) at c.requires.records in
     rw (← c.self.view_is)
     (rw (c.deref.ensures.value, c.self.invariant.told, records) at c.describe_frames.ensures.failed)

@@ -1,0 +1,179 @@
+ghost use Rattle.std.specs.Prelude.{◌≡◌, ◌≢◌, ◌∷◌, [], IfOk, OnOk, IfErr, OnErr, MatchResult};
+ghost use Rattle.pdb_types.specs.FailedParts.{with_met};
+ghost use Rattle.pdb_types.specs.TypeSizes.{size_of};
+ghost use Rattle.pdb_types.specs.declared.error.Error.TheVariants.{OutOfMemory};
+ghost use Rattle.pdb_signatures.specs.Printed.{signature_run, id_run};
+ghost use Rattle.pdb_addr2line.specs.Calls.{ToldFunction, ToldFrames, ToldFunctions, ToldSize, ToldText, told_answer, printed, with_failed, after_frames};
+ghost use Rattle.pdb_addr2line.specs.Calls.{Appends, StopsEarly, answer_to, answers_to, after_call, after_calls};
+ghost use Rattle.pdb_addr2line.specs.Functions.{after_function, after_functions, functions_of, start_addresses, OnlyGainsBroken};
+ghost use Rattle.pdb_addr2line.specs.Lookups.{function_at, frames_told};
+
+use crate::calls::{Answer, Call};
+use crate::context::Context;
+use pdb_records::{IdIndex, TypeIndex};
+use pdb_types::{Error, ModuleProvider, Result};
+
+/// An error that is told in the place of an answer. Want of memory isn't told.
+fn told_error(error: Error) -> Result<Error>
+    ensures { MatchResult result
+        (λ told. (told ≡ error) × (error ≢ OutOfMemory))
+        (λ e. (e ≡ OutOfMemory) × (error ≡ OutOfMemory)) }
+{
+    match error {
+        Error::OutOfMemory => Err(Error::OutOfMemory),
+        other => Ok(other),
+    }
+}
+
+impl<'a, P: ModuleProvider> Context<'a, P> {
+    /// Answers calls, one after the other, and appends an answer for each.
+    ///
+    /// An answer is what a plain scan of the records tells, whatever was asked before, save that a part of the
+    /// records that failed before tells its `Unsuccessful` error.
+    ///
+    /// # Errors
+    ///
+    /// [`Error::OutOfMemory`] alone. The list then ends with the answers of the calls before the one for
+    /// which there was no memory, and that one can be asked again.
+    pub fn run_calls(&mut self, calls: &[Call<'_>], answers: &mut Vec<Answer<'a>>) -> Result<()>
+        // Every call in any list answers as a plain scan of the records, save that a part that failed before
+        // answers its Unsuccessful error.
+        ensures answers { OnOk result
+            (Appends answers.old.items answers.new.items (answers_to P.info self.old calls.now)) }
+        ensures state { OnOk result (self.new ≡ after_calls P.info self.old calls.now) }
+        ensures memory { IfErr result (λ e. e ≡ OutOfMemory) }
+        ensures stopped { OnErr result
+            (StopsEarly P.info self.old calls.now answers.old.items answers.new.items self.new) }
+    {
+        for call in calls {
+            self.append_answer(*call, answers)?;
+        }
+        Ok(())
+    }
+
+    /// Answers a call, and appends the answer.
+    fn append_answer(&mut self, call: Call<'_>, answers: &mut Vec<Answer<'a>>) -> Result<()>
+        ensures answered { OnOk result
+            (Appends answers.old.items answers.new.items (answer_to P.info self.old call.entry ∷ [])) }
+        ensures state { OnOk result (self.new ≡ after_call P.info self.old call.entry) }
+        ensures memory { IfErr result (λ e. e ≡ OutOfMemory) }
+        ensures unchanged { OnErr result (answers.new.items ≡ answers.old.items) }
+        ensures not_made { OnErr result (OnlyGainsBroken P.info self.old self.new) }
+    {
+        answers.reserve(1)?;
+        let answer = self.answer(call)?;
+        match answers.push(answer) {
+            Ok(()) => Ok(()),
+            Err(_) => unreachable!(),
+        }
+    }
+
+    /// The answer to a call.
+    fn answer(&mut self, call: Call<'_>) -> Result<Answer<'a>>
+        ensures answer { IfOk result (λ a. told_answer a ≡ answer_to P.info self.old call.entry) }
+        ensures state { OnOk result (self.new ≡ after_call P.info self.old call.entry) }
+        ensures memory { IfErr result (λ e. e ≡ OutOfMemory) }
+        ensures not_made { OnErr result (OnlyGainsBroken P.info self.old self.new) }
+    {
+        match call {
+            Call::FindFunction(address) => self.answer_function(address),
+            Call::FindFrames(address) => self.answer_frames(address),
+            Call::Functions => self.answer_functions(),
+            Call::FunctionCount => Ok(Answer::Count(self.function_count())),
+            Call::TypeSize(module_index, index) => self.answer_size(module_index, index),
+            Call::FormatFunction(name, module_index, index) => {
+                self.answer_signature(name, module_index, index)
+            }
+            Call::FormatId(module_index, index) => self.answer_id(module_index, index),
+        }
+    }
+
+    /// The function over an address.
+    fn answer_function(&mut self, address: u32) -> Result<Answer<'a>>
+        ensures answer { IfOk result (λ a. told_answer a
+            ≡ ToldFunction (function_at P.info self.old.sources address)) }
+        ensures state { OnOk result (self.new ≡ after_function P.info self.old address) }
+        ensures memory { IfErr result (λ e. e ≡ OutOfMemory) }
+        ensures not_made { OnErr result (OnlyGainsBroken P.info self.old self.new) }
+    {
+        let function = self.told_function(address)?;
+        Ok(Answer::Function(function))
+    }
+
+    /// The frames over an address, or the error in their place.
+    fn answer_frames(&mut self, address: u32) -> Result<Answer<'a>>
+        ensures answer { IfOk result (λ a. told_answer a ≡ ToldFrames (frames_told P.info self.old address)) }
+        ensures state { OnOk result (self.new ≡ after_frames P.info self.old address) }
+        ensures memory { IfErr result (λ e. e ≡ OutOfMemory) }
+        ensures not_made { OnErr result (OnlyGainsBroken P.info self.old self.new) }
+    {
+        match self.find_frames(address) {
+            Ok(frames) => Ok(Answer::Frames(Ok(frames))),
+            Err(error) => Ok(Answer::Frames(Err(told_error(error)?))),
+        }
+    }
+
+    /// All functions.
+    fn answer_functions(&mut self) -> Result<Answer<'a>>
+        ensures answer { IfOk result (λ a. told_answer a ≡ ToldFunctions (functions_of P.info self.old.sources)) }
+        ensures state { OnOk result (self.new
+            ≡ after_functions P.info self.old (start_addresses P.info self.old.sources)) }
+        ensures memory { IfErr result (λ e. e ≡ OutOfMemory) }
+        ensures not_made { OnErr result (OnlyGainsBroken P.info self.old self.new) }
+    {
+        let functions = self.all_functions()?;
+        Ok(Answer::Functions(functions))
+    }
+
+    /// The size of a type.
+    fn answer_size(&mut self, module_index: usize, index: TypeIndex) -> Result<Answer<'a>>
+        ensures answer { IfOk result (λ a. told_answer a
+            ≡ ToldSize (size_of P.info self.old.sources.basis module_index index.0).size) }
+        ensures state { OnOk result (self.new ≡ with_failed self.old
+            (with_met self.old.failed (size_of P.info self.old.sources.basis module_index index.0).met)) }
+        ensures memory { IfErr result (λ e. e ≡ OutOfMemory) }
+        ensures unchanged { OnErr result (self.new ≡ self.old) }
+    {
+        let size = self.formatter.get_type_size(module_index, index)?;
+        Ok(Answer::Size(size))
+    }
+
+    /// The signature of a function, or the error in its place.
+    fn answer_signature(
+        &mut self,
+        name: &str,
+        module_index: usize,
+        index: TypeIndex,
+    ) -> Result<Answer<'a>>
+        ensures answer { let basis = self.old.sources.basis in
+            let run = signature_run P.info basis module_index name.now index.0 self.old.failed in
+            IfOk result (λ a. told_answer a ≡ ToldText (printed run)) }
+        ensures state { let basis = self.old.sources.basis in
+            let run = signature_run P.info basis module_index name.now index.0 self.old.failed in
+            OnOk result (self.new ≡ with_failed self.old run.failed) }
+        ensures memory { IfErr result (λ e. e ≡ OutOfMemory) }
+        ensures not_made { OnErr result (OnlyGainsBroken P.info self.old self.new) }
+    {
+        match self.formatter.format_function(name, module_index, index) {
+            Ok(text) => Ok(Answer::Text(Ok(text))),
+            Err(error) => Ok(Answer::Text(Err(told_error(error)?))),
+        }
+    }
+
+    /// The text of an id, or the error in its place.
+    fn answer_id(&mut self, module_index: usize, index: IdIndex) -> Result<Answer<'a>>
+        ensures answer { let basis = self.old.sources.basis in
+            let run = id_run P.info basis module_index index.0 self.old.failed in
+            IfOk result (λ a. told_answer a ≡ ToldText (printed run)) }
+        ensures state { let basis = self.old.sources.basis in
+            let run = id_run P.info basis module_index index.0 self.old.failed in
+            OnOk result (self.new ≡ with_failed self.old run.failed) }
+        ensures memory { IfErr result (λ e. e ≡ OutOfMemory) }
+        ensures not_made { OnErr result (OnlyGainsBroken P.info self.old self.new) }
+    {
+        match self.formatter.format_id(module_index, index) {
+            Ok(text) => Ok(Answer::Text(Ok(text))),
+            Err(error) => Ok(Answer::Text(Err(told_error(error)?))),
+        }
+    }
+}

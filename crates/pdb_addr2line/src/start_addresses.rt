@@ -1,0 +1,123 @@
+ghost use Rattle.std.specs.Prelude.{◌≡◌, map, OnOk, MatchResult};
+ghost use Rattle.pdb_types.specs.declared.error.Error.TheVariants.{OutOfMemory};
+ghost use Rattle.pdb_functions.specs.GlobalFunctions.{global_function};
+ghost use Rattle.pdb_functions.specs.Lookup.{procedures_of_module};
+ghost use Rattle.pdb_functions.specs.Procedures.{module_procedure};
+ghost use Rattle.pdb_addr2line.specs.Functions.{procedures_of_modules, with_start, with_starts, start_addresses};
+
+use crate::context::Context;
+use pdb_functions::{
+    BasicModuleInfoCache, ProcedureSymbolFunction, PublicSymbolFunctionOrPlaceholder,
+};
+use pdb_records::{AddressMap, Module, PdbInternalSectionOffset};
+use pdb_types::{ModuleProvider, Result};
+use std::alloc::{AllocError, Global};
+use std::collections::BTreeSet;
+
+/// Adds the address of a place, where it has one.
+fn add_start(
+    starts: &mut BTreeSet<u32>,
+    address_map: &AddressMap,
+    place: PdbInternalSectionOffset,
+) -> Result<(), AllocError>
+    ensures { OnOk result (starts.new.keys ≡ with_start address_map.now starts.old.keys place) }
+{
+    if let Some(address) = place.to_rva(address_map) {
+        starts.insert(address.0)?;
+    }
+    Ok(())
+}
+
+/// Adds where global functions start.
+fn add_global_starts(
+    starts: &mut BTreeSet<u32>,
+    address_map: &AddressMap,
+    functions: &[PublicSymbolFunctionOrPlaceholder<'_>],
+) -> Result<(), AllocError>
+    ensures { OnOk result (starts.new.keys
+        ≡ with_starts address_map.now starts.old.keys (map (λ f. f.start) (map global_function functions.now))) }
+{
+    for function in functions {
+        add_start(starts, address_map, function.start_offset)?;
+    }
+    Ok(())
+}
+
+/// Adds where procedures start.
+fn add_procedure_starts(
+    starts: &mut BTreeSet<u32>,
+    address_map: &AddressMap,
+    procedures: &[ProcedureSymbolFunction<'_>],
+) -> Result<(), AllocError>
+    ensures { OnOk result (starts.new.keys
+        ≡ with_starts address_map.now starts.old.keys (map (λ p. p.offset) (map module_procedure procedures.now))) }
+{
+    for procedure in procedures {
+        add_start(starts, address_map, procedure.offset)?;
+    }
+    Ok(())
+}
+
+/// Adds where the procedures of the module at a position start.
+fn add_starts_of_module<P: ModuleProvider>(
+    starts: &mut BTreeSet<u32>,
+    address_map: &AddressMap,
+    infos: &mut BasicModuleInfoCache<'_, P>,
+    modules: &[Module],
+    position: usize,
+) -> Result<(), AllocError>
+    ensures added { OnOk result (starts.new.keys ≡ with_starts address_map.now starts.old.keys
+        (map (λ p. p.offset) (procedures_of_module (P.info infos.old.provider) modules.now position))) }
+    ensures provider { infos.new.provider ≡ infos.old.provider }
+{
+    match infos.get_basic_module_info(modules, position)? {
+        Some(info) => add_procedure_starts(starts, address_map, info.procedures()),
+        None => Ok(()),
+    }
+}
+
+/// Adds where the procedures of all modules start.
+#[tactic(auto, using(crate::proofs::StartLemmas::with_starts_of_next))]
+fn add_module_starts<P: ModuleProvider>(
+    starts: &mut BTreeSet<u32>,
+    address_map: &AddressMap,
+    infos: &mut BasicModuleInfoCache<'_, P>,
+    modules: &[Module],
+) -> Result<(), AllocError>
+    ensures added { OnOk result (starts.new.keys ≡ with_starts address_map.now starts.old.keys
+        (map (λ p. p.offset) (procedures_of_modules (P.info infos.old.provider) 0 modules.now))) }
+    ensures provider { infos.new.provider ≡ infos.old.provider }
+{
+    for position in 0..modules.len() {
+        add_starts_of_module(starts, address_map, infos, modules, position)?;
+    }
+    Ok(())
+}
+
+impl<'a, P: ModuleProvider> Context<'a, P> {
+    /// Where functions start, ascending and each once: the addresses of the global functions, and of the
+    /// procedures of all modules.
+    ///
+    /// # Errors
+    ///
+    /// [`Error::OutOfMemory`](crate::Error::OutOfMemory) alone.
+    #[tactic(auto, using(crate::proofs::StartLemmas::with_starts_append))]
+    pub fn start_addresses(&mut self) -> Result<Vec<u32>>
+        ensures addresses { MatchResult result
+            (λ v. v.items ≡ start_addresses P.info self.old.sources)
+            (λ e. e ≡ OutOfMemory) }
+        ensures kept { self.new ≡ self.old }
+    {
+        let mut starts = BTreeSet::new(self.alloc);
+        add_global_starts(&mut starts, self.address_map, &self.tables.global_functions)?;
+        let modules = self.formatter.modules();
+        add_module_starts(
+            &mut starts,
+            self.address_map,
+            &mut self.caches.infos,
+            modules,
+        )?;
+        let addresses = starts.into_iter().collect(self.alloc)?;
+        Ok(addresses)
+    }
+}

@@ -1,0 +1,2 @@
+pub mod CodeCacheLemmas
+pub mod OriginLemmas

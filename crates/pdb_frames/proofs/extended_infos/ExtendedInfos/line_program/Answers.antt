@@ -1,0 +1,14 @@
+use Rattle.std.proofs.Common.{sym, refl}
+use Rattle.pdb_frames.proofs.CodeCacheLemmas.{infos_same, infos_more, infos_found}
+use Rattle.pdb_frames.proofs.extended_infos.ExtendedInfos.line_program.Goals as goal
+
+pub returns-in-Some-clause-known : goal.returns-in-Some-clause-known
+returns-in-Some-clause-known g c =
+    rw (infos_found g.records c.args.position c.args.module_info.now c.in-Some.known.now c.args.self.now.kept c.requires.1 c.requires.0 (sym c.in-Some.ensures.value)) refl
+
+pub returns-in-Ok-clause-fits : goal.returns-in-Ok-clause-fits
+returns-in-Ok-clause-fits g c =
+    infos_more g.records c.args.position c.args.module_info.now c.in_ok-known.known c.args.self.now.kept c.insert.new.self c.requires.1 c.in_ok-known.ensures c.in-Ok.ensures.updates c.requires.0
+
+pub returns-clause-fits : goal.returns-clause-fits
+returns-clause-fits g c = infos_same g.records c.args.self.now.kept c.insert.new.self c.in-Err.ensures.err c.requires.0

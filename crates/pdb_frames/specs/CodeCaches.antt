@@ -1,0 +1,73 @@
+-- What is kept of modules' code, and that it is what the records say.
+use Rattle.std.specs.Prelude.{◌≡◌, ℕ, List, Option, Some, Result, Ok, option_map}
+use Rattle.std.specs.Option.{option_copied}
+use Rattle.std.specs.Borrow.{Bor}
+use Rattle.std.specs.BTreeMap.{BTreeMap, get}
+use Rattle.std.specs.Ordering.{nat_cmp, ordering_then}
+use Rattle.std.specs.declared.cmp.Ordering.{Ordering}
+use Rattle.std.specs.Global.{Vec}
+use Rattle.pdb_records.specs.LinePrograms.{Lines}
+use Rattle.pdb_records.specs.Lines.{lines_at}
+use Rattle.pdb_records.specs.Readings.{Read}
+use Rattle.pdb_records.specs.declared.lines.LineInfo.{LineInfo}
+use Rattle.pdb_records.specs.declared.modules.ModuleInfo.{ModuleInfo}
+use Rattle.pdb_types.specs.Outcomes.{and_then}
+use Rattle.pdb_types.specs.Resolution.{streamed}
+use Rattle.pdb_types.specs.declared.error.Error.{Error}
+use Rattle.pdb_inline.specs.InlineRanges.{procedure_inline_ranges}
+use Rattle.pdb_inline.specs.InlineStacks.{inline_stack}
+use Rattle.pdb_inline.specs.declared.inline_ranges.InlineRange.{InlineRange}
+use Rattle.pdb_frames.specs.ExtendedInfo.{kept_info, extended_info}
+use Rattle.pdb_frames.specs.declared.extended_info.ExtendedModuleInfo.{ExtendedModuleInfo}
+use Rattle.pdb_frames.specs.declared.code_keys.FunctionKey.{FunctionKey}
+use Rattle.pdb_frames.specs.declared.code_keys.ProcedureKey.{ProcedureKey}
+
+-- the records of modules that can be read, by the modules' positions
+abbrev pub Records : Type 0
+Records = ℕ → Option ModuleInfo
+
+-- what is kept at a position is what is known of the code of the module there
+unfoldable pub FitsInfos : Records → BTreeMap ℕ ExtendedModuleInfo → Type 0
+FitsInfos records kept =
+    (position : ℕ) (known : ExtendedModuleInfo) → get nat_cmp kept position ≡ Some known
+    → option_map extended_info (records position) ≡ Some (Ok (kept_info known))
+
+-- the order of functions: by module, section and offset
+abbrev pub function_cmp : FunctionKey → FunctionKey → Ordering
+function_cmp a b =
+    ordering_then (nat_cmp a.position b.position) (
+    ordering_then (nat_cmp a.section b.section) (nat_cmp a.offset b.offset))
+
+-- the line program of the module at a position is this one
+abbrev pub HasProgram : Records → ℕ → Lines → Type 0
+HasProgram records position program =
+    option_map (λ info. streamed info.line_program) (records position) ≡ Some (Ok program)
+
+-- the rows that are kept of a function are those of its module's line program
+unfoldable pub FitsLines : Records → BTreeMap FunctionKey (Option (Bor (Read LineInfo))) → Type 0
+FitsLines records kept =
+    (key : FunctionKey) (rows : Option (Bor (Read LineInfo))) → get function_cmp kept key ≡ Some rows
+    → (program : Lines) → HasProgram records key.position program
+    → lines_at (record { section = key.section; offset = key.offset }) program.entries ≡ option_copied rows
+
+-- the order of procedures: by module and symbols
+abbrev pub procedure_cmp : ProcedureKey → ProcedureKey → Ordering
+procedure_cmp a b =
+    ordering_then (nat_cmp a.position b.position) (
+    ordering_then (nat_cmp a.symbol b.symbol) (nat_cmp a.end b.end))
+
+-- the ranges of a procedure's code that came from inlined bodies, by the records of its module: refused for what is
+-- known of the module's code, and then for the procedure's ranges
+abbrev pub procedure_ranges : ModuleInfo → ℕ → ℕ → Result (List InlineRange) Error
+procedure_ranges info symbol end =
+    and_then (extended_info info) (λ known. procedure_inline_ranges known.inlinees info symbol end)
+
+-- the inlined bodies over an offset of a procedure, the outermost first; refused as its ranges are
+abbrev pub procedure_stack : ModuleInfo → ℕ → ℕ → ℕ → Result (List InlineRange) Error
+procedure_stack info symbol end x = and_then (procedure_ranges info symbol end) (λ ranges. Ok (inline_stack ranges x))
+
+-- the ranges that are kept of a procedure are those of its module's records
+unfoldable pub FitsRanges : Records → BTreeMap ProcedureKey (Vec InlineRange) → Type 0
+FitsRanges records kept =
+    (key : ProcedureKey) (ranges : Vec InlineRange) → get procedure_cmp kept key ≡ Some ranges
+    → option_map (λ info. procedure_ranges info key.symbol key.end) (records key.position) ≡ Some (Ok ranges.items)

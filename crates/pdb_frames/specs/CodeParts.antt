@@ -1,0 +1,84 @@
+-- The parts of the records of code that failed.
+use Rattle.std.specs.Prelude.{ℕ, Bool, true, false, List, Result, Ok, Err, if◌then◌else◌}
+use Rattle.std.specs.declared.cmp.Ordering.{Ordering}
+use Rattle.std.specs.declared.cmp.Ordering.TheVariants.{Less, Greater}
+use Rattle.std.specs.List.{list_any}
+use Rattle.std.specs.Ordering.{nat_cmp, ordering_then, is_eq}
+use Rattle.std.specs.BTreeSet.{insert_key}
+use Rattle.pdb_records.specs.LinePrograms.{Lines}
+use Rattle.pdb_records.specs.declared.addresses.PdbInternalSectionOffset.{PdbInternalSectionOffset}
+use Rattle.pdb_records.specs.declared.modules.ModuleInfo.{ModuleInfo}
+use Rattle.pdb_types.specs.Outcomes.{and_then}
+use Rattle.pdb_types.specs.declared.error.Error.{Error}
+use Rattle.pdb_types.specs.declared.error.Error.TheVariants.{ExtendedModuleInfoUnsuccessful, ProcedureLinesUnsuccessful, ProcedureInlineRangesUnsuccessful}
+use Rattle.pdb_functions.specs.Lookup.{FoundFunction}
+use Rattle.pdb_frames.specs.ExtendedInfo.{extended_info}
+use Rattle.pdb_frames.specs.Lines.{function_rows}
+use Rattle.pdb_frames.specs.Origins.{function_module, function_start}
+use Rattle.pdb_frames.specs.declared.code_parts.CodePart.{CodePart}
+use Rattle.pdb_frames.specs.declared.code_parts.CodePart.TheVariants as part
+
+-- the order of places: by section, and then by offset
+abbrev pub place_cmp : PdbInternalSectionOffset → PdbInternalSectionOffset → Ordering
+place_cmp a b = ordering_then (nat_cmp a.section b.section) (nat_cmp a.offset b.offset)
+
+-- the order of functions: by the position of the module, and then by the start
+abbrev pub function_cmp : ℕ → PdbInternalSectionOffset → ℕ → PdbInternalSectionOffset → Ordering
+function_cmp m a n b = ordering_then (nat_cmp m n) (place_cmp a b)
+
+-- the order that parts are kept in: extended infos, then lines, then inline ranges
+abbrev pub code_part_cmp : CodePart → CodePart → Ordering
+code_part_cmp (part.ExtendedInfo m) (part.ExtendedInfo n) = nat_cmp m n
+code_part_cmp (part.ExtendedInfo m) (part.Lines n b) = Less
+code_part_cmp (part.ExtendedInfo m) (part.InlineRanges n b) = Less
+code_part_cmp (part.Lines m a) (part.ExtendedInfo n) = Greater
+code_part_cmp (part.Lines m a) (part.Lines n b) = function_cmp m a n b
+code_part_cmp (part.Lines m a) (part.InlineRanges n b) = Less
+code_part_cmp (part.InlineRanges m a) (part.ExtendedInfo n) = Greater
+code_part_cmp (part.InlineRanges m a) (part.Lines n b) = Greater
+code_part_cmp (part.InlineRanges m a) (part.InlineRanges n b) = function_cmp m a n b
+
+-- a set of parts, each once and in order
+abbrev pub CodeParts : Type 0
+CodeParts = List CodePart
+
+-- a part is among those that failed
+abbrev pub has_code_failed : CodeParts → CodePart → Bool
+has_code_failed failed p = list_any (λ other. is_eq (code_part_cmp p other)) failed
+
+-- these parts, and one more
+abbrev pub with_code_part : CodeParts → CodePart → CodeParts
+with_code_part failed p = insert_key code_part_cmp failed p
+
+-- the error of a part that failed before
+abbrev pub unsuccessful_code : CodePart → Error
+unsuccessful_code (part.ExtendedInfo m) = ExtendedModuleInfoUnsuccessful
+unsuccessful_code (part.Lines m start) = ProcedureLinesUnsuccessful
+unsuccessful_code (part.InlineRanges m start) = ProcedureInlineRangesUnsuccessful
+
+-- what a part tells that is met broken: that it failed before, where it did, else its own error
+abbrev pub code_part_error : CodeParts → CodePart → Error → Error
+code_part_error failed p e = if has_code_failed failed p then unsuccessful_code p else e
+
+-- there is an error in place of an answer
+abbrev pub is_refused : {A E : Type 0} → Result A E → Bool
+is_refused (Ok answer) = false
+is_refused (Err e) = true
+
+-- the lines of the function at a start could not be read
+abbrev pub has_broken_lines : Lines → PdbInternalSectionOffset → Bool
+has_broken_lines program start = is_refused (function_rows program start)
+
+-- the part that is to blame where it is refused where a function's code comes from, once it is known what is known of
+-- the module's code: the function's lines, else its inline ranges
+abbrev pub blame_behind : ℕ → PdbInternalSectionOffset → Result Lines Error → CodePart
+blame_behind m start (Ok program) =
+    if has_broken_lines program start then part.Lines m start else part.InlineRanges m start
+blame_behind m start (Err e) = part.ExtendedInfo m
+
+-- the part that is to blame where it is refused where a function's code comes from: what is known of the module's code,
+-- then the function's lines, then its inline ranges
+abbrev pub part_to_blame : ModuleInfo → FoundFunction → CodePart
+part_to_blame info found =
+    let program = and_then (extended_info info) (λ known. Ok known.line_program) in
+    blame_behind (function_module found) (function_start found) program

@@ -1,0 +1,120 @@
+ghost use Rattle.std.specs.Prelude.{◌≡◌, [], IfOk, OnOk, OnErr};
+ghost use Rattle.pdb_functions.specs.Lookup.{found_function};
+ghost use Rattle.pdb_frames.specs.CodeParts.{code_part_error, has_code_failed, with_code_part, unsuccessful_code, has_broken_lines, part_to_blame};
+
+use crate::origins::{function_module, function_start};
+use pdb_functions::PublicOrProcedureSymbol;
+use pdb_records::{LineProgram, ModuleInfo, PdbInternalSectionOffset};
+use pdb_types::Error;
+use std::alloc::{AllocError, Global};
+use std::collections::BTreeSet;
+use std::marker::Model;
+
+/// A part of the records of code that may be broken by itself: by the position of its module, and by the
+/// start of its function where it is a function's.
+#[derive(Clone, Copy, PartialEq, Eq, PartialOrd, Ord)]
+pub enum CodePart {
+    /// What is known of a module's code: its line program and its list of inlinees.
+    ExtendedInfo(usize),
+    /// The lines of a function.
+    Lines(usize, PdbInternalSectionOffset),
+    /// The inline ranges of a procedure.
+    InlineRanges(usize, PdbInternalSectionOffset),
+}
+
+/// The parts of the records of code that were met broken.
+#[derive(Drop)]
+pub struct FailedCodeParts {
+    parts: BTreeSet<CodePart>,
+}
+
+impl Model for FailedCodeParts {
+    ghost use Rattle.std.specs.Prelude.{List};
+    ghost use Rattle.pdb_frames.specs.declared.code_parts.CodePart.{CodePart};
+
+    ghost Value = { List CodePart };
+
+    ghost view = { λ f. f.parts.keys };
+}
+
+/// The error of a part that failed before.
+fn unsuccessful(part: CodePart) -> Error
+    ensures { result ≡ unsuccessful_code part }
+{
+    match part {
+        CodePart::ExtendedInfo(_) => Error::ExtendedModuleInfoUnsuccessful,
+        CodePart::Lines(_, _) => Error::ProcedureLinesUnsuccessful,
+        CodePart::InlineRanges(_, _) => Error::ProcedureInlineRangesUnsuccessful,
+    }
+}
+
+impl FailedCodeParts {
+    /// No part. It takes no memory.
+    pub fn new(alloc: Global) -> Self
+        ensures { result ≡ [] }
+    {
+        FailedCodeParts {
+            parts: BTreeSet::new(alloc),
+        }
+    }
+
+    /// What a part that is met broken tells: its own error where it is new, and then it is remembered,
+    /// else that it failed before. Where there is no memory to remember it, nothing changes.
+    pub fn ask(&mut self, part: CodePart, error: Error) -> Result<Error, AllocError>
+        ensures told { IfOk result (λ e. e ≡ code_part_error self.old part error) }
+        ensures added { OnOk result (self.new ≡ with_code_part self.old part) }
+        ensures refused { OnErr result (self.new ≡ self.old) }
+    {
+        let failed_before = self.has_failed(part);
+        self.add(part)?;
+        if failed_before {
+            return Ok(unsuccessful(part));
+        }
+        Ok(error)
+    }
+
+    /// Whether a part was met broken before.
+    fn has_failed(&self, part: CodePart) -> bool
+        ensures { result ≡ has_code_failed self.now part }
+    {
+        self.parts.contains(&part)
+    }
+
+    /// Remembers a part. Where there is no memory for it, nothing changes.
+    fn add(&mut self, part: CodePart) -> Result<(), AllocError>
+        ensures added { OnOk result (self.new ≡ with_code_part self.old part) }
+        ensures refused { OnErr result (self.new ≡ self.old) }
+    {
+        match self.parts.insert(part) {
+            Ok(_) => Ok(()),
+            Err(_) => Err(AllocError),
+        }
+    }
+}
+
+/// Whether the lines of the function at a start could not be read.
+fn has_broken_lines(line_program: &LineProgram, start: PdbInternalSectionOffset) -> bool
+    ensures { result ≡ has_broken_lines line_program.now start }
+{
+    match line_program.lines_for_symbol(start) {
+        Some(rows) => rows.fault.is_some(),
+        None => false,
+    }
+}
+
+/// The part of the records that is to blame where it is refused where the code of a function comes from: what
+/// is known of the module's code, then the function's lines, then its inline ranges.
+pub fn part_to_blame(module_info: &ModuleInfo, function: PublicOrProcedureSymbol<'_>) -> CodePart
+    ensures { result ≡ part_to_blame module_info.now (found_function function.entry) }
+{
+    let module_index = function_module(function);
+    let start = function_start(function);
+    match &module_info.line_program {
+        Ok(_) if module_info.inlinees.fault.is_some() => CodePart::ExtendedInfo(module_index),
+        Ok(line_program) if has_broken_lines(line_program, start) => {
+            CodePart::Lines(module_index, start)
+        }
+        Ok(_) => CodePart::InlineRanges(module_index, start),
+        Err(_) => CodePart::ExtendedInfo(module_index),
+    }
+}

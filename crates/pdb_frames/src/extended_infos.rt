@@ -1,0 +1,93 @@
+ghost use Rattle.std.specs.Prelude.{◌≡◌, [], Some, Ok, IfOk};
+ghost use Rattle.pdb_types.specs.Outcomes.{Gives, and_then};
+ghost use Rattle.pdb_types.specs.Resolution.{streamed};
+ghost use Rattle.pdb_inline.specs.InlineRanges.{procedure_inline_ranges};
+ghost use Rattle.pdb_frames.specs.ExtendedInfo.{extended_info};
+ghost use Rattle.pdb_frames.specs.CodeCaches.{Records, FitsInfos, procedure_ranges};
+
+use crate::extended_info::{ExtendedModuleInfo, compute_extended_module_info};
+use crate::inline_ranges::compute_procedure_inline_ranges;
+use pdb_functions::ProcedureSymbolFunction;
+use pdb_inline::InlineRange;
+use pdb_records::{LineProgram, ModuleInfo};
+use pdb_types::{Error, Result};
+use std::alloc::Global;
+use std::collections::BTreeMap;
+
+/// What is known of modules' code, beside their procedures, by the modules' positions. It is read once.
+#[derive(Drop)]
+pub struct ExtendedInfos<'a> {
+    pub(crate) alloc: Global,
+    pub(crate) kept: BTreeMap<usize, ExtendedModuleInfo<'a>>,
+}
+
+impl<'a> ExtendedInfos<'a> {
+    /// Nothing yet. It takes no memory.
+    pub fn new(alloc: Global) -> Self
+        ghost records: { Records }
+        ensures { FitsInfos records result.kept }
+    {
+        ExtendedInfos {
+            alloc,
+            kept: BTreeMap::new(alloc),
+        }
+    }
+
+    /// The line program of the module at a position, once all is known of its code that can be.
+    ///
+    /// # Errors
+    ///
+    /// [`Error::PdbError`] for a line program that could not be read, and then for the fault of the list of
+    /// inlinees.
+    pub fn line_program(
+        &mut self,
+        position: usize,
+        module_info: &'a ModuleInfo,
+    ) -> Result<&'a LineProgram>
+        ghost records: { Records }
+        requires fits { FitsInfos records self.old.kept }
+        requires module_info { records position ≡ Some module_info.now }
+        ensures known { Gives (λ p. p.now) result
+            (and_then (extended_info module_info.now) (λ known. Ok known.line_program)) }
+        ensures fits { FitsInfos records self.new.kept }
+    {
+        if let Some(known) = self.kept.get(&position) {
+            return Ok(known.line_program);
+        }
+        let known = compute_extended_module_info(self.alloc, module_info)?;
+        let line_program = known.line_program;
+        match self.kept.insert(position, known) {
+            Ok(_) => Ok(line_program),
+            Err(_) => Err(Error::OutOfMemory),
+        }
+    }
+
+    /// The ranges of a procedure's code that came from inlined bodies, by depth and start.
+    ///
+    /// # Errors
+    ///
+    /// As of [`ExtendedInfos::line_program`], and then as of [`compute_procedure_inline_ranges`].
+    pub fn inline_ranges(
+        &self,
+        position: usize,
+        module_info: &ModuleInfo,
+        procedure: &ProcedureSymbolFunction<'_>,
+    ) -> Result<Vec<InlineRange>>
+        ghost records: { Records }
+        requires fits { FitsInfos records self.now.kept }
+        requires module_info { records position ≡ Some module_info.now }
+        ensures { Gives (λ v. v.items) result (procedure_ranges module_info.now
+            procedure.now.symbol_index.0 procedure.now.end_symbol_index.0) }
+    {
+        if let Some(known) = self.kept.get(&position) {
+            return compute_procedure_inline_ranges(
+                self.alloc,
+                module_info,
+                procedure,
+                &known.inlinees,
+            );
+        }
+        let known = compute_extended_module_info(self.alloc, module_info)?;
+        compute_procedure_inline_ranges(self.alloc, module_info, procedure, &known.inlinees)
+    }
+}

@@ -1,0 +1,71 @@
+ghost use Rattle.std.specs.Prelude.{◌≡◌, Some};
+ghost use Rattle.pdb_types.specs.Outcomes.{Gives};
+ghost use Rattle.pdb_frames.specs.CodeCaches.{Records, FitsInfos, FitsRanges, procedure_stack};
+
+use crate::code_keys::ProcedureKey;
+use crate::extended_infos::ExtendedInfos;
+use pdb_functions::ProcedureSymbolFunction;
+use pdb_inline::{InlineRange, inline_stack};
+use pdb_records::ModuleInfo;
+use pdb_types::{Error, Result};
+use std::alloc::Global;
+use std::collections::BTreeMap;
+
+/// The ranges of procedures' code that came from inlined bodies, by their modules' positions and their
+/// symbols. A procedure's symbols are walked once.
+#[derive(Drop)]
+pub struct ProcedureRanges {
+    pub(crate) alloc: Global,
+    pub(crate) kept: BTreeMap<ProcedureKey, Vec<InlineRange>>,
+}
+
+impl ProcedureRanges {
+    /// Nothing yet. It takes no memory.
+    pub fn new(alloc: Global) -> Self
+        ghost records: { Records }
+        ensures { FitsRanges records result.kept }
+    {
+        ProcedureRanges {
+            alloc,
+            kept: BTreeMap::new(alloc),
+        }
+    }
+
+    /// The inlined bodies over an offset of a procedure, the outermost first, by the records of the module
+    /// at a position.
+    ///
+    /// # Errors
+    ///
+    /// As of [`ExtendedInfos::inline_ranges`].
+    pub fn stack(
+        &mut self,
+        infos: &ExtendedInfos<'_>,
+        position: usize,
+        module_info: &ModuleInfo,
+        procedure: &ProcedureSymbolFunction<'_>,
+        offset: u32,
+    ) -> Result<Vec<InlineRange>>
+        ghost records: { Records }
+        requires infos { FitsInfos records infos.now.kept }
+        requires fits { FitsRanges records self.old.kept }
+        requires module_info { records position ≡ Some module_info.now }
+        ensures stack { Gives (λ v. v.items) result (procedure_stack module_info.now
+            procedure.now.symbol_index.0 procedure.now.end_symbol_index.0 offset) }
+        ensures fits { FitsRanges records self.new.kept }
+    {
+        let key = ProcedureKey {
+            position,
+            symbol: procedure.symbol_index.0,
+            end: procedure.end_symbol_index.0,
+        };
+        if let Some(ranges) = self.kept.get(&key) {
+            return Ok(inline_stack(self.alloc, ranges, u64::from(offset))?);
+        }
+        let ranges = infos.inline_ranges(position, module_info, procedure)?;
+        let stack = inline_stack(self.alloc, &ranges, u64::from(offset))?;
+        match self.kept.insert(key, ranges) {
+            Ok(_) => Ok(stack),
+            Err(_) => Err(Error::OutOfMemory),
+        }
+    }
+}

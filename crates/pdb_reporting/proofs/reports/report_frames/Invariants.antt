@@ -1,0 +1,14 @@
+use Rattle.std.proofs.Common.{◌≡◌, take}
+use Rattle.pdb_reporting.specs.Reports.{stack_text, addresses_text, TakesText}
+use Rattle.pdb_reporting.proofs.reports.report_frames.Given as goal
+
+-- the sink holds the texts of the addresses so far
+abbrev pub invariant-loop-address : goal.invariant-loop-address
+invariant-loop-address g l =
+    let state = g.W.Sink.state in
+    let text_of = stack_text g.P.ModuleProvider.info l.initial.context.sources l.initial.context.code_failed in
+    record {
+      same : l.context.sources ≡ l.initial.context.sources;
+      same_code : l.context.code_failed ≡ l.initial.context.code_failed;
+      taken : TakesText (addresses_text text_of (take l.address-index l.addresses)) (state l.initial.sink) (state l.sink);
+    }

@@ -1,0 +1,37 @@
+use Rattle.std.proofs.Common.{◌≡◌, ◌∙◌, ◌<◌, [], ◌∷◌, length, get_or, take, ap, subst, arith}
+use Rattle.pdb_addr2line.specs.Functions.{functions_at, start_addresses}
+use Rattle.pdb_reporting.specs.PrintedLines.{list_text}
+use Rattle.pdb_reporting.specs.Reports.{EndsListEarly}
+use Rattle.pdb_reporting.specs.Sinks.{Takes}
+use Rattle.pdb_reporting.proofs.ListLemmas.{takes_one_listed, ends_listed, ends_with}
+use Rattle.pdb_reporting.proofs.reports.report_list.Goals as goal
+
+pub loop-start-preserved : goal.loop-start-preserved
+loop-start-preserved g c =
+    let state = g.W.Sink.state in
+    let info = g.P.ModuleProvider.info in
+    let sources = c.args.context.now.sources in
+    let starts = c.deref-start-items.result.now in
+    let i = c.loop-start.start-index in
+    let below : i < length starts = omega arith in
+    let next : Takes (state c.loop-start.sink) (state c.put_listed.new.sink) (list_text (functions_at info sources (get_or starts i 0 ∷ []))) =
+    rw c.loop-start.invariant.same at c.in_ok-put_listed.ensures.text in
+    record {
+      same = c.put_listed.ensures.sources ∙ c.loop-start.invariant.same;
+      taken = takes_one_listed info sources starts i (state c.args.sink.now) (state c.loop-start.sink) (state c.put_listed.new.sink) below c.loop-start.invariant.taken next;
+    }
+
+pub returns-in_err-put_listed-clause-fault : goal.returns-in_err-put_listed-clause-fault
+returns-in_err-put_listed-clause-fault g c =
+    let state = g.W.Sink.state in
+    let info = g.P.ModuleProvider.info in
+    let sources = c.args.context.now.sources in
+    let starts = c.deref-start-items.result.now in
+    let is : starts ≡ start_addresses info sources = c.deref-start-items.ensures.value ∙ c.in_ok-starts.ensures.addresses in
+    let fault = c.in_err-put_listed.field-0.0 in
+    let before = state c.args.sink.now in
+    let after = state c.put_listed.new.sink in
+    let amid : EndsListEarly (functions_at info sources starts) before after fault =
+    ends_listed info sources starts c.loop-start.start-index before (state c.loop-start.sink) after c.loop-start.invariant.taken fault c.in_err-put_listed.ensures.fault in
+    let ends = subst (λ xs. EndsListEarly (functions_at info sources xs) before after fault) is amid in
+    ends_with _ fault (functions_at info sources (start_addresses info sources)) before after c.from_residual-in_err-put_listed.ensures.1 ends

@@ -1,0 +1,17 @@
+use Rattle.std.proofs.Common.{◌∙◌, ◌<◌, length, get_or, arith}
+use Rattle.pdb_reporting.specs.Reports.{function_text, TakesText}
+use Rattle.pdb_reporting.proofs.ReportLemmas.{takes_one_more}
+use Rattle.pdb_reporting.proofs.reports.report_names.Goals as goal
+
+pub loop-address-preserved : goal.loop-address-preserved
+loop-address-preserved g c =
+    let state = g.W.Sink.state in
+    let text_of = function_text g.P.ModuleProvider.info c.args.context.now.sources in
+    let address = get_or c.args.addresses.now c.loop-address.address-index 0 in
+    let below : c.loop-address.address-index < length c.args.addresses.now = omega arith in
+    let text : TakesText (text_of address) (state c.loop-address.sink) (state c.put_function.new.sink) =
+    rw c.loop-address.invariant.same at c.in_ok-put_function.ensures.text in
+    record {
+      same = c.put_function.ensures.sources ∙ c.loop-address.invariant.same;
+      taken = takes_one_more text_of c.args.addresses.now c.loop-address.address-index (state c.args.sink.now) (state c.loop-address.sink) (state c.put_function.new.sink) below c.loop-address.invariant.taken text;
+    }

@@ -1,0 +1,13 @@
+use Rattle.std.proofs.Common.{◌≡◌, take}
+use Rattle.pdb_reporting.specs.Reports.{function_text, addresses_text, TakesText}
+use Rattle.pdb_reporting.proofs.reports.report_names.Given as goal
+
+-- the sink holds the texts of the addresses so far
+abbrev pub invariant-loop-address : goal.invariant-loop-address
+invariant-loop-address g l =
+    let state = g.W.Sink.state in
+    let text_of = function_text g.P.ModuleProvider.info l.initial.context.sources in
+    record {
+      same : l.context.sources ≡ l.initial.context.sources;
+      taken : TakesText (addresses_text text_of (take l.address-index l.addresses)) (state l.initial.sink) (state l.sink);
+    }
