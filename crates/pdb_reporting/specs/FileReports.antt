@@ -43,7 +43,8 @@ pub record EndsBefore (made : Result (Sources Records) Error) (before after : Si
   pub same : after ≡ before
 
 -- why a report over records ends early: before its first text, or else amid its texts
-abbrev pub EndsOver : Command → List ℕ → Result (Sources Records) Error → SinkState → SinkState → ReportFault → Type 0
+abbrev pub EndsOver : Command → List ℕ → Result (Sources Records) Error → SinkState → SinkState → ReportFault
+    → Type 0
 EndsOver command addresses made before after (Lookup error) =
     EndsBefore made before after error ⊎ EndsAmid command addresses made before after (Lookup error)
 EndsOver command addresses made before after Write = EndsAmid command addresses made before after Write

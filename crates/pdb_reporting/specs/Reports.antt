@@ -82,8 +82,8 @@ EndsListEarly functions before after (Lookup error) = EndsAmidList functions bef
 EndsListEarly functions before after Write = after.failed ≡ true
 
 -- why a report ends early, by its command
-abbrev pub EndsEarly : {P : Type 0} → (P → Infos) → Sources P → CodeParts → Command → List ℕ → SinkState → SinkState
-    → ReportFault → Type 0
+abbrev pub EndsEarly : {P : Type 0} → (P → Infos) → Sources P → CodeParts → Command → List ℕ
+    → SinkState → SinkState → ReportFault → Type 0
 EndsEarly info sources failed Names addresses before after fault =
     EndsAmidTexts (function_text info sources) addresses before after fault
 EndsEarly info sources failed Frames addresses before after fault =
