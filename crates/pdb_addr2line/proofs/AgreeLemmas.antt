@@ -12,10 +12,10 @@ use Rattle.pdb_functions.specs.Lookup.{FoundFunction, found_procedure, found_glo
 use Rattle.pdb_frames.specs.Frame.{FramesDescription}
 use Rattle.pdb_frames.specs.Origins.{function_start}
 use Rattle.pdb_addr2line.specs.FrameLaws.{Agree}
-use Rattle.pdb_addr2line.specs.Frames.{function_size}
-use Rattle.pdb_addr2line.specs.Function.{Description, described, global_end, sum_in_32_bits}
+use Rattle.pdb_descriptions.specs.Frames.{function_size}
+use Rattle.pdb_descriptions.specs.Function.{Description, described, global_end, sum_in_32_bits}
 use Rattle.pdb_addr2line.specs.Lookups.{found_at, function_at, frames_at}
-use Rattle.pdb_addr2line.specs.Names.{function_name}
+use Rattle.pdb_descriptions.specs.Names.{function_name}
 use Rattle.pdb_addr2line.specs.Sources.{Sources, global_functions_of}
 use Rattle.pdb_addr2line.proofs.FrameLawLemmas.{told_somewhere, ended_in_name}
 

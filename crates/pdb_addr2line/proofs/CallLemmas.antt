@@ -1,5 +1,5 @@
 -- Which parts of the records failed before changes no answer but an error.
-use Rattle.std.proofs.Common.{◌≡◌, ◌∙◌, ℕ, List, [], ◌∷◌, ◌++◌, sym, ap, refl}
+use Rattle.std.proofs.Common.{◌≡◌, ◌∙◌, ℕ, List, [], ◌∷◌, sym, ap, refl}
 use Rattle.std.specs.Prelude.{Option, Some, None, Result, Ok, Err, map, option_map}
 use Rattle.std.specs.Result.{result_ok}
 use Rattle.pdb_types.specs.FailedParts.{Parts}
@@ -8,19 +8,19 @@ use Rattle.pdb_types.specs.declared.error.Error.{Error}
 use Rattle.pdb_frames.specs.CodeParts.{CodeParts}
 use Rattle.pdb_frames.specs.Frame.{FramesDescription}
 use Rattle.pdb_frames.specs.declared.code_parts.CodePart.{CodePart}
-use Rattle.pdb_signatures.specs.Documents.{Failure, Document, Run, run}
-use Rattle.pdb_signatures.specs.Ids.{id_of_index}
-use Rattle.pdb_signatures.specs.Printed.{document_of}
-use Rattle.pdb_signatures.specs.Signatures.{signature}
-use Rattle.pdb_signatures.specs.Worlds.{formatter_world}
-use Rattle.pdb_addr2line.specs.Calls.{ToldAnswer, ToldFrames, ToldText, answer_to, after_call, after_calls, answers_to, printed, text_unless, successful, fresh}
+use Rattle.pdb_documents.specs.Documents.{Failure, Document, run}
+use Rattle.pdb_documents.specs.Ids.{id_of_index}
+use Rattle.pdb_documents.specs.Printed.{document_of}
+use Rattle.pdb_documents.specs.Signatures.{signature}
+use Rattle.pdb_documents.specs.Worlds.{formatter_world}
+use Rattle.pdb_addr2line.specs.Calls.{ToldAnswer, ToldFrames, ToldText, answer_to, after_call, answers_to, printed, text_unless, successful, fresh}
 use Rattle.pdb_addr2line.specs.declared.calls.Call.{Call}
 use Rattle.pdb_addr2line.specs.declared.calls.Call.TheVariants.{FindFunction, FindFrames, Functions, FunctionCount, TypeSize, FormatFunction, FormatId}
 use Rattle.pdb_addr2line.specs.Functions.{after_function, after_functions, start_addresses}
 use Rattle.pdb_addr2line.specs.Lookups.{frames_at, frames_told, blamed_at, told_refusal}
-use Rattle.pdb_addr2line.specs.Names.{faultless, text_of_run}
-use Rattle.pdb_addr2line.specs.Sources.{ContextState, Sources}
-use Rattle.pdb_addr2line.proofs.NameLemmas.{same-text}
+use Rattle.pdb_descriptions.specs.Names.{faultless}
+use Rattle.pdb_addr2line.specs.Sources.{ContextState}
+use Rattle.pdb_descriptions.proofs.NameLemmas.{same-text}
 
 -- a refusal is a refusal, whatever is told of it
 answer_of_told : {A : Type 0} (failed : CodeParts) (part : Option CodePart) (answer : Result A Error)

@@ -15,10 +15,10 @@ use Rattle.pdb_functions.specs.Lookup.{FoundFunction}
 use Rattle.pdb_frames.specs.Frame.{FrameDescription, FramesDescription}
 use Rattle.pdb_frames.specs.Origins.{Origin, function_module, function_start, origin}
 use Rattle.pdb_addr2line.specs.FrameLaws.{EndIn}
-use Rattle.pdb_addr2line.specs.Frames.{Strings, own_frame, inlined_frames, origin_frames, function_frames, function_size}
-use Rattle.pdb_addr2line.specs.Function.{sum_in_32_bits}
+use Rattle.pdb_descriptions.specs.Frames.{Strings, own_frame, inlined_frames, origin_frames, function_frames, function_size}
+use Rattle.pdb_descriptions.specs.Function.{sum_in_32_bits}
 use Rattle.pdb_addr2line.specs.Lookups.{found_at, frames_of, frames_at, records_of}
-use Rattle.pdb_addr2line.specs.Names.{function_name, id_name}
+use Rattle.pdb_descriptions.specs.Names.{function_name, id_name}
 use Rattle.pdb_addr2line.specs.Sources.{Sources, global_functions_of}
 
 -- the frames of a function that was found

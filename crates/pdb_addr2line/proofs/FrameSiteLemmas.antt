@@ -25,9 +25,9 @@ use Rattle.pdb_frames.specs.Frame.{FrameDescription, FramesDescription}
 use Rattle.pdb_frames.specs.Lines.{function_row, read_whole}
 use Rattle.pdb_frames.specs.Origins.{Origin, function_ranges, origin}
 use Rattle.pdb_addr2line.specs.FrameLaws.{sites_of, AreNestedFrames}
-use Rattle.pdb_addr2line.specs.Frames.{Strings, own_frame, inlined_frame, function_frames}
+use Rattle.pdb_descriptions.specs.Frames.{Strings, own_frame, inlined_frame, function_frames}
 use Rattle.pdb_addr2line.specs.Lookups.{found_at, frames_at, records_of}
-use Rattle.pdb_addr2line.specs.Names.{function_name, id_name}
+use Rattle.pdb_descriptions.specs.Names.{function_name, id_name}
 use Rattle.pdb_addr2line.specs.Sources.{Sources, global_functions_of}
 use Rattle.pdb_addr2line.proofs.FrameLawLemmas.{told_at}
 use Rattle.pdb_addr2line.proofs.FrameLevelLemmas.{and_then-ok, unless-ok, known_inlinees, known_with}

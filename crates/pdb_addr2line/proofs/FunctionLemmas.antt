@@ -5,7 +5,6 @@ use Rattle.std.proofs.lemmas.List.{take_more}
 use Rattle.std.proofs.lemmas.List.Elements.{filter_map-append}
 use Rattle.std.proofs.lemmas.List.Sums.{fold-append}
 use Rattle.pdb_types.specs.Standing.{Infos}
-use Rattle.pdb_signatures.proofs.ReadLemmas.{adds_none}
 use Rattle.pdb_addr2line.specs.Functions.{functions_at, after_function, after_functions, OnlyGainsBroken, IsCutShort}
 use Rattle.pdb_addr2line.specs.Lookups.{function_at}
 use Rattle.pdb_addr2line.specs.Sources.{Sources, ContextState}

@@ -8,8 +8,8 @@ use Rattle.std.proofs.lemmas.List.Sums.{fold-append}
 use Rattle.pdb_types.specs.declared.error.Error.{Error}
 use Rattle.pdb_types.specs.declared.error.Error.TheVariants.{OutOfMemory}
 use Rattle.pdb_types.specs.Standing.{Infos}
-use Rattle.pdb_addr2line.specs.declared.function.Function.{Function}
-use Rattle.pdb_addr2line.specs.Function.{description}
+use Rattle.pdb_descriptions.specs.declared.function.Function.{Function}
+use Rattle.pdb_descriptions.specs.Function.{description}
 use Rattle.pdb_addr2line.specs.Functions.{functions_at, after_function, OnlyGainsBroken}
 use Rattle.pdb_addr2line.specs.FunctionSteps.{Passes, Tells}
 use Rattle.pdb_addr2line.specs.Lookups.{function_at}

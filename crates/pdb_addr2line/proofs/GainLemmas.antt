@@ -1,20 +1,15 @@
 -- The parts that failed grow by broken ones alone.
-use Rattle.std.proofs.Common.{◌≡◌, ◌∙◌, ℕ, List, [], ◌∷◌, ◌++◌, sym, ap, refl}
+use Rattle.std.proofs.Common.{◌≡◌, ◌∙◌, ℕ, List, [], ◌∷◌, ◌++◌, ap, refl}
 use Rattle.std.specs.List.{AllByRecursion}
-use Rattle.pdb_types.specs.FailedParts.{Parts, with_part}
+use Rattle.pdb_types.specs.FailedParts.{Parts}
 use Rattle.pdb_types.specs.Standing.{Basis, Infos}
 use Rattle.pdb_types.specs.declared.unread.Part.{Part}
-use Rattle.pdb_signatures.specs.BrokenParts.{AddsBroken, IsBroken, with_parts}
-use Rattle.pdb_signatures.specs.Worlds.{formatter_world}
+use Rattle.pdb_documents.specs.BrokenParts.{IsBroken, with_parts}
+use Rattle.pdb_documents.specs.Worlds.{formatter_world}
+use Rattle.pdb_documents.proofs.MetLemmas.{with_parts-append}
 use Rattle.pdb_addr2line.specs.Functions.{OnlyGainsBroken}
-use Rattle.pdb_addr2line.specs.Names.{GainsBroken, GainsBrokenParts, IsBrokenForSome}
+use Rattle.pdb_descriptions.specs.Names.{GainsBroken, GainsBrokenParts, IsBrokenForSome}
 use Rattle.pdb_addr2line.specs.Sources.{ContextState}
-
--- parts that are added one after the other are added together
-with_parts_twice : (failed : Parts) (first second : List Part)
-    → with_parts (with_parts failed first) second ≡ with_parts failed (first ++ second)
-with_parts_twice failed [] second = refl
-with_parts_twice failed (part ∷ first) second = with_parts_twice (with_part failed part) first second
 
 -- what holds of all of two lists holds of all of both together
 all_of_both : (holds : Part → Type 0) (first second : List Part) → AllByRecursion holds first
@@ -52,7 +47,7 @@ pub gains_twice : {P : Type 0} (info : P → Infos) (basis : Basis P) (old betwe
 gains_twice info basis old between new first second = record {
   added = first.added ++ second.added;
   broken = all_of_both (IsBrokenForSome info basis) first.added second.added first.broken second.broken;
-  is = second.is ∙ ap (λ failed. with_parts failed second.added) first.is ∙ with_parts_twice old first.added second.added;
+  is = second.is ∙ ap (λ failed. with_parts failed second.added) first.is ∙ with_parts-append old first.added second.added;
 }
 
 -- a context only gains broken parts, where one module that asked met them

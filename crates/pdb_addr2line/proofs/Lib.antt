@@ -1,5 +1,3 @@
-pub mod NameLemmas
-pub mod FrameLemmas
 pub mod FrameLawLemmas
 pub mod FrameLevelLemmas
 pub mod AgreeLemmas

@@ -8,13 +8,13 @@ use Rattle.pdb_types.specs.Standing.{Infos}
 use Rattle.pdb_types.specs.TypeSizes.{size_of}
 use Rattle.pdb_types.specs.declared.error.Error.{Error}
 use Rattle.pdb_frames.specs.Frame.{FramesDescription}
-use Rattle.pdb_signatures.specs.Documents.{Failure, failure_error, Run}
-use Rattle.pdb_signatures.specs.Printed.{signature_run, id_run}
+use Rattle.pdb_documents.specs.Documents.{Failure, failure_error, Run}
+use Rattle.pdb_documents.specs.Printed.{signature_run, id_run}
 use Rattle.pdb_addr2line.specs.declared.calls.Call.{Call}
 use Rattle.pdb_addr2line.specs.declared.calls.Call.TheVariants.{FindFunction, FindFrames, Functions, FunctionCount, TypeSize, FormatFunction, FormatId}
 use Rattle.pdb_addr2line.specs.declared.calls.Answer.{Answer}
 use Rattle.pdb_addr2line.specs.declared.calls.Answer.TheVariants as answer
-use Rattle.pdb_addr2line.specs.Function.{Description, description}
+use Rattle.pdb_descriptions.specs.Function.{Description, description}
 use Rattle.pdb_addr2line.specs.Functions.{functions_of, after_function, start_addresses, after_functions, OnlyGainsBroken}
 use Rattle.pdb_addr2line.specs.Lookups.{function_at, frames_told, failed_after_frames, code_failed_after}
 use Rattle.pdb_addr2line.specs.Sources.{ContextState, Sources, global_functions_of}

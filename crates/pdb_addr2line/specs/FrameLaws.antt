@@ -10,8 +10,8 @@ use Rattle.pdb_inline.specs.Sites.{Site, depth, walk}
 use Rattle.pdb_inline.specs.declared.inline_ranges.InlineRange.{InlineRange}
 use Rattle.pdb_frames.specs.ExtendedInfo.{inlinee_ids}
 use Rattle.pdb_frames.specs.Frame.{FrameDescription, FramesDescription}
-use Rattle.pdb_addr2line.specs.Frames.{Strings, inlined_frame}
-use Rattle.pdb_addr2line.specs.Function.{Description}
+use Rattle.pdb_descriptions.specs.Frames.{Strings, inlined_frame}
+use Rattle.pdb_descriptions.specs.Function.{Description}
 
 -- the inline sites of a procedure, by the records of its module
 abbrev pub sites_of : ModuleInfo → ModuleProcedure → List Site

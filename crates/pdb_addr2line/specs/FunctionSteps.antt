@@ -4,9 +4,9 @@ use Rattle.std.specs.Vec.Iter.{into_iter_items}
 use Rattle.pdb_types.specs.declared.error.Error.{Error}
 use Rattle.pdb_types.specs.declared.error.Error.TheVariants.{OutOfMemory}
 use Rattle.pdb_types.specs.Standing.{Infos}
-use Rattle.pdb_addr2line.specs.declared.function.Function.{Function}
+use Rattle.pdb_descriptions.specs.declared.function.Function.{Function}
 use Rattle.pdb_addr2line.specs.declared.functions.FunctionIter.{FunctionIter}
-use Rattle.pdb_addr2line.specs.Function.{Description, description}
+use Rattle.pdb_descriptions.specs.Function.{Description, description}
 use Rattle.pdb_addr2line.specs.Functions.{functions_at, after_function, after_functions, OnlyGainsBroken}
 use Rattle.pdb_addr2line.specs.Lookups.{function_at}
 use Rattle.pdb_addr2line.specs.Sources.{ContextState}

@@ -10,9 +10,9 @@ use Rattle.pdb_records.specs.declared.addresses.PdbInternalSectionOffset.{PdbInt
 use Rattle.pdb_records.specs.declared.debug_information.Module.{Module}
 use Rattle.pdb_types.specs.Standing.{Infos}
 use Rattle.pdb_functions.specs.Procedures.{ModuleProcedure, provided_procedures}
-use Rattle.pdb_addr2line.specs.Function.{Description}
+use Rattle.pdb_descriptions.specs.Function.{Description}
 use Rattle.pdb_addr2line.specs.Lookups.{function_at, failed_after}
-use Rattle.pdb_addr2line.specs.Names.{GainsBrokenParts}
+use Rattle.pdb_descriptions.specs.Names.{GainsBrokenParts}
 use Rattle.pdb_addr2line.specs.Sources.{Sources, ContextState, global_functions_of}
 
 -- the procedures of modules whose positions are counted from here on, module by module

@@ -20,13 +20,14 @@ pub use Rattle.pdb_frames.specs.ExtendedInfo
 pub use Rattle.pdb_frames.specs.Origins
 pub use Rattle.pdb_frames.specs.Frame
 pub mod Sources
-pub mod Names
-pub mod Function
+pub use Rattle.pdb_descriptions.specs.Names
+pub use Rattle.pdb_descriptions.specs.KeptNames
+pub use Rattle.pdb_descriptions.specs.Function
 pub mod Lookups
 pub mod Functions
 pub mod FunctionSteps
 pub mod FunctionLaws
-pub mod Frames
+pub use Rattle.pdb_descriptions.specs.Frames
 pub mod Calls
 pub mod FrameLaws
 pub mod ContextData

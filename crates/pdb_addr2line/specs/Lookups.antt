@@ -14,9 +14,9 @@ use Rattle.pdb_types.specs.declared.error.Error.{Error}
 use Rattle.pdb_frames.specs.CodeParts.{CodeParts, part_to_blame, code_part_error, with_code_part}
 use Rattle.pdb_frames.specs.Frame.{FramesDescription}
 use Rattle.pdb_frames.specs.declared.code_parts.CodePart.{CodePart}
-use Rattle.pdb_addr2line.specs.Frames.{described_frames, failed_by_frames}
+use Rattle.pdb_descriptions.specs.Frames.{described_frames, failed_by_frames}
 use Rattle.pdb_frames.specs.Origins.{function_module}
-use Rattle.pdb_addr2line.specs.Function.{Description, described, failed_by_telling}
+use Rattle.pdb_descriptions.specs.Function.{Description, described, failed_by_telling}
 use Rattle.pdb_addr2line.specs.Sources.{Sources, ContextState, contributions_of, global_functions_of}
 
 -- the contribution over an address

@@ -1,30 +1,49 @@
-ghost use Rattle.std.specs.Prelude.{◌≡◌, option_map, IfOk};
+ghost use Rattle.std.specs.Prelude.{◌≡◌, Some, None, option_map, IfOk, IfSome};
 ghost use Rattle.std.specs.Option.{option_copied};
 ghost use Rattle.pdb_functions.specs.Lookup.{procedures_of_module};
 ghost use Rattle.pdb_functions.specs.ModuleInfos.{readable_info};
 ghost use Rattle.pdb_functions.specs.Procedures.{module_procedure};
 ghost use Rattle.pdb_functions.specs.Spans.{procedure_covers};
 ghost use Rattle.pdb_ranges.specs.Pick.{pick};
+ghost use Rattle.pdb_types.specs.Outcomes.{Gives};
+ghost use Rattle.pdb_functions.specs.Lookup.{found_function};
+ghost use Rattle.pdb_documents.specs.BrokenParts.{AddsBroken};
+ghost use Rattle.pdb_documents.specs.Worlds.{formatter_world};
+ghost use Rattle.pdb_frames.specs.CodeCache.{FitsCode};
+ghost use Rattle.pdb_frames.specs.CodeCaches.{Records};
+ghost use Rattle.pdb_frames.specs.Origins.{function_module};
+ghost use Rattle.pdb_descriptions.specs.Frames.{described_frames, failed_by_frames, ButForMemory};
 
-use pdb_functions::{BasicModuleInfoCache, ProcedureSymbolFunction, procedure_over};
-use pdb_records::{Module, ModuleInfo, PdbInternalSectionOffset};
-use pdb_types::ModuleProvider;
+use crate::context::Tables;
+use pdb_descriptions::{FunctionNames, describe_frames};
+use pdb_frames::{CodeCache, FunctionFrames};
+use pdb_functions::{BasicModuleInfoCache, ProcedureSymbolFunction, PublicOrProcedureSymbol};
+use pdb_records::{AddressMap, Module, ModuleInfo, PdbInternalSectionOffset};
+use pdb_types::{ModuleProvider, Result};
 use std::alloc::{AllocError, Global};
 
-/// What a context read so far, so that it is read once.
+/// What a context read so far, so that it is read once. The names that it printed stand with its formatter.
 #[derive(Drop)]
 pub(crate) struct Caches<'a, P: ModuleProvider> {
     /// The procedures of modules.
     pub(crate) infos: BasicModuleInfoCache<'a, P>,
+    /// Line programs, rows and inline ranges.
+    pub(crate) code: CodeCache<'a>,
+    /// Where functions start, once that was asked.
+    pub(crate) starts: Option<Vec<u32>>,
 }
 
 impl<'a, P: ModuleProvider> Caches<'a, P> {
     /// Nothing yet. It takes no memory.
     pub(crate) fn new(alloc: Global, provider: &'a P) -> Self
-        ensures { result.infos.provider ≡ provider.now }
+        ensures infos { result.infos.provider ≡ provider.now }
+        ensures code { (records : Records) → FitsCode records result.code }
+        ensures starts { result.starts ≡ None }
     {
         Caches {
             infos: BasicModuleInfoCache::new(alloc, provider),
+            code: CodeCache::new(alloc),
+            starts: None,
         }
     }
 }
@@ -42,7 +61,7 @@ pub(crate) fn procedure_in<'a, P: ModuleProvider>(
     ensures provider { infos.new.provider ≡ infos.old.provider }
 {
     match infos.get_basic_module_info(modules, module_index)? {
-        Some(info) => Ok(procedure_over(info.procedures(), place)),
+        Some(info) => Ok(info.procedure_over(place)),
         None => Ok(None),
     }
 }
@@ -61,4 +80,46 @@ pub(crate) fn readable_info<'a, P: ModuleProvider>(
         Some(info) => Ok(Some(info.module_info())),
         None => Ok(None),
     }
+}
+
+/// What is told of a function that was found, and of its frames at an offset, by the records of its module.
+pub(crate) fn describe_frames_by<'a, P: ModuleProvider>(
+    caches: &mut Caches<'a, P>,
+    alloc: Global,
+    address_map: &AddressMap,
+    tables: &Tables<'a>,
+    names: &mut FunctionNames<'a, P>,
+    module_info: Option<&'a ModuleInfo>,
+    function: PublicOrProcedureSymbol<'a>,
+    offset: u32,
+) -> Result<Option<FunctionFrames<'a>>>
+    ghost records: { Records }
+    requires code { FitsCode records caches.old.code }
+    requires module_info { IfSome module_info
+        (λ info. records (function_module (found_function function)) ≡ Some info.now) }
+    ensures told { Gives (λ f. f) result (described_frames P.info names.old.standing tables.now.strings
+        address_map.now tables.now.global_functions (option_copied module_info.entry)
+        (found_function function.entry) offset) }
+    ensures standing { names.new.standing ≡ names.old.standing }
+    ensures failed { ButForMemory result (names.new.failed ≡ failed_by_frames P.info names.old.standing
+        address_map.now tables.now.global_functions (option_copied module_info.entry)
+        (found_function function.entry) offset names.old.failed) }
+    ensures broken { AddsBroken
+        (formatter_world P.info names.old.standing (function_module (found_function function.entry)))
+        names.old.failed names.new.failed }
+    ensures code { FitsCode records caches.new.code }
+    ensures infos { caches.new.infos.provider ≡ caches.old.infos.provider }
+    ensures starts { caches.new.starts ≡ caches.old.starts }
+{
+    describe_frames(
+        alloc,
+        address_map,
+        tables.strings.as_ref(),
+        &tables.global_functions,
+        names,
+        &mut caches.code,
+        module_info,
+        function,
+        offset,
+    )
 }

@@ -1,4 +1,4 @@
-use crate::function::Function;
+use pdb_descriptions::Function;
 use pdb_frames::FunctionFrames;
 use pdb_records::{IdIndex, TypeIndex};
 use pdb_types::Result;

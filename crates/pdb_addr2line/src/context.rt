@@ -1,19 +1,20 @@
-ghost use Rattle.std.specs.Prelude.{◌≡◌, [], Ok, map, length, IfOk};
+ghost use Rattle.std.specs.Prelude.{◌≡◌, [], Ok, length, IfOk};
 ghost use Rattle.std.specs.Option.{option_copied};
 ghost use Rattle.pdb_types.specs.Outcomes.{Gives};
 ghost use Rattle.pdb_functions.specs.Contributions.{merged_contributions};
-ghost use Rattle.pdb_functions.specs.GlobalFunctions.{global_function, global_functions as functions_told};
+ghost use Rattle.pdb_functions.specs.GlobalFunctions.{global_functions as functions_told};
 ghost use Rattle.pdb_addr2line.specs.Sources.{searched_contributions, accepted, global_functions_of};
 
 use crate::caches::Caches;
+use pdb_descriptions::FunctionNames;
 use pdb_frames::FailedCodeParts;
 use pdb_functions::{
-    ModuleSectionContribution, PublicSymbolFunctionOrPlaceholder, compute_global_functions,
+    ContributionTable, GlobalFunctionTable, SectionTable, compute_global_functions,
     compute_section_contributions,
 };
 use pdb_records::{AddressMap, DebugInformation, ImageSectionHeader, StringTable, SymbolTable};
 use pdb_signatures::TypeFormatter;
-use pdb_types::{Error, ModuleProvider, Result};
+use pdb_types::{Error, ModuleProvider, Result, Texts};
 use std::alloc::Global;
 use std::marker::Model;
 
@@ -21,39 +22,48 @@ use std::marker::Model;
 #[derive(Drop)]
 pub(crate) struct Tables<'a> {
     pub(crate) sections: Vec<ImageSectionHeader>,
-    pub(crate) contributions: Vec<ModuleSectionContribution>,
-    pub(crate) global_functions: Vec<PublicSymbolFunctionOrPlaceholder<'a>>,
+    pub(crate) contributions: ContributionTable,
+    pub(crate) global_functions: GlobalFunctionTable<'a>,
+    pub(crate) strings: Option<Texts<'a>>,
+    /// The sections of addresses.
+    pub(crate) places: SectionTable<'a>,
 }
 
 /// The tables of these records.
 fn tables_of<'a>(
     alloc: Global,
     sections: &[ImageSectionHeader],
+    address_map: &'a AddressMap,
     global_symbols: &'a SymbolTable,
+    string_table: Option<&'a StringTable>,
     debug_information: &DebugInformation,
 ) -> Result<Tables<'a>>
-    ensures searched { Gives (λ t. t.contributions.items) result
+    ensures searched { Gives (λ t. t.contributions) result
         (searched_contributions sections.now global_symbols.now debug_information.now) }
     ensures sections { IfOk result (λ t. t.sections.items ≡ sections.now) }
     ensures merged { IfOk result (λ t.
-        merged_contributions sections.now debug_information.now ≡ Ok t.contributions.items) }
-    ensures told { IfOk result (λ t. map global_function t.global_functions.items
+        merged_contributions sections.now debug_information.now ≡ Ok t.contributions) }
+    ensures told { IfOk result (λ t. t.global_functions
         ≡ functions_told sections.now global_symbols.now.symbols.items debug_information.now) }
+    ensures strings { IfOk result (λ t. t.strings ≡ option_copied string_table.entry) }
+    ensures places { IfOk result (λ t. t.places ≡ address_map.now) }
 {
     if let Some(fault) = global_symbols.symbols.fault {
         return Err(Error::from(pdb_records::Error::Stream(fault)));
     }
-    let (contributions, starts) = compute_section_contributions(
-        alloc,
-        debug_information,
-        sections,
-    )?;
+    let (merged, starts) = compute_section_contributions(alloc, debug_information, sections)?;
     let symbols = &global_symbols.symbols.items;
     let global_functions = compute_global_functions(alloc, sections, symbols, &starts)?;
+    let strings = match string_table {
+        Some(table) => Some(Texts::new(alloc, table)?),
+        None => None,
+    };
     Ok(Tables {
         sections: Vec::from_slice(alloc, sections)?,
-        contributions,
+        contributions: ContributionTable::new(alloc, merged)?,
         global_functions,
+        strings,
+        places: SectionTable::new(alloc, address_map)?,
     })
 }
 
@@ -70,20 +80,22 @@ pub struct Context<'a, P: ModuleProvider> {
     pub(crate) provider: &'a P,
     pub(crate) address_map: &'a AddressMap,
     pub(crate) global_symbols: &'a SymbolTable,
-    pub(crate) string_table: Option<&'a StringTable>,
     pub(crate) debug_information: &'a DebugInformation,
-    pub(crate) formatter: TypeFormatter<'a, P>,
+    pub(crate) names: FunctionNames<'a, P>,
     pub(crate) code_failed: FailedCodeParts,
     pub(crate) tables: Tables<'a>,
     pub(crate) caches: Caches<'a, P>,
 }
 
 impl<'a, P: ModuleProvider> Model for Context<'a, P> {
-    ghost use Rattle.std.specs.Prelude.{◌≡◌, Ok, map};
+    ghost use Rattle.std.specs.Prelude.{◌≡◌, Ok, IfSome};
     ghost use Rattle.std.specs.Option.{option_copied};
-    ghost use Rattle.pdb_addr2line.specs.Sources.{ContextState};
     ghost use Rattle.pdb_functions.specs.Contributions.{merged_contributions};
-    ghost use Rattle.pdb_functions.specs.GlobalFunctions.{global_function, global_functions as functions_told};
+    ghost use Rattle.pdb_functions.specs.GlobalFunctions.{global_functions as functions_told};
+    ghost use Rattle.pdb_functions.specs.ModuleInfos.{readable_info};
+    ghost use Rattle.pdb_frames.specs.CodeCache.{FitsCode};
+    ghost use Rattle.pdb_addr2line.specs.Functions.{start_addresses};
+    ghost use Rattle.pdb_addr2line.specs.Sources.{ContextState};
 
     ghost Value = { ContextState P };
 
@@ -93,19 +105,30 @@ impl<'a, P: ModuleProvider> Model for Context<'a, P> {
         sections = c.tables.sections.items;
         address_map = c.address_map.now;
         global_symbols = c.global_symbols.now;
-        strings = option_copied c.string_table;
+        strings = c.tables.strings;
         debug_information = c.debug_information.now;
-        basis = c.formatter.standing;
+        basis = c.names.standing;
       };
-      failed = c.formatter.failed;
+      failed = c.names.failed;
       code_failed = c.code_failed;
     } };
 
     ghost invariant = { λ c. record {
-      merged : merged_contributions c.tables.sections.items c.debug_information.now ≡ Ok c.tables.contributions.items;
-      told : map global_function c.tables.global_functions.items ≡ functions_told
+      merged : merged_contributions c.tables.sections.items c.debug_information.now ≡ Ok c.tables.contributions;
+      told : c.tables.global_functions ≡ functions_told
           c.tables.sections.items c.global_symbols.now.symbols.items c.debug_information.now;
+      places : c.tables.places ≡ c.address_map.now;
       infos : c.caches.infos.provider ≡ c.provider.now;
+      code : FitsCode (readable_info (P.info c.provider.now) c.names.standing.modules) c.caches.code;
+      starts : IfSome c.caches.starts (λ v. v.items ≡ start_addresses P.info (record {
+        provider = c.provider.now;
+        sections = c.tables.sections.items;
+        address_map = c.address_map.now;
+        global_symbols = c.global_symbols.now;
+        strings = c.tables.strings;
+        debug_information = c.debug_information.now;
+        basis = c.names.standing;
+      }));
     } };
 }
 
@@ -140,15 +163,21 @@ impl<'a, P: ModuleProvider> Context<'a, P> {
         ensures failed { IfOk result (λ c. c.failed ≡ formatter.entry.failed) }
         ensures code_failed { IfOk result (λ c. c.code_failed ≡ []) }
     {
-        let tables = tables_of(alloc, sections, global_symbols, debug_information)?;
+        let tables = tables_of(
+            alloc,
+            sections,
+            address_map,
+            global_symbols,
+            string_table,
+            debug_information,
+        )?;
         Ok(Context {
             alloc,
             provider,
             address_map,
             global_symbols,
-            string_table,
             debug_information,
-            formatter,
+            names: FunctionNames::new(alloc, formatter),
             code_failed: FailedCodeParts::new(alloc),
             tables,
             caches: Caches::new(alloc, provider),
@@ -160,7 +189,7 @@ impl<'a, P: ModuleProvider> Context<'a, P> {
         ensures standing { result.standing ≡ self.entry.sources.basis }
         ensures failed { result.failed ≡ self.entry.failed }
     {
-        self.formatter
+        self.names.into_type_formatter()
     }
 
     /// How many starts of functions are known from public symbols, contributions and ends of sections.

@@ -1,12 +1,12 @@
 ghost use Rattle.std.specs.Prelude.{◌≡◌, [], ◌∷◌, ◌++◌, length, map, option_map, IfOk, OnOk, OnErr, MatchResult};
 ghost use Rattle.pdb_types.specs.declared.error.Error.TheVariants.{OutOfMemory};
-ghost use Rattle.pdb_addr2line.specs.Function.{description};
+ghost use Rattle.pdb_descriptions.specs.Function.{description};
 ghost use Rattle.pdb_addr2line.specs.Functions.{start_addresses, functions_at, functions_of, after_function, after_functions, IsCutShort, OnlyGainsBroken};
 ghost use Rattle.pdb_addr2line.specs.FunctionSteps.{untried, lender, TellsNext};
 ghost use Rattle.pdb_addr2line.specs.Lookups.{function_at};
 
 use crate::context::Context;
-use crate::function::Function;
+use pdb_descriptions::Function;
 use pdb_types::{ModuleProvider, Result};
 use std::vec::IntoIter;
 

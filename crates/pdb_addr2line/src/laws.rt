@@ -14,9 +14,9 @@ ghost use Rattle.pdb_frames.specs.Frame.{FrameDescription, FramesDescription};
 ghost use Rattle.pdb_addr2line.specs.Calls.{answer_to, answers_to, fresh, successful};
 ghost use Rattle.pdb_addr2line.specs.declared.calls.Call.{Call};
 ghost use Rattle.pdb_addr2line.specs.FrameLaws.{levels_over, sites_of, EndIn, Agree, AreNestedFrames};
-ghost use Rattle.pdb_addr2line.specs.Function.{Description};
+ghost use Rattle.pdb_descriptions.specs.Function.{Description};
 ghost use Rattle.pdb_addr2line.specs.Lookups.{found_at, function_at, records_of, frames_at};
-ghost use Rattle.pdb_addr2line.specs.Names.{function_name, id_name};
+ghost use Rattle.pdb_descriptions.specs.Names.{function_name, id_name};
 ghost use Rattle.pdb_addr2line.specs.Sources.{Sources, ContextState, global_functions_of};
 
 pub use crate::function_laws::{start_addresses_are_all_starts, start_addresses_ascend};

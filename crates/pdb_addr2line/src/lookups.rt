@@ -1,31 +1,29 @@
-ghost use Rattle.std.specs.Prelude.{◌≡◌, ◌≢◌, Ok, None, map, find, option_map, IfOk, OnOk, IfErr, MatchResult};
+ghost use Rattle.std.specs.Prelude.{◌≡◌, ◌≢◌, Ok, None, find, option_map, IfOk, OnOk, IfErr, MatchResult};
 ghost use Rattle.std.specs.Option.{option_copied};
 ghost use Rattle.pdb_types.specs.Outcomes.{Gives};
 ghost use Rattle.pdb_types.specs.declared.error.Error.TheVariants.{OutOfMemory};
-ghost use Rattle.pdb_functions.specs.GlobalFunctions.{global_function};
+ghost use Rattle.pdb_records.specs.Addresses.{internal_offset};
 ghost use Rattle.pdb_functions.specs.Lookup.{found_function, procedures_of_module, function_in_contribution, function_over};
 ghost use Rattle.pdb_functions.specs.ModuleInfos.{readable_info};
 ghost use Rattle.pdb_functions.specs.Procedures.{module_procedure};
 ghost use Rattle.pdb_frames.specs.CodeParts.{part_to_blame};
 ghost use Rattle.pdb_functions.specs.Spans.{contribution_covers, procedure_covers};
 ghost use Rattle.pdb_ranges.specs.Pick.{pick};
-ghost use Rattle.pdb_addr2line.specs.Names.{GainsBroken};
-ghost use Rattle.pdb_addr2line.specs.Function.{description, described, failed_by_telling};
+ghost use Rattle.pdb_descriptions.specs.Names.{GainsBroken};
+ghost use Rattle.pdb_descriptions.specs.Function.{description, described, failed_by_telling};
 ghost use Rattle.pdb_addr2line.specs.Sources.{contributions_of, global_functions_of};
-ghost use Rattle.pdb_addr2line.specs.Frames.{ButForMemory};
+ghost use Rattle.pdb_descriptions.specs.Frames.{ButForMemory};
 ghost use Rattle.pdb_addr2line.specs.Lookups.{contribution_at, found_at, function_at, failed_after, frames_of, failed_by_frames_of, failed_after_frames, records_of, blamed_for, told_refusal, failed_by_refusal, frames_told, code_failed_after, told_error, with_blamed};
 
-use crate::caches::{procedure_in, readable_info};
+use crate::caches::{describe_frames_by, procedure_in, readable_info};
 use crate::context::Context;
-use crate::frames::describe_frames;
-use crate::function::{Function, describe};
+use pdb_descriptions::{Function, describe};
 use pdb_frames::{CodePart, FunctionFrames, function_module, part_to_blame};
 use pdb_functions::{
-    ModuleSectionContribution, ProcedureSymbolFunction, PublicOrProcedureSymbol,
-    PublicSymbolFunctionOrPlaceholder, contribution_over, global_function_in, global_function_over,
-    procedure_over,
+    ContributionTable, GlobalFunctionTable, ModuleSectionContribution, ProcedureSymbolFunction,
+    PublicOrProcedureSymbol, global_function_in,
 };
-use pdb_records::{AddressMap, ModuleInfo, PdbInternalSectionOffset, Rva};
+use pdb_records::{ModuleInfo, PdbInternalSectionOffset, Rva};
 use pdb_types::{Error, ModuleProvider, Result};
 
 impl<'a, P: ModuleProvider> Context<'a, P> {
@@ -84,7 +82,7 @@ impl<'a, P: ModuleProvider> Context<'a, P> {
         ensures outside { contribution_at self.old.sources address ≡ None
             → (result ≡ Ok None) × (self.new ≡ self.old) }
     {
-        let Some(place) = Rva(address).to_internal_offset(self.address_map()) else {
+        let Some(place) = self.place_of(address) else {
             return Ok(None);
         };
         match self.found_over(place)? {
@@ -181,12 +179,12 @@ impl<'a, P: ModuleProvider> Context<'a, P> {
         ensures code_failed { self.new.code_failed ≡ self.old.code_failed }
         ensures broken { GainsBroken P.info self.old.sources.basis self.old.failed self.new.failed }
     {
-        describe_frames(
+        describe_frames_by(
+            &mut self.caches,
             self.alloc,
             self.address_map,
-            self.string_table,
-            &self.tables.global_functions,
-            &mut self.formatter,
+            &self.tables,
+            &mut self.names,
             module_info,
             found,
             offset,
@@ -210,25 +208,26 @@ impl<'a, P: ModuleProvider> Context<'a, P> {
             self.alloc,
             self.address_map,
             &self.tables.global_functions,
-            &mut self.formatter,
+            &mut self.names,
             found,
         )
     }
 
-    fn address_map(&self) -> &'a AddressMap
-        ensures { result.now ≡ self.now.sources.address_map }
+    /// The place of an address.
+    fn place_of(&self, address: u32) -> Option<PdbInternalSectionOffset>
+        ensures { result ≡ internal_offset self.now.sources.address_map (record { 0 = address }) }
     {
-        self.address_map
+        self.tables.places.place_of(Rva(address))
     }
 
-    fn contributions(&self) -> &[ModuleSectionContribution]
+    fn contributions(&self) -> &ContributionTable
         ensures { result.now ≡ contributions_of self.now.sources }
     {
         &self.tables.contributions
     }
 
-    fn global_functions(&self) -> &[PublicSymbolFunctionOrPlaceholder<'a>]
-        ensures { map global_function result.now ≡ global_functions_of self.now.sources }
+    fn global_functions(&self) -> &GlobalFunctionTable<'a>
+        ensures { result.now ≡ global_functions_of self.now.sources }
     {
         &self.tables.global_functions
     }
@@ -241,7 +240,7 @@ impl<'a, P: ModuleProvider> Context<'a, P> {
         ensures kept { self.new ≡ self.old }
         ensures outside { contribution_at self.old.sources address ≡ None → result ≡ Ok None }
     {
-        match Rva(address).to_internal_offset(self.address_map()) {
+        match self.place_of(address) {
             Some(place) => self.found_over(place),
             None => Ok(None),
         }
@@ -261,7 +260,7 @@ impl<'a, P: ModuleProvider> Context<'a, P> {
         ensures outside { find (contribution_covers place) (contributions_of self.old.sources) ≡ None
             → result ≡ Ok None }
     {
-        match contribution_over(self.contributions(), place) {
+        match self.contributions().contribution_over(place) {
             Some(contribution) => self.function_in(place, contribution),
             None => Ok(None),
         }
@@ -284,7 +283,7 @@ impl<'a, P: ModuleProvider> Context<'a, P> {
         if let Some(procedure) = self.procedure_in(place, module_index)? {
             return Ok(Some(PublicOrProcedureSymbol::Procedure(module_index, procedure)));
         }
-        let function = global_function_over(self.global_functions(), place);
+        let function = self.global_functions().function_over(place);
         Ok(global_function_in(contribution, function))
     }
 
@@ -301,7 +300,7 @@ impl<'a, P: ModuleProvider> Context<'a, P> {
             (λ e. e ≡ OutOfMemory) }
         ensures kept { self.new ≡ self.old }
     {
-        let modules = self.formatter.modules();
+        let modules = self.names.modules();
         let found = procedure_in(&mut self.caches.infos, modules, module_index, place)?;
         Ok(found)
     }
@@ -314,7 +313,7 @@ impl<'a, P: ModuleProvider> Context<'a, P> {
             (λ e. e ≡ OutOfMemory) }
         ensures kept { self.new ≡ self.old }
     {
-        let modules = self.formatter.modules();
+        let modules = self.names.modules();
         let info = readable_info(&mut self.caches.infos, modules, module_index)?;
         Ok(info)
     }

@@ -2,7 +2,7 @@ ghost use Rattle.std.specs.Prelude.{◌≡◌, ◌≢◌, ◌∷◌, [], IfOk, O
 ghost use Rattle.pdb_types.specs.FailedParts.{with_met};
 ghost use Rattle.pdb_types.specs.TypeSizes.{size_of};
 ghost use Rattle.pdb_types.specs.declared.error.Error.TheVariants.{OutOfMemory};
-ghost use Rattle.pdb_signatures.specs.Printed.{signature_run, id_run};
+ghost use Rattle.pdb_documents.specs.Printed.{signature_run, id_run};
 ghost use Rattle.pdb_addr2line.specs.Calls.{ToldFunction, ToldFrames, ToldFunctions, ToldSize, ToldText, told_answer, printed, with_failed, after_frames};
 ghost use Rattle.pdb_addr2line.specs.Calls.{Appends, StopsEarly, answer_to, answers_to, after_call, after_calls};
 ghost use Rattle.pdb_addr2line.specs.Functions.{after_function, after_functions, functions_of, start_addresses, OnlyGainsBroken};
@@ -134,7 +134,7 @@ impl<'a, P: ModuleProvider> Context<'a, P> {
         ensures memory { IfErr result (λ e. e ≡ OutOfMemory) }
         ensures unchanged { OnErr result (self.new ≡ self.old) }
     {
-        let size = self.formatter.get_type_size(module_index, index)?;
+        let size = self.names.get_type_size(module_index, index)?;
         Ok(Answer::Size(size))
     }
 
@@ -154,7 +154,7 @@ impl<'a, P: ModuleProvider> Context<'a, P> {
         ensures memory { IfErr result (λ e. e ≡ OutOfMemory) }
         ensures not_made { OnErr result (OnlyGainsBroken P.info self.old self.new) }
     {
-        match self.formatter.format_function(name, module_index, index) {
+        match self.names.format_function(name, module_index, index) {
             Ok(text) => Ok(Answer::Text(Ok(text))),
             Err(error) => Ok(Answer::Text(Err(told_error(error)?))),
         }
@@ -171,7 +171,7 @@ impl<'a, P: ModuleProvider> Context<'a, P> {
         ensures memory { IfErr result (λ e. e ≡ OutOfMemory) }
         ensures not_made { OnErr result (OnlyGainsBroken P.info self.old self.new) }
     {
-        match self.formatter.format_id(module_index, index) {
+        match self.names.format_id(module_index, index) {
             Ok(text) => Ok(Answer::Text(Ok(text))),
             Err(error) => Ok(Answer::Text(Err(told_error(error)?))),
         }

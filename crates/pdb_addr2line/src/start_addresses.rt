@@ -101,16 +101,33 @@ impl<'a, P: ModuleProvider> Context<'a, P> {
     /// # Errors
     ///
     /// [`Error::OutOfMemory`](crate::Error::OutOfMemory) alone.
-    #[tactic(auto, using(crate::proofs::StartLemmas::with_starts_append))]
     pub fn start_addresses(&mut self) -> Result<Vec<u32>>
         ensures addresses { MatchResult result
             (λ v. v.items ≡ start_addresses P.info self.old.sources)
             (λ e. e ≡ OutOfMemory) }
         ensures kept { self.new ≡ self.old }
     {
+        if let Some(starts) = &self.caches.starts {
+            let starts = Vec::from_slice(self.alloc, starts)?;
+            return Ok(starts);
+        }
+        let starts = self.find_start_addresses()?;
+        self.caches.starts = Some(Vec::from_slice(self.alloc, &starts)?);
+        Ok(starts)
+    }
+
+    /// The same, by the records.
+    #[tactic(auto, using(crate::proofs::StartLemmas::with_starts_append))]
+    fn find_start_addresses(&mut self) -> Result<Vec<u32>>
+        ensures addresses { MatchResult result
+            (λ v. v.items ≡ start_addresses P.info self.old.sources)
+            (λ e. e ≡ OutOfMemory) }
+        ensures kept { self.new ≡ self.old }
+    {
         let mut starts = BTreeSet::new(self.alloc);
-        add_global_starts(&mut starts, self.address_map, &self.tables.global_functions)?;
-        let modules = self.formatter.modules();
+        let functions = self.tables.global_functions.as_slice();
+        add_global_starts(&mut starts, self.address_map, functions)?;
+        let modules = self.names.modules();
         add_module_starts(
             &mut starts,
             self.address_map,

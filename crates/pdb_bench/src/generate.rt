@@ -86,7 +86,8 @@ fn add_module_info(text: &mut String, module: u32, contributions: u32) -> Result
         add_comma(text, turn == 0)?;
         write!(
             text,
-            r#"{{"raw_kind":4368,"data":{{"kind":"Procedure","section":1,"offset":{offset},"len":{ADDRESS_STEP},"name":"f{number}","end":0,"type_index":0}}}}"#
+            r#"{{"raw_kind":4368,"data":{{"kind":"Procedure","section":1,"offset":{offset},"len":{ADDRESS_STEP},
+"name":"f{number}","end":0,"type_index":0}}}}"#
         )?;
     }
     text.push_str("]}")

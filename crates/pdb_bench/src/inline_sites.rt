@@ -81,7 +81,7 @@ pub(crate) fn module_info_of(
 }
 
 /// A symbol that tells nothing.
-fn other() -> Symbol {
+pub(crate) fn other() -> Symbol {
     Symbol {
         raw_kind: 0,
         content: None,

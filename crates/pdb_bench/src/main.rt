@@ -1,32 +1,38 @@
 //! Times reading, making a context, look-ups, sizes of types, signatures, ids and frames over generated
-//! records.
+//! records, some of which only a hostile writer would hand in.
 //!
 //! `pdb_bench NUMBER ..` does so for each number of public symbols, of inline sites of a procedure, of
-//! nested procedures, of types, of types in a chain, of types in a signature, and of scopes; with no number
-//! for a thousand.
-//! Counts go to standard output, and times, in milliseconds, to standard error.
+//! procedures, of types, of types in a chain, of types in a signature, and of scopes; with no number for a
+//! thousand.
+//! `pdb_bench passes PROCEDURES SITES ADDRESSES` asks for so many addresses all over a program several times,
+//! for functions and for frames. Each of its procedures has so many inline sites.
+//! Counts go to standard output, and times, in milliseconds where nothing else is said, to standard error.
 #![tactic(auto)]
 
 mod chains;
-mod frames;
 mod generate;
+mod hostile;
 mod inline_sites;
 mod nested_procedures;
+mod passes;
+mod program;
 mod scopes;
 mod signatures;
 mod types;
 
-use anyhow::Result;
+use anyhow::{Result, bail};
 use chains::measure_chains;
-use frames::measure_frames;
 use generate::{ADDRESS_STEP, records_text};
+use hostile::{Hostile, measure_hostile};
 use inline_sites::{Shape, count_ranges};
 use nested_procedures::count_ranges_of_nested;
 use pdb_addr2line::pdb::PDB;
 use pdb_addr2line::{Context, ContextPdbData, ModuleProvider};
 use pdb_json::read_records;
+use program::{Size, measure_program};
 use scopes::measure_scopes;
 use signatures::measure_signatures;
+use std::alloc::Global;
 use std::env;
 use std::rt::Clock;
 use std::time::Instant;
@@ -37,25 +43,64 @@ const LOOK_UPS: u32 = 1000;
 
 fn main(rt: HostRuntime) -> Result<()> {
     let words: Vec<String> = env::args(&rt)?.collect(rt.alloc())?;
-    let mut sizes = Vec::new(rt.alloc());
-    for word in words.iter().skip(1) {
-        sizes.push(word.as_str().parse::<u32>()?)?;
+    if let Some(word) = words.get(1)
+        && word.as_str() == "passes"
+    {
+        return measure_asked(&rt, &numbers(rt.alloc(), &words, 2)?);
     }
+    let mut sizes = numbers(rt.alloc(), &words, 1)?;
     if sizes.is_empty() {
         sizes.push(1000)?;
     }
     for size in &sizes {
-        measure(&rt, *size)?;
-        measure_sites(&rt, "nested", Shape::Nested, *size)?;
-        measure_sites(&rt, "side by side", Shape::SideBySide, *size)?;
-        measure_nested_procedures(&rt, *size)?;
-        measure_frames(&rt, *size)?;
-        measure_types(&rt, *size)?;
-        measure_chains(&rt, *size)?;
-        measure_signatures(&rt, *size)?;
-        measure_scopes(&rt, *size)?;
+        measure_all(&rt, *size)?;
     }
     Ok(())
+}
+
+/// The numbers among the program's words, behind so many others.
+fn numbers(alloc: Global, words: &[String], skipped: usize) -> Result<Vec<u32>> {
+    let mut numbers = Vec::new(alloc);
+    for word in words.iter().skip(skipped) {
+        numbers.push(word.as_str().parse::<u32>()?)?;
+    }
+    Ok(numbers)
+}
+
+/// Measures each subject with so many of what it is about.
+fn measure_all<R: Clock + Print + Eprint + AllocGlobal>(rt: &R, size: u32) -> Result<()> {
+    measure(rt, size)?;
+    measure_sites(rt, "nested", Shape::Nested, size)?;
+    measure_sites(rt, "side by side", Shape::SideBySide, size)?;
+    measure_nested_procedures(rt, size)?;
+    measure_program(
+        rt,
+        Size {
+            procedures: size,
+            sites: 10,
+        },
+        size,
+    )?;
+    measure_hostile(rt, Hostile::Procedures, size)?;
+    measure_hostile(rt, Hostile::Sites, size)?;
+    measure_hostile(rt, Hostile::SitesSideBySide, size)?;
+    measure_hostile(rt, Hostile::Publics, size)?;
+    measure_types(rt, size)?;
+    measure_chains(rt, size)?;
+    measure_signatures(rt, size)?;
+    measure_scopes(rt, size)
+}
+
+/// Measures a program: by the numbers of its procedures, of the sites of each, and of addresses.
+fn measure_asked<R: Clock + Print + Eprint + AllocGlobal>(rt: &R, numbers: &[u32]) -> Result<()> {
+    let [procedures, sites, addresses] = numbers else {
+        bail!("passes wants three numbers");
+    };
+    let size = Size {
+        procedures: *procedures,
+        sites: *sites,
+    };
+    measure_program(rt, size, *addresses)
 }
 
 /// Reads records with so many public symbols, and measures a context over them.

@@ -43,14 +43,14 @@ fn end_of(number: u32, procedures: u32) -> SymbolIndex {
 }
 
 /// A module whose symbols are procedures, each nested in the one before.
-fn nested_procedures(alloc: Global, procedures: u32) -> Result<ModuleInfo, AllocError> {
+pub(crate) fn nested_procedures(alloc: Global, procedures: u32) -> Result<ModuleInfo, AllocError> {
     let mut symbols = Vec::new(alloc);
     for number in 0..procedures {
         symbols.push(Symbol {
             raw_kind: S_GPROC32,
             content: Some(SymbolData::Procedure(ProcedureSymbol {
                 offset: place(number),
-                len: 1,
+                len: procedures - number,
                 name: RawString(Vec::new(alloc)),
                 end: end_of(number, procedures),
                 type_index: TypeIndex(0),

@@ -117,7 +117,7 @@ fn scope(end: End, count: u32, position: u32) -> Option<IdIndex> {
 }
 
 /// A function in a scope, with the index of a position.
-fn function(
+pub(crate) fn function(
     alloc: Global,
     position: u32,
     scope: Option<IdIndex>,

@@ -11,7 +11,7 @@ use std::time::Instant;
 
 /// How the argument of a function is built.
 #[derive(Clone, Copy)]
-enum Shape {
+pub(crate) enum Shape {
     /// Pointers to pointers.
     Pointers,
     /// Procedures that take procedures.
@@ -66,7 +66,11 @@ fn print_signature<R: Clock + Print + Eprint>(
 }
 
 /// The types of one shape: a function, its list of arguments, and then as many types as are wanted.
-fn types(alloc: Global, shape: Shape, count: u32) -> Result<TypeInformation, AllocError> {
+pub(crate) fn types(
+    alloc: Global,
+    shape: Shape,
+    count: u32,
+) -> Result<TypeInformation, AllocError> {
     let repeats = match shape {
         Shape::Arguments => count,
         _ => 1,

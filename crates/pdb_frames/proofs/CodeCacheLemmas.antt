@@ -1,16 +1,12 @@
 -- What is kept of modules' code.
-use Rattle.std.proofs.Common.{◌≡◌, ◌∙◌, ℕ, [], Option, Some, refl, sym, ap}
+use Rattle.std.proofs.Common.{◌≡◌, ◌∙◌, ℕ, List, [], Option, Some, refl, sym, ap}
 use Rattle.std.specs.Prelude.{Result, Ok, Err, option_map}
-use Rattle.std.specs.Option.{option_copied}
-use Rattle.std.specs.Borrow.{Bor}
-use Rattle.std.specs.Global.{Vec}
 use Rattle.std.specs.BTreeMap.{BTreeMap, get, Updates}
 use Rattle.std.specs.Ordering.{nat_cmp, ordering_then}
 use Rattle.std.specs.declared.cmp.Ordering.{Ordering}
 use Rattle.std.specs.declared.cmp.Ordering.TheVariants.{Less, Equal, Greater}
 use Rattle.std.specs.FinMap.{IsAntisymmetric, nat_cmp-IsAntisymmetric}
 use Rattle.pdb_records.specs.LinePrograms.{Lines}
-use Rattle.pdb_records.specs.Lines.{lines_at}
 use Rattle.pdb_records.specs.Readings.{Read}
 use Rattle.pdb_records.specs.declared.lines.LineInfo.{LineInfo}
 use Rattle.pdb_records.specs.declared.modules.ModuleInfo.{ModuleInfo}
@@ -18,14 +14,16 @@ use Rattle.pdb_types.proofs.FindingLemmas.{fits_nothing, fits_same, fits_more}
 use Rattle.pdb_types.specs.Outcomes.{Gives}
 use Rattle.pdb_types.specs.declared.error.Error.{Error}
 use Rattle.pdb_inline.specs.declared.inline_ranges.InlineRange.{InlineRange}
-use Rattle.pdb_frames.specs.CodeCaches.{Records, FitsInfos, function_cmp, HasProgram, FitsLines, procedure_cmp, procedure_ranges, FitsRanges}
+use Rattle.pdb_frames.specs.CodeCaches.{Records, FitsInfos, function_cmp, HasProgram, FitsEntries, FitsLines, procedure_cmp, procedure_ranges, FitsRanges}
 use Rattle.pdb_frames.specs.ExtendedInfo.{kept_info, extended_info}
+use Rattle.pdb_frames.specs.FunctionRows.{row_in}
+use Rattle.pdb_frames.specs.Lines.{function_row}
 use Rattle.pdb_frames.specs.declared.code_keys.FunctionKey.{FunctionKey}
 use Rattle.pdb_frames.specs.declared.code_keys.ProcedureKey.{ProcedureKey}
 use Rattle.pdb_frames.specs.declared.extended_info.ExtendedModuleInfo.{ExtendedModuleInfo}
 
 -- of two comparisons in turn that tie, both tie
-ties : (o p : Ordering) → ordering_then o p ≡ Equal → (o ≡ Equal) × (p ≡ Equal)
+pub ties : (o p : Ordering) → ordering_then o p ≡ Equal → (o ≡ Equal) × (p ≡ Equal)
 ties Less p tied = cc
 ties Equal p tied = (refl, tied)
 ties Greater p tied = cc
@@ -92,56 +90,82 @@ infos_found records position info known m there fits got =
 one_program : (o : Option (Result Lines Error)) (a b : Lines) → o ≡ Some (Ok a) → o ≡ Some (Ok b) → a ≡ b
 one_program o a b first second = cc
 
+-- a line program fits a position
+abbrev ProgramFits : Records → ℕ → Lines → Type 0
+ProgramFits records position program = HasProgram records position program
+
+-- no line program is kept
+pub entries_new : (records : Records) (m : BTreeMap ℕ Lines) → m.entries ≡ [] → FitsEntries records m
+unfolding FitsEntries
+entries_new records m empty = fits_nothing nat_cmp (ProgramFits records) m empty
+
+-- line programs that are kept stay
+pub entries_same : (records : Records) (m n : BTreeMap ℕ Lines) → n.entries ≡ m.entries → FitsEntries records m → FitsEntries records n
+unfolding FitsEntries
+entries_same records m n same fits = fits_same nat_cmp (ProgramFits records) m n same fits
+
+-- one more line program
+pub entries_more : (records : Records) (position : ℕ) (program : Lines) (m n : BTreeMap ℕ Lines) → HasProgram records position program → Updates nat_cmp m n position (Some program) → FitsEntries records m → FitsEntries records n
+unfolding FitsEntries
+entries_more records position program m n there updates fits =
+    fits_more nat_cmp nat_cmp-IsAntisymmetric (ProgramFits records) m n position program updates there fits
+
+-- the line program that is kept of a module is its own
+pub entries_found : (records : Records) (position : ℕ) (program kept : Lines) (m : BTreeMap ℕ Lines) → HasProgram records position program → FitsEntries records m → get nat_cmp m position ≡ Some kept → kept ≡ program
+unfolding FitsEntries
+entries_found records position program kept m there fits got = one_program _ kept program (fits position kept got) there
+
 -- rows fit a function
-abbrev RowsFit : Records → FunctionKey → Option (Bor (Read LineInfo)) → Type 0
+abbrev RowsFit : Records → FunctionKey → Read LineInfo → Type 0
 RowsFit records key rows =
-    (program : Lines) → HasProgram records key.position program → lines_at (record { section = key.section; offset = key.offset }) program.entries ≡ option_copied rows
+    (program : Lines) → HasProgram records key.position program
+    → (x : ℕ) → row_in rows x ≡ function_row program (record { section = key.section; offset = key.offset }) x
 
 -- no rows are kept
-pub lines_new : (records : Records) (m : BTreeMap FunctionKey (Option (Bor (Read LineInfo)))) → m.entries ≡ [] → FitsLines records m
+pub lines_new : (records : Records) (m : BTreeMap FunctionKey (Read LineInfo)) → m.entries ≡ [] → FitsLines records m
 unfolding FitsLines
 lines_new records m empty = fits_nothing function_cmp (RowsFit records) m empty
 
 -- rows that are kept stay
-pub lines_same : (records : Records) (m n : BTreeMap FunctionKey (Option (Bor (Read LineInfo)))) → n.entries ≡ m.entries → FitsLines records m → FitsLines records n
+pub lines_same : (records : Records) (m n : BTreeMap FunctionKey (Read LineInfo)) → n.entries ≡ m.entries → FitsLines records m → FitsLines records n
 unfolding FitsLines
 lines_same records m n same fits = fits_same function_cmp (RowsFit records) m n same fits
 
 -- the rows of one more function
-pub lines_more : (records : Records) (key : FunctionKey) (program : Lines) (rows : Option (Bor (Read LineInfo))) (m n : BTreeMap FunctionKey (Option (Bor (Read LineInfo)))) → HasProgram records key.position program → option_copied rows ≡ lines_at (record { section = key.section; offset = key.offset }) program.entries → Updates function_cmp m n key (Some rows) → FitsLines records m → FitsLines records n
+pub lines_more : (records : Records) (key : FunctionKey) (program : Lines) (rows : Read LineInfo) (m n : BTreeMap FunctionKey (Read LineInfo)) → HasProgram records key.position program → ((x : ℕ) → row_in rows x ≡ function_row program (record { section = key.section; offset = key.offset }) x) → Updates function_cmp m n key (Some rows) → FitsLines records m → FitsLines records n
 unfolding FitsLines
 lines_more records key program rows m n there read updates fits =
     fits_more function_cmp function_cmp-apart (RowsFit records) m n key rows updates
-    (λ other here. let same = one_program _ other program here there in rw same (sym read)) fits
+    (λ other here. let same = one_program _ other program here there in rw same read) fits
 
 -- the rows that are kept of a function are its line program's
-pub lines_found : (records : Records) (key : FunctionKey) (program : Lines) (rows : Option (Bor (Read LineInfo))) (m : BTreeMap FunctionKey (Option (Bor (Read LineInfo)))) → HasProgram records key.position program → FitsLines records m → get function_cmp m key ≡ Some rows → lines_at (record { section = key.section; offset = key.offset }) program.entries ≡ option_copied rows
+pub lines_found : (records : Records) (key : FunctionKey) (program : Lines) (rows : Read LineInfo) (m : BTreeMap FunctionKey (Read LineInfo)) → HasProgram records key.position program → FitsLines records m → get function_cmp m key ≡ Some rows → (x : ℕ) → row_in rows x ≡ function_row program (record { section = key.section; offset = key.offset }) x
 unfolding FitsLines
 lines_found records key program rows m there fits got = fits key rows got program there
 
 -- ranges fit a procedure
-abbrev RangesFit : Records → ProcedureKey → Vec InlineRange → Type 0
-RangesFit records key ranges = option_map (λ info. procedure_ranges info key.symbol key.end) (records key.position) ≡ Some (Ok ranges.items)
+abbrev RangesFit : Records → ProcedureKey → List InlineRange → Type 0
+RangesFit records key ranges = option_map (λ info. procedure_ranges info key.symbol key.end) (records key.position) ≡ Some (Ok ranges)
 
 -- no ranges are kept
-pub ranges_new : (records : Records) (m : BTreeMap ProcedureKey (Vec InlineRange)) → m.entries ≡ [] → FitsRanges records m
+pub ranges_new : (records : Records) (m : BTreeMap ProcedureKey (List InlineRange)) → m.entries ≡ [] → FitsRanges records m
 unfolding FitsRanges
 ranges_new records m empty = fits_nothing procedure_cmp (RangesFit records) m empty
 
 -- ranges that are kept stay
-pub ranges_same : (records : Records) (m n : BTreeMap ProcedureKey (Vec InlineRange)) → n.entries ≡ m.entries → FitsRanges records m → FitsRanges records n
+pub ranges_same : (records : Records) (m n : BTreeMap ProcedureKey (List InlineRange)) → n.entries ≡ m.entries → FitsRanges records m → FitsRanges records n
 unfolding FitsRanges
 ranges_same records m n same fits = fits_same procedure_cmp (RangesFit records) m n same fits
 
 -- the ranges of one more procedure
-pub ranges_more : (records : Records) (key : ProcedureKey) (info : ModuleInfo) (ranges : Vec InlineRange) (m n : BTreeMap ProcedureKey (Vec InlineRange)) → records key.position ≡ Some info → procedure_ranges info key.symbol key.end ≡ Ok ranges.items → Updates procedure_cmp m n key (Some ranges) → FitsRanges records m → FitsRanges records n
+pub ranges_more : (records : Records) (key : ProcedureKey) (info : ModuleInfo) (ranges : List InlineRange) (m n : BTreeMap ProcedureKey (List InlineRange)) → records key.position ≡ Some info → procedure_ranges info key.symbol key.end ≡ Ok ranges → Updates procedure_cmp m n key (Some ranges) → FitsRanges records m → FitsRanges records n
 unfolding FitsRanges
 ranges_more records key info ranges m n there read updates fits =
     fits_more procedure_cmp procedure_cmp-apart (RangesFit records) m n key ranges updates
     (ap (λ o. option_map (λ info. procedure_ranges info key.symbol key.end) o) there ∙ ap (λ r. Some r) read) fits
 
 -- the ranges that are kept of a procedure are its own
-pub ranges_found : (records : Records) (key : ProcedureKey) (info : ModuleInfo) (ranges : Vec InlineRange) (m : BTreeMap ProcedureKey (Vec InlineRange)) → records key.position ≡ Some info → FitsRanges records m → get procedure_cmp m key ≡ Some ranges → procedure_ranges info key.symbol key.end ≡ Ok ranges.items
+pub ranges_found : (records : Records) (key : ProcedureKey) (info : ModuleInfo) (ranges : List InlineRange) (m : BTreeMap ProcedureKey (List InlineRange)) → records key.position ≡ Some info → FitsRanges records m → get procedure_cmp m key ≡ Some ranges → procedure_ranges info key.symbol key.end ≡ Ok ranges
 unfolding FitsRanges
 ranges_found records key info ranges m there fits got =
     some_same _ _ (sym (ap (λ o. option_map (λ info. procedure_ranges info key.symbol key.end) o) there) ∙ fits key ranges got)

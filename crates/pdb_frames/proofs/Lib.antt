@@ -1,2 +1,3 @@
 pub mod CodeCacheLemmas
 pub mod OriginLemmas
+pub mod RowLemmas

@@ -1,5 +1,5 @@
 -- Where code comes from, step by step.
-use Rattle.std.proofs.Common.{◌≡◌, ◌∙◌, ℕ, List, Option, Some, refl, ap}
+use Rattle.std.proofs.Common.{◌≡◌, ◌∙◌, ℕ, List, [], Option, Some, refl, ap}
 use Rattle.std.specs.Prelude.{Result, Ok, Err, option_map}
 use Rattle.pdb_records.specs.LinePrograms.{Lines}
 use Rattle.pdb_records.specs.declared.lines.LineInfo.{LineInfo}
@@ -8,15 +8,14 @@ use Rattle.pdb_records.specs.declared.modules.ModuleInfo.{ModuleInfo}
 use Rattle.pdb_types.specs.Outcomes.{and_then}
 use Rattle.pdb_types.specs.Resolution.{streamed}
 use Rattle.pdb_types.specs.declared.error.Error.{Error}
-use Rattle.pdb_functions.specs.Lookup.{found_procedure}
-use Rattle.pdb_functions.specs.Procedures.{ModuleProcedure}
+use Rattle.pdb_functions.specs.Lookup.{FoundFunction, found_procedure, found_global}
 use Rattle.pdb_inline.specs.InlineRanges.{procedure_inline_ranges}
 use Rattle.pdb_inline.specs.InlineStacks.{inline_stack}
 use Rattle.pdb_inline.specs.declared.inline_ranges.InlineRange.{InlineRange}
-use Rattle.pdb_frames.specs.CodeCaches.{Records, HasProgram, procedure_stack}
+use Rattle.pdb_frames.specs.CodeCaches.{Records, HasProgram, function_stack}
 use Rattle.pdb_frames.specs.ExtendedInfo.{ExtendedInfo, extended_info, inlinee_ids}
 use Rattle.pdb_frames.specs.Lines.{read_whole, function_row}
-use Rattle.pdb_frames.specs.Origins.{Origin, origin}
+use Rattle.pdb_frames.specs.Origins.{Origin, function_start, origin}
 
 -- a line program that is known could be read
 program_read : (lines : Result Lines Error) (inlinees : Result (List Inlinee) Error) (program : Lines) → and_then {B = Lines} (and_then {B = ExtendedInfo} lines (λ l. and_then {B = ExtendedInfo} inlinees (λ i. Ok (record { line_program = l; inlinees = inlinee_ids i })))) (λ known. Ok known.line_program) ≡ Ok program → lines ≡ Ok program
@@ -40,9 +39,20 @@ stack_first program x (Err e) ranges = refl
 stack_first program x (Ok row) (Err e) = refl
 stack_first program x (Ok row) (Ok ranges) = refl
 
--- where a procedure's code comes from: its module's line program, then the row, and then the inlined bodies
-pub origin_of_procedure : (info : ModuleInfo) (m : ℕ) (p : ModuleProcedure) (x : ℕ) → origin info (found_procedure m p) x ≡ and_then (extended_info info) (λ known. and_then (function_row known.line_program p.offset x) (λ row. and_then (procedure_stack info p.symbol_index.0 p.end_symbol_index.0 x) (λ stack. Ok (record { line_program = known.line_program; row = row; stack = stack }))))
-origin_of_procedure info m p x = by_known (extended_info info) where
+-- a global function has no inlined bodies
+none_in_global : (program : Lines) (x : ℕ) (row : Result (Option LineInfo) Error) → and_then row (λ row. Ok (made program row (inline_stack [] x))) ≡ and_then row (λ row. Ok (made program row []))
+none_in_global program x (Err e) = refl
+none_in_global program x (Ok row) = refl
+
+-- where code comes from: its module's line program, then the row, and then the inlined bodies
+pub origin_by_stack : (info : ModuleInfo) (found : FoundFunction) (x : ℕ) → origin info found x ≡ and_then (extended_info info) (λ known. and_then (function_row known.line_program (function_start found) x) (λ row. and_then (function_stack info found x) (λ stack. Ok (record { line_program = known.line_program; row = row; stack = stack }))))
+origin_by_stack info (found_global m f) x = by_known (extended_info info) where
+  by_known : (r : Result ExtendedInfo Error)
+      → and_then r (λ known. and_then (function_row known.line_program f.start x) (λ row. Ok (made known.line_program row (inline_stack [] x))))
+      ≡ and_then r (λ known. and_then (function_row known.line_program f.start x) (λ row. Ok (made known.line_program row [])))
+  by_known (Err e) = refl
+  by_known (Ok known) = none_in_global known.line_program x (function_row known.line_program f.start x)
+origin_by_stack info (found_procedure m p) x = by_known (extended_info info) where
   by_known : (r : Result ExtendedInfo Error)
       → and_then r (λ known. and_then (function_row known.line_program p.offset x) (λ row. and_then (procedure_inline_ranges known.inlinees info p.symbol_index.0 p.end_symbol_index.0) (λ ranges. Ok (made known.line_program row (inline_stack ranges x)))))
       ≡ and_then r (λ known. and_then (function_row known.line_program p.offset x) (λ row. and_then (and_then (and_then r (λ k. procedure_inline_ranges k.inlinees info p.symbol_index.0 p.end_symbol_index.0)) (λ ranges. Ok (inline_stack ranges x))) (λ stack. Ok (made known.line_program row stack))))

@@ -1,23 +1,22 @@
 -- What is kept of modules' code, and that it is what the records say.
-use Rattle.std.specs.Prelude.{◌≡◌, ℕ, List, Option, Some, Result, Ok, option_map}
-use Rattle.std.specs.Option.{option_copied}
-use Rattle.std.specs.Borrow.{Bor}
+use Rattle.std.specs.Prelude.{◌≡◌, ℕ, List, [], Option, Some, Result, Ok, option_map}
 use Rattle.std.specs.BTreeMap.{BTreeMap, get}
 use Rattle.std.specs.Ordering.{nat_cmp, ordering_then}
 use Rattle.std.specs.declared.cmp.Ordering.{Ordering}
-use Rattle.std.specs.Global.{Vec}
 use Rattle.pdb_records.specs.LinePrograms.{Lines}
-use Rattle.pdb_records.specs.Lines.{lines_at}
 use Rattle.pdb_records.specs.Readings.{Read}
 use Rattle.pdb_records.specs.declared.lines.LineInfo.{LineInfo}
 use Rattle.pdb_records.specs.declared.modules.ModuleInfo.{ModuleInfo}
 use Rattle.pdb_types.specs.Outcomes.{and_then}
 use Rattle.pdb_types.specs.Resolution.{streamed}
 use Rattle.pdb_types.specs.declared.error.Error.{Error}
+use Rattle.pdb_functions.specs.Lookup.{FoundFunction, found_procedure, found_global}
 use Rattle.pdb_inline.specs.InlineRanges.{procedure_inline_ranges}
 use Rattle.pdb_inline.specs.InlineStacks.{inline_stack}
 use Rattle.pdb_inline.specs.declared.inline_ranges.InlineRange.{InlineRange}
 use Rattle.pdb_frames.specs.ExtendedInfo.{kept_info, extended_info}
+use Rattle.pdb_frames.specs.FunctionRows.{row_in}
+use Rattle.pdb_frames.specs.Lines.{function_row}
 use Rattle.pdb_frames.specs.declared.extended_info.ExtendedModuleInfo.{ExtendedModuleInfo}
 use Rattle.pdb_frames.specs.declared.code_keys.FunctionKey.{FunctionKey}
 use Rattle.pdb_frames.specs.declared.code_keys.ProcedureKey.{ProcedureKey}
@@ -43,12 +42,17 @@ abbrev pub HasProgram : Records → ℕ → Lines → Type 0
 HasProgram records position program =
     option_map (λ info. streamed info.line_program) (records position) ≡ Some (Ok program)
 
--- the rows that are kept of a function are those of its module's line program
-unfoldable pub FitsLines : Records → BTreeMap FunctionKey (Option (Bor (Read LineInfo))) → Type 0
+-- the line program that is kept at a position is that of the module there
+unfoldable pub FitsEntries : Records → BTreeMap ℕ Lines → Type 0
+FitsEntries records kept =
+    (position : ℕ) (program : Lines) → get nat_cmp kept position ≡ Some program → HasProgram records position program
+
+-- the rows that are kept of a function give over each offset what its module's line program gives
+unfoldable pub FitsLines : Records → BTreeMap FunctionKey (Read LineInfo) → Type 0
 FitsLines records kept =
-    (key : FunctionKey) (rows : Option (Bor (Read LineInfo))) → get function_cmp kept key ≡ Some rows
+    (key : FunctionKey) (rows : Read LineInfo) → get function_cmp kept key ≡ Some rows
     → (program : Lines) → HasProgram records key.position program
-    → lines_at (record { section = key.section; offset = key.offset }) program.entries ≡ option_copied rows
+    → (x : ℕ) → row_in rows x ≡ function_row program (record { section = key.section; offset = key.offset }) x
 
 -- the order of procedures: by module and symbols
 abbrev pub procedure_cmp : ProcedureKey → ProcedureKey → Ordering
@@ -66,8 +70,13 @@ procedure_ranges info symbol end =
 abbrev pub procedure_stack : ModuleInfo → ℕ → ℕ → ℕ → Result (List InlineRange) Error
 procedure_stack info symbol end x = and_then (procedure_ranges info symbol end) (λ ranges. Ok (inline_stack ranges x))
 
+-- the inlined bodies over an offset of a function: a global function has none
+abbrev pub function_stack : ModuleInfo → FoundFunction → ℕ → Result (List InlineRange) Error
+function_stack info (found_global m f) x = Ok []
+function_stack info (found_procedure m p) x = procedure_stack info p.symbol_index.0 p.end_symbol_index.0 x
+
 -- the ranges that are kept of a procedure are those of its module's records
-unfoldable pub FitsRanges : Records → BTreeMap ProcedureKey (Vec InlineRange) → Type 0
+unfoldable pub FitsRanges : Records → BTreeMap ProcedureKey (List InlineRange) → Type 0
 FitsRanges records kept =
-    (key : ProcedureKey) (ranges : Vec InlineRange) → get procedure_cmp kept key ≡ Some ranges
-    → option_map (λ info. procedure_ranges info key.symbol key.end) (records key.position) ≡ Some (Ok ranges.items)
+    (key : ProcedureKey) (ranges : List InlineRange) → get procedure_cmp kept key ≡ Some ranges
+    → option_map (λ info. procedure_ranges info key.symbol key.end) (records key.position) ≡ Some (Ok ranges)

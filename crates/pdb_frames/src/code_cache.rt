@@ -1,14 +1,17 @@
 ghost use Rattle.std.specs.Prelude.{◌≡◌, Some, Ok};
 ghost use Rattle.pdb_types.specs.Outcomes.{Gives, and_then};
+ghost use Rattle.pdb_functions.specs.Lookup.{found_function};
 ghost use Rattle.pdb_frames.specs.ExtendedInfo.{extended_info};
 ghost use Rattle.pdb_frames.specs.Lines.{function_row};
-ghost use Rattle.pdb_frames.specs.CodeCaches.{Records, HasProgram, procedure_stack};
+ghost use Rattle.pdb_frames.specs.CodeCaches.{Records, HasProgram, function_stack};
 ghost use Rattle.pdb_frames.specs.CodeCache.{FitsCode};
+ghost use Rattle.pdb_frames.specs.Origins.{kept_origin, function_module, origin};
 
 use crate::extended_infos::ExtendedInfos;
 use crate::function_lines::FunctionLines;
+use crate::origins::{Origin, function_module, function_start};
 use crate::procedure_ranges::ProcedureRanges;
-use pdb_functions::ProcedureSymbolFunction;
+use pdb_functions::PublicOrProcedureSymbol;
 use pdb_inline::InlineRange;
 use pdb_records::{LineInfo, LineProgram, ModuleInfo, PdbInternalSectionOffset};
 use pdb_types::Result;
@@ -18,33 +21,69 @@ use std::alloc::Global;
 ///
 /// It tells in three steps where code comes from: the line program of its module, the line row over it,
 /// and the inlined bodies over it.
-#[derive(Drop)]
 pub struct CodeCache<'a> {
+    pub(crate) alloc: Global,
     pub(crate) infos: ExtendedInfos<'a>,
     pub(crate) lines: FunctionLines<'a>,
     pub(crate) ranges: ProcedureRanges,
 }
 
+impl Drop for CodeCache<'_> {
+    fn drop(self) {
+        let CodeCache {
+            alloc: _,
+            infos: _,
+            lines: _,
+            ranges: _,
+        } = self;
+    }
+}
+
 impl<'a> CodeCache<'a> {
     /// Nothing yet. It takes no memory.
     pub fn new(alloc: Global) -> Self
-        ghost records: { Records }
-        ensures { FitsCode records result }
+        ensures { (records : Records) → FitsCode records result }
     {
         CodeCache {
+            alloc,
             infos: ExtendedInfos::new(alloc),
             lines: FunctionLines::new(alloc),
             ranges: ProcedureRanges::new(alloc),
         }
     }
 
-    /// The line program of the module at a position, once all is known of its code that can be.
+    /// Where the code at an offset of a function comes from, by the records of the function's module.
     ///
     /// # Errors
     ///
-    /// [`Error::PdbError`](pdb_types::Error::PdbError) for a line program that could not be read, and then
-    /// for the fault of the list of inlinees.
-    pub fn line_program(
+    /// [`Error::PdbError`](pdb_types::Error::PdbError) for what is known of the module's code, then for the
+    /// function's line rows, and then for its inline ranges.
+    #[tactic(auto, using(crate::proofs::OriginLemmas::origin_by_stack))]
+    pub fn origin(
+        &mut self,
+        module_info: &'a ModuleInfo,
+        function: PublicOrProcedureSymbol<'_>,
+        offset: u32,
+    ) -> Result<Origin<'a>>
+        ghost records: { Records }
+        requires fits { FitsCode records self.old }
+        requires module_info { records (function_module (found_function function)) ≡ Some module_info.now }
+        ensures origin { Gives kept_origin result (origin module_info.now (found_function function.entry) offset) }
+        ensures fits { FitsCode records self.new }
+    {
+        let position = function_module(function);
+        let line_program = self.line_program(position, module_info)?;
+        let row = self.row(position, line_program, function_start(function), offset)?;
+        let stack = self.stack(module_info, function, offset)?;
+        Ok(Origin {
+            line_program,
+            row,
+            stack,
+        })
+    }
+
+    /// The line program of the module at a position, once all is known of its code that can be.
+    fn line_program(
         &mut self,
         position: usize,
         module_info: &'a ModuleInfo,
@@ -61,11 +100,7 @@ impl<'a> CodeCache<'a> {
 
     /// The line row over an offset in the function that starts at a place, by the line program of the
     /// module at a position.
-    ///
-    /// # Errors
-    ///
-    /// [`Error::PdbError`](pdb_types::Error::PdbError) for the fault of the function's rows.
-    pub fn row(
+    fn row(
         &mut self,
         position: usize,
         line_program: &'a LineProgram,
@@ -81,28 +116,27 @@ impl<'a> CodeCache<'a> {
         self.lines.row(position, line_program, start, offset)
     }
 
-    /// The inlined bodies over an offset of a procedure, the outermost first, by the records of the module
-    /// at a position.
-    ///
-    /// # Errors
-    ///
-    /// As of [`CodeCache::line_program`], and then [`Error::PdbError`](pdb_types::Error::PdbError) where the
-    /// procedure's symbols go on to the end of the list, and that has a fault.
-    pub fn stack(
+    /// The inlined bodies over an offset of a function, the outermost first, by the records of its module. A
+    /// global function has none.
+    fn stack(
         &mut self,
-        position: usize,
         module_info: &ModuleInfo,
-        procedure: &ProcedureSymbolFunction<'_>,
+        function: PublicOrProcedureSymbol<'_>,
         offset: u32,
     ) -> Result<Vec<InlineRange>>
         ghost records: { Records }
         requires fits { FitsCode records self.old }
-        requires module_info { records position ≡ Some module_info.now }
-        ensures stack { Gives (λ v. v.items) result (procedure_stack module_info.now
-            procedure.now.symbol_index.0 procedure.now.end_symbol_index.0 offset) }
+        requires module_info { records (function_module (found_function function)) ≡ Some module_info.now }
+        ensures stack { Gives (λ v. v.items) result
+            (function_stack module_info.now (found_function function.entry) offset) }
         ensures fits { FitsCode records self.new }
     {
-        self.ranges
-            .stack(&self.infos, position, module_info, procedure, offset)
+        match function {
+            PublicOrProcedureSymbol::Public(_, _) => Ok(Vec::new(self.alloc)),
+            PublicOrProcedureSymbol::Procedure(position, procedure) => {
+                self.ranges
+                    .stack(&self.infos, position, module_info, &procedure, offset)
+            }
+        }
     }
 }

@@ -24,8 +24,7 @@ pub struct ExtendedInfos<'a> {
 impl<'a> ExtendedInfos<'a> {
     /// Nothing yet. It takes no memory.
     pub fn new(alloc: Global) -> Self
-        ghost records: { Records }
-        ensures { FitsInfos records result.kept }
+        ensures { (records : Records) → FitsInfos records result.kept }
     {
         ExtendedInfos {
             alloc,

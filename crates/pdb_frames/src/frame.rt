@@ -51,7 +51,7 @@ impl<'a> Model for FunctionFrames<'a> {
 }
 
 /// A copy of a name, where there is one.
-fn copy_of_name(name: &Option<String>) -> Result<Option<String>, AllocError>
+pub fn copy_of_name(name: &Option<String>) -> Result<Option<String>, AllocError>
     ensures { IfOk result (λ copy. option_map string_bytes copy ≡ option_map string_bytes name.now) }
 {
     match name {

@@ -1,31 +1,33 @@
-ghost use Rattle.std.specs.Prelude.{◌≡◌, Some};
-ghost use Rattle.std.specs.Option.{option_copied};
-ghost use Rattle.pdb_records.specs.Lines.{lines_at};
 ghost use Rattle.pdb_types.specs.Outcomes.{Gives};
 ghost use Rattle.pdb_frames.specs.Lines.{function_row};
-ghost use Rattle.pdb_frames.specs.CodeCaches.{Records, HasProgram, FitsLines};
+ghost use Rattle.pdb_frames.specs.CodeCaches.{Records, HasProgram, FitsEntries, FitsLines};
 
-use crate::code_keys::FunctionKey;
-use crate::lines::row_of;
-use pdb_records::{LineInfo, LineProgram, PdbInternalSectionOffset, Reading};
+use crate::code_keys::{FunctionKey, function_key};
+use crate::function_rows::FunctionRows;
+use crate::line_entries::ProgramEntries;
+use pdb_records::{LineInfo, LineProgram, PdbInternalSectionOffset};
 use pdb_types::{Error, Result};
 use std::alloc::Global;
 use std::collections::BTreeMap;
 
-/// The line rows of functions, by their modules' positions and where they start. Each line program is
-/// searched once for a function.
+/// The line rows of functions, by their modules' positions and where they start. The rows of a function are
+/// looked up and sorted once.
 #[derive(Drop)]
 pub struct FunctionLines<'a> {
-    pub(crate) kept: BTreeMap<FunctionKey, Option<&'a Reading<LineInfo>>>,
+    pub(crate) alloc: Global,
+    pub(crate) entries: ProgramEntries<'a>,
+    pub(crate) kept: BTreeMap<FunctionKey, FunctionRows>,
 }
 
 impl<'a> FunctionLines<'a> {
     /// Nothing yet. It takes no memory.
     pub fn new(alloc: Global) -> Self
-        ghost records: { Records }
-        ensures { FitsLines records result.kept }
+        ensures entries { (records : Records) → FitsEntries records result.entries.kept }
+        ensures fits { (records : Records) → FitsLines records result.kept }
     {
         FunctionLines {
+            alloc,
+            entries: ProgramEntries::new(alloc),
             kept: BTreeMap::new(alloc),
         }
     }
@@ -44,22 +46,22 @@ impl<'a> FunctionLines<'a> {
         offset: u32,
     ) -> Result<Option<LineInfo>>
         ghost records: { Records }
+        requires entries { FitsEntries records self.old.entries.kept }
         requires fits { FitsLines records self.old.kept }
         requires line_program { HasProgram records position line_program.now }
         ensures row { Gives (λ row. row) result (function_row line_program.now start offset) }
+        ensures entries { FitsEntries records self.new.entries.kept }
         ensures fits { FitsLines records self.new.kept }
     {
-        let key = FunctionKey {
-            position,
-            section: start.section,
-            offset: start.offset,
-        };
+        let key = function_key(position, start);
         if let Some(rows) = self.kept.get(&key) {
-            return row_of(*rows, offset);
+            return rows.row(offset);
         }
-        let rows = line_program.lines_for_symbol(start);
+        let read = self.entries.rows_at(position, line_program, start)?;
+        let rows = FunctionRows::new(self.alloc, read)?;
+        let row = rows.row(offset);
         match self.kept.insert(key, rows) {
-            Ok(_) => row_of(rows, offset),
+            Ok(_) => row,
             Err(_) => Err(Error::OutOfMemory),
         }
     }

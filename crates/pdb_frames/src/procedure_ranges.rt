@@ -2,28 +2,27 @@ ghost use Rattle.std.specs.Prelude.{◌≡◌, Some};
 ghost use Rattle.pdb_types.specs.Outcomes.{Gives};
 ghost use Rattle.pdb_frames.specs.CodeCaches.{Records, FitsInfos, FitsRanges, procedure_stack};
 
-use crate::code_keys::ProcedureKey;
+use crate::code_keys::{ProcedureKey, procedure_key};
 use crate::extended_infos::ExtendedInfos;
 use pdb_functions::ProcedureSymbolFunction;
-use pdb_inline::{InlineRange, inline_stack};
+use pdb_inline::{InlineRange, ProcedureStacks};
 use pdb_records::ModuleInfo;
 use pdb_types::{Error, Result};
 use std::alloc::Global;
 use std::collections::BTreeMap;
 
 /// The ranges of procedures' code that came from inlined bodies, by their modules' positions and their
-/// symbols. A procedure's symbols are walked once.
+/// symbols. A procedure's symbols are walked once, and its ranges are put in a table once.
 #[derive(Drop)]
 pub struct ProcedureRanges {
     pub(crate) alloc: Global,
-    pub(crate) kept: BTreeMap<ProcedureKey, Vec<InlineRange>>,
+    pub(crate) kept: BTreeMap<ProcedureKey, ProcedureStacks>,
 }
 
 impl ProcedureRanges {
     /// Nothing yet. It takes no memory.
     pub fn new(alloc: Global) -> Self
-        ghost records: { Records }
-        ensures { FitsRanges records result.kept }
+        ensures { (records : Records) → FitsRanges records result.kept }
     {
         ProcedureRanges {
             alloc,
@@ -53,17 +52,14 @@ impl ProcedureRanges {
             procedure.now.symbol_index.0 procedure.now.end_symbol_index.0 offset) }
         ensures fits { FitsRanges records self.new.kept }
     {
-        let key = ProcedureKey {
-            position,
-            symbol: procedure.symbol_index.0,
-            end: procedure.end_symbol_index.0,
-        };
-        if let Some(ranges) = self.kept.get(&key) {
-            return Ok(inline_stack(self.alloc, ranges, u64::from(offset))?);
+        let key = procedure_key(position, procedure);
+        if let Some(stacks) = self.kept.get(&key) {
+            return Ok(stacks.stack(self.alloc, u64::from(offset))?);
         }
         let ranges = infos.inline_ranges(position, module_info, procedure)?;
-        let stack = inline_stack(self.alloc, &ranges, u64::from(offset))?;
-        match self.kept.insert(key, ranges) {
+        let stacks = ProcedureStacks::new(self.alloc, ranges)?;
+        let stack = stacks.stack(self.alloc, u64::from(offset))?;
+        match self.kept.insert(key, stacks) {
             Ok(_) => Ok(stack),
             Err(_) => Err(Error::OutOfMemory),
         }

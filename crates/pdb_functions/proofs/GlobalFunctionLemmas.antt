@@ -1,7 +1,6 @@
 -- Of each start one global function is kept, the first one told.
-use Rattle.std.proofs.Common.{◌≡◌, ◌∙◌, ◌<◌, Bool, true, false, cond, List, [], ◌∷◌, Option, Some, None, refl, sym, ap, inl, inr, arith}
+use Rattle.std.proofs.Common.{◌≡◌, ◌∙◌, ◌<◌, Bool, true, false, cond, List, [], ◌∷◌, Option, Some, None, refl, sym, ap, arith}
 use Rattle.std.specs.Prelude.{filter, find}
-use Rattle.std.specs.List.{AllByRecursion}
 use Rattle.std.specs.Ordering.{nat_cmp, MatchOrdering}
 use Rattle.std.specs.declared.cmp.Ordering.{Ordering}
 use Rattle.std.specs.declared.cmp.Ordering.TheVariants.{Less, Equal, Greater}
@@ -13,10 +12,7 @@ use Rattle.pdb_ranges.specs.InOrder.{in_order}
 use Rattle.pdb_functions.specs.Starts.{starts_before, is_at, firsts_after, first_of_each_start}
 use Rattle.pdb_functions.specs.GlobalFunctions.{GlobalFunction}
 use Rattle.pdb_functions.specs.Lookup.{global_at}
-use Rattle.pdb_functions.specs.Laws.{StandsBefore, StartsAscend}
-use Rattle.pdb_ranges.proofs.NumberLemmas.{eqb_same}
-use Rattle.pdb_functions.proofs.PlaceLemmas.{starts_rank}
-use Rattle.pdb_ranges.proofs.SortLemmas.{Rises, Apart, filter_in_order, rises_in_order}
+use Rattle.pdb_ranges.proofs.SortLemmas.{Apart, filter_in_order}
 
 -- the start of a global function
 abbrev pub start_of : GlobalFunction → PdbInternalSectionOffset
@@ -84,50 +80,3 @@ global_at_behind place before (f ∷ fs) other = by_test (is_at before f.start) 
 -- of each start the first that is told is kept
 pub global_at_kept : (place : PdbInternalSectionOffset) (fs : List GlobalFunction) → global_at place (first_of_each_start start_of fs) ≡ global_at place fs
 global_at_kept place fs = global_at_behind place None (in_order (starts_before start_of) fs) refl ∙ global_at_in_order place fs
-
--- a place that doesn't come before another, and isn't it, stands behind it
-pub stands_before_from : (a b : PdbInternalSectionOffset) → starts_before (λ (p : PdbInternalSectionOffset). p) b a ≡ false → is_same_place a b ≡ false → StandsBefore a b
-stands_before_from a b behind other =
-    by_order (nat_cmp b.section a.section) refl (nat_cmp b.offset a.offset) refl (ranked b.section a.section (nat_cmp b.section a.section) refl) (ranked b.offset a.offset (nat_cmp b.offset a.offset) refl)
-  where
-    by_order : (o : Ordering) → nat_cmp b.section a.section ≡ o → (u : Ordering) → nat_cmp b.offset a.offset ≡ u
-        → MatchOrdering (nat_cmp b.section a.section) (b.section < a.section) (b.section ≡ a.section) (a.section < b.section)
-        → MatchOrdering (nat_cmp b.offset a.offset) (b.offset < a.offset) (b.offset ≡ a.offset) (a.offset < b.offset) → StandsBefore a b
-    by_order Less is u was fact rest = let e = rw is at behind in absurd (cc)
-    by_order Greater is u was fact rest = inl (rw is at fact)
-    by_order Equal is Less was fact rest = let e = rw (is, was) at behind in absurd (cc)
-    by_order Equal is Greater was fact rest = let h : b.section ≡ a.section = rw is at fact in inr (sym h, rw was at rest)
-    by_order Equal is Equal was fact rest =
-        let h : b.section ≡ a.section = rw is at fact in let k : b.offset ≡ a.offset = rw was at rest in
-        let e : is_same_place a b ≡ true = rw (h, k, eqb_same a.section, eqb_same a.offset) refl in absurd (cc)
-
--- what stands before a place stands before all that stand behind it
-pub all_behind : (a b : PdbInternalSectionOffset) (fs : List GlobalFunction) → StandsBefore a b → AllByRecursion (λ f. StandsBefore b f.start) fs → AllByRecursion (λ f. StandsBefore a f.start) fs
-all_behind a b [] first others = tt
-all_behind a b (f ∷ fs) first others = (joined first others.0, all_behind a b fs first others.1) where
-  joined : StandsBefore a b → StandsBefore b f.start → StandsBefore a f.start
-  joined (inl p) (inl q) = inl (omega arith)
-  joined (inl p) (inr q) = inl (omega arith)
-  joined (inr p) (inl q) = inl (omega arith)
-  joined (inr p) (inr q) = inr (omega arith, omega arith)
-
--- behind a place, starts in order of which doubles are dropped ascend
-pub starts_ascend_behind : (place : PdbInternalSectionOffset) (fs : List GlobalFunction) → AllByRecursion (λ f. starts_before (λ (p : PdbInternalSectionOffset). p) f.start place ≡ false) fs → Rises (starts_before start_of) fs
-    → AllByRecursion (λ f. StandsBefore place f.start) (firsts_after start_of (Some place) fs) × StartsAscend (firsts_after start_of (Some place) fs)
-starts_ascend_behind place [] behind up = (tt, tt)
-starts_ascend_behind place (f ∷ fs) behind up = by_test (is_same_place place f.start) refl (starts_ascend_behind place fs behind.1 up.1) (starts_ascend_behind f.start fs up.0 up.1) where
-  by_test : (t : Bool) → is_same_place place f.start ≡ t
-      → AllByRecursion (λ g. StandsBefore place g.start) (firsts_after start_of (Some place) fs) × StartsAscend (firsts_after start_of (Some place) fs)
-      → AllByRecursion (λ g. StandsBefore f.start g.start) (firsts_after start_of (Some f.start) fs) × StartsAscend (firsts_after start_of (Some f.start) fs)
-      → AllByRecursion (λ g. StandsBefore place g.start) (cond t (firsts_after start_of (Some place) fs) (f ∷ firsts_after start_of (Some f.start) fs)) × StartsAscend (cond t (firsts_after start_of (Some place) fs) (f ∷ firsts_after start_of (Some f.start) fs))
-  by_test true here rest next = rest
-  by_test false apart rest next =
-      let first : StandsBefore place f.start = stands_before_from place f.start behind.0 apart in
-      ((first, all_behind place f.start (firsts_after start_of (Some f.start) fs) first next.0), next)
-
--- the starts that are kept ascend
-pub kept_ascend : (fs : List GlobalFunction) → StartsAscend (first_of_each_start start_of fs)
-kept_ascend fs = of_order (in_order (starts_before start_of) fs) (rises_in_order (starts_rank start_of) fs) where
-  of_order : (gs : List GlobalFunction) → Rises (starts_before start_of) gs → StartsAscend (firsts_after start_of None gs)
-  of_order [] up = tt
-  of_order (g ∷ gs) up = starts_ascend_behind g.start gs up.0 up.1

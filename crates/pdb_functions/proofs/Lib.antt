@@ -1,6 +1,12 @@
 pub mod PlaceLemmas
+pub mod KeyLemmas
+pub mod AscendLemmas
 pub mod ContributionLemmas
+pub mod PositionLemmas
+pub mod NeighbourLemmas
+pub mod TableLemmas
 pub mod StartLemmas
 pub mod RunLemmas
 pub mod GlobalFunctionLemmas
 pub mod ModuleInfoLemmas
+pub mod SectionLemmas

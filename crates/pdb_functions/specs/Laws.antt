@@ -2,10 +2,8 @@
 use Rattle.std.specs.Prelude.{◌≡◌, ◌<◌, ◌≤◌, Bool, true, List, [], ◌∷◌, ⊤, ◌&&◌, nat_le}
 use Rattle.std.specs.List.{AllByRecursion, list_any}
 use Rattle.std.specs.Prelude.{◌⊎◌}
-use Rattle.pdb_records.specs.declared.addresses.PdbInternalSectionOffset.{PdbInternalSectionOffset}
 use Rattle.pdb_functions.specs.declared.contributions.ModuleSectionContribution.{ModuleSectionContribution}
 use Rattle.pdb_functions.specs.Contributions.{is_same_run}
-use Rattle.pdb_functions.specs.GlobalFunctions.{GlobalFunction}
 
 -- it has a byte
 abbrev pub IsFilled : ModuleSectionContribution → Type 0
@@ -28,12 +26,3 @@ ends_in claim run = is_same_run claim run && nat_le claim.end_offset run.end_off
 -- one of the runs is of the module and section of a claim, and ends no earlier
 abbrev pub EndsInOneOf : List ModuleSectionContribution → ModuleSectionContribution → Type 0
 EndsInOneOf runs claim = list_any (ends_in claim) runs ≡ true
-
--- a place stands before another
-abbrev pub StandsBefore : PdbInternalSectionOffset → PdbInternalSectionOffset → Type 0
-StandsBefore a b = (a.section < b.section) ⊎ ((a.section ≡ b.section) × (a.offset < b.offset))
-
--- each function starts before all that follow, so each start stands once
-abbrev pub StartsAscend : List GlobalFunction → Type 0
-StartsAscend [] = ⊤
-StartsAscend (f ∷ fs) = AllByRecursion (λ g. StandsBefore f.start g.start) fs × StartsAscend fs

@@ -4,6 +4,8 @@ pub mod Starts
 pub mod GlobalFunctions
 pub mod Procedures
 pub mod Spans
+pub mod Keys
+pub mod SectionTables
 pub mod Lookup
 pub mod ModuleInfos
 pub mod Laws

@@ -1,5 +1,6 @@
 -- What starts at a place of the program.
-use Rattle.std.specs.Prelude.{Bool, List, [], ◌∷◌, Option, Some, None, if◌then◌else◌, false}
+use Rattle.std.specs.Prelude.{◌≡◌, ◌<◌, ◌⊎◌, ⊤, Bool, List, [], ◌∷◌, Option, Some, None, if◌then◌else◌, false}
+use Rattle.std.specs.List.{AllByRecursion}
 use Rattle.std.specs.Ordering.{nat_cmp, ordering_then, is_lt}
 use Rattle.std.specs.declared.cmp.Ordering.{Ordering}
 use Rattle.pdb_records.specs.declared.addresses.PdbInternalSectionOffset.{PdbInternalSectionOffset}
@@ -29,3 +30,16 @@ firsts_after start before (x ∷ xs) =
 -- by section and start, of each start the first in reading order
 abbrev pub first_of_each_start : {T : Type 0} → (T → PdbInternalSectionOffset) → List T → List T
 first_of_each_start start xs = firsts_after start None (in_order (starts_before start) xs)
+
+-- a place comes before another
+abbrev pub is_before : PdbInternalSectionOffset → PdbInternalSectionOffset → Bool
+is_before a b = is_lt (place_cmp a b)
+
+-- a place stands before another
+abbrev pub StandsBefore : PdbInternalSectionOffset → PdbInternalSectionOffset → Type 0
+StandsBefore a b = (a.section < b.section) ⊎ ((a.section ≡ b.section) × (a.offset < b.offset))
+
+-- each one starts before all that follow, so each start stands once
+abbrev pub StartsAscend : {T : Type 0} → (T → PdbInternalSectionOffset) → List T → Type 0
+StartsAscend start [] = ⊤
+StartsAscend start (x ∷ xs) = AllByRecursion (λ y. StandsBefore (start x) (start y)) xs × StartsAscend start xs

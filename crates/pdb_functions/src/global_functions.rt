@@ -4,6 +4,7 @@ ghost use Rattle.pdb_functions.specs.GlobalFunctions.{global_function, public_fu
 ghost use Rattle.pdb_functions.specs.Sections.{section_ends};
 ghost use Rattle.pdb_functions.specs.Starts.{first_of_each_start};
 
+use crate::global_function_table::GlobalFunctionTable;
 use crate::sections::{executable_section_ends, is_executable_section};
 use crate::starts::{HasStart, first_of_each_start};
 use pdb_records::{
@@ -94,8 +95,8 @@ pub fn compute_global_functions<'a>(
     sections: &[ImageSectionHeader],
     symbols: &'a [Symbol],
     contribution_starts: &[PdbInternalSectionOffset],
-) -> Result<Vec<PublicSymbolFunctionOrPlaceholder<'a>>, AllocError>
-    ensures { IfOk result (λ v. map global_function v.items
+) -> Result<GlobalFunctionTable<'a>, AllocError>
+    ensures { IfOk result (λ table. table
         ≡ first_of_each_start (λ f. f.start)
         (filter_map (public_function sections.now) symbols.now
         ++ map placeholder (contribution_starts.now ++ section_ends sections.now))) }
@@ -105,5 +106,5 @@ pub fn compute_global_functions<'a>(
     let ends = executable_section_ends(alloc, sections)?;
     add_placeholders(&mut functions, &ends)?;
     let kept = first_of_each_start(alloc, functions)?;
-    Ok(kept)
+    Ok(GlobalFunctionTable::new(kept))
 }

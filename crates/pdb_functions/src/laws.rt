@@ -16,7 +16,8 @@ ghost use Rattle.pdb_functions.specs.Procedures.{ModuleProcedure};
 ghost use Rattle.pdb_functions.specs.Lookup.{global_at};
 ghost use Rattle.pdb_ranges.specs.Pick.{pick, IsPicked};
 ghost use Rattle.pdb_functions.specs.Spans.{procedure_covers};
-ghost use Rattle.pdb_functions.specs.Laws.{AreApart, EndsInOneOf, StartsAscend};
+ghost use Rattle.pdb_functions.specs.Laws.{AreApart, EndsInOneOf};
+ghost use Rattle.pdb_functions.specs.Starts.{StartsAscend};
 
 use crate::contributions::ModuleSectionContribution;
 
@@ -46,7 +47,7 @@ pub fn merged_contributions_hold_all()
 /// of the start where there is one.
 pub fn first_global_function_of_each_start_is_kept()
     ensures ascend { (sections : List ImageSectionHeader) (symbols : List Symbol) (debug : DebugInformation)
-        → StartsAscend (global_functions sections symbols debug) }
+        → StartsAscend (λ f. f.start) (global_functions sections symbols debug) }
     ensures first { (sections : List ImageSectionHeader) (symbols : List Symbol) (debug : DebugInformation)
         (place : PdbInternalSectionOffset)
         → global_at place (global_functions sections symbols debug)

@@ -4,23 +4,28 @@
 //! the tables that are made of them hold what a plain scan of the records would find.
 #![tactic(auto)]
 
+mod contribution_table;
 mod contributions;
+mod global_function_table;
 mod global_functions;
 pub mod laws;
 mod lookup;
 mod module_info;
 mod module_infos;
 mod named_info;
+mod placed;
+mod procedure_table;
 mod procedures;
+mod section_table;
 mod sections;
 mod starts;
 
+pub use contribution_table::ContributionTable;
 pub use contributions::{ModuleSectionContribution, compute_section_contributions};
+pub use global_function_table::GlobalFunctionTable;
 pub use global_functions::{PublicSymbolFunctionOrPlaceholder, compute_global_functions};
-pub use lookup::{
-    PublicOrProcedureSymbol, contribution_over, global_function_at, global_function_in,
-    global_function_over, next_function, procedure_over,
-};
+pub use lookup::{PublicOrProcedureSymbol, global_function_in};
 pub use module_info::BasicModuleInfo;
 pub use module_infos::BasicModuleInfoCache;
 pub use procedures::ProcedureSymbolFunction;
+pub use section_table::SectionTable;

@@ -1,10 +1,13 @@
 ghost use Rattle.std.specs.Prelude.{◌≡◌, ◌≢◌, None, Some, map, option_map, IfOk, MatchResult};
 ghost use Rattle.pdb_records.specs.declared.error.Error.TheVariants.{Stream};
 ghost use Rattle.pdb_types.specs.declared.error.Error.TheVariants.{PdbError, OutOfMemory};
+ghost use Rattle.pdb_ranges.specs.Pick.{pick};
 ghost use Rattle.pdb_functions.specs.Procedures.{module_procedure, info_procedures};
+ghost use Rattle.pdb_functions.specs.Spans.{procedure_covers};
 
+use crate::procedure_table::ProcedureTable;
 use crate::procedures::{ProcedureSymbolFunction, compute_procedures};
-use pdb_records::ModuleInfo;
+use pdb_records::{ModuleInfo, PdbInternalSectionOffset};
 use pdb_types::{Error, Result};
 use std::alloc::Global;
 use std::marker::Model;
@@ -13,20 +16,20 @@ use std::marker::Model;
 #[derive(Drop)]
 pub struct BasicModuleInfo<'a> {
     module_info: &'a ModuleInfo,
-    procedures: Vec<ProcedureSymbolFunction<'a>>,
+    procedures: ProcedureTable<'a>,
 }
 
 impl<'a> Model for BasicModuleInfo<'a> {
-    ghost use Rattle.std.specs.Prelude.{◌≡◌, map, None};
+    ghost use Rattle.std.specs.Prelude.{◌≡◌};
     ghost use Rattle.pdb_records.specs.declared.modules.ModuleInfo.{ModuleInfo};
 
     ghost Value = { ModuleInfo };
 
-    ghost use Rattle.pdb_functions.specs.Procedures.{module_procedure, info_procedures};
+    ghost use Rattle.pdb_functions.specs.Procedures.{info_procedures};
 
     ghost view = { λ b. b.module_info.now };
 
-    ghost invariant = { λ b. map module_procedure b.procedures.items ≡ info_procedures b.module_info.now };
+    ghost invariant = { λ b. b.procedures ≡ info_procedures b.module_info.now };
 }
 
 impl<'a> BasicModuleInfo<'a> {
@@ -49,7 +52,7 @@ impl<'a> BasicModuleInfo<'a> {
         let procedures = compute_procedures(alloc, &module_info.symbols.items)?;
         Ok(BasicModuleInfo {
             module_info,
-            procedures,
+            procedures: ProcedureTable::new(alloc, procedures)?,
         })
     }
 
@@ -57,7 +60,18 @@ impl<'a> BasicModuleInfo<'a> {
     pub fn procedures(&self) -> &[ProcedureSymbolFunction<'a>]
         ensures { map module_procedure result.now ≡ info_procedures self.now }
     {
-        &self.procedures
+        self.procedures.as_slice()
+    }
+
+    /// Of the module's procedures over a place the one that starts last. It is found by a binary search.
+    pub fn procedure_over(
+        &self,
+        place: PdbInternalSectionOffset,
+    ) -> Option<ProcedureSymbolFunction<'a>>
+        ensures { option_map module_procedure result
+            ≡ pick (procedure_covers place) (λ p. p.offset.offset) (info_procedures self.now) }
+    {
+        self.procedures.procedure_over(place)
     }
 
     /// The records that were read.

@@ -19,11 +19,20 @@ use std::marker::Model;
 ///
 /// A list of modules may be another one at each question: what is remembered serves a module of the name
 /// that it was read for, and of no other.
-#[derive(Drop)]
 pub struct BasicModuleInfoCache<'a, P: ModuleProvider> {
     alloc: Global,
     provider: &'a P,
     kept: BTreeMap<usize, NamedInfo<'a>>,
+}
+
+impl<P: ModuleProvider> Drop for BasicModuleInfoCache<'_, P> {
+    fn drop(self) {
+        let BasicModuleInfoCache {
+            alloc: _,
+            provider: _,
+            kept: _,
+        } = self;
+    }
 }
 
 // Clauses see the provider, on which alone all answers stand, and what is remembered.

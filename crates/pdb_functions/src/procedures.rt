@@ -5,6 +5,7 @@ ghost use Rattle.pdb_records.specs.declared.symbols.Symbol.{Symbol};
 ghost use Rattle.pdb_records.specs.declared.symbols.SymbolData.{SymbolData};
 ghost use Rattle.pdb_types.specs.declared.error.Error.TheVariants.{PdbError, OutOfMemory};
 ghost use Rattle.pdb_functions.specs.Procedures.{module_procedure, unless_empty, procedure_data, procedure_at, procedures_from, symbol_procedures};
+ghost use Rattle.pdb_functions.specs.Starts.{StartsAscend};
 
 use crate::starts::{HasStart, first_of_each_start};
 use pdb_records::{
@@ -141,7 +142,8 @@ pub(crate) fn compute_procedures(
     alloc: Global,
     symbols: &[Symbol],
 ) -> Result<Vec<ProcedureSymbolFunction<'_>>, AllocError>
-    ensures { IfOk result (λ v. map module_procedure v.items ≡ symbol_procedures symbols.now) }
+    ensures kept { IfOk result (λ v. map module_procedure v.items ≡ symbol_procedures symbols.now) }
+    ensures ascend { IfOk result (λ v. StartsAscend (λ p. p.offset) v.items) }
 {
     let procedures = procedures_in_reading_order(alloc, symbols)?;
     let kept = first_of_each_start(alloc, procedures)?;

@@ -1,8 +1,11 @@
-ghost use Rattle.std.specs.Prelude.{◌≡◌, OnOk, OnErr, IfOk};
+ghost use Rattle.std.specs.Prelude.{◌≡◌, ◌+◌, ◌≤◌, length, OnOk, OnErr, IfOk};
+ghost use Rattle.std.specs.List.{position_or_len};
 ghost use Rattle.pdb_records.specs.declared.addresses.PdbInternalSectionOffset.{PdbInternalSectionOffset};
 ghost use Rattle.pdb_ranges.specs.InOrder.{in_order};
-ghost use Rattle.pdb_functions.specs.Starts.{starts_before, firsts_after, first_of_each_start};
+ghost use Rattle.pdb_ranges.specs.Probes.{digits};
+ghost use Rattle.pdb_functions.specs.Starts.{starts_before, firsts_after, first_of_each_start, is_before, StartsAscend};
 
+use pdb_ranges::Probes;
 use pdb_records::PdbInternalSectionOffset;
 use std::alloc::{AllocError, Global};
 
@@ -49,4 +52,30 @@ pub(crate) fn first_of_each_start<T: HasStart>(
 {
     sort_by_start(&mut entries)?;
     first_neighbours(alloc, &entries)
+}
+
+/// The position of the first entry that starts behind a place, or the number of entries where none does. Each entry
+/// that is looked at counts.
+pub(crate) fn position_behind<T: HasStart>(
+    entries: &[T],
+    place: PdbInternalSectionOffset,
+    probes: &mut Probes,
+) -> usize
+    requires { StartsAscend T.start_of entries.now }
+    ensures position { result ≡ position_or_len (λ entry. is_before place (T.start_of entry)) entries.now }
+    ensures within { result ≤ length entries.now }
+    ensures few { probes.new ≤ probes.old + digits (length entries.now) }
+{
+    let mut from = 0;
+    let mut to = entries.len();
+    while from < to {
+        let middle = from + (to - from) / 2;
+        probes.tick();
+        if place < entries[middle].start() {
+            to = middle;
+        } else {
+            from = middle + 1;
+        }
+    }
+    from
 }

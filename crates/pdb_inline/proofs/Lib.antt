@@ -8,3 +8,8 @@ pub mod InlineStackLemmas
 pub mod WellNestedLemmas
 pub mod DirectlyInsideLemmas
 pub mod PickedLemmas
+pub mod LastPickedLemmas
+pub mod DepthTableLemmas
+pub mod RangeBoundLemmas
+pub mod StackLemmas
+pub mod StackTableLemmas

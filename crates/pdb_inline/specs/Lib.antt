@@ -4,3 +4,7 @@ pub mod InlineRanges
 pub mod InlineStacks
 pub mod WellNested
 pub mod CoveredRuns
+pub mod ListedRanges
+pub mod DepthTables
+pub mod RangeBounds
+pub mod StackTable

@@ -5,12 +5,19 @@
 //! one place of the code are a stack of inlined bodies.
 #![tactic(auto)]
 
+mod depth_tables;
 mod inline_ranges;
 mod inline_rows;
 mod inline_stacks;
 pub mod laws;
+mod listed_ranges;
 mod missing_rows;
+mod procedure_stacks;
+mod range_bounds;
 mod sites;
+mod stack_table;
 
 pub use inline_ranges::{InlineRange, inline_ranges_of_procedure};
 pub use inline_stacks::inline_stack;
+pub use procedure_stacks::ProcedureStacks;
+pub use stack_table::StackTable;

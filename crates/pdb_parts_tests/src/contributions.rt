@@ -1,6 +1,6 @@
 use pdb_functions::{
-    ModuleSectionContribution, compute_global_functions, compute_section_contributions,
-    contribution_over, global_function_at, global_function_over, laws, next_function,
+    ContributionTable, ModuleSectionContribution, compute_global_functions,
+    compute_section_contributions, laws,
 };
 use pdb_records::{
     DebugInformation, ImageSectionHeader, MachineType, PdbInternalSectionOffset, PublicSymbol,
@@ -128,10 +128,11 @@ fn thousands_of_contributions(rt: HostRuntime) -> Result<(), Fail> {
     }
     let (kept, starts) = merged(rt.alloc(), &given)?;
     assert_eq!(rt; starts.len(), 3000);
-    assert_eq!(rt; kept.len(), 3000);
-    let over = contribution_over(&kept, place(1, 0x7fff));
+    let table = ContributionTable::new(rt.alloc(), kept)?;
+    assert_eq!(rt; table.as_slice().len(), 3000);
+    let over = table.contribution_over(place(1, 0x7fff));
     assert_eq!(rt; over, Some(run(1, 0x7ff0, 0x8000, 0x7ff)));
-    assert_eq!(rt; contribution_over(&kept, place(2, 0)), None);
+    assert_eq!(rt; table.contribution_over(place(2, 0)), None);
     Ok(())
 }
 
@@ -150,12 +151,17 @@ fn thousands_of_global_functions(rt: HostRuntime) -> Result<(), Fail> {
     let starts = [place(1, 8), place(1, 0)];
     let functions = compute_global_functions(rt.alloc(), &SECTIONS, &symbols, &starts)?;
     assert_eq!(rt; functions.len(), 3002);
-    let over = global_function_over(&functions, place(1, 0x1f)).ok_or("nothing over")?;
+    assert_eq!(rt; functions.as_slice().len(), 3002);
+    let over = functions
+        .function_over(place(1, 0x1f))
+        .ok_or("nothing over")?;
     assert_eq!(rt; over.start_offset.offset, 0x10);
     assert!(rt; over.name.is_some());
-    let at = global_function_at(&functions, place(1, 8)).ok_or("nothing at 8")?;
+    let at = functions.function_at(place(1, 8)).ok_or("nothing at 8")?;
     assert!(rt; at.name.is_none());
-    let next = next_function(&functions, place(1, 0xbb70)).ok_or("nothing behind")?;
+    let next = functions
+        .next_function(place(1, 0xbb70))
+        .ok_or("nothing behind")?;
     assert_eq!(rt; next.start_offset.offset, 0x2_0000);
     laws::first_global_function_of_each_start_is_kept();
     Ok(())

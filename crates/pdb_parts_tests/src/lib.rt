@@ -6,6 +6,8 @@ mod contributions;
 #[cfg(test)]
 mod inline_ranges;
 #[cfg(test)]
+mod inline_stacks;
+#[cfg(test)]
 mod procedures;
 #[cfg(test)]
 mod range_sets;

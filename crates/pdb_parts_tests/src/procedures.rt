@@ -1,6 +1,6 @@
 use pdb_functions::{
     BasicModuleInfo, ModuleSectionContribution, ProcedureSymbolFunction, PublicOrProcedureSymbol,
-    PublicSymbolFunctionOrPlaceholder, global_function_in, laws, procedure_over,
+    PublicSymbolFunctionOrPlaceholder, global_function_in, laws,
 };
 use pdb_records::{
     ModuleInfo, PdbInternalSectionOffset, ProcedureSymbol, RawString, Reading, S_GPROC32,
@@ -138,9 +138,9 @@ fn thousands_of_procedures(rt: HostRuntime) -> Result<(), Fail> {
     let info = module(alloc, symbols, None);
     let basic = BasicModuleInfo::try_from_module_info(alloc, &info)?;
     assert_eq!(rt; basic.procedures().len(), 3000);
-    let over = procedure_over(basic.procedures(), place(0x104)).ok_or("nothing over")?;
+    let over = basic.procedure_over(place(0x104)).ok_or("nothing over")?;
     assert_eq!(rt; over.offset.offset, 0x100);
-    assert!(rt; procedure_over(basic.procedures(), place(0x1_0000)).is_none());
+    assert!(rt; basic.procedure_over(place(0x1_0000)).is_none());
     Ok(())
 }
 

@@ -8,6 +8,7 @@ pub mod MissingRunLemmas
 pub mod NumberLemmas
 pub mod SortLemmas
 pub mod PickLemmas
+pub mod LastLemmas
 pub mod SegmentLemmas
 pub mod PaintingLemmas
 pub mod OverlaidLemmas

@@ -21,6 +21,11 @@ painted_in_turn-append : {T : Type 0} (a b : List (Segment T)) (before : Option 
 painted_in_turn-append [] b before x = refl
 painted_in_turn-append (s ∷ a) b before x = painted_in_turn-append a b (painted s.start s.end s.value before x) x
 
+-- one more segment is painted over what was there
+pub painted_in_turn-push : {T : Type 0} (ss : List (Segment T)) (s : Segment T) (before : Option T) (x : ℕ)
+    → painted_in_turn (ss ++ s ∷ []) before x ≡ painted s.start s.end s.value (painted_in_turn ss before x) x
+painted_in_turn-push ss s before x = painted_in_turn-append ss (s ∷ []) before x
+
 -- what is painted comes before what was there
 painted_in_turn-over : {T : Type 0} (ss : List (Segment T)) (before : Option T) (x : ℕ)
     → painted_in_turn ss before x ≡ option_or (painted_in_turn ss None x) before

@@ -8,14 +8,12 @@
 mod entries;
 pub mod laws;
 mod painting;
-mod pick;
 mod probes;
 mod range_set;
 mod runs;
 mod segment;
 mod segments;
 
-pub use pick::{Span, pick_span};
 pub use probes::Probes;
 pub use range_set::RangeSet;
 pub use segment::Segment;

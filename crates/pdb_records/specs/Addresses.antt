@@ -19,7 +19,9 @@ numbered number offset = if nat_le number 65535 then Some (record { section = nu
 -- the place of an address among sections that are numbered from here on: in the first that holds it
 abbrev pub offset_from : ℕ → List AddressRange → ℕ → Option PdbInternalSectionOffset
 offset_from number [] address = None
-offset_from number (range ∷ ranges) address = if holds address range then numbered number (address - range.virtual_address) else offset_from (number + 1) ranges address
+offset_from number (range ∷ ranges) address =
+    if holds address range then numbered number (address - range.virtual_address)
+    else offset_from (number + 1) ranges address
 
 -- the place of an address: sections are numbered from 1
 abbrev pub internal_offset : List AddressRange → Rva → Option PdbInternalSectionOffset
@@ -35,4 +37,5 @@ numbered_section number sections = if nat_lt 0 number then slice_get sections (n
 
 -- the address of a place: the start of its section, and the offset
 abbrev pub rva : List AddressRange → PdbInternalSectionOffset → Option Rva
-rva sections place = option_and_then (λ range. rva_of (range.virtual_address + place.offset)) (numbered_section place.section sections)
+rva sections place =
+    option_and_then (λ range. rva_of (range.virtual_address + place.offset)) (numbered_section place.section sections)

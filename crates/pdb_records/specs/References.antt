@@ -11,7 +11,9 @@ imported_module modules index = slice_get modules ((index / 2 ^ 20) % 2 ^ 11)
 
 -- the module's name and its number for an import, which stands at bits 0 to 19
 abbrev pub import_at : List Imported → ℕ → Option (StringRef × ℕ)
-import_at modules index = option_and_then (λ m. option_map (λ number. (m.module_name, number)) (slice_get m.locals (index % 2 ^ 20))) (imported_module modules index)
+import_at modules index =
+    option_and_then (λ m. option_map (λ number. (m.module_name, number)) (slice_get m.locals (index % 2 ^ 20)))
+    (imported_module modules index)
 
 -- what is there, or the error that names the index
 abbrev pub found_import : ℕ → Option (StringRef × ℕ) → Result (StringRef × ℕ) Error

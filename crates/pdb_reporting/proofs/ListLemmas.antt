@@ -8,7 +8,7 @@ use Rattle.std.proofs.lemmas.List.Elements.{filter_map-append}
 use Rattle.pdb_types.specs.Standing.{Infos}
 use Rattle.pdb_types.specs.declared.error.Error.{Error}
 use Rattle.pdb_types.specs.declared.error.Error.TheVariants.{OutOfMemory}
-use Rattle.pdb_addr2line.specs.Function.{Description}
+use Rattle.pdb_descriptions.specs.Function.{Description}
 use Rattle.pdb_addr2line.specs.Functions.{functions_at}
 use Rattle.pdb_addr2line.specs.Lookups.{function_at}
 use Rattle.pdb_addr2line.specs.Sources.{Sources}

@@ -1,7 +1,7 @@
 -- The line that is written of a function.
 use Rattle.std.specs.Prelude.{ℕ, false, List, [], ◌∷◌, ◌++◌, codes, Option, Some, None}
 use Rattle.std.specs.Fmt.{digits}
-use Rattle.pdb_addr2line.specs.Function.{Description}
+use Rattle.pdb_descriptions.specs.Function.{Description}
 
 -- a number in hexadecimal digits
 abbrev pub hex : ℕ → List ℕ

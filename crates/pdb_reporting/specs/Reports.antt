@@ -4,7 +4,7 @@ use Rattle.pdb_types.specs.declared.error.Error.{Error}
 use Rattle.pdb_types.specs.declared.error.Error.TheVariants.{OutOfMemory}
 use Rattle.pdb_types.specs.Outcomes.{and_then}
 use Rattle.pdb_types.specs.Standing.{Infos}
-use Rattle.pdb_addr2line.specs.Function.{Description}
+use Rattle.pdb_descriptions.specs.Function.{Description}
 use Rattle.pdb_addr2line.specs.Functions.{functions_of}
 use Rattle.pdb_frames.specs.CodeParts.{CodeParts}
 use Rattle.pdb_addr2line.specs.Lookups.{function_at, frames_at, blamed_at, told_refusal}

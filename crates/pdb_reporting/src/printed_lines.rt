@@ -1,5 +1,5 @@
 ghost use Rattle.std.specs.Prelude.{◌≡◌, Some, option_map, string_bytes, IfOk};
-ghost use Rattle.pdb_addr2line.specs.Function.{description};
+ghost use Rattle.pdb_descriptions.specs.Function.{description};
 ghost use Rattle.pdb_reporting.specs.PrintedLines.{name_text, end_text, names_line, list_line};
 
 use pdb_addr2line::Function;

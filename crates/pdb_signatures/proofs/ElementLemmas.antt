@@ -5,7 +5,7 @@ use Rattle.std.proofs.lemmas.Bool.{cases_eq}
 use Rattle.std.specs.BTreeMap.{is_at}
 use Rattle.std.specs.List.{list_any}
 use Rattle.std.specs.Ordering.{nat_cmp}
-use Rattle.pdb_signatures.specs.Plans.{is_among}
+use Rattle.pdb_documents.specs.Plans.{is_among}
 
 -- a key is at a number where it is that number
 at_number : (q key : ℕ) → is_at (nat_cmp q) key ≡ nat_eq q key

@@ -4,14 +4,14 @@ use Rattle.std.specs.Prelude.{Option, Some, None, is_some, if◌then◌else◌}
 use Rattle.std.proofs.Math.Seq.{take-append_seam, drop-append_seam, take-length}
 use Rattle.std.proofs.lemmas.List.{append-nil}
 use Rattle.pdb_types.specs.FailedParts.{Parts}
-use Rattle.pdb_signatures.specs.Documents.{Failure, Document, Run, run, then_by, buffered_by, caught_by, ends_in_sigil}
-use Rattle.pdb_signatures.specs.Documents as document
-use Rattle.pdb_signatures.specs.Wording.{missing_text}
-use Rattle.pdb_signatures.specs.Worlds.{World}
-use Rattle.pdb_signatures.specs.Plans.{Task, Plan, Done, Later, Seq, Buffered, Catch}
-use Rattle.pdb_signatures.specs.Rules.{rule}
-use Rattle.pdb_signatures.specs.Unfolding.{Unfolds, done, later, seq, buffered, catch}
-use Rattle.pdb_signatures.specs.Progress.{released_by}
+use Rattle.pdb_documents.specs.Documents.{Failure, Document, Run, run, then_by, buffered_by, caught_by, ends_in_sigil}
+use Rattle.pdb_documents.specs.Documents as document
+use Rattle.pdb_documents.specs.Wording.{missing_text}
+use Rattle.pdb_documents.specs.Worlds.{World}
+use Rattle.pdb_documents.specs.Plans.{Task, Plan, Done, Later, Seq, Buffered, Catch}
+use Rattle.pdb_documents.specs.Rules.{rule}
+use Rattle.pdb_documents.specs.Unfolding.{Unfolds, done, later, seq, buffered, catch}
+use Rattle.pdb_documents.specs.Progress.{released_by}
 use Rattle.pdb_signatures.specs.Frames.{Frame, Then, Closing, Caught, Kept, Ends, Counts, Goes}
 
 -- nothing changes

@@ -1,12 +1,3 @@
-pub mod NamespaceLemmas
-pub mod FreeLemmas
-pub mod RuleLemmas
-pub mod IdLemmas
-pub mod FallLemmas
-pub mod UnfoldingLemmas
-pub mod DocumentLemmas
-pub mod AlikeLemmas
-pub mod CutLemmas
 pub mod GoesLemmas
 pub mod StandsLemmas
 pub mod OtherKinds
@@ -14,9 +5,3 @@ pub mod TurnLemmas
 pub mod ReadLemmas
 pub mod ElementLemmas
 pub mod LoopLemmas
-pub mod AnswerLemmas
-pub mod Expansion
-pub mod SignatureExamples
-pub mod IdExamples
-pub mod SeenLemmas
-pub mod AttributeLemmas

@@ -3,27 +3,28 @@ use Rattle.std.proofs.Common.{◌≡◌, ◌^◌, ℕ, suc, ◌+◌, ◌<◌, Bo
 use Rattle.std.specs.Prelude.{None, is_some, Result, Ok, Err}
 use Rattle.pdb_records.specs.declared.types.TypeData.{TypeData}
 use Rattle.pdb_types.specs.Unread.{Trouble}
-use Rattle.pdb_signatures.specs.Signatures.{signature, signature_by_type}
-use Rattle.pdb_signatures.specs.Wording.{function_name}
+use Rattle.pdb_documents.specs.Signatures.{signature, signature_by_type}
+use Rattle.pdb_documents.specs.Wording.{function_name}
 use Rattle.std.specs.List.{AllByRecursion}
 use Rattle.pdb_types.specs.declared.flags.TypeFormatterFlags.{TypeFormatterFlags}
 use Rattle.pdb_types.specs.declared.unread.Part.{Part}
-use Rattle.pdb_types.specs.FailedParts.{Parts, with_part}
-use Rattle.pdb_signatures.specs.declared.tasks.Task as tasks
-use Rattle.pdb_signatures.specs.declared.tasks.Pending.{Pending}
-use Rattle.pdb_signatures.specs.declared.tasks.Pending.TheVariants.{Print, Close, EndId, EndCatch, EndBuffer}
-use Rattle.pdb_signatures.specs.BrokenParts.{IsBroken, with_parts, AddsBroken}
-use Rattle.pdb_signatures.specs.Documents.{Document, Run, run, then_by}
-use Rattle.pdb_signatures.specs.Worlds.{World}
-use Rattle.pdb_signatures.specs.Plans.{Plan, Done, Later, Seq, Buffered, Catch, is_among, on_read, refusal, written}
-use Rattle.pdb_signatures.specs.Rules.{rule}
-use Rattle.pdb_signatures.specs.Unfolding.{Unfolds, Runs, done, later, seq, buffered, catch}
-use Rattle.pdb_signatures.specs.Progress.{Stage, beginning, with_step, Opens, open_in, task_plan, stage_run, ended_run, IsPassedOver, Ended}
+use Rattle.pdb_types.specs.FailedParts.{Parts}
+use Rattle.pdb_documents.specs.declared.tasks.Task as tasks
+use Rattle.pdb_documents.specs.declared.tasks.Pending.{Pending}
+use Rattle.pdb_documents.specs.declared.tasks.Pending.TheVariants.{Print, Close, EndId, EndCatch, EndBuffer}
+use Rattle.pdb_documents.specs.BrokenParts.{IsBroken, with_parts, AddsBroken}
+use Rattle.pdb_documents.specs.Documents.{Document, Run, run, then_by}
+use Rattle.pdb_documents.specs.Worlds.{World}
+use Rattle.pdb_documents.specs.Plans.{Plan, Done, Later, Seq, Buffered, Catch, is_among, on_read, refusal, written}
+use Rattle.pdb_documents.specs.Rules.{rule}
+use Rattle.pdb_documents.specs.Unfolding.{Unfolds, Runs, done, later, seq, buffered, catch}
+use Rattle.pdb_documents.specs.Progress.{Stage, beginning, with_step, Opens, open_in, task_plan, stage_run, ended_run, IsPassedOver, Ended}
 use Rattle.pdb_signatures.specs.Frames.{Frame, Ends, Counts, steps_left, Goes, frames, Advances, Begins, Stands}
-use Rattle.pdb_signatures.proofs.RuleLemmas.{IsBelow}
+use Rattle.pdb_documents.proofs.RuleLemmas.{IsBelow}
 use Rattle.pdb_signatures.proofs.TurnLemmas.{same_run}
-use Rattle.pdb_signatures.proofs.DocumentLemmas.{document-unfolds}
+use Rattle.pdb_documents.proofs.DocumentLemmas.{document-unfolds}
 use Rattle.pdb_signatures.proofs.GoesLemmas.{goes_over, goes_closing, goes_caught, goes_kept}
+use Rattle.pdb_documents.proofs.MetLemmas.{with_parts-append}
 
 -- how many steps a plan takes, by how it unfolds
 unfolding-steps : {w : World} {p : Plan} {d : Document} → Unfolds w p d → ℕ
@@ -97,11 +98,6 @@ printed-goes w task old mid new f f' taken advances = subst (λ (s : Stage). Goe
 pub ends-here : (w : World) (k : List Frame) (c : Run) (s : Stage) (f : Parts) → Goes w 0 k c (frames w s.steps) (stage_run s f) → s.steps ≡ [] → Ends w k c (stage_run s f)
 ends-here w k c s f goes empty = goes.ends (stage_run s f) (subst (λ (xs : List Pending). Ends w (frames w xs) (stage_run s f) (stage_run s f)) (sym empty) refl)
 
--- parts that were added, and more
-with-more : (failed : Parts) (a b : List Part) → with_parts (with_parts failed a) b ≡ with_parts failed (a ++ b)
-with-more failed [] b = refl
-with-more failed (part ∷ a) b = with-more (with_part failed part) a b
-
 -- each of these is broken, and each of those
 all-broken : (w : World) (a b : List Part) → AllByRecursion (IsBroken w) a → AllByRecursion (IsBroken w) b → AllByRecursion (IsBroken w) (a ++ b)
 all-broken w [] b first second = second
@@ -112,7 +108,7 @@ pub adds-then : {w : World} {a b c : Parts} → AddsBroken w a b → AddsBroken 
 adds-then {w = w} {a = a} first second = record {
   added = first.added ++ second.added;
   broken = all-broken w first.added second.added first.broken second.broken;
-  is = second.is ∙ (ap (λ failed. with_parts failed second.added) first.is ∙ with-more a first.added second.added);
+  is = second.is ∙ (ap (λ failed. with_parts failed second.added) first.is ∙ with_parts-append a first.added second.added);
 }
 
 -- no part was added yet

@@ -14,15 +14,15 @@ use Rattle.pdb_types.specs.declared.error.Error.TheVariants.{ArgumentTypeNotArgu
 use Rattle.pdb_types.specs.Errors.{Plain}
 use Rattle.pdb_records.specs.declared.ids.MemberFunctionId.{MemberFunctionId}
 use Rattle.pdb_records.specs.declared.ids.FunctionId.{FunctionId}
-use Rattle.pdb_signatures.specs.Ids.{method_id, function_id}
-use Rattle.pdb_signatures.specs.declared.attributes.Attribute.{Attribute}
-use Rattle.pdb_signatures.specs.Attributes.{attributes_text}
-use Rattle.pdb_signatures.specs.Wording.{dimensions_text}
-use Rattle.pdb_signatures.specs.Worlds.{World}
-use Rattle.pdb_signatures.specs.Plans.{OfType, Later, Buffered, ◌▸◌, written, failing, met_before}
-use Rattle.pdb_signatures.specs.Rules.{chain_end, behind_modifier, behind_pointer, element, modified}
-use Rattle.pdb_signatures.specs.Methods.{this_by_target, this_by_type, printed_this, on_list}
-use Rattle.pdb_signatures.specs.Signatures.{signature_by_type}
+use Rattle.pdb_documents.specs.Ids.{method_id, function_id}
+use Rattle.pdb_documents.specs.declared.attributes.Attribute.{Attribute}
+use Rattle.pdb_documents.specs.Attributes.{attributes_text}
+use Rattle.pdb_documents.specs.Wording.{dimensions_text}
+use Rattle.pdb_documents.specs.Worlds.{World}
+use Rattle.pdb_documents.specs.Plans.{OfType, Later, Buffered, ◌▸◌, written, failing, met_before}
+use Rattle.pdb_documents.specs.Rules.{chain_end, behind_modifier, behind_pointer, element, modified}
+use Rattle.pdb_documents.specs.Methods.{this_by_target, this_by_type, printed_this, on_list}
+use Rattle.pdb_documents.specs.Signatures.{signature_by_type}
 
 -- any other type than a function ends a chain of pointers before them
 pub chain_end-other : (w : World) (attributes : List Attribute) (inside : List ℕ) (type : TypeData) → ((x : MemberFunctionType) → type ≡ MemberFunction x → ⊥) → ((x : ProcedureType) → type ≡ Procedure x → ⊥) → chain_end w attributes inside type ≡ Buffered (Later inside (OfType type)) (attributes_text w.flags true true attributes) (attributes_text w.flags true false attributes)

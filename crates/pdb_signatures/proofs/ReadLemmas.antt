@@ -8,8 +8,8 @@ use Rattle.pdb_records.specs.declared.types.TypeData.{TypeData}
 use Rattle.pdb_records.specs.declared.types.TypeData.TheVariants.{Primitive, Class, MemberFunction, Procedure, Pointer, Array, Union, Enumeration, Enumerate, Modifier, ArgumentList, Other}
 use Rattle.pdb_records.specs.declared.ids.IdIndex.{IdIndex}
 use Rattle.pdb_records.specs.declared.ids.IdData.{IdData}
-use Rattle.pdb_signatures.specs.declared.methods.This.{This}
-use Rattle.pdb_signatures.specs.Methods.{plain_this, this_by_target, this_by_type, this_of}
+use Rattle.pdb_documents.specs.declared.this.This.{This}
+use Rattle.pdb_documents.specs.Methods.{plain_this, this_by_target, this_by_type, this_of}
 use Rattle.pdb_types.specs.declared.error.Error.{Error}
 use Rattle.pdb_types.specs.declared.unread.Part.{Part}
 use Rattle.pdb_types.specs.declared.unread.Unread.{Unread}
@@ -21,10 +21,10 @@ use Rattle.pdb_types.specs.Reading.{reading}
 use Rattle.pdb_types.specs.Standing.{Linked}
 use Rattle.pdb_types.specs.TypeSizes.{read_type}
 use Rattle.pdb_types.specs.Unread.{Trouble, Broken, Tells}
-use Rattle.pdb_signatures.specs.Plans.{refusal, note_or_refusal}
+use Rattle.pdb_documents.specs.Plans.{refusal, note_or_refusal}
 use Rattle.pdb_signatures.specs.Troubles.{IsTrouble}
-use Rattle.pdb_signatures.specs.BrokenParts.{IsBroken, AddsBroken}
-use Rattle.pdb_signatures.specs.Worlds.{World, type_at, id_at}
+use Rattle.pdb_documents.specs.BrokenParts.{IsBroken, AddsBroken}
+use Rattle.pdb_documents.specs.Worlds.{World, type_at, id_at}
 
 -- the trouble of what can't be read
 pub tells-trouble : {A B : Type 0} (view : A → B) (unread : Unread) (trouble : Trouble) (r : Result B Trouble) → Tells view (Err unread) r → IsTrouble unread trouble → r ≡ Err trouble

@@ -3,15 +3,15 @@ use Rattle.std.proofs.Common.{◌≡◌, ℕ, ◌+◌, ◌≤◌, List, [], ◌�
 use Rattle.std.specs.Prelude.{true, false, reverse, Vec, Option, Some, None}
 use Rattle.std.specs.declared.alloc.Global.{Global}
 use Rattle.std.proofs.lemmas.List.{append-nil}
-use Rattle.pdb_signatures.specs.declared.tasks.Task as tasks
-use Rattle.pdb_signatures.specs.declared.tasks.Pending.TheVariants.{Print, EndBuffer}
-use Rattle.pdb_signatures.specs.declared.attributes.Attribute.{Attribute}
-use Rattle.pdb_signatures.specs.Attributes.{attributes_text}
-use Rattle.pdb_signatures.specs.Documents.{Failure, Document, Run, run, then_by}
-use Rattle.pdb_signatures.specs.Documents as document
-use Rattle.pdb_signatures.specs.Worlds.{World}
-use Rattle.pdb_signatures.specs.Plans.{Plan, Seq, Buffered, ◌▸◌, written}
-use Rattle.pdb_signatures.specs.Progress.{Stage, with_step, open_in, task_plan}
+use Rattle.pdb_documents.specs.declared.tasks.Task as tasks
+use Rattle.pdb_documents.specs.declared.tasks.Pending.TheVariants.{Print, EndBuffer}
+use Rattle.pdb_documents.specs.declared.attributes.Attribute.{Attribute}
+use Rattle.pdb_documents.specs.Attributes.{attributes_text}
+use Rattle.pdb_documents.specs.Documents.{Failure, Document, Run, run, then_by}
+use Rattle.pdb_documents.specs.Documents as document
+use Rattle.pdb_documents.specs.Worlds.{World}
+use Rattle.pdb_documents.specs.Plans.{Plan, Seq, Buffered, ◌▸◌, written}
+use Rattle.pdb_documents.specs.Progress.{Stage, with_step, open_in, task_plan}
 use Rattle.pdb_signatures.specs.Frames.{Frame, Then, Goes, frames, Stands, StandsHere}
 use Rattle.pdb_signatures.proofs.GoesLemmas.{goes_on, goes_then, goes_fewer, goes_seq, goes_done, goes_buffered}
 

@@ -8,20 +8,20 @@ use Rattle.pdb_types.specs.declared.unread.Part.{Part}
 use Rattle.pdb_types.specs.Errors.{Plain}
 use Rattle.pdb_types.specs.FailedParts.{Parts, with_part, with_met}
 use Rattle.pdb_types.specs.Unread.{Trouble}
-use Rattle.pdb_signatures.specs.declared.tasks.Pending.{Pending}
-use Rattle.pdb_signatures.specs.declared.tasks.Pending.TheVariants.{Print, Close, EndCatch}
-use Rattle.pdb_signatures.specs.declared.tasks.Task.TheVariants as tasks
+use Rattle.pdb_documents.specs.declared.tasks.Pending.{Pending}
+use Rattle.pdb_documents.specs.declared.tasks.Pending.TheVariants.{Print, Close, EndCatch}
+use Rattle.pdb_documents.specs.declared.tasks.Task.TheVariants as tasks
 use Rattle.std.specs.Borrow.{Bor}
-use Rattle.pdb_signatures.specs.Documents.{Failure, Told, Document, Run, run, then_by}
-use Rattle.pdb_signatures.specs.Documents as document
-use Rattle.pdb_signatures.specs.Worlds.{World}
-use Rattle.pdb_signatures.specs.Plans.{Task, Index, OfType, Elements, Id, Plan, Done, Later, is_among, on_read, on_printed, opened, opening, circular, refusal, note_or_refusal, written, met_before}
-use Rattle.pdb_signatures.specs.Ids.{id_by_kind}
-use Rattle.pdb_signatures.specs.Rules.{rule, by_kind, element}
+use Rattle.pdb_documents.specs.Documents.{Failure, Told, Document, Run, run, then_by}
+use Rattle.pdb_documents.specs.Documents as document
+use Rattle.pdb_documents.specs.Worlds.{World}
+use Rattle.pdb_documents.specs.Plans.{Task, Index, OfType, Elements, Id, Plan, Done, Later, is_among, on_read, on_printed, opened, opening, circular, refusal, note_or_refusal, written, met_before}
+use Rattle.pdb_documents.specs.Ids.{id_by_kind}
+use Rattle.pdb_documents.specs.Rules.{rule, by_kind, element}
 use Rattle.std.specs.BTreeSet.{insert_key}
 use Rattle.std.specs.Ordering.{nat_cmp}
 use Rattle.pdb_records.specs.declared.ids.IdData.{IdData}
-use Rattle.pdb_signatures.specs.Progress.{Stage, with_step, with_text, with_failure, open_in, alone, OpensAlone, stage_run}
+use Rattle.pdb_documents.specs.Progress.{Stage, with_step, with_text, with_failure, open_in, alone, OpensAlone, stage_run}
 use Rattle.pdb_signatures.specs.Frames.{Frame, Then, Ends, Goes, frames, Advances, AdvancesClosing, Stands, StandsHere, IsEntered, IsEnteredAlone}
 use Rattle.pdb_signatures.proofs.GoesLemmas.{goes_then, goes_fewer, goes_later, goes_seq, goes_done, goes_catch}
 use Rattle.pdb_signatures.proofs.StandsLemmas.{stands_empty}

@@ -4,16 +4,16 @@ use Rattle.pdb_records.specs.declared.types.TypeData.{TypeData}
 use Rattle.pdb_types.specs.declared.unread.Unread.{Unread}
 use Rattle.pdb_types.specs.FailedParts.{Parts}
 use Rattle.pdb_types.specs.Unread.{Trouble}
-use Rattle.pdb_signatures.specs.declared.tasks.Pending.{Pending}
-use Rattle.pdb_signatures.specs.declared.tasks.Pending.TheVariants.{Print, Close, EndId, EndCatch, EndBuffer}
-use Rattle.pdb_signatures.specs.Attributes.{attributes_text}
-use Rattle.pdb_signatures.specs.Documents.{Document, Run, run, then_by, caught_by}
+use Rattle.pdb_documents.specs.declared.tasks.Pending.{Pending}
+use Rattle.pdb_documents.specs.declared.tasks.Pending.TheVariants.{Print, Close, EndId, EndCatch, EndBuffer}
+use Rattle.pdb_documents.specs.Attributes.{attributes_text}
+use Rattle.pdb_documents.specs.Documents.{Document, Run, run, then_by, caught_by}
 use Rattle.pdb_signatures.specs.Troubles.{IsTrouble}
-use Rattle.pdb_signatures.specs.Worlds.{World}
-use Rattle.pdb_signatures.specs.Plans.{Task, Plan, Done, Later, Seq, Buffered, Catch, is_among, on_read, opening, refusal, note_or_refusal}
-use Rattle.pdb_signatures.specs.Rules.{rule}
-use Rattle.pdb_signatures.specs.Unfolding.{Unfolds, Runs}
-use Rattle.pdb_signatures.specs.Progress.{Stage, with_step, open_in, OpensAlone, task_plan, released_by, stage_run}
+use Rattle.pdb_documents.specs.Worlds.{World}
+use Rattle.pdb_documents.specs.Plans.{Task, Plan, Done, Later, Seq, Buffered, Catch, is_among, on_read, opening, refusal, note_or_refusal}
+use Rattle.pdb_documents.specs.Rules.{rule}
+use Rattle.pdb_documents.specs.Unfolding.{Unfolds, Runs}
+use Rattle.pdb_documents.specs.Progress.{Stage, with_step, open_in, OpensAlone, task_plan, released_by, stage_run}
 
 -- something that is still to be done
 pub data Frame : Type 0 where

@@ -1,15 +1,15 @@
 ghost use Rattle.std.specs.Prelude.{◌≡◌, ◌||◌, OnOk};
-ghost use Rattle.pdb_signatures.specs.Flags.{without_return_type};
+ghost use Rattle.pdb_documents.specs.Flags.{without_return_type};
+ghost use Rattle.pdb_documents.specs.Functions.{returned, further_types, types_between, function_arguments};
+ghost use Rattle.pdb_documents.specs.Methods.{arguments_behind};
+ghost use Rattle.pdb_documents.specs.Progress.{open_in};
+ghost use Rattle.pdb_documents.specs.Worlds.{World};
 ghost use Rattle.pdb_signatures.specs.Frames.{Stands};
-ghost use Rattle.pdb_signatures.specs.Functions.{returned, further_types, types_between, function_arguments};
-ghost use Rattle.pdb_signatures.specs.Methods.{arguments_behind};
-ghost use Rattle.pdb_signatures.specs.Progress.{open_in};
-ghost use Rattle.pdb_signatures.specs.Worlds.{World};
 
-use crate::options::{without_arguments, without_return_type};
-use crate::progress::Progress;
-use crate::tasks::Task;
-use crate::wording::Wording;
+use pdb_documents::options::{without_arguments, without_return_type};
+use pdb_documents::progress::Progress;
+use pdb_documents::tasks::Task;
+use pdb_documents::wording::Wording;
 use pdb_records::TypeIndex;
 use pdb_types::TypeFormatterFlags;
 use std::alloc::AllocError;

@@ -3,21 +3,21 @@ ghost use Rattle.pdb_records.specs.declared.ids.IdData.TheVariants as kind;
 ghost use Rattle.pdb_records.specs.declared.types.TypeData.TheVariants.{MemberFunction, Procedure};
 ghost use Rattle.pdb_types.specs.FailedParts.{Parts};
 ghost use Rattle.pdb_types.specs.Findings.{Fits};
-ghost use Rattle.pdb_signatures.specs.BrokenParts.{AddsBroken};
+ghost use Rattle.pdb_documents.specs.BrokenParts.{AddsBroken};
+ghost use Rattle.pdb_documents.specs.Ids.{scope, method_id, function_id, id_by_kind};
+ghost use Rattle.pdb_documents.specs.Plans.{Id, Later};
+ghost use Rattle.pdb_documents.specs.Printed.{id_run};
+ghost use Rattle.pdb_documents.specs.Progress.{failure_in, open_in};
+ghost use Rattle.pdb_documents.specs.Worlds.{World, formatter_world};
 ghost use Rattle.pdb_signatures.specs.Frames.{Advances, AdvancesClosing, Stands};
-ghost use Rattle.pdb_signatures.specs.Ids.{scope, method_id, function_id, id_by_kind};
-ghost use Rattle.pdb_signatures.specs.Plans.{Id, Later};
-ghost use Rattle.pdb_signatures.specs.Printed.{id_run};
-ghost use Rattle.pdb_signatures.specs.Progress.{failure_in, open_in};
-ghost use Rattle.pdb_signatures.specs.Worlds.{World, formatter_world};
 
-use crate::answers::Printed;
-use crate::failures::Failure;
 use crate::functions::is_left_out;
 use crate::printer::Printer;
-use crate::progress::Progress;
-use crate::tasks::Task;
-use crate::wording::{Wording, static_word};
+use pdb_documents::answers::Printed;
+use pdb_documents::failures::Failure;
+use pdb_documents::progress::Progress;
+use pdb_documents::tasks::Task;
+use pdb_documents::wording::{Wording, static_word};
 use pdb_records::{
     FunctionId, IdData, IdIndex, MemberFunctionId, MemberFunctionType, ProcedureType, TypeData,
     TypeIndex,

@@ -1,54 +1,23 @@
 ghost use Rattle.std.specs.Prelude.{◌≡◌, ◌&&◌, None, codes, if◌then◌else◌, OnOk};
 ghost use Rattle.pdb_types.specs.Findings.{Fits, Keeps};
 ghost use Rattle.pdb_types.specs.Unread.{Tells};
-ghost use Rattle.pdb_signatures.specs.BrokenParts.{AddsBroken};
+ghost use Rattle.pdb_documents.specs.BrokenParts.{AddsBroken};
+ghost use Rattle.pdb_documents.specs.Plans.{MethodArguments, Later, on_read};
+ghost use Rattle.pdb_documents.specs.Progress.{open_in};
+ghost use Rattle.pdb_documents.specs.Methods.{this_of, method_list, on_list};
+ghost use Rattle.pdb_documents.specs.Worlds.{World, formatter_world};
 ghost use Rattle.pdb_signatures.specs.Frames.{Advances, Stands};
-ghost use Rattle.pdb_signatures.specs.Plans.{MethodArguments, Later, on_read};
-ghost use Rattle.pdb_signatures.specs.Progress.{open_in};
-ghost use Rattle.pdb_signatures.specs.Methods.{this_by_target, this_of, method_list, on_list};
-ghost use Rattle.pdb_signatures.specs.Worlds.{World, formatter_world};
 
-use crate::failures::Failure;
-use crate::options::without_arguments;
 use crate::printer::Printer;
-use crate::progress::Progress;
-use crate::tasks::Task;
-use crate::wording::{Wording, comma};
+use pdb_documents::failures::Failure;
+use pdb_documents::options::without_arguments;
+use pdb_documents::progress::Progress;
+use pdb_documents::tasks::Task;
+use pdb_documents::this::{PLAIN_THIS, This, this_by_target};
+use pdb_documents::wording::{Wording, comma};
 use pdb_records::{MemberFunctionType, TypeData, TypeIndex};
 use pdb_types::{Error, Findings, ModuleProvider, TypeFormatterFlags, Unread};
 use std::alloc::AllocError;
-
-/// What a method's `this` tells.
-#[derive(Clone, Copy)]
-pub(crate) struct This {
-    /// Whether the method is constant.
-    pub(crate) constant: bool,
-    /// `this`, where it is printed as the first argument.
-    pub(crate) argument: Option<TypeIndex>,
-}
-
-/// A method that is not constant, and has no argument before its list.
-const PLAIN_THIS: This = This {
-    constant: false,
-    argument: None,
-};
-
-/// What the target of `this` tells: a modifier of the class says whether the method is constant. Else `this`
-/// is an argument.
-pub(crate) fn this_by_target(class: TypeIndex, this: TypeIndex, target: &TypeData) -> This
-    ensures { result ≡ this_by_target class this target.now }
-{
-    match target {
-        TypeData::Modifier(m) if m.underlying_type == class => This {
-            constant: m.constant,
-            argument: None,
-        },
-        _ => This {
-            constant: false,
-            argument: Some(this),
-        },
-    }
-}
 
 /// What stands behind a method's arguments.
 fn closing(constant: bool, may_say_const: bool) -> &'static str
@@ -82,7 +51,7 @@ pub(crate) fn method_list<'s>(
 
 impl<'p, 'a, P: ModuleProvider> Printer<'p, 'a, P> {
     /// What a method's `this` tells, where there is one.
-    #[tactic(auto, unfolding(crate::specs::Worlds::type_at))]
+    #[tactic(auto, unfolding(pdb_documents::specs::Worlds::type_at))]
     fn read_this(
         &self,
         findings: &mut Findings<'a>,

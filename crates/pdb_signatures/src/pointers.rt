@@ -1,15 +1,15 @@
 ghost use Rattle.std.specs.Prelude.{◌≡◌, ◌∷◌, false, OnOk, reverse};
-ghost use Rattle.pdb_signatures.specs.Attributes.{attribute_of};
+ghost use Rattle.pdb_documents.specs.Attributes.{attribute_of};
+ghost use Rattle.pdb_documents.specs.Plans.{Chain, Later};
+ghost use Rattle.pdb_documents.specs.Progress.{open_in};
+ghost use Rattle.pdb_documents.specs.Rules.{pointers_to_method, pointers_to_function, chain_end, behind_modifier, behind_pointer};
+ghost use Rattle.pdb_documents.specs.Worlds.{World};
 ghost use Rattle.pdb_signatures.specs.Frames.{Stands, StandsHere};
-ghost use Rattle.pdb_signatures.specs.Plans.{Chain, Later};
-ghost use Rattle.pdb_signatures.specs.Progress.{open_in};
-ghost use Rattle.pdb_signatures.specs.Rules.{pointers_to_method, pointers_to_function, chain_end, behind_modifier, behind_pointer};
-ghost use Rattle.pdb_signatures.specs.Worlds.{World};
 
-use crate::attributes::{Attribute, attribute_of, point_to};
-use crate::progress::Progress;
-use crate::tasks::Task;
-use crate::wording::Wording;
+use pdb_documents::attributes::{Attribute, attribute_of, point_to};
+use pdb_documents::progress::Progress;
+use pdb_documents::tasks::Task;
+use pdb_documents::wording::Wording;
 use pdb_records::{MemberFunctionType, PointerType, ProcedureType, TypeData};
 use std::alloc::AllocError;
 

@@ -1,18 +1,18 @@
 ghost use Rattle.std.specs.Prelude.{◌≡◌, ◌∷◌, [], codes, if◌then◌else◌, OnOk};
-ghost use Rattle.pdb_signatures.specs.Frames.{Stands};
-ghost use Rattle.pdb_signatures.specs.Progress.{open_in};
-ghost use Rattle.pdb_signatures.specs.Rules.{modified, by_kind};
 ghost use Rattle.pdb_records.specs.declared.types.TypeData.TheVariants.{MemberFunction, Procedure, Array};
-ghost use Rattle.pdb_signatures.specs.Attributes.{attribute_of};
-ghost use Rattle.pdb_signatures.specs.Plans.{Chain, Later, written};
-ghost use Rattle.pdb_signatures.specs.Wording.{declared_text};
-ghost use Rattle.pdb_signatures.specs.Worlds.{World};
+ghost use Rattle.pdb_documents.specs.Progress.{open_in};
+ghost use Rattle.pdb_documents.specs.Rules.{modified, by_kind};
+ghost use Rattle.pdb_documents.specs.Attributes.{attribute_of};
+ghost use Rattle.pdb_documents.specs.Plans.{Chain, Later, written};
+ghost use Rattle.pdb_documents.specs.Wording.{declared_text};
+ghost use Rattle.pdb_documents.specs.Worlds.{World};
+ghost use Rattle.pdb_signatures.specs.Frames.{Stands};
 
-use crate::attributes::attribute_of;
 use crate::functions::{is_left_out, types_between};
-use crate::progress::Progress;
-use crate::tasks::Task;
-use crate::wording::{Wording, class_word, comma};
+use pdb_documents::attributes::attribute_of;
+use pdb_documents::progress::Progress;
+use pdb_documents::tasks::Task;
+use pdb_documents::wording::{Wording, class_word, comma};
 use pdb_records::{
     ArrayType, MemberFunctionType, PointerType, ProcedureType, RawString, TypeData, TypeIndex,
 };

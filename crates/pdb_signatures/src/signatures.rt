@@ -2,19 +2,19 @@ ghost use Rattle.std.specs.Prelude.{◌≡◌, None, OnOk, IfOk, IfErr, string_b
 ghost use Rattle.pdb_records.specs.declared.types.TypeData.TheVariants.{MemberFunction, Procedure};
 ghost use Rattle.pdb_types.specs.Findings.{Fits};
 ghost use Rattle.pdb_types.specs.declared.error.Error.TheVariants.{OutOfMemory};
-ghost use Rattle.pdb_signatures.specs.BrokenParts.{AddsBroken};
+ghost use Rattle.pdb_documents.specs.BrokenParts.{AddsBroken};
+ghost use Rattle.pdb_documents.specs.Printed.{signature_run};
+ghost use Rattle.pdb_documents.specs.Progress.{beginning, failure_in, open_in};
+ghost use Rattle.pdb_documents.specs.Signatures.{signature_by_type, signature};
+ghost use Rattle.pdb_documents.specs.Worlds.{World, formatter_world};
 ghost use Rattle.pdb_signatures.specs.Frames.{Begins, Stands};
-ghost use Rattle.pdb_signatures.specs.Printed.{signature_run};
-ghost use Rattle.pdb_signatures.specs.Progress.{beginning, failure_in, open_in};
-ghost use Rattle.pdb_signatures.specs.Signatures.{signature_by_type, signature};
-ghost use Rattle.pdb_signatures.specs.Worlds.{World, formatter_world};
 
-use crate::answers::Printed;
 use crate::functions::is_left_out;
 use crate::printer::Printer;
-use crate::progress::Progress;
-use crate::tasks::Task;
-use crate::wording::{Wording, function_name, static_word};
+use pdb_documents::answers::Printed;
+use pdb_documents::progress::Progress;
+use pdb_documents::tasks::Task;
+use pdb_documents::wording::{Wording, function_name, static_word};
 use pdb_records::{MemberFunctionType, ProcedureType, TypeData, TypeIndex};
 use pdb_types::{Findings, ModuleProvider, Standing, TypeFormatterFlags};
 use std::alloc::{AllocError, Global};

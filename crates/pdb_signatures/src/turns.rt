@@ -1,20 +1,20 @@
 ghost use Rattle.std.specs.Prelude.{◌≡◌, None, Ok, OnOk, reverse};
 ghost use Rattle.pdb_types.specs.Findings.{Fits};
-ghost use Rattle.pdb_signatures.specs.BrokenParts.{AddsBroken};
+ghost use Rattle.pdb_types.specs.FailedParts.{Parts};
+ghost use Rattle.pdb_documents.specs.BrokenParts.{AddsBroken};
+ghost use Rattle.pdb_documents.specs.Plans.{Index, OfType, Chain, BehindModifier, Modified, Later};
+ghost use Rattle.pdb_documents.specs.Progress.{open_in, task_plan, stage_run};
+ghost use Rattle.pdb_documents.specs.Worlds.{World, formatter_world};
 ghost use Rattle.pdb_signatures.specs.Frames.{Advances, Ends, frames};
-ghost use Rattle.pdb_signatures.specs.Plans.{Index, OfType, Chain, BehindModifier, Modified, Later};
-ghost use Rattle.pdb_signatures.specs.Progress.{open_in, task_plan, stage_run};
-ghost use Rattle.pdb_signatures.specs.FailedParts.{Parts};
-ghost use Rattle.pdb_signatures.specs.Worlds.{World, formatter_world};
 
-use crate::attributes::Attribute;
 use crate::functions::{function_arguments, further_types, returned, types_between};
 use crate::ids::scope;
 use crate::pointers::{behind_modifier, behind_pointer};
 use crate::printer::Printer;
-use crate::progress::{Next, Progress};
 use crate::rules::{by_kind, modified};
-use crate::tasks::Task;
+use pdb_documents::attributes::Attribute;
+use pdb_documents::progress::{Next, Progress};
+use pdb_documents::tasks::Task;
 use pdb_records::{TypeData, TypeIndex};
 use pdb_types::{Findings, ModuleProvider, TypeFormatterFlags};
 use std::alloc::AllocError;

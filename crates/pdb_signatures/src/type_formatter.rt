@@ -5,15 +5,15 @@ ghost use Rattle.pdb_types.specs.FailedParts.{with_met};
 ghost use Rattle.pdb_types.specs.Outcomes.{Gives};
 ghost use Rattle.pdb_types.specs.Standing.{program_pointer_size};
 ghost use Rattle.pdb_types.specs.TypeSizes.{size_of};
-ghost use Rattle.pdb_signatures.specs.Answers.{AnswersText, AnswersWritten};
-ghost use Rattle.pdb_signatures.specs.BrokenParts.{AddsBroken};
-ghost use Rattle.pdb_signatures.specs.Printed.{signature_run, id_run};
-ghost use Rattle.pdb_signatures.specs.Progress.{failure_in};
-ghost use Rattle.pdb_signatures.specs.Worlds.{formatter_world};
+ghost use Rattle.pdb_documents.specs.Answers.{AnswersText, AnswersWritten};
+ghost use Rattle.pdb_documents.specs.BrokenParts.{AddsBroken};
+ghost use Rattle.pdb_documents.specs.Printed.{signature_run, id_run};
+ghost use Rattle.pdb_documents.specs.Progress.{failure_in};
+ghost use Rattle.pdb_documents.specs.Worlds.{formatter_world};
 
-use crate::answers::{Printed, printed_text, write_printed};
 use crate::ids::print_id;
 use crate::signatures::print_signature;
+use pdb_documents::answers::{Printed, printed_text, write_printed};
 use pdb_records::{
     DebugInformation, IdIndex, IdInformation, Module, StringTable, TypeIndex, TypeInformation,
 };

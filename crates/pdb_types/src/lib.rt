@@ -34,5 +34,6 @@ pub use forward_references::TypeSizeCache;
 pub use items::{IdMap, ItemIndex, ItemMap, TypeMap};
 pub use provider::ModuleProvider;
 pub use standing::Standing;
+pub use texts::Texts;
 pub use type_sizes::TypeSize;
 pub use unread::{Part, Unread};

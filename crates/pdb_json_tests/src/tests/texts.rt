@@ -15,7 +15,8 @@ pub(super) const WHOLE: &str = r#"{"version":1,
 "global_symbols":{"items":[
  {"raw_kind":4366,"data":{"kind":"Public","section":1,"offset":16,"name":"?f"}},
  {"raw_kind":4368,"data":{"kind":"Procedure","section":2,"offset":17,"len":18,"name":"p","end":19,"type_index":20}},
- {"raw_kind":4402,"data":{"kind":"SeparatedCode","section":3,"offset":21,"len":22,"parent_section":4,"parent_offset":23,"end":24}},
+ {"raw_kind":4402,"data":{"kind":"SeparatedCode","section":3,"offset":21,"len":22,
+  "parent_section":4,"parent_offset":23,"end":24}},
  {"raw_kind":4354,"data":{"kind":"Thunk","section":5,"offset":25,"len":65535,"name":"","end":26}},
  {"raw_kind":4429,"data":{"kind":"InlineSite","inlinee":27,"end":28,"rows":{"items":[
   {"offset":29,"length":30,"file_index":31,"line_start":32},{"offset":33,"file_index":34,"line_start":35}],"fault":36}}},
@@ -25,8 +26,10 @@ pub(super) const WHOLE: &str = r#"{"version":1,
  "section_contributions":{"items":[{"section":6,"offset":37,"size":38,"module":39}]}},
 "type_information":[
  {"index":100,"kind":"Primitive","primitive":"F32PP","indirection":true},
- {"index":101,"kind":"Class","class_kind":"Interface","name":"C","unique_name":".C","size":18446744073709551615,"forward_reference":false},
- {"index":102,"kind":"MemberFunction","return_type":40,"class_type":41,"this_pointer_type":42,"is_constructor":true,"argument_list":43},
+ {"index":101,"kind":"Class","class_kind":"Interface","name":"C","unique_name":".C",
+  "size":18446744073709551615,"forward_reference":false},
+ {"index":102,"kind":"MemberFunction","return_type":40,"class_type":41,"this_pointer_type":42,
+  "is_constructor":true,"argument_list":43},
  {"index":103,"kind":"Procedure","return_type":44,"is_constructor":false,"argument_list":45},
  {"index":104,"kind":"Pointer","underlying_type":46,"mode":"RValueReference","is_const":true,"size":255},
  {"index":105,"kind":"Array","element_type":47,"first":48,"rest":[49,50]},
@@ -51,7 +54,8 @@ pub(super) const WHOLE: &str = r#"{"version":1,
   "inlinees":[75],"imports":[{"module":76,"locals":[77,78]}],"exports":[{"local":79,"global":80}]},
  null,
  {"error":81},
- {"symbols":{"items":[],"fault":82},"line_program":{"error":83},"inlinees":{"items":[84],"fault":85},"imports":{"error":86},"exports":{"error":87}}]}"#;
+ {"symbols":{"items":[],"fault":82},"line_program":{"error":83},"inlinees":{"items":[84],"fault":85},
+  "imports":{"error":86},"exports":{"error":87}}]}"#;
 
 /// Changes of the small file: what stands there, what is put in its place, and what is answered.
 pub(super) const CHANGES: &str =
@@ -65,7 +69,7 @@ pub(super) const CHANGES: &str =
 "type_information":[] => "type_information":{"error":3} => read
 [{"raw_kind":4366,"data":{"kind":"Public","section":1,"offset":16,"name":"?f"}}] => {"items":[],"fault":9} => read
 "virtual_size":256,"execute":true => "virtual_size":1.5,"execute":1 => /sections/0/virtual_size: number out of range
-"virtual_size":256,"execute":true => "virtual_size":256,"virtual_size":"x","execute":true => /sections/0/virtual_size: wanted number
+"execute":true => "virtual_size":"x","execute":true => /sections/0/virtual_size: wanted number
 "offset":16 => "offset":1e999 => not a JSON text
 "offset":16 => "offset":16.0 => /global_symbols/0/data/offset: number out of range
 [null] => [null,null,{"symbols":[{"raw_kind":6},{"raw_kind":-1}]}] => /module_infos/2/symbols/1/raw_kind: number out of range

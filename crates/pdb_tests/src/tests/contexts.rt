@@ -15,7 +15,7 @@ const PROGRAM: &[u8] = br#"{"sections":[{"virtual_address":4096,"virtual_size":2
 "id_information":[],"string_table":[],"module_infos":[null]}"#;
 
 /// A context over records of its own, whose modules a provider knows, and with a formatter.
-fn context_of<'a, P: ModuleProvider>(
+pub(super) fn context_of<'a, P: ModuleProvider>(
     alloc: Global,
     provider: &'a P,
     pdb: &'a PDB,

@@ -5,7 +5,8 @@ use std::process::Abort;
 use std::test::Fail;
 
 /// A procedure with one site inside another. The inner one has a row; so has the procedure itself.
-const PROGRAM: &[u8] = br#"{"sections":[{"virtual_address":4096,"virtual_size":256,"execute":true}],
+pub(super) const PROGRAM: &[u8] =
+    br#"{"sections":[{"virtual_address":4096,"virtual_size":256,"execute":true}],
 "address_map":[{"virtual_address":4096,"virtual_size":256}],"global_symbols":[],
 "debug_information":{"machine_type":"Amd64","modules":[{"name":"a.obj"}],
 "section_contributions":[{"section":1,"offset":0,"size":128,"module":0}]},

@@ -1,9 +1,9 @@
 use Rattle.std.proofs.Common.{arith}
 use Rattle.pdb_types.specs.declared.error.Error.TheVariants.{MemberFunctionIdIsNotMemberFunctionType}
 use Rattle.pdb_types.specs.Errors.{Plain}
-use Rattle.pdb_signatures.specs.Documents.{Told}
-use Rattle.pdb_signatures.specs.Plans.{failing}
-use Rattle.pdb_signatures.specs.Progress.{open_in}
+use Rattle.pdb_documents.specs.Documents.{Told}
+use Rattle.pdb_documents.specs.Plans.{failing}
+use Rattle.pdb_documents.specs.Progress.{open_in}
 use Rattle.pdb_signatures.proofs.OtherKinds.{method_id-other}
 use Rattle.pdb_signatures.proofs.TurnLemmas.{advances_fewer, advances_failed, advances_stands}
 use Rattle.pdb_signatures.proofs.ids.method_by_type.Goals as goal

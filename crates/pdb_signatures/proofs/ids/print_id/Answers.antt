@@ -1,8 +1,8 @@
-use Rattle.pdb_signatures.specs.Ids.{id_of_index}
-use Rattle.pdb_signatures.specs.Worlds.{formatter_world}
-use Rattle.pdb_signatures.proofs.DocumentLemmas.{document-runs}
+use Rattle.pdb_documents.specs.Ids.{id_of_index}
+use Rattle.pdb_documents.specs.Worlds.{formatter_world}
+use Rattle.pdb_documents.proofs.DocumentLemmas.{document-runs}
 use Rattle.pdb_signatures.proofs.LoopLemmas.{begins_task}
-use Rattle.pdb_signatures.proofs.UnfoldingLemmas.{formatter-below}
+use Rattle.pdb_documents.proofs.UnfoldingLemmas.{formatter-below}
 use Rattle.pdb_signatures.proofs.ids.print_id.Goals as goal
 
 pub returns-clause-printed : goal.returns-clause-printed

@@ -1,7 +1,7 @@
 use Rattle.std.proofs.Common.{arith}
 use Rattle.std.specs.Prelude.{None, codes}
-use Rattle.pdb_signatures.specs.Functions.{types_between}
-use Rattle.pdb_signatures.specs.Plans.{◌▸◌, written}
+use Rattle.pdb_documents.specs.Functions.{types_between}
+use Rattle.pdb_documents.specs.Plans.{◌▸◌, written}
 use Rattle.pdb_signatures.proofs.StandsLemmas.{stands_first, stands_before, stands_fewer}
 use Rattle.pdb_signatures.proofs.TurnLemmas.{advances_stands, alone_advances}
 use Rattle.pdb_signatures.proofs.ids.string_list.Goals as goal

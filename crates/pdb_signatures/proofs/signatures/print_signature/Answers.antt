@@ -1,8 +1,8 @@
-use Rattle.pdb_signatures.specs.Signatures.{signature}
-use Rattle.pdb_signatures.specs.Worlds.{formatter_world}
-use Rattle.pdb_signatures.proofs.DocumentLemmas.{document-runs}
+use Rattle.pdb_documents.specs.Signatures.{signature}
+use Rattle.pdb_documents.specs.Worlds.{formatter_world}
+use Rattle.pdb_documents.proofs.DocumentLemmas.{document-runs}
 use Rattle.pdb_signatures.proofs.LoopLemmas.{adds-then}
-use Rattle.pdb_signatures.proofs.UnfoldingLemmas.{formatter-below}
+use Rattle.pdb_documents.proofs.UnfoldingLemmas.{formatter-below}
 use Rattle.pdb_signatures.proofs.signatures.print_signature.Goals as goal
 
 pub returns-in_err-print-clause-broken : goal.returns-in_err-print-clause-broken

@@ -1,6 +1,6 @@
 use Rattle.std.proofs.Common.{◌∙◌, ◌<◌, [], ◌∷◌, ◌++◌, length, get_or, take, map, sym, ap, refl, arith}
 use Rattle.std.proofs.lemmas.List.{take_all}
-use Rattle.pdb_addr2line.specs.Function.{description}
+use Rattle.pdb_descriptions.specs.Function.{description}
 use Rattle.pdb_addr2line.specs.Functions.{functions_at, after_functions}
 use Rattle.pdb_addr2line.proofs.FunctionLemmas.{sources_stay, after_one_more, functions_one_more, cut_short_later, on_error}
 use Rattle.pdb_addr2line.proofs.GainLemmas.{gains_none, gains_after}

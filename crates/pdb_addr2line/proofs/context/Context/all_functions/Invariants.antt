@@ -1,5 +1,5 @@
 use Rattle.std.proofs.Common.{◌≡◌, map, take}
-use Rattle.pdb_addr2line.specs.Function.{description}
+use Rattle.pdb_descriptions.specs.Function.{description}
 use Rattle.pdb_addr2line.specs.Functions.{functions_at, after_functions, OnlyGainsBroken}
 use Rattle.pdb_addr2line.proofs.context.Context.all_functions.Given as goal
 

@@ -1,5 +1,4 @@
 use Rattle.std.proofs.Common.{ap, refl}
-use Rattle.std.specs.Option.{option_copied}
 use Rattle.pdb_addr2line.proofs.FunctionLemmas.{on_error}
 use Rattle.pdb_addr2line.proofs.GainLemmas.{gains_by_one}
 use Rattle.pdb_addr2line.proofs.context.Context.answer_id.Goals as goal
@@ -12,7 +11,7 @@ returns-in_err-told_error-in-Err-clause-not_made g c =
       sections = c.self.inside.tables.sections.items;
       address_map = c.self.inside.address_map.now;
       global_symbols = c.self.inside.global_symbols.now;
-      strings = option_copied c.self.inside.string_table;
+      strings = c.self.inside.tables.strings;
       debug_information = c.self.inside.debug_information.now;
       basis = standing;
     }) c.format_id.ensures.standing) (c.args.module_index, c.format_id.ensures.broken) refl))

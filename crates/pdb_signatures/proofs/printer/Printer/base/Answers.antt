@@ -1,5 +1,5 @@
 use Rattle.std.proofs.Common.{arith, sym, ap}
-use Rattle.pdb_signatures.specs.Worlds.{formatter_world}
+use Rattle.pdb_documents.specs.Worlds.{formatter_world}
 use Rattle.pdb_signatures.proofs.StandsLemmas.{stands_first, stands_before, stands_fewer}
 use Rattle.pdb_signatures.proofs.TurnLemmas.{advances_met}
 use Rattle.pdb_signatures.proofs.ReadLemmas.{adds_met}

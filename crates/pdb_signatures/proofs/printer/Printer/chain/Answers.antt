@@ -1,8 +1,8 @@
 use Rattle.std.proofs.Common.{refl}
 use Rattle.std.specs.Prelude.{reverse}
-use Rattle.pdb_signatures.specs.Plans.{Chain}
-use Rattle.pdb_signatures.specs.Rules.{behind_pointer}
-use Rattle.pdb_signatures.specs.Worlds.{formatter_world}
+use Rattle.pdb_documents.specs.Plans.{Chain}
+use Rattle.pdb_documents.specs.Rules.{behind_pointer}
+use Rattle.pdb_documents.specs.Worlds.{formatter_world}
 use Rattle.pdb_signatures.proofs.TurnLemmas.{turned_some, turned_none}
 use Rattle.pdb_signatures.proofs.printer.Printer.chain.Goals as goal
 

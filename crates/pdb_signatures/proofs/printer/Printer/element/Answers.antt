@@ -1,4 +1,4 @@
-use Rattle.pdb_signatures.specs.Worlds.{formatter_world}
+use Rattle.pdb_documents.specs.Worlds.{formatter_world}
 use Rattle.pdb_signatures.proofs.TurnLemmas.{advances_stands}
 use Rattle.pdb_signatures.proofs.printer.Printer.element.Goals as goal
 

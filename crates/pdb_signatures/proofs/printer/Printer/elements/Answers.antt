@@ -1,9 +1,9 @@
 use Rattle.std.proofs.Common.{arith, refl, sym, ◌∙◌}
 use Rattle.pdb_types.specs.Standing.{linked}
-use Rattle.pdb_signatures.specs.Plans.{on_read}
-use Rattle.pdb_signatures.specs.Rules.{element}
-use Rattle.pdb_signatures.specs.Progress.{open_in}
-use Rattle.pdb_signatures.specs.Worlds.{formatter_world}
+use Rattle.pdb_documents.specs.Plans.{on_read}
+use Rattle.pdb_documents.specs.Rules.{element}
+use Rattle.pdb_documents.specs.Progress.{open_in}
+use Rattle.pdb_documents.specs.Worlds.{formatter_world}
 use Rattle.pdb_signatures.proofs.ElementLemmas.{keys-among}
 use Rattle.pdb_signatures.proofs.TurnLemmas.{advances_fewer, advances_read, advances_refused, elements_circular, elements_read}
 use Rattle.pdb_signatures.proofs.ReadLemmas.{type_at-read, unread-trouble, unread-broken}

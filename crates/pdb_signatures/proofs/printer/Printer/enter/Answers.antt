@@ -1,6 +1,6 @@
 use Rattle.std.proofs.Common.{refl}
 use Rattle.pdb_types.specs.Standing.{linked}
-use Rattle.pdb_signatures.specs.Worlds.{formatter_world}
+use Rattle.pdb_documents.specs.Worlds.{formatter_world}
 use Rattle.pdb_signatures.proofs.TurnLemmas.{entered_unread}
 use Rattle.pdb_signatures.proofs.ReadLemmas.{type_at-read, unread-trouble, unread-broken}
 use Rattle.pdb_signatures.proofs.printer.Printer.enter.Goals as goal

@@ -1,7 +1,7 @@
 use Rattle.std.proofs.Common.{refl}
 use Rattle.pdb_types.specs.Standing.{linked}
-use Rattle.pdb_signatures.specs.Plans.{on_read}
-use Rattle.pdb_signatures.specs.Worlds.{formatter_world}
+use Rattle.pdb_documents.specs.Plans.{on_read}
+use Rattle.pdb_documents.specs.Worlds.{formatter_world}
 use Rattle.pdb_signatures.proofs.TurnLemmas.{advances_refused, closing_advances}
 use Rattle.pdb_signatures.proofs.ReadLemmas.{type_at-read, unread-trouble, unread-broken}
 use Rattle.pdb_signatures.proofs.printer.Printer.enter_alone.Goals as goal

@@ -1,7 +1,7 @@
 use Rattle.std.proofs.Common.{sym}
 use Rattle.std.specs.Prelude.{◌∷◌, []}
-use Rattle.pdb_signatures.specs.Ids.{function_id}
-use Rattle.pdb_signatures.specs.Worlds.{formatter_world}
+use Rattle.pdb_documents.specs.Ids.{function_id}
+use Rattle.pdb_documents.specs.Worlds.{formatter_world}
 use Rattle.pdb_signatures.proofs.TurnLemmas.{alone_entered}
 use Rattle.pdb_signatures.proofs.printer.Printer.function_id.Goals as goal
 

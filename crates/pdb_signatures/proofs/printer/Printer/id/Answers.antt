@@ -1,6 +1,6 @@
 use Rattle.std.proofs.Common.{refl, sym, ◌∙◌}
 use Rattle.pdb_types.specs.Standing.{linked}
-use Rattle.pdb_signatures.specs.Worlds.{formatter_world}
+use Rattle.pdb_documents.specs.Worlds.{formatter_world}
 use Rattle.pdb_signatures.proofs.ElementLemmas.{keys-among}
 use Rattle.pdb_signatures.proofs.TurnLemmas.{id_circular, id_noted, id_read}
 use Rattle.pdb_signatures.proofs.ReadLemmas.{id_at-read, unread-id-trouble, unread-id-broken}

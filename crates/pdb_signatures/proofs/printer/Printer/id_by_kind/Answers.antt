@@ -1,4 +1,4 @@
-use Rattle.pdb_signatures.specs.Worlds.{formatter_world}
+use Rattle.pdb_documents.specs.Worlds.{formatter_world}
 use Rattle.pdb_signatures.proofs.StandsLemmas.{stands_first}
 use Rattle.pdb_signatures.proofs.TurnLemmas.{advances_stands, closing_advances}
 use Rattle.pdb_signatures.proofs.printer.Printer.id_by_kind.Goals as goal

@@ -1,9 +1,9 @@
 use Rattle.std.proofs.Common.{sym, arith}
-use Rattle.pdb_signatures.specs.declared.methods.This.{This}
-use Rattle.pdb_signatures.specs.Plans.{on_read}
-use Rattle.pdb_signatures.specs.Progress.{open_in}
-use Rattle.pdb_signatures.specs.Methods.{this_of, method_list}
-use Rattle.pdb_signatures.specs.Worlds.{formatter_world}
+use Rattle.pdb_documents.specs.declared.this.This.{This}
+use Rattle.pdb_documents.specs.Plans.{on_read}
+use Rattle.pdb_documents.specs.Progress.{open_in}
+use Rattle.pdb_documents.specs.Methods.{this_of, method_list}
+use Rattle.pdb_documents.specs.Worlds.{formatter_world}
 use Rattle.pdb_signatures.proofs.TurnLemmas.{advances_fewer, advances_stands, advances_refused}
 use Rattle.pdb_signatures.proofs.ReadLemmas.{tells-trouble, this-broken}
 use Rattle.pdb_signatures.proofs.printer.Printer.list_with_this.Goals as goal

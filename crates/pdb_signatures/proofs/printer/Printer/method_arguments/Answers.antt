@@ -1,9 +1,9 @@
 use Rattle.std.proofs.Common.{ap, sym, ◌≡◌, false, cond, []}
-use Rattle.pdb_signatures.specs.Flags.{without_arguments}
-use Rattle.pdb_signatures.specs.Plans.{MethodArguments, opening, written}
-use Rattle.pdb_signatures.specs.Progress.{open_in}
-use Rattle.pdb_signatures.specs.Methods.{on_list}
-use Rattle.pdb_signatures.specs.Worlds.{formatter_world}
+use Rattle.pdb_documents.specs.Flags.{without_arguments}
+use Rattle.pdb_documents.specs.Plans.{MethodArguments, opening, written}
+use Rattle.pdb_documents.specs.Progress.{open_in}
+use Rattle.pdb_documents.specs.Methods.{on_list}
+use Rattle.pdb_documents.specs.Worlds.{formatter_world}
 use Rattle.pdb_signatures.proofs.TurnLemmas.{turned_entered, turned_none}
 use Rattle.pdb_signatures.proofs.printer.Printer.method_arguments.Goals as goal
 

@@ -1,7 +1,7 @@
 use Rattle.std.proofs.Common.{refl}
-use Rattle.pdb_signatures.specs.Plans.{Modified}
-use Rattle.pdb_signatures.specs.Rules.{modified}
-use Rattle.pdb_signatures.specs.Worlds.{formatter_world}
+use Rattle.pdb_documents.specs.Plans.{Modified}
+use Rattle.pdb_documents.specs.Rules.{modified}
+use Rattle.pdb_documents.specs.Worlds.{formatter_world}
 use Rattle.pdb_signatures.proofs.StandsLemmas.{stands_here}
 use Rattle.pdb_signatures.proofs.TurnLemmas.{turned_some, turned_none}
 use Rattle.pdb_signatures.proofs.printer.Printer.modified.Goals as goal

@@ -1,10 +1,10 @@
 use Rattle.std.proofs.Common.{arith}
 use Rattle.pdb_types.specs.declared.error.Error.TheVariants.{ArgumentTypeNotArgumentList}
 use Rattle.pdb_types.specs.Errors.{Plain}
-use Rattle.pdb_signatures.specs.Documents.{Told}
-use Rattle.pdb_signatures.specs.Plans.{failing}
-use Rattle.pdb_signatures.specs.Progress.{open_in}
-use Rattle.pdb_signatures.specs.Worlds.{formatter_world}
+use Rattle.pdb_documents.specs.Documents.{Told}
+use Rattle.pdb_documents.specs.Plans.{failing}
+use Rattle.pdb_documents.specs.Progress.{open_in}
+use Rattle.pdb_documents.specs.Worlds.{formatter_world}
 use Rattle.pdb_signatures.proofs.OtherKinds.{on_list-other}
 use Rattle.pdb_signatures.proofs.TurnLemmas.{advances_fewer, advances_failed}
 use Rattle.pdb_signatures.proofs.printer.Printer.on_list.Goals as goal

@@ -1,8 +1,8 @@
 use Rattle.std.proofs.Common.{arith, sym}
-use Rattle.pdb_signatures.specs.Worlds.{formatter_world}
+use Rattle.pdb_documents.specs.Worlds.{formatter_world}
 use Rattle.pdb_signatures.proofs.GoesLemmas.{goes_then, goes_fewer}
 use Rattle.pdb_signatures.proofs.LoopLemmas.{left-falls, ended-goes, printed-goes, adds-then}
-use Rattle.pdb_signatures.proofs.UnfoldingLemmas.{formatter-below}
+use Rattle.pdb_documents.proofs.UnfoldingLemmas.{formatter-below}
 use Rattle.pdb_signatures.proofs.printer.Printer.print.Goals as goal
 
 pub turns-smaller-in-Ended : goal.turns-smaller-in-Ended

@@ -1,10 +1,10 @@
 use Rattle.pdb_types.specs.Findings.{Fits}
-use Rattle.pdb_signatures.specs.BrokenParts.{AddsBroken}
+use Rattle.pdb_documents.specs.BrokenParts.{AddsBroken}
 use Rattle.pdb_signatures.specs.Frames.{Goes, frames}
-use Rattle.pdb_signatures.specs.Progress.{stage_run}
-use Rattle.pdb_signatures.specs.Worlds.{formatter_world}
+use Rattle.pdb_documents.specs.Progress.{stage_run}
+use Rattle.pdb_documents.specs.Worlds.{formatter_world}
 use Rattle.pdb_signatures.proofs.LoopLemmas.{left}
-use Rattle.pdb_signatures.proofs.UnfoldingLemmas.{formatter-below}
+use Rattle.pdb_documents.proofs.UnfoldingLemmas.{formatter-below}
 use Rattle.pdb_signatures.proofs.printer.Printer.print.Given as goal
 
 -- what is still to be done comes to what was to be done at first

@@ -1,7 +1,7 @@
 use Rattle.std.proofs.Common.{refl, ◌∙◌}
 use Rattle.pdb_types.specs.Errors.{told}
 use Rattle.pdb_types.specs.Unread.{Missing, Unimplemented, Refused, Broken}
-use Rattle.pdb_signatures.specs.Documents.{TypeNotFound, Told}
+use Rattle.pdb_documents.specs.Documents.{TypeNotFound, Told}
 use Rattle.pdb_signatures.proofs.TurnLemmas.{failed_run}
 use Rattle.pdb_signatures.proofs.ReadLemmas.{adds_one}
 use Rattle.pdb_signatures.proofs.printer.Printer.refuse.Goals as goal

@@ -1,7 +1,7 @@
 use Rattle.std.proofs.Common.{refl, sym}
 use Rattle.std.proofs.lemmas.Bool.{ne_eqb}
 use Rattle.pdb_types.specs.Standing.{linked}
-use Rattle.pdb_signatures.specs.Worlds.{formatter_world}
+use Rattle.pdb_documents.specs.Worlds.{formatter_world}
 use Rattle.pdb_signatures.proofs.LoopLemmas.{begins_stands, begins_refused}
 use Rattle.pdb_signatures.proofs.ReadLemmas.{type_at-read, unread-trouble, unread-broken}
 use Rattle.pdb_signatures.proofs.printer.Printer.signature.Goals as goal

@@ -1,5 +1,5 @@
 use Rattle.std.proofs.Common.{sym}
-use Rattle.pdb_signatures.specs.Worlds.{formatter_world}
+use Rattle.pdb_documents.specs.Worlds.{formatter_world}
 use Rattle.pdb_signatures.proofs.TurnLemmas.{advances_stands}
 use Rattle.pdb_signatures.proofs.printer.Printer.turn.Goals as goal
 

@@ -1,0 +1,114 @@
+use crate::hostile::SECTION_START;
+use anyhow::Result;
+use pdb_addr2line::{Context, ContextPdbData, ModuleProvider};
+use std::rt::Clock;
+use std::time::Instant;
+
+/// How often each address is asked for.
+const PASSES: u32 = 3;
+
+/// What an address is asked for.
+#[derive(Clone, Copy)]
+enum Question {
+    Function,
+    Frames,
+}
+
+impl Question {
+    /// The question in words.
+    fn name(self) -> &'static str {
+        match self {
+            Question::Function => "functions",
+            Question::Frames => "frames",
+        }
+    }
+}
+
+/// So many addresses all over the code that starts the section, of which there are so many bytes.
+#[derive(Clone, Copy)]
+pub(crate) struct Addresses {
+    pub(crate) span: u32,
+    pub(crate) count: u32,
+}
+
+impl Addresses {
+    /// The address of a number. Neighbours lie in other places of their functions.
+    fn at(self, number: u32) -> u32 {
+        let step = u64::from(self.span / self.count.max(1)) + 37;
+        let inside = u64::from(number).wrapping_mul(step) % u64::from(self.span.max(1));
+        SECTION_START.saturating_add((inside & 0xffff_ffff) as u32)
+    }
+}
+
+/// Asks for the functions and for the frames of addresses, several times over. Each of the two has a context
+/// of its own.
+pub(crate) fn measure_passes<R: Clock + Print + Eprint>(
+    rt: &R,
+    data: &ContextPdbData<'_>,
+    addresses: Addresses,
+) -> Result<()> {
+    measure_question(rt, data, addresses, Question::Function)?;
+    measure_question(rt, data, addresses, Question::Frames)
+}
+
+/// Makes a context, and goes over the addresses.
+fn measure_question<R: Clock + Print + Eprint>(
+    rt: &R,
+    data: &ContextPdbData<'_>,
+    addresses: Addresses,
+    question: Question,
+) -> Result<()> {
+    let start = Instant::now(rt)?;
+    let mut context = data.make_context()?;
+    let making = start.elapsed(rt)?.as_millis();
+    eprintln!(rt; "context made in {making}")?;
+    for _ in 0..PASSES {
+        measure_pass(rt, &mut context, addresses, question)?;
+    }
+    Ok(())
+}
+
+/// Goes over the addresses once.
+fn measure_pass<R: Clock + Print + Eprint, P: ModuleProvider>(
+    rt: &R,
+    context: &mut Context<'_, P>,
+    addresses: Addresses,
+    question: Question,
+) -> Result<()> {
+    let name = question.name();
+    let count = addresses.count;
+    let start = Instant::now(rt)?;
+    let found = count_found(context, addresses, question)?;
+    let time = start.elapsed(rt)?.as_micros();
+    println!(rt; "{count} addresses, {found} {name}")?;
+    eprintln!(rt; "{name} of {count} addresses in {time} microseconds")?;
+    Ok(())
+}
+
+/// How many functions, or frames, the addresses have in all.
+fn count_found<P: ModuleProvider>(
+    context: &mut Context<'_, P>,
+    addresses: Addresses,
+    question: Question,
+) -> Result<usize> {
+    let mut found = 0usize;
+    for number in 0..addresses.count {
+        found = found.saturating_add(count_at(context, addresses.at(number), question)?);
+    }
+    Ok(found)
+}
+
+/// How many functions, or frames, an address has.
+fn count_at<P: ModuleProvider>(
+    context: &mut Context<'_, P>,
+    address: u32,
+    question: Question,
+) -> Result<usize> {
+    match question {
+        Question::Function => Ok(context.find_function(address)?.iter().count()),
+        Question::Frames => Ok(match context.find_frames(address)? {
+            Some(told) => told.frames.len(),
+            None => 0,
+        }),
+    }
+}

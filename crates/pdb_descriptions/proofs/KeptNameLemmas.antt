@@ -1,0 +1,138 @@
+-- Names that are kept are those that would be printed, now and after other parts of the records failed.
+use Rattle.std.proofs.Common.{◌≡◌, ◌∙◌, ℕ, List, [], ◌∷◌, Option, Some, sym, ap, subst}
+use Rattle.std.specs.Prelude.{String, None, Result, Ok, Err, OnOk, OnErr, option_map, string_bytes}
+use Rattle.std.specs.BTreeMap.{BTreeMap, get, Updates}
+use Rattle.std.specs.Global.{Global}
+use Rattle.std.specs.FinMap.{IsAntisymmetric, nat_cmp-IsAntisymmetric}
+use Rattle.std.specs.Ordering.{nat_cmp}
+use Rattle.pdb_records.specs.Names.{lossy}
+use Rattle.pdb_types.proofs.FindingLemmas.{fits_nothing, fits_same, fits_more}
+use Rattle.pdb_types.specs.FailedParts.{Parts, with_met}
+use Rattle.pdb_types.specs.Standing.{Infos}
+use Rattle.pdb_types.specs.declared.unread.Part.{Part}
+use Rattle.pdb_documents.specs.BrokenParts.{AddsBroken, with_parts, Settled}
+use Rattle.pdb_documents.specs.Documents.{Document, run}
+use Rattle.pdb_signatures.specs.Formatters.{Formatter}
+use Rattle.pdb_documents.specs.Ids.{id_of_index}
+use Rattle.pdb_documents.specs.Printed.{document_of, id_run}
+use Rattle.pdb_documents.specs.Signatures.{signature}
+use Rattle.pdb_documents.specs.Worlds.{World, formatter_world}
+use Rattle.pdb_documents.proofs.MetLemmas.{settled-printed, settled-more}
+use Rattle.pdb_frames.proofs.CodeCacheLemmas.{ties}
+use Rattle.pdb_descriptions.specs.KeptNames.{IsPrinted, signature_cmp, id_cmp, signature_printing, FitsSignatures, FitsIds, HasSignature}
+use Rattle.pdb_descriptions.specs.Names.{text_of_run}
+use Rattle.pdb_descriptions.specs.declared.kept_names.KeptSignature.{KeptSignature}
+use Rattle.pdb_descriptions.specs.declared.name_keys.IdKey.{IdKey}
+use Rattle.pdb_descriptions.specs.declared.name_keys.SignatureKey.{SignatureKey}
+
+-- ---- one text
+
+-- what was printed just now is printed, and adds no part again
+pub printed_now : (d : Document) (old new : Parts) (text : Option (List ℕ)) → text ≡ text_of_run (run d []) → new ≡ (run d old).failed → IsPrinted (run d) new text
+printed_now d old new text is failed = record { is = is; settled = subst (λ f. Settled (run d) f) (sym failed) (settled-printed d old) }
+
+-- what is printed stays so as more parts fail
+pub printed_later : (d : Document) (failed : Parts) (added : List Part) (text : Option (List ℕ)) → IsPrinted (run d) failed text → IsPrinted (run d) (with_parts failed added) text
+printed_later d failed added text printed = record { is = printed.is; settled = settled-more d failed added printed.settled }
+
+-- the parts that failed are those from before, and more
+abbrev MoreParts : Parts → Parts → Type 0
+MoreParts old new = (added : List Part) × (new ≡ with_parts old added)
+
+-- broken parts that were met are more parts
+pub more_broken : (w : World) (old new : Parts) → AddsBroken w old new → MoreParts old new
+more_broken w old new adds = (adds.added, adds.is)
+
+-- a part that a size met is one more, where one was met and remembered
+pub more_met : {A E : Type 0} (r : Result A E) (met : Option Part) (old new : Parts) → OnOk r (new ≡ with_met old met) → OnErr r (new ≡ old) → MoreParts old new
+more_met (Ok a) None old new added same = ([], added)
+more_met (Ok a) (Some part) old new added same = (part ∷ [], added)
+more_met (Err e) met old new added same = ([], same)
+
+-- ---- the keys
+
+-- the key of these numbers
+abbrev pub signature_key : ℕ → ℕ → ℕ → SignatureKey
+signature_key position symbol type_index = record { position = position; symbol = symbol; type_index = type_index }
+
+-- only equal keys tie
+signature_cmp-apart : IsAntisymmetric signature_cmp
+signature_cmp-apart a b tied =
+    let first = ties (nat_cmp a.position b.position) _ tied in
+    let rest = ties (nat_cmp a.symbol b.symbol) _ first.1 in
+    ap (λ p. signature_key p a.symbol a.type_index) (nat_cmp-IsAntisymmetric _ _ first.0)
+    ∙ (ap (λ s. signature_key b.position s a.type_index) (nat_cmp-IsAntisymmetric _ _ rest.0)
+    ∙ ap (λ t. signature_key b.position b.symbol t) (nat_cmp-IsAntisymmetric _ _ rest.1))
+
+-- the key of these numbers
+abbrev pub id_key : ℕ → ℕ → IdKey
+id_key position index = record { position = position; index = index }
+
+-- only equal keys tie
+id_cmp-apart : IsAntisymmetric id_cmp
+id_cmp-apart a b tied =
+    let both = ties (nat_cmp a.position b.position) _ tied in
+    ap (λ p. id_key p a.index) (nat_cmp-IsAntisymmetric _ _ both.0)
+    ∙ ap (λ i. id_key b.position i) (nat_cmp-IsAntisymmetric _ _ both.1)
+
+-- ---- signatures
+
+-- a signature fits a procedure
+abbrev SignatureFits : {P : Type 0} → (P → Infos) → Formatter P → SignatureKey → KeptSignature → Type 0
+SignatureFits info f key entry = IsPrinted (signature_printing info f key entry.name.now) f.failed (option_map string_bytes entry.text)
+
+-- no signature is kept
+pub signatures_new : {P : Type 0} (info : P → Infos) (f : Formatter P) (m : BTreeMap SignatureKey KeptSignature) → m.entries ≡ [] → FitsSignatures info f m
+unfolding FitsSignatures
+signatures_new info f m empty = fits_nothing signature_cmp (SignatureFits info f) m empty
+
+-- signatures that are kept stay
+pub signatures_same : {P : Type 0} (info : P → Infos) (f : Formatter P) (m n : BTreeMap SignatureKey KeptSignature) → n.entries ≡ m.entries → FitsSignatures info f m → FitsSignatures info f n
+unfolding FitsSignatures
+signatures_same info f m n same fits = fits_same signature_cmp (SignatureFits info f) m n same fits
+
+-- one more signature
+pub signatures_more : {P : Type 0} (info : P → Infos) (f : Formatter P) (key : SignatureKey) (entry : KeptSignature) (m n : BTreeMap SignatureKey KeptSignature) → IsPrinted (signature_printing info f key entry.name.now) f.failed (option_map string_bytes entry.text) → Updates signature_cmp m n key (Some entry) → FitsSignatures info f m → FitsSignatures info f n
+unfolding FitsSignatures
+signatures_more info f key entry m n printed updates fits = fits_more signature_cmp signature_cmp-apart (SignatureFits info f) m n key entry updates printed fits
+
+-- what is kept of a procedure is printed
+pub signature_found : {P : Type 0} (info : P → Infos) (f : Formatter P) (m : BTreeMap SignatureKey KeptSignature) (key : SignatureKey) (name : List ℕ) (text : Option (List ℕ)) → FitsSignatures info f m → HasSignature m key name text → IsPrinted (signature_printing info f key name) f.failed text
+unfolding FitsSignatures
+signature_found info f m key name text fits has = rw (← has.named, ← has.is) (fits key has.entry has.got)
+
+-- signatures that are kept fit as more parts fail
+pub signatures_later : {P : Type 0} (info : P → Infos) (f g : Formatter P) (m : BTreeMap SignatureKey KeptSignature) → g.standing ≡ f.standing → MoreParts f.failed g.failed → FitsSignatures info f m → FitsSignatures info g m
+unfolding FitsSignatures
+signatures_later info f g m same more fits key entry got =
+    let d = document_of (formatter_world info f.standing key.position) (signature (formatter_world info f.standing key.position) (lossy entry.name.now) key.type_index) in
+    rw (same, more.1) (printed_later d f.failed more.0 (option_map string_bytes entry.text) (fits key entry got))
+
+-- ---- ids
+
+-- no text of an id is kept
+pub ids_new : {P : Type 0} (info : P → Infos) (f : Formatter P) (m : BTreeMap IdKey (Option (String Global))) → m.entries ≡ [] → FitsIds info f m
+unfolding FitsIds
+ids_new info f m empty = fits_nothing id_cmp (λ key text. IsPrinted (id_run info f.standing key.position key.index) f.failed (option_map string_bytes text)) m empty
+
+-- texts that are kept stay
+pub ids_same : {P : Type 0} (info : P → Infos) (f : Formatter P) (m n : BTreeMap IdKey (Option (String Global))) → n.entries ≡ m.entries → FitsIds info f m → FitsIds info f n
+unfolding FitsIds
+ids_same info f m n same fits = fits_same id_cmp (λ key text. IsPrinted (id_run info f.standing key.position key.index) f.failed (option_map string_bytes text)) m n same fits
+
+-- the text of one more id
+pub ids_more : {P : Type 0} (info : P → Infos) (f : Formatter P) (key : IdKey) (text : Option (String Global)) (m n : BTreeMap IdKey (Option (String Global))) → IsPrinted (id_run info f.standing key.position key.index) f.failed (option_map string_bytes text) → Updates id_cmp m n key (Some text) → FitsIds info f m → FitsIds info f n
+unfolding FitsIds
+ids_more info f key text m n printed updates fits = fits_more id_cmp id_cmp-apart (λ key text. IsPrinted (id_run info f.standing key.position key.index) f.failed (option_map string_bytes text)) m n key text updates printed fits
+
+-- what is kept of an id is printed
+pub id_found : {P : Type 0} (info : P → Infos) (f : Formatter P) (m : BTreeMap IdKey (Option (String Global))) (key : IdKey) (text : Option (String Global)) → FitsIds info f m → get id_cmp m key ≡ Some text → IsPrinted (id_run info f.standing key.position key.index) f.failed (option_map string_bytes text)
+unfolding FitsIds
+id_found info f m key text fits got = fits key text got
+
+-- texts that are kept fit as more parts fail
+pub ids_later : {P : Type 0} (info : P → Infos) (f g : Formatter P) (m : BTreeMap IdKey (Option (String Global))) → g.standing ≡ f.standing → MoreParts f.failed g.failed → FitsIds info f m → FitsIds info g m
+unfolding FitsIds
+ids_later info f g m same more fits key text got =
+    let d = document_of (formatter_world info f.standing key.position) (id_of_index key.index) in
+    rw (same, more.1) (printed_later d f.failed more.0 (option_map string_bytes text) (fits key text got))

@@ -1,0 +1,56 @@
+-- Names that were printed once, and are kept.
+use Rattle.std.specs.Prelude.{◌≡◌, ℕ, List, [], Option, Some, String, option_map, string_bytes}
+use Rattle.std.specs.BTreeMap.{BTreeMap, get}
+use Rattle.std.specs.Global.{Global}
+use Rattle.std.specs.Ordering.{nat_cmp, ordering_then}
+use Rattle.std.specs.declared.cmp.Ordering.{Ordering}
+use Rattle.pdb_records.specs.Names.{lossy}
+use Rattle.pdb_types.specs.FailedParts.{Parts}
+use Rattle.pdb_types.specs.Standing.{Infos}
+use Rattle.pdb_documents.specs.BrokenParts.{Settled}
+use Rattle.pdb_documents.specs.Documents.{Run}
+use Rattle.pdb_signatures.specs.Formatters.{Formatter}
+use Rattle.pdb_documents.specs.Printed.{signature_run, id_run}
+use Rattle.pdb_descriptions.specs.Names.{text_of_run}
+use Rattle.pdb_descriptions.specs.declared.name_keys.IdKey.{IdKey}
+use Rattle.pdb_descriptions.specs.declared.name_keys.SignatureKey.{SignatureKey}
+use Rattle.pdb_descriptions.specs.declared.kept_names.KeptSignature.{KeptSignature}
+
+-- a text is what is printed, if it can be, and where these parts failed, printing it adds none to them
+pub record IsPrinted (printing : Parts → Run) (failed : Parts) (text : Option (List ℕ)) : Type 0 where
+  pub is : text ≡ text_of_run (printing [])
+  pub settled : Settled printing failed
+
+-- the order of procedures whose names are kept: by module, symbol and type
+abbrev pub signature_cmp : SignatureKey → SignatureKey → Ordering
+signature_cmp a b =
+    ordering_then (nat_cmp a.position b.position) (
+    ordering_then (nat_cmp a.symbol b.symbol) (nat_cmp a.type_index b.type_index))
+
+-- the order of ids whose texts are kept: by module and index
+abbrev pub id_cmp : IdKey → IdKey → Ordering
+id_cmp a b = ordering_then (nat_cmp a.position b.position) (nat_cmp a.index b.index)
+
+-- how the signature of a procedure of this name is printed
+abbrev pub signature_printing : {P : Type 0} → (P → Infos) → Formatter P → SignatureKey → List ℕ → Parts → Run
+signature_printing info f key name = signature_run info f.standing key.position (lossy name) key.type_index
+
+-- what is kept of a procedure is its signature, by the name that is kept with it
+unfoldable pub FitsSignatures : {P : Type 0} → (P → Infos) → Formatter P → BTreeMap SignatureKey KeptSignature → Type 0
+FitsSignatures info f kept =
+    (key : SignatureKey) (entry : KeptSignature) → get signature_cmp kept key ≡ Some entry
+    → IsPrinted (signature_printing info f key entry.name.now) f.failed (option_map string_bytes entry.text)
+
+-- what is kept of an id is its text
+unfoldable pub FitsIds : {P : Type 0} → (P → Infos) → Formatter P → BTreeMap IdKey (Option (String Global)) → Type 0
+FitsIds info f kept =
+    (key : IdKey) (text : Option (String Global)) → get id_cmp kept key ≡ Some text
+    → IsPrinted (id_run info f.standing key.position key.index) f.failed (option_map string_bytes text)
+
+-- a text is kept of a procedure, with this name
+pub record HasSignature (kept : BTreeMap SignatureKey KeptSignature) (key : SignatureKey) (name : List ℕ)
+    (text : Option (List ℕ)) : Type 0 where
+  pub entry : KeptSignature
+  pub got : get signature_cmp kept key ≡ Some entry
+  pub named : entry.name.now ≡ name
+  pub is : option_map string_bytes entry.text ≡ text

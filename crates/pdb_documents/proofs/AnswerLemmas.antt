@@ -1,0 +1,23 @@
+-- What calls that print answer.
+use Rattle.std.proofs.Common.{◌≡◌, ℕ, List, refl, sym, ap, ◌∙◌}
+use Rattle.std.specs.Prelude.{Some, option_map}
+use Rattle.pdb_types.specs.declared.error.Error.{Error}
+use Rattle.pdb_types.specs.Errors.{told}
+use Rattle.pdb_types.specs.FailedParts.{Parts}
+use Rattle.pdb_documents.specs.declared.failures.Failure as code
+use Rattle.pdb_documents.specs.declared.failures.Failure.TheVariants as code_failure
+use Rattle.pdb_documents.specs.Answers.{FailsWith}
+use Rattle.pdb_documents.specs.Documents.{Run, failure_error}
+use Rattle.pdb_documents.specs.Progress.{failure_of, error_of}
+
+-- a failure is told by its error
+told_by_error : (failure : code.Failure) → failure_error (failure_of failure) ≡ told (error_of failure)
+told_by_error (code_failure.TypeNotFound index) = refl
+told_by_error (code_failure.Told e) = refl
+
+-- a run that failed fails with the error of its failure
+pub fails_with : (failure : code.Failure) (r : Run) (text : List ℕ) (failed : Parts) (e : Error) → r ≡ record { text = text; fault = Some (failure_of failure); failed = failed } → e ≡ error_of failure → FailsWith r e failed
+fails_with failure r text failed e ran is = record {
+  error = ap (λ (x : Run). option_map failure_error x.fault) ran ∙ ap Some (told_by_error failure ∙ ap told (sym is));
+  failed = ap (λ (x : Run). x.failed) ran;
+}

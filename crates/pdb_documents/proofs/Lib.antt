@@ -1,0 +1,16 @@
+pub mod NamespaceLemmas
+pub mod FreeLemmas
+pub mod RuleLemmas
+pub mod IdLemmas
+pub mod FallLemmas
+pub mod UnfoldingLemmas
+pub mod DocumentLemmas
+pub mod AlikeLemmas
+pub mod MetLemmas
+pub mod CutLemmas
+pub mod AnswerLemmas
+pub mod Expansion
+pub mod SignatureExamples
+pub mod IdExamples
+pub mod SeenLemmas
+pub mod AttributeLemmas

@@ -1,0 +1,131 @@
+-- A plan unfolds to one document.
+use Rattle.std.proofs.Common.{◌≡◌, ◌^◌, ℕ, zero, suc, ◌<◌, ◌≤◌, inl, inr, true, cond, List, [], ◌∷◌, arith, refl, sym, ap, subst}
+use Rattle.std.specs.Prelude.{Bool, Some, Result, Ok}
+use Rattle.pdb_records.specs.Readings.{Read}
+use Rattle.pdb_records.specs.declared.types.Item.{Item}
+use Rattle.pdb_records.specs.declared.types.TypeIndex.{TypeIndex}
+use Rattle.pdb_records.specs.declared.types.TypeData.{TypeData}
+use Rattle.pdb_records.specs.declared.ids.IdIndex.{IdIndex}
+use Rattle.pdb_records.specs.declared.ids.IdData.{IdData}
+use Rattle.pdb_types.specs.declared.flags.TypeFormatterFlags.{TypeFormatterFlags}
+use Rattle.pdb_types.specs.declared.error.Error.TheVariants.{CircularTypeDefinition}
+use Rattle.pdb_types.specs.Errors.{Plain}
+use Rattle.pdb_types.specs.FailedParts.{Parts}
+use Rattle.pdb_types.specs.Unread.{Trouble}
+use Rattle.pdb_types.specs.Standing.{Linked, Basis, Infos, linked}
+use Rattle.pdb_types.proofs.ReadingLemmas.{reading-below}
+use Rattle.pdb_documents.specs.Documents.{Document, Told, run}
+use Rattle.pdb_documents.specs.Documents as document
+use Rattle.pdb_documents.specs.Worlds.{World, type_at, id_at, world_of, formatter_world}
+use Rattle.pdb_documents.specs.Plans.{Task, Index, OfType, Id, Plan, Done, Later, Seq, Buffered, Catch, is_among, opened, on_printed, circular}
+use Rattle.pdb_documents.specs.Ids.{id_by_kind}
+use Rattle.pdb_documents.specs.Rules.{rule}
+use Rattle.std.specs.BTreeSet.{insert_key}
+use Rattle.std.specs.Ordering.{nat_cmp}
+use Rattle.pdb_documents.specs.Unfolding.{Unfolds, done, later, seq, buffered, catch, HasOneUnfolding, Runs}
+use Rattle.pdb_documents.proofs.RuleLemmas.{EachTask, IsBelow, Before, room, rank}
+use Rattle.pdb_documents.proofs.FallLemmas.{rule-each}
+
+-- two documents that a plan unfolds to are one
+pub unfolds_once : {w : World} {p : Plan} {a b : Document} → Unfolds w p a → Unfolds w p b → a ≡ b
+unfolds_once done done = refl
+unfolds_once (later x) (later y) = unfolds_once x y
+unfolds_once (seq x y) (seq x' y') = cc (unfolds_once x x', unfolds_once y y')
+unfolds_once (buffered x) (buffered y) = cc (unfolds_once x y)
+unfolds_once (catch x) (catch y) = cc (unfolds_once x y)
+
+-- a plan unfolds to some document
+abbrev pub UnfoldsToSome : World → Plan → Type 0
+UnfoldsToSome w p = (d : Document) × Unfolds w p d
+
+-- a plan of two plans
+abbrev pub seq-some : (w : World) (p q : Plan) → UnfoldsToSome w p → UnfoldsToSome w q → UnfoldsToSome w (Seq p q)
+seq-some w p q (a, x) (b, y) = (document.Seq a b, seq x y)
+
+-- a plan whose text is kept back
+abbrev pub buffered-some : (w : World) (p : Plan) (after_sigil after_other : List ℕ) → UnfoldsToSome w p → UnfoldsToSome w (Buffered p after_sigil after_other)
+buffered-some w p after_sigil after_other (a, x) = (document.Buffered a after_sigil after_other, buffered x)
+
+-- a plan with a note of what is missing
+abbrev pub catch-some : (w : World) (p : Plan) → UnfoldsToSome w p → UnfoldsToSome w (Catch p)
+catch-some w p (a, x) = (document.Catch a, catch x)
+
+-- a task, by the plan of its rule
+abbrev pub later-some : (w : World) (inside : List ℕ) (task : Task) → UnfoldsToSome w (rule w inside task) → UnfoldsToSome w (Later inside task)
+later-some w inside task (d, x) = (d, later x)
+
+-- a plan unfolds where each task in it does
+pub plan-some : (w : World) (P : List ℕ → Task → Type 0) → ((inside : List ℕ) (task : Task) → P inside task → UnfoldsToSome w (Later inside task)) → (p : Plan) → EachTask P p → UnfoldsToSome w p
+plan-some w P some (Done d) each = (d, done)
+plan-some w P some (Later inside task) each = some inside task each
+plan-some w P some (Seq p q) each = seq-some w p q (plan-some w P some p each.0) (plan-some w P some q each.1)
+plan-some w P some (Buffered p after_sigil after_other) each = buffered-some w p after_sigil after_other (plan-some w P some p each)
+plan-some w P some (Catch p) each = catch-some w p (plan-some w P some p each)
+
+-- a task unfolds where those with less room do, by its rank
+pub ranked-some : (n : ℕ) (w : World) → IsBelow n w → (bound : ℕ) → ((inside : List ℕ) (task : Task) → room n inside task < bound → UnfoldsToSome w (Later inside task)) → (ranks : ℕ) (inside : List ℕ) (task : Task) → room n inside task ≤ bound → rank n task < ranks → UnfoldsToSome w (Later inside task)
+ranked-some n w below bound less zero inside task within lower = absurd (omega arith)
+ranked-some n w below bound less (suc ranks) inside task within lower =
+    later-some w inside task (plan-some w (Before n inside task) (λ inside' task' earlier. elim earlier [
+      | inl fewer ↦ less inside' task' (omega arith)
+      | inr as_many ↦ ranked-some n w below bound less ranks inside' task' (omega (arith, as_many.0)) (omega (arith, as_many.1))
+    ]) (rule w inside task) (rule-each n w below inside task))
+
+-- a task unfolds, by how much room it has
+pub room-some : (n : ℕ) (w : World) → IsBelow n w → (bound : ℕ) (inside : List ℕ) (task : Task) → room n inside task < bound → UnfoldsToSome w (Later inside task)
+room-some n w below zero inside task within = absurd (omega arith)
+room-some n w below (suc bound) inside task within = ranked-some n w below bound (room-some n w below bound) (suc (rank n task)) inside task (omega arith) (omega arith)
+
+-- nothing is claimed of any task
+pub each_unit : (p : Plan) → EachTask (λ inside task. Unit {0}) p
+each_unit (Done d) = tt
+each_unit (Later inside task) = tt
+each_unit (Seq p q) = (each_unit p, each_unit q)
+each_unit (Buffered p after_sigil after_other) = each_unit p
+each_unit (Catch p) = each_unit p
+
+-- every plan unfolds to one document, where only indices below a bound lead to types and to ids
+pub plan-one : (n : ℕ) (w : World) → IsBelow n w → (p : Plan) → HasOneUnfolding w p
+plan-one n w below p =
+    let some : UnfoldsToSome w p = plan-some w (λ inside task. Unit {0}) (λ inside task each. room-some n w below (suc (room n inside task)) inside task (omega arith)) p (each_unit p) in
+    record { unfolded = some.0; unfolds = some.1; only = λ other unfolds. unfolds_once unfolds some.1 }
+
+-- only indices of 32 bits lead to types
+type_at-below : (linked : Linked) (types : Read (Item TypeIndex TypeData)) (position i : ℕ) (type : TypeData) → type_at linked types position i ≡ Ok type → i < 2 ^ 32
+unfolding type_at
+type_at-below linked types position i type found = reading-below (λ index. index.0) linked types position i (λ read. Ok read.1) type found
+
+-- only indices of 32 bits lead to ids
+id_at-below : (linked : Linked) (ids : Read (Item IdIndex IdData)) (position i : ℕ) (id : IdData) → id_at linked ids position i ≡ Ok id → i < 2 ^ 32
+unfolding id_at
+id_at-below linked ids position i id found = reading-below (λ index. index.0) linked ids position i (λ read. Ok read.1) id found
+
+-- only indices of 32 bits lead to types and to ids
+pub world-below : (linked : Linked) (types : Read (Item TypeIndex TypeData)) (ids : Read (Item IdIndex IdData)) (pointer : ℕ) (chosen : TypeFormatterFlags) (position : ℕ) → IsBelow (2 ^ 32) (world_of linked types ids pointer chosen position)
+world-below linked types ids pointer chosen position = record { types = type_at-below linked types position; ids = id_at-below linked ids position }
+
+-- the same, for what a formatter stands on
+pub formatter-below : {P : Type 0} (info : P → Infos) (s : Basis P) (position : ℕ) → IsBelow (2 ^ 32) (formatter_world info s position)
+formatter-below info s position = world-below (linked info s) s.types s.ids s.pointer_size s.flags position
+
+-- every plan unfolds to one document, whatever the records say
+pub every_plan : (linked : Linked) (types : Read (Item TypeIndex TypeData)) (ids : Read (Item IdIndex IdData)) (pointer : ℕ) (chosen : TypeFormatterFlags) (position : ℕ) (p : Plan) → HasOneUnfolding (world_of linked types ids pointer chosen position) p
+every_plan linked types ids pointer chosen position p = plan-one (2 ^ 32) (world_of linked types ids pointer chosen position) (world-below linked types ids pointer chosen position) p
+
+-- an index that is printed while it is open has the document of that error
+pub inside-circular : (w : World) (inside : List ℕ) (index : ℕ) (type : TypeData) → w.read index ≡ Ok type → is_among index inside ≡ true → Unfolds w (Later inside (Index index)) (document.Fail (Told (Plain (CircularTypeDefinition index))))
+inside-circular w inside index type found open_already =
+    let fail : Document = document.Fail (Told (Plain (CircularTypeDefinition index))) in
+    let step : Unfolds w (opened inside index (Later (index ∷ inside) (OfType type))) fail = subst (λ (b : Bool). Unfolds w (cond b (circular index) (Later (index ∷ inside) (OfType type))) fail) (sym open_already) done in
+    later (subst (λ (e : Result TypeData Trouble). Unfolds w (on_printed e (λ type. opened inside index (Later (index ∷ inside) (OfType type)))) fail) (sym found) step)
+
+-- printing it does nothing but fail
+pub inside-refused : (w : World) (inside : List ℕ) (index : ℕ) (type : TypeData) → w.read index ≡ Ok type → is_among index inside ≡ true → (failed : Parts) → Runs w (Later inside (Index index)) failed (record { text = []; fault = Some (Told (Plain (CircularTypeDefinition index))); failed = failed })
+inside-refused w inside index type found open_already failed d unfolds = ap (λ (e : Document). run e failed) (unfolds_once unfolds (inside-circular w inside index type found open_already))
+
+-- an id that was met before does nothing but fail, and isn't read
+pub scope-refused : (w : World) (inside met : List ℕ) (index : ℕ) → is_among index met ≡ true → (failed : Parts) → Runs w (Later inside (Id met index)) failed (record { text = []; fault = Some (Told (Plain (CircularTypeDefinition index))); failed = failed })
+scope-refused w inside met index among failed d unfolds =
+    let fail : Document = document.Fail (Told (Plain (CircularTypeDefinition index))) in
+    let step : Unfolds w (rule w inside (Id met index)) fail = subst (λ (b : Bool). Unfolds w (cond b (circular index) (on_printed (w.read_id index) (id_by_kind w (insert_key nat_cmp met index)))) fail) (sym among) done in
+    ap (λ (e : Document). run e failed) (unfolds_once unfolds (later step))

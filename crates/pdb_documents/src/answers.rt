@@ -1,0 +1,73 @@
+ghost use Rattle.std.specs.Prelude.{◌≡◌, ◌≢◌, false, string_bytes};
+ghost use Rattle.pdb_types.specs.declared.error.Error.TheVariants.{OutOfMemory};
+ghost use Rattle.pdb_types.specs.FailedParts.{Parts};
+ghost use Rattle.pdb_documents.specs.Answers.{is_format_error, is_want_of_memory, AnswersText, AnswersWritten};
+ghost use Rattle.pdb_documents.specs.Documents.{Run};
+ghost use Rattle.pdb_documents.specs.Progress.{failure_in};
+
+use crate::failures::Failure;
+use pdb_types::{Error, Result};
+use std::fmt;
+
+/// What printing came to: the text, and why it failed where it did.
+#[derive(Drop)]
+pub struct Printed {
+    pub text: String,
+    pub failure: Option<Failure>,
+}
+
+/// Whether there was no memory for an answer.
+fn is_want_of_memory(error: &Error) -> bool
+    ensures { result ≡ is_want_of_memory error.now }
+{
+    match error {
+        Error::OutOfMemory => true,
+        _ => false,
+    }
+}
+
+/// Writes the text that was printed before an error, but for want of memory, and answers that error, or that
+/// the writer refused.
+fn write_before<W: fmt::Write>(writer: &mut W, text: &str, error: Error) -> Error
+    ensures same { is_format_error result ≡ false → result ≡ error }
+    ensures written { result ≢ OutOfMemory → is_format_error result ≡ false
+        → W.write_str_gives writer.old text.now writer.new }
+    ensures unwritten { result ≡ OutOfMemory → writer.new ≡ writer.old }
+{
+    if is_want_of_memory(&error) {
+        return error;
+    }
+    match writer.write_str(text) {
+        Ok(()) => error,
+        Err(refused) => Error::FormatError(refused),
+    }
+}
+
+/// What was printed, or why printing failed.
+pub fn printed_text(printed: Printed) -> Result<String>
+    ensures { (r : Run) (failed : Parts)
+        → r ≡ record { text = string_bytes printed.text; fault = failure_in printed.failure; failed = failed }
+        → AnswersText r result failed }
+{
+    let Printed { text, failure } = printed;
+    match failure {
+        None => Ok(text),
+        Some(failure) => Err(Error::from(failure)),
+    }
+}
+
+/// Writes what was printed.
+pub fn write_printed<W: fmt::Write>(writer: &mut W, printed: Printed) -> Result<()>
+    ensures { (r : Run) (failed : Parts)
+        → r ≡ record { text = string_bytes printed.text; fault = failure_in printed.failure; failed = failed }
+        → AnswersWritten W.write_str_gives r writer.old writer.new result failed }
+{
+    let Printed { text, failure } = printed;
+    match failure {
+        None => match writer.write_str(text.as_str()) {
+            Ok(()) => Ok(()),
+            Err(error) => Err(Error::FormatError(error)),
+        },
+        Some(failure) => Err(write_before(writer, text.as_str(), Error::from(failure))),
+    }
+}

@@ -1,0 +1,25 @@
+ghost use Rattle.std.specs.Prelude.{◌≡◌};
+
+use pdb_types::Error;
+
+/// Why printing fails.
+#[derive(Drop)]
+pub enum Failure {
+    /// No type has this number. Where it is part of another type, a note stands for it.
+    TypeNotFound(u32),
+    /// This error.
+    Told(Error),
+}
+
+impl From<Failure> for Error {
+    ghost use Rattle.pdb_documents.specs.Progress.{error_of};
+
+    ghost from_gives = { λ failure r. r ≡ error_of failure };
+
+    fn from(failure: Failure) -> Error {
+        match failure {
+            Failure::TypeNotFound(index) => { Error::from(pdb_records::Error::TypeNotFound(index)) }
+            Failure::Told(error) => error,
+        }
+    }
+}

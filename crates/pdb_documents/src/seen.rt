@@ -1,0 +1,169 @@
+ghost use Rattle.std.specs.Prelude.{◌≡◌, ℕ, Bool, false, not, ◌&&◌, ◌||◌, ◌==◌, [], ◌∷◌, ◌++◌, OnOk, OnErr, IfOk, IfErr};
+ghost use Rattle.pdb_documents.specs.Seen.{has, base, IsRefusal};
+
+use pdb_records::TypeIndex;
+use pdb_types::Error;
+use std::alloc::{AllocFailed, Global};
+use std::collections::BTreeSet;
+use std::fmt;
+
+/// An index was seen before.
+#[derive(Clone, Copy)]
+pub struct AlreadySeenError(pub TypeIndex);
+
+impl fmt::Debug for AlreadySeenError {
+    fn fmt<W: fmt::Write>(&self, f: &mut fmt::Formatter<W>) -> fmt::Result {
+        let number = self.0.0;
+        write!(f, "AlreadySeenError({number})")
+    }
+}
+
+/// Why an index was not put in.
+#[derive(Debug, Clone, Copy)]
+pub enum SeenError {
+    /// It was there before.
+    Already(AlreadySeenError),
+    /// There was no memory for it.
+    OutOfMemory,
+}
+
+impl From<AllocFailed<TypeIndex>> for SeenError {
+    ghost use Rattle.pdb_documents.specs.declared.seen.SeenError.TheVariants.{OutOfMemory};
+
+    ghost from_gives = { λ _ r. r ≡ OutOfMemory };
+
+    fn from(_failed: AllocFailed<TypeIndex>) -> SeenError {
+        SeenError::OutOfMemory
+    }
+}
+
+impl From<AlreadySeenError> for Error {
+    ghost use Rattle.pdb_types.specs.declared.error.Error.TheVariants.{CircularTypeDefinition};
+
+    ghost from_gives = { λ seen r. r ≡ CircularTypeDefinition seen.0.0 };
+
+    fn from(seen: AlreadySeenError) -> Error {
+        Error::CircularTypeDefinition(seen.0.0)
+    }
+}
+
+impl From<SeenError> for Error {
+    ghost use Rattle.pdb_documents.specs.Seen.{error_of};
+
+    ghost from_gives = { λ seen r. r ≡ error_of seen };
+
+    fn from(seen: SeenError) -> Error {
+        match seen {
+            SeenError::Already(already) => Error::from(already),
+            SeenError::OutOfMemory => Error::OutOfMemory,
+        }
+    }
+}
+
+/// What a level put into a set, and how it is taken out again.
+pub trait Inserted {
+    /// Whether an index of this number was put in.
+    ghost holds: { Self → ℕ → Bool };
+
+    /// Takes out what was put in.
+    fn undo(self, set: &mut BTreeSet<TypeIndex>)
+        ensures { (q : ℕ) → has set.new q ≡ (has set.old q && not (holds self q)) };
+}
+
+impl Inserted for Vec<TypeIndex> {
+    ghost use Rattle.pdb_documents.specs.Seen.{holds as held};
+
+    ghost holds = { λ inserted q. held inserted.items q };
+
+    fn undo(self, set: &mut BTreeSet<TypeIndex>) {
+        for index in &self {
+            let _ = set.remove(index);
+        }
+    }
+}
+
+/// A level of indices that are open: those that it puts into a set are taken out when it is dropped.
+pub struct Seen<'a, I: Inserted = Vec<TypeIndex>> {
+    /// All that are open.
+    pub set: &'a mut BTreeSet<TypeIndex>,
+    /// Those that this level put in.
+    pub inserted: I,
+}
+
+impl<I: Inserted> Drop for Seen<'_, I> {
+    fn drop(self)
+        ensures { (q : ℕ) → has self.exit.0.now q
+            ≡ (has self.entry.set.now q && not (I.holds self.entry.inserted q)) }
+    {
+        let Seen { set, inserted } = self;
+        inserted.undo(set);
+    }
+}
+
+impl<'a> Seen<'a> {
+    /// A level over a set. It takes no memory.
+    pub fn new(alloc: Global, set: &'a mut BTreeSet<TypeIndex>) -> Seen<'a>
+        ensures same_reference { result.set.ghost_name ≡ set.entry.ghost_name }
+        ensures same_set { (q : ℕ) → has result.set.now q ≡ has set.entry.now q }
+        ensures nothing { result.inserted.items ≡ [] }
+    {
+        Seen {
+            set,
+            inserted: Vec::new(alloc),
+        }
+    }
+
+    /// Puts an index in, until this level is dropped.
+    ///
+    /// # Errors
+    ///
+    /// [`SeenError::Already`] where the index is there, and else want of memory. The set is then as it was.
+    pub fn insert(&mut self, index: TypeIndex) -> Result<(), SeenError>
+        ensures same_reference { self.new.set.ghost_name ≡ self.old.set.ghost_name }
+        ensures added { OnOk result ((q : ℕ) → has self.new.set.now q ≡ (has self.old.set.now q || q == index.0)) }
+        ensures absent { OnOk result (has self.old.set.now index.0 ≡ false) }
+        ensures refused { IfErr result (λ e. IsRefusal e index (has self.old.set.now index.0)) }
+        ensures unchanged { OnErr result ((q : ℕ) → has self.new.set.now q ≡ has self.old.set.now q) }
+        // Whatever the result is, what stood before the level stays.
+        ensures remembered { OnOk result (self.new.inserted.items ≡ self.old.inserted.items ++ index ∷ []) }
+        ensures kept { (q : ℕ) → base self.new.set.now self.new.inserted.items q
+            ≡ base self.old.set.now self.old.inserted.items q }
+    {
+        if self.set.contains(&index) {
+            return Err(SeenError::Already(AlreadySeenError(index)));
+        }
+        self.inserted.push(index)?;
+        match self.set.insert(index) {
+            Ok(_) => Ok(()),
+            Err(_) => {
+                let _ = self.inserted.pop();
+                Err(SeenError::OutOfMemory)
+            }
+        }
+    }
+
+    /// A level above this one: what it puts in is taken out when it is dropped, and this one stays.
+    pub fn new_level(&mut self) -> Seen<'_>
+        ensures same_set { (q : ℕ) → has result.set.now q ≡ has self.entry.now.set.now q }
+        ensures nothing { result.inserted.items ≡ [] }
+    {
+        let alloc = *self.inserted.allocator();
+        Seen::new(alloc, self.set)
+    }
+
+    /// A level above this one with one index put in.
+    ///
+    /// # Errors
+    ///
+    /// As [`Seen::insert`]. The set is then as it was.
+    pub fn insert_one(&mut self, index: TypeIndex) -> Result<Seen<'_>, SeenError>
+        ensures added { IfOk result (λ level. (q : ℕ)
+            → has level.set.now q ≡ (has self.entry.now.set.now q || q == index.0)) }
+        ensures one { IfOk result (λ level. level.inserted.items ≡ index ∷ []) }
+        ensures refused { IfErr result (λ e. IsRefusal e index (has self.entry.now.set.now index.0)) }
+    {
+        let mut level = self.new_level();
+        level.insert(index)?;
+        Ok(level)
+    }
+}

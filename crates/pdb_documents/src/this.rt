@@ -1,0 +1,36 @@
+ghost use Rattle.std.specs.Prelude.{◌≡◌};
+ghost use Rattle.pdb_documents.specs.Methods.{this_by_target};
+
+use pdb_records::{TypeData, TypeIndex};
+
+/// What a method's `this` tells.
+#[derive(Clone, Copy)]
+pub struct This {
+    /// Whether the method is constant.
+    pub constant: bool,
+    /// `this`, where it is printed as the first argument.
+    pub argument: Option<TypeIndex>,
+}
+
+/// A method that is not constant, and has no argument before its list.
+pub const PLAIN_THIS: This = This {
+    constant: false,
+    argument: None,
+};
+
+/// What the target of `this` tells: a modifier of the class says whether the method is constant. Else `this`
+/// is an argument.
+pub fn this_by_target(class: TypeIndex, this: TypeIndex, target: &TypeData) -> This
+    ensures { result ≡ this_by_target class this target.now }
+{
+    match target {
+        TypeData::Modifier(m) if m.underlying_type == class => This {
+            constant: m.constant,
+            argument: None,
+        },
+        _ => This {
+            constant: false,
+            argument: Some(this),
+        },
+    }
+}

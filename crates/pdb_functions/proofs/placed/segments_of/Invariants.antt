@@ -1,0 +1,16 @@
+use Rattle.std.proofs.Common.{◌≡◌, ◌^◌, ◌<◌, drop, length}
+use Rattle.std.specs.Prelude.{None}
+use Rattle.pdb_records.specs.declared.addresses.PdbInternalSectionOffset.{PdbInternalSectionOffset}
+use Rattle.pdb_ranges.specs.Segments.{painted_in_turn}
+use Rattle.pdb_functions.specs.Keys.{key}
+use Rattle.pdb_ranges.specs.Last.{last_over}
+use Rattle.pdb_functions.proofs.placed.segments_of.Given as goal
+
+-- what the segments so far give a place, or else the last of what is left over it, is the last of all
+abbrev pub invariant-loop-span : goal.invariant-loop-span
+invariant-loop-span g l = record {
+  values : (place : PdbInternalSectionOffset) → place.offset < 2 ^ 32
+      → last_over (g.T.Placed.is_over place) (painted_in_turn l.segments.items None (key place)) (drop l.span-index l.spans)
+      ≡ last_over (g.T.Placed.is_over place) None l.spans;
+  count : length l.segments.items ≡ l.span-index;
+}

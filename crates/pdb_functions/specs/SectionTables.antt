@@ -1,0 +1,22 @@
+-- Sections as values of addresses.
+use Rattle.std.specs.Prelude.{ℕ, ◌+◌, ◌-◌, List, [], ◌∷◌, Option}
+use Rattle.pdb_records.specs.Addresses.{numbered}
+use Rattle.pdb_records.specs.declared.addresses.PdbInternalSectionOffset.{PdbInternalSectionOffset}
+use Rattle.pdb_records.specs.declared.addresses.AddressRange.{AddressRange}
+use Rattle.pdb_ranges.specs.declared.segment.Segment.{Segment}
+use Rattle.pdb_functions.specs.declared.section_table.SectionStart.{SectionStart}
+
+-- the place of an address in a section, which is numbered from 1 by its position in the list
+abbrev pub place_in : ℕ → SectionStart → Option PdbInternalSectionOffset
+place_in address section = numbered (section.index + 1) (address - section.start)
+
+-- the addresses of each section, of sections that stand in the list from this position on
+abbrev pub section_segments : ℕ → List AddressRange → List (Segment SectionStart)
+section_segments index [] = []
+section_segments index (range ∷ ranges) =
+    record {
+      start = range.virtual_address;
+      end = range.virtual_address + range.virtual_size;
+      value = record { index = index; start = range.virtual_address };
+    }
+    ∷ section_segments (index + 1) ranges

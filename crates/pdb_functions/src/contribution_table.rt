@@ -1,0 +1,106 @@
+ghost use Rattle.std.specs.Prelude.{◌≡◌, ◌+◌, ◌*◌, ◌≤◌, find, length, IfOk};
+ghost use Rattle.pdb_ranges.specs.Probes.{digits};
+ghost use Rattle.pdb_functions.specs.Spans.{contribution_covers};
+
+use crate::contributions::ModuleSectionContribution;
+use crate::placed::{Placed, find, key, segments_of};
+use pdb_ranges::{Probes, Segment, Segments};
+use pdb_records::PdbInternalSectionOffset;
+use std::alloc::{AllocError, Global};
+use std::marker::Model;
+
+impl Placed for ModuleSectionContribution {
+    ghost is_over = { λ place c. contribution_covers place c };
+
+    fn segment(&self) -> Segment<Self> {
+        let section = self.section_index;
+        let start = PdbInternalSectionOffset {
+            section,
+            offset: self.start_offset,
+        };
+        let end = PdbInternalSectionOffset {
+            section,
+            offset: self.end_offset,
+        };
+        Segment {
+            start: key(start),
+            end: key(end),
+            value: *self,
+        }
+    }
+}
+
+/// A list of contributions, with a table of which of them lies over each place.
+#[derive(Drop)]
+pub struct ContributionTable {
+    contributions: Vec<ModuleSectionContribution>,
+    segments: Segments<ModuleSectionContribution>,
+}
+
+// Clauses see a table as the list of the contributions.
+impl Model for ContributionTable {
+    ghost use Rattle.std.specs.Prelude.{◌≡◌, ◌*◌, ◌^◌, ◌<◌, ◌≤◌, List, find, length};
+    ghost use Rattle.pdb_records.specs.declared.addresses.PdbInternalSectionOffset.{PdbInternalSectionOffset};
+    ghost use Rattle.pdb_ranges.specs.Segments.{value_at};
+    ghost use Rattle.pdb_functions.specs.declared.contributions.ModuleSectionContribution.{ModuleSectionContribution};
+    ghost use Rattle.pdb_functions.specs.Keys.{key};
+    ghost use Rattle.pdb_functions.specs.Spans.{contribution_covers};
+
+    ghost Value = { List ModuleSectionContribution };
+
+    ghost view = { λ t. t.contributions.items };
+
+    ghost invariant = { λ t. record {
+      firsts : (place : PdbInternalSectionOffset) → place.offset < 2 ^ 32
+          → value_at t.segments (key place) ≡ find (contribution_covers place) t.contributions.items;
+      at_most_two_each : length t.segments ≤ 2 * length t.contributions.items;
+    } };
+}
+
+impl ContributionTable {
+    /// The table of a list of contributions, in whatever order they stand. Its time grows with n log n for n of them.
+    /// The error is that memory ran out.
+    pub fn new(
+        alloc: Global,
+        contributions: Vec<ModuleSectionContribution>,
+    ) -> Result<Self, AllocError>
+        ensures { IfOk result (λ table. table ≡ contributions.items) }
+    {
+        let mut last_first = Vec::from_slice(alloc, &contributions)?;
+        last_first.reverse();
+        let segments = segments_of(alloc, &last_first)?;
+        Ok(ContributionTable {
+            contributions,
+            segments,
+        })
+    }
+
+    /// The contributions, in the order in which they were given.
+    pub fn as_slice(&self) -> &[ModuleSectionContribution]
+        ensures { result.now ≡ self.now }
+    {
+        &self.contributions
+    }
+
+    /// The first contribution over a place. Each entry of the table that is looked at counts.
+    fn search(
+        &self,
+        place: PdbInternalSectionOffset,
+        probes: &mut Probes,
+    ) -> Option<ModuleSectionContribution>
+        ensures found { result ≡ find (contribution_covers place) self.now }
+        ensures few { probes.new ≤ probes.old + digits (2 * length self.now) }
+    {
+        find(&self.segments, place, probes)
+    }
+
+    /// The first contribution of the list over a place. It is found by a binary search.
+    pub fn contribution_over(
+        &self,
+        place: PdbInternalSectionOffset,
+    ) -> Option<ModuleSectionContribution>
+        ensures { result ≡ find (contribution_covers place) self.now }
+    {
+        self.search(place, &mut Probes::new())
+    }
+}

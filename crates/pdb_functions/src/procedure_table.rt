@@ -1,0 +1,103 @@
+ghost use Rattle.std.specs.Prelude.{◌≡◌, ◌+◌, ◌*◌, ◌≤◌, map, option_map, length, IfOk};
+ghost use Rattle.pdb_ranges.specs.Pick.{pick};
+ghost use Rattle.pdb_ranges.specs.Probes.{digits};
+ghost use Rattle.pdb_functions.specs.Procedures.{module_procedure};
+ghost use Rattle.pdb_functions.specs.Spans.{procedure_covers};
+ghost use Rattle.pdb_functions.specs.Starts.{StartsAscend};
+
+use crate::placed::{Placed, find, key, segments_of};
+use crate::procedures::ProcedureSymbolFunction;
+use pdb_ranges::{Probes, Segment, Segments};
+use pdb_records::PdbInternalSectionOffset;
+use std::alloc::{AllocError, Global};
+use std::marker::Model;
+
+impl Placed for ProcedureSymbolFunction<'_> {
+    ghost is_over = { λ place p. procedure_covers place (module_procedure p) };
+
+    fn segment(&self) -> Segment<Self> {
+        let start = key(self.offset);
+        Segment {
+            start,
+            end: start + u64::from(self.len),
+            value: *self,
+        }
+    }
+}
+
+/// The procedures of a module by section and start, with a table of which of them lies over each place.
+#[derive(Drop)]
+pub(crate) struct ProcedureTable<'a> {
+    procedures: Vec<ProcedureSymbolFunction<'a>>,
+    segments: Segments<ProcedureSymbolFunction<'a>>,
+}
+
+// Clauses see a table as the list of the procedures.
+impl<'a> Model for ProcedureTable<'a> {
+    ghost use Rattle.std.specs.Prelude.{◌≡◌, ◌*◌, ◌^◌, ◌<◌, ◌≤◌, List, map, option_map, length};
+    ghost use Rattle.pdb_records.specs.declared.addresses.PdbInternalSectionOffset.{PdbInternalSectionOffset};
+    ghost use Rattle.pdb_ranges.specs.Pick.{pick};
+    ghost use Rattle.pdb_ranges.specs.Segments.{value_at};
+    ghost use Rattle.pdb_functions.specs.Keys.{key};
+    ghost use Rattle.pdb_functions.specs.Procedures.{ModuleProcedure, module_procedure};
+    ghost use Rattle.pdb_functions.specs.Spans.{procedure_covers};
+
+    ghost Value = { List ModuleProcedure };
+
+    ghost view = { λ t. map module_procedure t.procedures.items };
+
+    ghost invariant = { λ t. record {
+      picks : (place : PdbInternalSectionOffset) → place.offset < 2 ^ 32
+          → option_map module_procedure (value_at t.segments (key place))
+          ≡ pick (procedure_covers place) (λ p. p.offset.offset) (map module_procedure t.procedures.items);
+      at_most_two_each : length t.segments ≤ 2 * length t.procedures.items;
+    } };
+}
+
+impl<'a> ProcedureTable<'a> {
+    /// The table of procedures that stand by section and start, each start once.
+    pub(crate) fn new(
+        alloc: Global,
+        procedures: Vec<ProcedureSymbolFunction<'a>>,
+    ) -> Result<Self, AllocError>
+        requires { StartsAscend (λ p. p.offset) procedures.items }
+        ensures { IfOk result (λ table. table ≡ map module_procedure procedures.entry.items) }
+    {
+        let segments = segments_of(alloc, &procedures)?;
+        Ok(ProcedureTable {
+            procedures,
+            segments,
+        })
+    }
+
+    /// The procedures.
+    pub(crate) fn as_slice(&self) -> &[ProcedureSymbolFunction<'a>]
+        ensures { map module_procedure result.now ≡ self.now }
+    {
+        &self.procedures
+    }
+
+    /// Of the procedures over a place the one that starts last. Each entry of the table that is looked at counts.
+    fn search(
+        &self,
+        place: PdbInternalSectionOffset,
+        probes: &mut Probes,
+    ) -> Option<ProcedureSymbolFunction<'a>>
+        ensures found { option_map module_procedure result
+            ≡ pick (procedure_covers place) (λ p. p.offset.offset) self.now }
+        ensures few { probes.new ≤ probes.old + digits (2 * length self.now) }
+    {
+        find(&self.segments, place, probes)
+    }
+
+    /// Of the procedures over a place the one that starts last.
+    pub(crate) fn procedure_over(
+        &self,
+        place: PdbInternalSectionOffset,
+    ) -> Option<ProcedureSymbolFunction<'a>>
+        ensures { option_map module_procedure result
+            ≡ pick (procedure_covers place) (λ p. p.offset.offset) self.now }
+    {
+        self.search(place, &mut Probes::new())
+    }
+}

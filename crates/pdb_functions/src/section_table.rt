@@ -1,0 +1,111 @@
+ghost use Rattle.std.specs.Prelude.{◌≡◌, ◌+◌, ◌*◌, ◌≤◌, length, option_and_then, IfOk};
+ghost use Rattle.pdb_records.specs.Addresses.{internal_offset};
+ghost use Rattle.pdb_ranges.specs.Probes.{digits};
+ghost use Rattle.pdb_functions.specs.SectionTables.{place_in, section_segments};
+
+use pdb_ranges::{Probes, Segment, Segments};
+use pdb_records::{AddressMap, AddressRange, PdbInternalSectionOffset, Rva};
+use std::alloc::{AllocError, Global};
+use std::marker::Model;
+
+/// Where a section starts, and its position in the list of sections, counted from 0.
+#[derive(Clone, Copy)]
+pub(crate) struct SectionStart {
+    pub(crate) index: usize,
+    pub(crate) start: u32,
+}
+
+/// The addresses of each section.
+fn segments_of(
+    alloc: Global,
+    ranges: &[AddressRange],
+) -> Result<Vec<Segment<SectionStart>>, AllocError>
+    ensures { IfOk result (λ v. v.items ≡ section_segments 0 ranges.now) }
+{
+    let mut segments: Vec<Segment<SectionStart>> = Vec::new(alloc);
+    for (index, range) in ranges.iter().enumerate() {
+        let start = range.virtual_address;
+        segments.push(Segment {
+            start: u64::from(start),
+            end: u64::from(start) + u64::from(range.virtual_size),
+            value: SectionStart { index, start },
+        })?;
+    }
+    Ok(segments)
+}
+
+/// The place of an address in a section that starts at it or below. `None` where the section has a number
+/// past 65535.
+fn place_in(address: u32, section: SectionStart) -> Option<PdbInternalSectionOffset>
+    ensures { result ≡ place_in address section }
+{
+    if section.index >= usize::from(u16::MAX) {
+        return None;
+    }
+    Some(PdbInternalSectionOffset {
+        section: section.index as u16 + 1,
+        offset: address.saturating_sub(section.start),
+    })
+}
+
+/// The sections of a program, with a table of which of them holds each address.
+#[derive(Drop)]
+pub struct SectionTable<'a> {
+    address_map: &'a AddressMap,
+    segments: Segments<SectionStart>,
+}
+
+// Clauses see a table as the sections of the address map.
+impl<'a> Model for SectionTable<'a> {
+    ghost use Rattle.std.specs.Prelude.{◌≡◌, ◌*◌, ◌≤◌, ℕ, List, length, option_and_then};
+    ghost use Rattle.pdb_records.specs.Addresses.{offset_from};
+    ghost use Rattle.pdb_records.specs.declared.addresses.AddressRange.{AddressRange};
+    ghost use Rattle.pdb_ranges.specs.Segments.{value_at};
+    ghost use Rattle.pdb_functions.specs.SectionTables.{place_in};
+
+    ghost Value = { List AddressRange };
+
+    ghost view = { λ t. t.address_map.now };
+
+    ghost invariant = { λ t. record {
+      firsts : (x : ℕ) → option_and_then (place_in x) (value_at t.segments x)
+          ≡ offset_from 1 t.address_map.now x;
+      at_most_two_each : length t.segments ≤ 2 * length t.address_map.now;
+    } };
+}
+
+impl<'a> SectionTable<'a> {
+    /// The table of a program's sections. Its time grows with n log n for n of them. The error is that
+    /// memory ran out.
+    #[tactic(auto, using(crate::proofs::SectionLemmas::count, crate::proofs::SectionLemmas::section_of_painted))]
+    pub fn new(alloc: Global, address_map: &'a AddressMap) -> Result<Self, AllocError>
+        ensures { IfOk result (λ table. table ≡ address_map.now) }
+    {
+        let mut last_first = segments_of(alloc, &address_map.sections)?;
+        last_first.reverse();
+        let segments = Segments::of_painted(alloc, &last_first)?;
+        Ok(SectionTable {
+            address_map,
+            segments,
+        })
+    }
+
+    /// The place of an address in the first section that holds it. Each entry of the table that is looked
+    /// at counts.
+    fn search(&self, address: Rva, probes: &mut Probes) -> Option<PdbInternalSectionOffset>
+        ensures found { result ≡ internal_offset self.now address }
+        ensures few { probes.new ≤ probes.old + digits (2 * length self.now) }
+    {
+        let section = self.segments.find(u64::from(address.0), probes)?;
+        place_in(address.0, section)
+    }
+
+    /// The place of an address: the first section in order that holds it, and the bytes from that section's
+    /// start. `None` where no section holds it, or the first that does has a number past 65535. It is found
+    /// by a binary search.
+    pub fn place_of(&self, address: Rva) -> Option<PdbInternalSectionOffset>
+        ensures { result ≡ internal_offset self.now address }
+    {
+        self.search(address, &mut Probes::new())
+    }
+}

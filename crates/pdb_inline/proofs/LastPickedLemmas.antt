@@ -1,0 +1,157 @@
+-- Of a list by starts, where of equal starts the last stands first, the last over a number is the one that is picked.
+use Rattle.std.proofs.Common.{◌≡◌, ◌∙◌, ℕ, ◌<◌, ◌≤◌, Bool, true, false, cond, List, [], ◌∷◌, ◌++◌, reverse, Option, Some, None, refl, sym, ap, arith}
+use Rattle.std.specs.Prelude.{⊤, nat_lt}
+use Rattle.std.specs.Option.{option_or}
+use Rattle.std.specs.List.{AllByRecursion}
+use Rattle.std.specs.Ordering.{nat_cmp, is_lt, MatchOrdering}
+use Rattle.std.specs.declared.cmp.Ordering.{Ordering}
+use Rattle.std.specs.declared.cmp.Ordering.TheVariants.{Less, Equal, Greater}
+use Rattle.std.specs.Cmp.{IsStrictWeakOrder}
+use Rattle.std.proofs.lemmas.Bool.{lt-ltb, le-ltb}
+use Rattle.std.proofs.lemmas.Cmp.{ranked, nat_cmp_total}
+use Rattle.std.proofs.lemmas.Grind.{reverse_onto}
+use Rattle.std.proofs.lemmas.List.Sorted.{ranks_by}
+use Rattle.pdb_ranges.specs.InOrder.{put, in_order}
+use Rattle.pdb_ranges.specs.Last.{last_over}
+use Rattle.pdb_ranges.specs.Pick.{pick, later_start}
+use Rattle.pdb_ranges.proofs.LastLemmas.{last_over-or}
+use Rattle.pdb_ranges.proofs.PickLemmas.{later_start_assoc}
+use Rattle.pdb_ranges.proofs.SortLemmas.{Rises, rises_in_order}
+
+-- one starts before another
+abbrev pub earlier : {T : Type 0} → (T → ℕ) → T → T → Bool
+earlier start a b = is_lt (nat_cmp (start a) (start b))
+
+-- starts have one order
+pub earlier_ranks : {T : Type 0} (start : T → ℕ) → IsStrictWeakOrder (earlier start)
+earlier_ranks start = ranks_by nat_cmp_total start
+
+-- what comes before another number is smaller
+pub less_from : (m n : ℕ) → is_lt (nat_cmp m n) ≡ true → m < n
+less_from m n is = by_order (nat_cmp m n) is (ranked m n (nat_cmp m n) refl) where
+  by_order : (o : Ordering) → is_lt o ≡ true → MatchOrdering o (m < n) (m ≡ n) (n < m) → m < n
+  by_order Less is fact = fact
+  by_order Equal is fact = absurd cc
+  by_order Greater is fact = absurd cc
+
+-- what doesn't is no smaller
+pub no_less_from : (m n : ℕ) → is_lt (nat_cmp m n) ≡ false → n ≤ m
+no_less_from m n is = by_order (nat_cmp m n) is (ranked m n (nat_cmp m n) refl) where
+  by_order : (o : Ordering) → is_lt o ≡ false → MatchOrdering o (m < n) (m ≡ n) (n < m) → n ≤ m
+  by_order Less is fact = absurd cc
+  by_order Equal is fact = omega arith
+  by_order Greater is fact = omega arith
+
+-- of those that pass the test the one of greatest start; of equal starts the last
+abbrev pub pick_back : {T : Type 0} → (T → Bool) → (T → ℕ) → List T → Option T
+pick_back over start [] = None
+pick_back over start (x ∷ xs) = later_start start (pick_back over start xs) (cond (over x) (Some x) None)
+
+-- nothing starts later than what is there
+later_start-None : {T : Type 0} (start : T → ℕ) (a : Option T) → later_start start a None ≡ a
+later_start-None start None = refl
+later_start-None start (Some x) = refl
+
+-- one more that stands last is compared first
+pick_back-push : {T : Type 0} (over : T → Bool) (start : T → ℕ) (xs : List T) (x : T)
+    → pick_back over start (xs ++ x ∷ []) ≡ later_start start (cond (over x) (Some x) None) (pick_back over start xs)
+pick_back-push over start [] x = sym (later_start-None start (cond (over x) (Some x) None))
+pick_back-push {T = T} over start (y ∷ xs) x =
+    ap (λ (o : Option T). later_start start o (cond (over y) (Some y) None)) (pick_back-push over start xs x)
+    ∙ later_start_assoc start (cond (over x) (Some x) None) (pick_back over start xs) (cond (over y) (Some y) None)
+
+-- in a list that is turned round, the last of equal starts is the first of the list
+pick_back-reverse : {T : Type 0} (over : T → Bool) (start : T → ℕ) (xs : List T) → pick_back over start (reverse xs) ≡ pick over start xs
+pick_back-reverse over start [] = refl
+pick_back-reverse over start (x ∷ xs) =
+    rw (reverse_onto xs x [], pick_back-push over start (reverse xs) x, pick_back-reverse over start xs) refl
+
+-- what holds of all holds of the last that passes
+abbrev pub IsSome_of : {T : Type 0} → (T → Type 0) → Option T → Type 0
+IsSome_of P None = ⊤
+IsSome_of P (Some x) = P x
+
+last_of_all : {T : Type 0} (P : T → Type 0) (over : T → Bool) (before : Option T) (xs : List T) → IsSome_of P before
+    → AllByRecursion P xs → IsSome_of P (last_over over before xs)
+last_of_all P over before [] there all = there
+last_of_all {T = T} P over before (x ∷ xs) there all = last_of_all P over (cond (over x) (Some x) before) xs (by_test (over x)) all.1 where
+  by_test : (t : Bool) → IsSome_of P (cond t (Some x) before)
+  by_test true = all.0
+  by_test false = there
+
+-- where one starts no later than another, and none starts before that, it starts no later than any
+no_later_than_all : {T : Type 0} (start : T → ℕ) (x y : T) (zs : List T) → start x ≤ start y
+    → AllByRecursion (λ z. earlier start z y ≡ false) zs → AllByRecursion (λ z. start x ≤ start z) zs
+no_later_than_all start x y [] low all = tt
+no_later_than_all start x y (z ∷ zs) low all =
+    let h : start y ≤ start z = no_less_from (start z) (start y) all.0 in (omega arith, no_later_than_all start x y zs low all.1)
+
+-- one that is put in its place is the last of those that pass, unless a later one passes
+last_of_put : {T : Type 0} (over : T → Bool) (start : T → ℕ) (x : T) (ys : List T) → Rises (earlier start) ys
+    → last_over over None (put (earlier start) x ys) ≡ later_start start (last_over over None ys) (cond (over x) (Some x) None)
+last_of_put over start x [] up = refl
+last_of_put {T = T} over start x (y ∷ ys) up = by_test (earlier start y x) refl (last_of_put over start x ys up.1) where
+  later : (w : Option T) (s t : Bool) → start y < start x
+      → option_or (later_start start w (cond t (Some x) None)) (cond s (Some y) None)
+      ≡ later_start start (option_or w (cond s (Some y) None)) (cond t (Some x) None)
+  later None true true less = rw (lt-ltb (start y) (start x) less) refl
+  later None true false less = refl
+  later None false true less = refl
+  later None false false less = refl
+  later (Some w) s false less = refl
+  later (Some w) s true less = by_start (nat_lt (start w) (start x)) where
+    by_start : (u : Bool) → option_or (cond u (Some x) (Some w)) (cond s (Some y) None) ≡ cond u (Some x) (Some w)
+    by_start true = refl
+    by_start false = refl
+
+  ahead : (w : Option T) (t : Bool) → IsSome_of (λ z. start x ≤ start z) w
+      → option_or w (cond t (Some x) None) ≡ later_start start w (cond t (Some x) None)
+  ahead None t all = refl
+  ahead (Some w) true all = rw (le-ltb (start w) (start x) all) refl
+  ahead (Some w) false all = refl
+
+  by_test : (b : Bool) → earlier start y x ≡ b
+      → last_over over None (put (earlier start) x ys) ≡ later_start start (last_over over None ys) (cond (over x) (Some x) None)
+      → last_over over None (cond b (y ∷ put (earlier start) x ys) (x ∷ y ∷ ys))
+      ≡ later_start start (last_over over None (y ∷ ys)) (cond (over x) (Some x) None)
+  by_test true is rest =
+      last_over-or over (cond (over y) (Some y) None) (put (earlier start) x ys)
+      ∙ (ap (λ (o : Option T). option_or o (cond (over y) (Some y) None)) rest
+      ∙ (later (last_over over None ys) (over y) (over x) (less_from (start y) (start x) is)
+      ∙ ap (λ (o : Option T). later_start start o (cond (over x) (Some x) None)) (sym (last_over-or over (cond (over y) (Some y) None) ys))))
+  by_test false is rest =
+      let low : start x ≤ start y = no_less_from (start y) (start x) is in
+      last_over-or over (cond (over x) (Some x) None) (y ∷ ys)
+      ∙ ahead (last_over over None (y ∷ ys)) (over x)
+      (last_of_all (λ z. start x ≤ start z) over None (y ∷ ys) tt (low, no_later_than_all start x y ys low up.0))
+
+-- the last of a list in order is the one of greatest start; of equal starts the last
+last_in_order : {T : Type 0} (over : T → Bool) (start : T → ℕ) (xs : List T)
+    → last_over over None (in_order (earlier start) xs) ≡ pick_back over start xs
+last_in_order over start [] = refl
+last_in_order {T = T} over start (x ∷ xs) =
+    last_of_put over start x (in_order (earlier start) xs) (rises_in_order (earlier_ranks start) xs)
+    ∙ ap (λ (o : Option T). later_start start o (cond (over x) (Some x) None)) (last_in_order over start xs)
+
+-- of a list by starts, where of equal starts the last stands first, the last that passes is picked
+pub last_is_picked : {T : Type 0} (over : T → Bool) (start : T → ℕ) (xs : List T)
+    → last_over over None (in_order (earlier start) (reverse xs)) ≡ pick over start xs
+last_is_picked over start xs = last_in_order over start (reverse xs) ∙ pick_back-reverse over start xs
+
+-- what holds of all holds of the one that is picked
+pub pick_of_all : {T : Type 0} (P : T → Type 0) (over : T → Bool) (start : T → ℕ) (xs : List T) → AllByRecursion P xs
+    → IsSome_of P (pick over start xs)
+pick_of_all P over start [] all = tt
+pick_of_all {T = T} P over start (x ∷ xs) all = of_both (cond (over x) (Some x) None) (pick over start xs) (by_test (over x)) (pick_of_all P over start xs all.1) where
+  by_test : (t : Bool) → IsSome_of P (cond t (Some x) None)
+  by_test true = all.0
+  by_test false = tt
+
+  by_start : (t : Bool) (a b : T) → P a → P b → IsSome_of P (cond t (Some b) (Some a))
+  by_start true a b of_a of_b = of_b
+  by_start false a b of_a of_b = of_a
+
+  of_both : (a b : Option T) → IsSome_of P a → IsSome_of P b → IsSome_of P (later_start start a b)
+  of_both None b of_a of_b = of_b
+  of_both (Some a) None of_a of_b = of_a
+  of_both (Some a) (Some b) of_a of_b = by_start (nat_lt (start a) (start b)) a b of_a of_b

@@ -1,0 +1,33 @@
+-- Tables of which range is picked at each depth, by its position.
+use Rattle.std.specs.Prelude.{ℕ, zero, suc, ◌+◌, List, [], ◌∷◌, Option, Some, None, map}
+use Rattle.std.specs.Global.{Vec}
+use Rattle.pdb_ranges.specs.declared.segment.Segment.{Segment}
+use Rattle.pdb_ranges.specs.Segments.{value_at}
+use Rattle.pdb_inline.specs.declared.inline_ranges.InlineRange.{InlineRange}
+use Rattle.pdb_inline.specs.ListedRanges.{picked_position}
+
+-- the segments that are kept at a depth
+abbrev pub segments_at : List (Vec (Segment ℕ)) → ℕ → List (Segment ℕ)
+segments_at [] depth = []
+segments_at (list ∷ lists) zero = list.items
+segments_at (list ∷ lists) (suc depth) = segments_at lists depth
+
+-- the positions of the ranges that are picked for a number at so many depths, from one on
+abbrev pub picked_positions : List InlineRange → ℕ → ℕ → ℕ → List (Option ℕ)
+picked_positions ranges x zero depth = []
+picked_positions ranges x (suc count) depth =
+    picked_position ranges x depth ∷ picked_positions ranges x count (depth + 1)
+
+-- with the outer position, if there is one, those of what is inside
+abbrev pub with_outer_position : Option ℕ → List ℕ → List ℕ
+with_outer_position None inner = []
+with_outer_position (Some position) inner = position ∷ inner
+
+-- the positions ahead of the first one that is missing
+abbrev pub up_to_gap : List (Option ℕ) → List ℕ
+up_to_gap [] = []
+up_to_gap (position ∷ positions) = with_outer_position position (up_to_gap positions)
+
+-- the positions that the tables have for a number, up to the first table that has none
+abbrev pub positions_in : List (List (Segment ℕ)) → ℕ → List ℕ
+positions_in tables x = up_to_gap (map (λ table. value_at table x) tables)

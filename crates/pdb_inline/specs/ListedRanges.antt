@@ -1,0 +1,33 @@
+-- Ranges with their positions in a list.
+use Rattle.std.specs.Prelude.{ℕ, ◌+◌, Bool, List, [], ◌∷◌, reverse, Option, Some, option_map, if◌then◌else◌}
+use Rattle.std.specs.Ordering.{nat_cmp, is_lt}
+use Rattle.pdb_ranges.specs.InOrder.{in_order}
+use Rattle.pdb_ranges.specs.Pick.{pick}
+use Rattle.pdb_inline.specs.declared.inline_ranges.InlineRange.{InlineRange}
+use Rattle.pdb_inline.specs.declared.listed_ranges.ListedRange.{ListedRange}
+use Rattle.pdb_inline.specs.InlineStacks.{lies_over}
+
+-- the ranges with their positions, of which this one is the first
+abbrev pub listed : ℕ → List InlineRange → List ListedRange
+listed position [] = []
+listed position (range ∷ ranges) = record { position = position; range = range } ∷ listed (position + 1) ranges
+
+-- one starts before another
+abbrev pub starts_before : ListedRange → ListedRange → Bool
+starts_before a b = is_lt (nat_cmp a.range.start_offset b.range.start_offset)
+
+-- the ranges by their starts; of equal starts the last of the list stands first
+abbrev pub ranges_by_start : List InlineRange → List ListedRange
+ranges_by_start ranges = in_order starts_before (reverse (listed 0 ranges))
+
+-- the position of the last of the ranges of a depth over a number, or else what was there before
+abbrev pub last_position : ℕ → ℕ → Option ℕ → List ListedRange → Option ℕ
+last_position depth x before [] = before
+last_position depth x before (listed ∷ ranges) =
+    last_position depth x (if lies_over depth x listed.range then Some listed.position else before) ranges
+
+-- the position of the range that is picked at a depth for a number
+abbrev pub picked_position : List InlineRange → ℕ → ℕ → Option ℕ
+picked_position ranges x depth =
+    option_map (λ listed. listed.position)
+    (pick (λ listed. lies_over depth x listed.range) (λ listed. listed.range.start_offset) (listed 0 ranges))

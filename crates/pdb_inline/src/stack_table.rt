@@ -1,0 +1,113 @@
+ghost use Rattle.std.specs.Prelude.{◌≡◌, ℕ, ◌+◌, ◌*◌, ◌≤◌, [], length, IfOk, OnOk, if◌then◌else◌};
+ghost use Rattle.pdb_ranges.specs.Probes.{digits};
+ghost use Rattle.pdb_ranges.specs.RangeSet.{is_within};
+ghost use Rattle.pdb_inline.specs.DepthTables.{positions_in};
+ghost use Rattle.pdb_inline.specs.RangeBounds.{ChangesAt};
+ghost use Rattle.pdb_inline.specs.StackTable.{stack_over, HasStacks};
+
+use crate::depth_tables::{depth_tables, push_positions};
+use crate::inline_ranges::InlineRange;
+use crate::range_bounds::sorted_bounds;
+use pdb_ranges::{Probes, Segments};
+use std::alloc::{AllocError, Global};
+use std::marker::Model;
+
+/// A table of the inlined bodies over each offset, by their positions in a list of ranges.
+///
+/// It keeps a whole stack of positions for each piece of code that has one stack.
+#[derive(Drop)]
+pub struct StackTable {
+    // Where the stack of a number begins and ends among the positions.
+    segments: Segments<(usize, usize)>,
+    positions: Vec<usize>,
+}
+
+// Clauses see a table as its segments, which tell the positions over each number.
+impl Model for StackTable {
+    ghost use Rattle.std.specs.Prelude.{ℕ, List, length};
+    ghost use Rattle.pdb_ranges.specs.declared.segment.Segment.{Segment};
+    ghost use Rattle.pdb_ranges.specs.Segments.{value_at};
+    ghost use Rattle.pdb_inline.specs.StackTable.{with_stacks, LiesIn};
+
+    ghost Value = { List (Segment (List ℕ)) };
+
+    ghost view = { λ t. with_stacks t.positions.items t.segments };
+
+    ghost invariant = { λ t. (x : ℕ) → LiesIn t.positions.items (value_at t.segments x) };
+}
+
+impl StackTable {
+    /// The table of a list of ranges, in whatever order they stand.
+    ///
+    /// Its time grows with (n + s) log n for n ranges and stacks of s positions in all. For ranges that nest in one
+    /// another s may grow with the square of n; [`ProcedureStacks`](crate::ProcedureStacks) has a bound on it.
+    ///
+    /// # Errors
+    ///
+    /// [`AllocError`] alone.
+    pub fn new(alloc: Global, ranges: &[InlineRange]) -> Result<Self, AllocError>
+        ensures stacks { IfOk result (λ table. HasStacks ranges.now table) }
+        ensures at_most_four_each { IfOk result (λ table. length table ≤ 4 * length ranges.now) }
+    {
+        let tables = depth_tables(alloc, ranges)?;
+        let bounds = sorted_bounds(alloc, ranges)?;
+        let table = stacks_between(alloc, &tables, &bounds)?;
+        Ok(table)
+    }
+
+    /// The number of segments.
+    pub fn len(&self) -> usize
+        ensures { result ≡ length self.now }
+    {
+        self.segments.len()
+    }
+
+    /// The positions of the ranges over an offset that [`inline_stack`](crate::inline_stack) picks, the outermost
+    /// first. It is a binary search that takes no memory, and counts each segment that it looks at.
+    pub fn find(&self, offset: u64, probes: &mut Probes) -> &[usize]
+        ensures stack { result.now ≡ stack_over self.now offset }
+        ensures no_fewer { probes.old ≤ probes.new }
+        ensures few { probes.new ≤ probes.old + digits (length self.now) }
+    {
+        match self.segments.find(offset, probes) {
+            Some((from, to)) => &self.positions[from..to],
+            None => &[],
+        }
+    }
+
+    /// Gives the numbers from `lo` up to the one before `hi` the positions that the tables have for `lo`.
+    fn paint(&mut self, tables: &[Segments<usize>], lo: u64, hi: u64) -> Result<(), AllocError>
+        ensures stack { OnOk result ((x : ℕ) → stack_over self.new x
+            ≡ (if is_within lo hi x then positions_in tables.now lo else stack_over self.old x)) }
+        ensures at_most_two_more { length self.new ≤ length self.old + 2 }
+    {
+        let from = self.positions.len();
+        push_positions(&mut self.positions, tables, lo)?;
+        self.segments.paint(lo, hi, (from, self.positions.len()))?;
+        Ok(())
+    }
+}
+
+/// The table of what tables for each depth have for each number, which changes at the bounds alone.
+fn stacks_between(
+    alloc: Global,
+    tables: &[Segments<usize>],
+    bounds: &[u64],
+) -> Result<StackTable, AllocError>
+    requires { ChangesAt (positions_in tables.now) 0 bounds.now }
+    ensures stacks { IfOk result (λ table. (x : ℕ) → stack_over table x ≡ positions_in tables.now x) }
+    ensures at_most_two_each { IfOk result (λ table. length table ≤ 2 * length bounds.now) }
+{
+    let mut table = StackTable {
+        segments: Segments::new(alloc),
+        positions: Vec::new(alloc),
+    };
+    let mut at = 0;
+    for &bound in bounds {
+        if at < bound {
+            table.paint(tables, at, bound)?;
+        }
+        at = bound;
+    }
+    Ok(table)
+}

@@ -1,0 +1,7 @@
+-- The last of a list that passes a test.
+use Rattle.std.specs.Prelude.{Bool, List, [], ◌∷◌, Option, Some, if◌then◌else◌}
+
+-- the last of the elements that pass the test, or else what was there before
+abbrev pub last_over : {T : Type 0} → (T → Bool) → Option T → List T → Option T
+last_over over before [] = before
+last_over over before (x ∷ xs) = last_over over (if over x then Some x else before) xs

@@ -1,7 +1,0 @@
-use Rattle.pdb_signatures.proofs.CutLemmas.{may_be_cut-written, may_be_cut-behind}
-use Rattle.pdb_signatures.proofs.progress.end_buffer.Goals as goal
-
-pub returns-clause-cut : goal.returns-clause-cut
-returns-clause-cut c = λ marks cut.
-    may_be_cut-written c.args.text.now c.write_attributes.new.text _ c.in_ok-write_attributes.ensures marks
-    (may_be_cut-behind c.args.text.now c.args.mark marks c.requires cut)
