@@ -64,10 +64,20 @@ fn a_context_with_flags_of_its_own(rt: HostRuntime) -> Result<(), Fail> {
     check_context(&rt, data.make_context_with_formatter_flags(flags)?)
 }
 
+/// Makes a context of parts, and checks it.
+fn check_parts(
+    rt: &impl Abort,
+    alloc: Global,
+    data: &ContextPdbData<'_>,
+    records: &PDB,
+) -> Result<(), Fail> {
+    let formatter = data.make_type_formatter()?;
+    check_context(rt, context_of(alloc, data, records, formatter)?)
+}
+
 #[test]
 fn a_context_of_parts(rt: HostRuntime) -> Result<(), Fail> {
     let data = ContextPdbData::try_from_pdb(rt.alloc(), read_records(rt.alloc(), PROGRAM)?)?;
     let records = read_records(rt.alloc(), PROGRAM)?;
-    let formatter = data.make_type_formatter()?;
-    check_context(&rt, context_of(rt.alloc(), &data, &records, formatter)?)
+    check_parts(&rt, rt.alloc(), &data, &records)
 }

@@ -1,4 +1,4 @@
-use pdb_addr2line::{ContextPdbData, Frame, FunctionFrames};
+use pdb_addr2line::{Context, ContextPdbData, Frame, FunctionFrames, ModuleProvider};
 use pdb_json::read_records;
 use std::alloc::Global;
 use std::process::Abort;
@@ -44,28 +44,38 @@ fn check_frames(rt: &impl Abort, alloc: Global, frames: &FunctionFrames<'_>) -> 
     Ok(())
 }
 
-#[test]
-fn frames_are_kept_over_later_calls(rt: HostRuntime) -> Result<(), Fail> {
-    let data = ContextPdbData::try_from_pdb(rt.alloc(), read_records(rt.alloc(), PROGRAM)?)?;
-    let mut context = data.make_context()?;
-    let frames = context.find_frames(0x1025)?.ok_or("no frames")?;
+/// Asks for the frames of the addresses ahead, and of one in no function.
+fn ask_for_others<P: ModuleProvider>(
+    rt: &impl Abort,
+    context: &mut Context<'_, P>,
+) -> Result<(), Fail> {
     for address in 0x1010..0x1024u32 {
         let other = context.find_frames(address)?.ok_or("no frames")?;
         assert_eq!(rt; other.frames.len(), if address < 0x1020 { 1 } else { 3 });
     }
     assert!(rt; context.find_frames(0x2000)?.is_none());
-    check_frames(&rt, rt.alloc(), &frames)?;
-    check_frames(&rt, rt.alloc(), &frames.clone()?)
+    Ok(())
 }
 
-#[test]
-fn a_clone_of_a_function(rt: HostRuntime) -> Result<(), Fail> {
-    let data = ContextPdbData::try_from_pdb(rt.alloc(), read_records(rt.alloc(), PROGRAM)?)?;
-    let mut context = data.make_context()?;
-    let function = context
-        .find_function(0x1025)?
-        .ok_or("no function")?
-        .clone()?;
+/// Keeps frames while the context is asked again.
+fn keep_frames<P: ModuleProvider>(
+    rt: &impl Abort,
+    alloc: Global,
+    context: &mut Context<'_, P>,
+) -> Result<(), Fail> {
+    let frames = context.find_frames(0x1025)?.ok_or("no frames")?;
+    ask_for_others(rt, context)?;
+    check_frames(rt, alloc, &frames)?;
+    check_frames(rt, alloc, &frames.clone()?)
+}
+
+/// Clones a function that a context found.
+fn clone_function<P: ModuleProvider>(
+    rt: &impl Abort,
+    context: &mut Context<'_, P>,
+) -> Result<(), Fail> {
+    let found = context.find_function(0x1025)?.ok_or("no function")?;
+    let function = found.clone()?;
     assert_eq!(rt;
         (function.start_rva, function.end_rva),
         (0x1010, Some(0x1050))
@@ -73,4 +83,16 @@ fn a_clone_of_a_function(rt: HostRuntime) -> Result<(), Fail> {
     let name = function.name.ok_or("no name")?;
     assert_eq!(rt; name.as_str(), "P");
     Ok(())
+}
+
+#[test]
+fn frames_are_kept_over_later_calls(rt: HostRuntime) -> Result<(), Fail> {
+    let data = ContextPdbData::try_from_pdb(rt.alloc(), read_records(rt.alloc(), PROGRAM)?)?;
+    keep_frames(&rt, rt.alloc(), &mut data.make_context()?)
+}
+
+#[test]
+fn a_clone_of_a_function(rt: HostRuntime) -> Result<(), Fail> {
+    let data = ContextPdbData::try_from_pdb(rt.alloc(), read_records(rt.alloc(), PROGRAM)?)?;
+    clone_function(&rt, &mut data.make_context()?)
 }

@@ -4,8 +4,10 @@ use pdb_addr2line::pdb::{
     ImportedModule, LineInfo, LineProgram, PdbInternalSectionOffset, RawString, Reading, Rva,
     StringRef, StringTable, SymbolLines,
 };
-use pdb_addr2line::{ContextPdbData, ModuleProvider};
+use pdb_addr2line::{Context, ContextPdbData, ModuleProvider};
 use pdb_json::read_records;
+use std::alloc::Global;
+use std::process::Abort;
 use std::test::Fail;
 
 /// A program with one section, one module and one procedure at 0x10 whose name is to be replaced.
@@ -31,21 +33,25 @@ const NOTHING: &[u8] = br#"{"sections":[],"address_map":[],"global_symbols":[],
 "debug_information":{"machine_type":"Amd64","modules":[],"section_contributions":[]},
 "type_information":[],"id_information":[],"string_table":[],"module_infos":[]}"#;
 
+/// How many starts of functions a program has.
+fn count_starts(alloc: Global, text: &[u8]) -> Result<usize, Fail> {
+    let data = ContextPdbData::try_from_pdb(alloc, read_records(alloc, text)?)?;
+    Ok(data.make_context()?.function_count())
+}
+
 #[test]
 fn starts_and_section_ends_are_counted(rt: HostRuntime) -> Result<(), Fail> {
     for (text, count) in [(PUBLIC_SYMBOL, 3usize), (NOTHING, 0)] {
-        let data = ContextPdbData::try_from_pdb(rt.alloc(), read_records(rt.alloc(), text)?)?;
-        let context = data.make_context()?;
-        assert_eq!(rt; context.function_count(), count);
+        assert_eq!(rt; count_starts(rt.alloc(), text)?, count);
     }
     Ok(())
 }
 
-#[test]
-fn contexts_of_owned_and_lent_records(rt: HostRuntime) -> Result<(), Fail> {
-    let mut lent = read_records(rt.alloc(), PROGRAM)?;
-    let data = ContextPdbData::try_from_pdb_ref(rt.alloc(), &mut lent)?;
-    let mut context = data.make_context()?;
+/// Whether a context tells of the procedure.
+fn check_procedure<P: ModuleProvider>(
+    rt: &impl Abort,
+    context: &mut Context<'_, P>,
+) -> Result<(), Fail> {
     assert_eq!(rt; context.function_count(), 2);
     let function = context.find_function(0x1020)?.ok_or("no function")?;
     assert_eq!(rt; function.start_rva, 0x1010);
@@ -53,6 +59,13 @@ fn contexts_of_owned_and_lent_records(rt: HostRuntime) -> Result<(), Fail> {
     let name = function.name.ok_or("no name")?;
     assert_eq!(rt; name.as_str(), "f");
     Ok(())
+}
+
+#[test]
+fn contexts_of_owned_and_lent_records(rt: HostRuntime) -> Result<(), Fail> {
+    let mut lent = read_records(rt.alloc(), PROGRAM)?;
+    let data = ContextPdbData::try_from_pdb_ref(rt.alloc(), &mut lent)?;
+    check_procedure(&rt, &mut data.make_context()?)
 }
 
 #[test]
