@@ -11,12 +11,13 @@ ghost use Rattle.pdb_documents.specs.BrokenParts.{AddsBroken};
 ghost use Rattle.pdb_documents.specs.Worlds.{formatter_world};
 ghost use Rattle.pdb_frames.specs.CodeCache.{FitsCode};
 ghost use Rattle.pdb_frames.specs.CodeCaches.{Records};
+ghost use Rattle.pdb_frames.specs.CodeParts.{part_to_blame};
 ghost use Rattle.pdb_frames.specs.Origins.{function_module};
 ghost use Rattle.pdb_descriptions.specs.Frames.{described_frames, failed_by_frames, ButForMemory};
 
 use crate::context::Tables;
 use pdb_descriptions::{FunctionNames, describe_frames};
-use pdb_frames::{CodeCache, FunctionFrames};
+use pdb_frames::{CodeCache, CodePart, FunctionFrames, function_module};
 use pdb_functions::{BasicModuleInfoCache, ProcedureSymbolFunction, PublicOrProcedureSymbol};
 use pdb_records::{AddressMap, Module, ModuleInfo, PdbInternalSectionOffset};
 use pdb_types::{ModuleProvider, Result};
@@ -97,7 +98,7 @@ pub(crate) fn describe_frames_by<'a, P: ModuleProvider>(
     requires code { FitsCode records caches.old.code }
     requires module_info { IfSome module_info
         (λ info. records (function_module (found_function function)) ≡ Some info.now) }
-    ensures told { Gives (λ f. f) result (described_frames P.info names.old.standing tables.now.strings
+    ensures told { Gives (λ f. f) result (described_frames P.info names.old.standing tables.now.file_names
         address_map.now tables.now.global_functions (option_copied module_info.entry)
         (found_function function.entry) offset) }
     ensures standing { names.new.standing ≡ names.old.standing }
@@ -114,7 +115,7 @@ pub(crate) fn describe_frames_by<'a, P: ModuleProvider>(
     describe_frames(
         alloc,
         address_map,
-        tables.strings.as_ref(),
+        &tables.file_names,
         &tables.global_functions,
         names,
         &mut caches.code,
@@ -122,4 +123,29 @@ pub(crate) fn describe_frames_by<'a, P: ModuleProvider>(
         function,
         offset,
     )
+}
+
+/// The part that is to blame where the frames of a function that was found are refused, by the records of its
+/// module.
+pub(crate) fn part_blamed_by<'a, P: ModuleProvider>(
+    caches: &mut Caches<'a, P>,
+    modules: &[Module],
+    function: PublicOrProcedureSymbol<'_>,
+) -> Result<Option<CodePart>, AllocError>
+    ghost records: { Records }
+    requires records { records ≡ readable_info (P.info caches.old.infos.provider) modules.now }
+    requires code { FitsCode records caches.old.code }
+    ensures blamed { let found = found_function function.entry in
+        IfOk result (λ part. part
+        ≡ option_map (λ info. part_to_blame info found) (records (function_module found))) }
+    ensures code { FitsCode records caches.new.code }
+    ensures infos { caches.new.infos.provider ≡ caches.old.infos.provider }
+    ensures starts { caches.new.starts ≡ caches.old.starts }
+{
+    let module_index = function_module(function);
+    let Some(info) = readable_info(&mut caches.infos, modules, module_index)? else {
+        return Ok(None);
+    };
+    let part = caches.code.part_to_blame(info, function)?;
+    Ok(Some(part))
 }

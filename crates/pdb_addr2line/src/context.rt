@@ -7,14 +7,14 @@ ghost use Rattle.pdb_addr2line.specs.Sources.{searched_contributions, accepted, 
 
 use crate::caches::Caches;
 use pdb_descriptions::FunctionNames;
-use pdb_frames::FailedCodeParts;
+use pdb_frames::{FailedCodeParts, FileNames};
 use pdb_functions::{
     ContributionTable, GlobalFunctionTable, SectionTable, compute_global_functions,
     compute_section_contributions,
 };
 use pdb_records::{AddressMap, DebugInformation, ImageSectionHeader, StringTable, SymbolTable};
 use pdb_signatures::TypeFormatter;
-use pdb_types::{Error, ModuleProvider, Result, Texts};
+use pdb_types::{Error, ModuleProvider, Result};
 use std::alloc::Global;
 use std::marker::Model;
 
@@ -24,7 +24,7 @@ pub(crate) struct Tables<'a> {
     pub(crate) sections: Vec<ImageSectionHeader>,
     pub(crate) contributions: ContributionTable,
     pub(crate) global_functions: GlobalFunctionTable<'a>,
-    pub(crate) strings: Option<Texts<'a>>,
+    pub(crate) file_names: FileNames<'a>,
     /// The sections of addresses.
     pub(crate) places: SectionTable<'a>,
 }
@@ -45,7 +45,7 @@ fn tables_of<'a>(
         merged_contributions sections.now debug_information.now ≡ Ok t.contributions) }
     ensures told { IfOk result (λ t. t.global_functions
         ≡ functions_told sections.now global_symbols.now.symbols.items debug_information.now) }
-    ensures strings { IfOk result (λ t. t.strings ≡ option_copied string_table.entry) }
+    ensures strings { IfOk result (λ t. t.file_names ≡ option_copied string_table.entry) }
     ensures places { IfOk result (λ t. t.places ≡ address_map.now) }
 {
     if let Some(fault) = global_symbols.symbols.fault {
@@ -54,15 +54,11 @@ fn tables_of<'a>(
     let (merged, starts) = compute_section_contributions(alloc, debug_information, sections)?;
     let symbols = &global_symbols.symbols.items;
     let global_functions = compute_global_functions(alloc, sections, symbols, &starts)?;
-    let strings = match string_table {
-        Some(table) => Some(Texts::new(alloc, table)?),
-        None => None,
-    };
     Ok(Tables {
         sections: Vec::from_slice(alloc, sections)?,
         contributions: ContributionTable::new(alloc, merged)?,
         global_functions,
-        strings,
+        file_names: FileNames::new(alloc, string_table)?,
         places: SectionTable::new(alloc, address_map)?,
     })
 }
@@ -105,7 +101,7 @@ impl<'a, P: ModuleProvider> Model for Context<'a, P> {
         sections = c.tables.sections.items;
         address_map = c.address_map.now;
         global_symbols = c.global_symbols.now;
-        strings = c.tables.strings;
+        strings = c.tables.file_names;
         debug_information = c.debug_information.now;
         basis = c.names.standing;
       };
@@ -125,7 +121,7 @@ impl<'a, P: ModuleProvider> Model for Context<'a, P> {
         sections = c.tables.sections.items;
         address_map = c.address_map.now;
         global_symbols = c.global_symbols.now;
-        strings = c.tables.strings;
+        strings = c.tables.file_names;
         debug_information = c.debug_information.now;
         basis = c.names.standing;
       }));

@@ -6,7 +6,6 @@ ghost use Rattle.pdb_records.specs.Addresses.{internal_offset};
 ghost use Rattle.pdb_functions.specs.Lookup.{found_function, procedures_of_module, function_in_contribution, function_over};
 ghost use Rattle.pdb_functions.specs.ModuleInfos.{readable_info};
 ghost use Rattle.pdb_functions.specs.Procedures.{module_procedure};
-ghost use Rattle.pdb_frames.specs.CodeParts.{part_to_blame};
 ghost use Rattle.pdb_functions.specs.Spans.{contribution_covers, procedure_covers};
 ghost use Rattle.pdb_ranges.specs.Pick.{pick};
 ghost use Rattle.pdb_descriptions.specs.Names.{GainsBroken};
@@ -15,10 +14,10 @@ ghost use Rattle.pdb_addr2line.specs.Sources.{contributions_of, global_functions
 ghost use Rattle.pdb_descriptions.specs.Frames.{ButForMemory};
 ghost use Rattle.pdb_addr2line.specs.Lookups.{contribution_at, found_at, function_at, failed_after, frames_of, failed_by_frames_of, failed_after_frames, records_of, blamed_for, told_refusal, failed_by_refusal, frames_told, code_failed_after, told_error, with_blamed};
 
-use crate::caches::{describe_frames_by, procedure_in, readable_info};
+use crate::caches::{describe_frames_by, part_blamed_by, procedure_in, readable_info};
 use crate::context::Context;
 use pdb_descriptions::{Function, describe};
-use pdb_frames::{CodePart, FunctionFrames, function_module, part_to_blame};
+use pdb_frames::{CodePart, FunctionFrames, function_module};
 use pdb_functions::{
     ContributionTable, GlobalFunctionTable, ModuleSectionContribution, ProcedureSymbolFunction,
     PublicOrProcedureSymbol, global_function_in,
@@ -138,10 +137,23 @@ impl<'a, P: ModuleProvider> Context<'a, P> {
         match self.describe_frames(found, module_info, offset) {
             Ok(frames) => Ok(frames),
             Err(error) => {
-                let blamed = part_blamed(module_info, found);
+                let blamed = self.part_blamed(found)?;
                 Err(self.error_told(blamed, error)?)
             }
         }
+    }
+
+    /// The part that is to blame where the frames of a function that was found are refused, by the records of its
+    /// module.
+    fn part_blamed(&mut self, found: PublicOrProcedureSymbol<'a>) -> Result<Option<CodePart>>
+        ensures blamed { MatchResult result
+            (λ part. part ≡ blamed_for P.info self.old.sources (found_function found.entry))
+            (λ e. e ≡ OutOfMemory) }
+        ensures kept { self.new ≡ self.old }
+    {
+        let modules = self.names.modules();
+        let blamed = part_blamed_by(&mut self.caches, modules, found)?;
+        Ok(blamed)
     }
 
     /// The error that is told where a part is to blame, which is remembered. Want of memory is no part's.
@@ -317,16 +329,4 @@ impl<'a, P: ModuleProvider> Context<'a, P> {
         let info = readable_info(&mut self.caches.infos, modules, module_index)?;
         Ok(info)
     }
-}
-
-/// The part that is to blame where the frames of a function that was found are refused, by the records of its
-/// module.
-fn part_blamed(
-    module_info: Option<&ModuleInfo>,
-    found: PublicOrProcedureSymbol<'_>,
-) -> Option<CodePart>
-    ensures { result
-        ≡ option_map (λ records. part_to_blame records (found_function found.entry)) (option_copied module_info.entry) }
-{
-    Some(part_to_blame(module_info?, found))
 }

@@ -6,6 +6,8 @@
 //! thousand.
 //! `pdb_bench passes PROCEDURES SITES ADDRESSES` asks for so many addresses all over a program several times,
 //! for functions and for frames. Each of its procedures has so many inline sites.
+//! `pdb_bench hostile NUMBER ..` does so over records that a hostile writer could hand in, of each shape, with so many
+//! of what there is many of.
 //! Counts go to standard output, and times, in milliseconds where nothing else is said, to standard error.
 #![tactic(auto)]
 
@@ -43,10 +45,12 @@ const LOOK_UPS: u32 = 1000;
 
 fn main(rt: HostRuntime) -> Result<()> {
     let words: Vec<String> = env::args(&rt)?.collect(rt.alloc())?;
-    if let Some(word) = words.get(1)
-        && word.as_str() == "passes"
-    {
+    let subject = word(&words, 1);
+    if subject == "passes" {
         return measure_asked(&rt, &numbers(rt.alloc(), &words, 2)?);
+    }
+    if subject == "hostile" {
+        return measure_all_hostile(&rt, &numbers(rt.alloc(), &words, 2)?);
     }
     let mut sizes = numbers(rt.alloc(), &words, 1)?;
     if sizes.is_empty() {
@@ -56,6 +60,14 @@ fn main(rt: HostRuntime) -> Result<()> {
         measure_all(&rt, *size)?;
     }
     Ok(())
+}
+
+/// The program's word at a position, or nothing where there is none.
+fn word(words: &[String], position: usize) -> &str {
+    match words.get(position) {
+        Some(word) => word.as_str(),
+        None => "",
+    }
 }
 
 /// The numbers among the program's words, behind so many others.
@@ -81,14 +93,33 @@ fn measure_all<R: Clock + Print + Eprint + AllocGlobal>(rt: &R, size: u32) -> Re
         },
         size,
     )?;
-    measure_hostile(rt, Hostile::Procedures, size)?;
-    measure_hostile(rt, Hostile::Sites, size)?;
-    measure_hostile(rt, Hostile::SitesSideBySide, size)?;
-    measure_hostile(rt, Hostile::Publics, size)?;
+    measure_hostile_shapes(rt, size)?;
     measure_types(rt, size)?;
     measure_chains(rt, size)?;
     measure_signatures(rt, size)?;
     measure_scopes(rt, size)
+}
+
+/// Measures each hostile shape with each of these numbers.
+fn measure_all_hostile<R: Clock + Print + Eprint + AllocGlobal>(
+    rt: &R,
+    sizes: &[u32],
+) -> Result<()> {
+    for size in sizes {
+        measure_hostile_shapes(rt, *size)?;
+    }
+    Ok(())
+}
+
+/// Measures each hostile shape with so many of what there is many of.
+fn measure_hostile_shapes<R: Clock + Print + Eprint + AllocGlobal>(
+    rt: &R,
+    size: u32,
+) -> Result<()> {
+    measure_hostile(rt, Hostile::Procedures, size)?;
+    measure_hostile(rt, Hostile::Sites, size)?;
+    measure_hostile(rt, Hostile::SitesSideBySide, size)?;
+    measure_hostile(rt, Hostile::Publics, size)
 }
 
 /// Measures a program: by the numbers of its procedures, of the sites of each, and of addresses.

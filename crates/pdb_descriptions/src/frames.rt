@@ -15,23 +15,22 @@ ghost use Rattle.pdb_frames.specs.Origins.{kept_origin, function_module, functio
 
 use crate::function_names::FunctionNames;
 use pdb_frames::{
-    CodeCache, Frame, FunctionFrames, Origin, file_name, function_module, function_start,
+    CodeCache, FileNames, Frame, FunctionFrames, Origin, function_module, function_start,
 };
 use pdb_functions::{GlobalFunctionTable, PublicOrProcedureSymbol};
 use pdb_inline::InlineRange;
 use pdb_records::{AddressMap, LineInfo, LineProgram, ModuleInfo};
-use pdb_types::{ModuleProvider, Result, Texts};
+use pdb_types::{ModuleProvider, Result};
 use std::alloc::{AllocError, Global};
 
 /// The frame of a function itself, by its name and the line row over the code.
 fn own_frame<'a>(
-    alloc: Global,
-    strings: Option<&Texts<'a>>,
+    files: &FileNames<'a>,
     function: Option<String>,
     line_program: &LineProgram,
     row: Option<LineInfo>,
 ) -> Result<Frame<'a>, AllocError>
-    ensures { IfOk result (λ f. f ≡ own_frame (option_copied strings.entry) (option_map string_bytes function)
+    ensures { IfOk result (λ f. f ≡ own_frame files.now (option_map string_bytes function)
         line_program.now row) }
 {
     match row {
@@ -42,7 +41,7 @@ fn own_frame<'a>(
         }),
         Some(row) => Ok(Frame {
             function,
-            file: file_name(alloc, strings, line_program, row.file_index)?,
+            file: files.name(line_program, row.file_index)?,
             line: Some(row.line_start),
         }),
     }
@@ -50,18 +49,17 @@ fn own_frame<'a>(
 
 /// The frame of an inlined body, by its name and its range.
 fn inlined_frame<'a>(
-    alloc: Global,
-    strings: Option<&Texts<'a>>,
+    files: &FileNames<'a>,
     line_program: &LineProgram,
     function: Option<String>,
     range: InlineRange,
 ) -> Result<Frame<'a>, AllocError>
-    ensures { IfOk result (λ f. f ≡ inlined_frame (option_copied strings.entry) line_program.now
+    ensures { IfOk result (λ f. f ≡ inlined_frame files.now line_program.now
         (option_map string_bytes function) range) }
 {
     let file = match range.file_index {
         None => None,
-        Some(index) => file_name(alloc, strings, line_program, index)?,
+        Some(index) => files.name(line_program, index)?,
     };
     Ok(Frame {
         function,
@@ -70,17 +68,18 @@ fn inlined_frame<'a>(
     })
 }
 
-/// The frames of inlined bodies, in the order of their ranges. Each is named by its id.
+/// The frames of inlined bodies, in the order of their ranges, in a list that has room for one more. Each is named by
+/// its id.
 fn inlined_frames<'a, P: ModuleProvider>(
     alloc: Global,
-    strings: Option<&Texts<'a>>,
+    files: &FileNames<'a>,
     names: &mut FunctionNames<'a, P>,
     module_index: usize,
     line_program: &LineProgram,
     ranges: &[InlineRange],
 ) -> Result<Vec<Frame<'a>>>
     ensures frames { MatchResult result
-        (λ v. v.items ≡ inlined_frames (option_copied strings.entry) line_program.now
+        (λ v. v.items ≡ inlined_frames files.now line_program.now
         (id_name P.info names.old.standing module_index) ranges.now)
         (λ e. e ≡ OutOfMemory) }
     ensures standing { names.new.standing ≡ names.old.standing }
@@ -89,10 +88,10 @@ fn inlined_frames<'a, P: ModuleProvider>(
     ensures broken { AddsBroken (formatter_world P.info names.old.standing module_index)
         names.old.failed names.new.failed }
 {
-    let mut frames = Vec::new(alloc);
+    let mut frames = Vec::with_capacity(alloc, ranges.len().saturating_add(1))?;
     for range in ranges {
         let function = names.name_of_id(module_index, range.inlinee)?;
-        frames.push(inlined_frame(alloc, strings, line_program, function, *range)?)?;
+        frames.push(inlined_frame(files, line_program, function, *range)?)?;
     }
     Ok(frames)
 }
@@ -101,14 +100,14 @@ fn inlined_frames<'a, P: ModuleProvider>(
 /// that of the function itself.
 fn frames_of_origin<'a, P: ModuleProvider>(
     alloc: Global,
-    strings: Option<&Texts<'a>>,
+    files: &FileNames<'a>,
     names: &mut FunctionNames<'a, P>,
     module_index: usize,
     name: Option<String>,
     origin: &Origin<'_>,
 ) -> Result<Vec<Frame<'a>>>
     ensures frames { MatchResult result
-        (λ v. v.items ≡ origin_frames (option_copied strings.entry)
+        (λ v. v.items ≡ origin_frames files.now
         (id_name P.info names.old.standing module_index) (option_map string_bytes name) (kept_origin origin.now))
         (λ e. e ≡ OutOfMemory) }
     ensures standing { names.new.standing ≡ names.old.standing }
@@ -118,10 +117,10 @@ fn frames_of_origin<'a, P: ModuleProvider>(
     ensures broken { AddsBroken (formatter_world P.info names.old.standing module_index)
         names.old.failed names.new.failed }
 {
-    let own = own_frame(alloc, strings, name, origin.line_program, origin.row)?;
+    let own = own_frame(files, name, origin.line_program, origin.row)?;
     let mut frames = inlined_frames(
         alloc,
-        strings,
+        files,
         names,
         module_index,
         origin.line_program,
@@ -150,7 +149,7 @@ fn name_alone<'a>(alloc: Global, function: Option<String>) -> Result<Vec<Frame<'
 /// module it is one frame.
 fn frames_of_function<'a, P: ModuleProvider>(
     alloc: Global,
-    strings: Option<&Texts<'a>>,
+    files: &FileNames<'a>,
     names: &mut FunctionNames<'a, P>,
     code: &mut CodeCache<'a>,
     name: Option<String>,
@@ -163,7 +162,7 @@ fn frames_of_function<'a, P: ModuleProvider>(
     requires module_info { IfSome module_info (λ info. records (function_module (found_function function)) ≡ Some info.now) }
     ensures frames { let found = found_function function.entry in
         let name_of = id_name P.info names.old.standing (function_module found) in
-        Gives (λ v. v.items) result (function_frames (option_copied strings.entry) name_of
+        Gives (λ v. v.items) result (function_frames files.now name_of
         (option_map string_bytes name) (option_copied module_info.entry) found offset) }
     ensures standing { names.new.standing ≡ names.old.standing }
     ensures failed { let found = found_function function.entry in
@@ -181,7 +180,7 @@ fn frames_of_function<'a, P: ModuleProvider>(
     };
     let origin = code.origin(info, function, offset)?;
     let module_index = function_module(function);
-    frames_of_origin(alloc, strings, names, module_index, name, &origin)
+    frames_of_origin(alloc, files, names, module_index, name, &origin)
 }
 
 /// The size of a function in bytes, if it is known. A global function reaches to the next one of its
@@ -230,7 +229,7 @@ fn addresses_of(
 pub fn describe_frames<'a, P: ModuleProvider>(
     alloc: Global,
     address_map: &AddressMap,
-    strings: Option<&Texts<'a>>,
+    files: &FileNames<'a>,
     functions: &GlobalFunctionTable<'_>,
     names: &mut FunctionNames<'a, P>,
     code: &mut CodeCache<'a>,
@@ -241,7 +240,7 @@ pub fn describe_frames<'a, P: ModuleProvider>(
     ghost records: { Records }
     requires code { FitsCode records code.old }
     requires module_info { IfSome module_info (λ info. records (function_module (found_function function)) ≡ Some info.now) }
-    ensures told { Gives (λ f. f) result (described_frames P.info names.old.standing (option_copied strings.entry)
+    ensures told { Gives (λ f. f) result (described_frames P.info names.old.standing files.now
         address_map.now functions.now (option_copied module_info.entry)
         (found_function function.entry) offset) }
     ensures standing { names.new.standing ≡ names.old.standing }
@@ -259,7 +258,7 @@ pub fn describe_frames<'a, P: ModuleProvider>(
     let name = names.name_of_function(functions, function)?;
     let frames = frames_of_function(
         alloc,
-        strings,
+        files,
         names,
         code,
         name,

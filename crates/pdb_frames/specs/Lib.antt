@@ -1,4 +1,5 @@
 pub mod Lines
+pub mod FileNames
 pub mod FunctionRows
 pub mod ExtendedInfo
 pub mod Origins

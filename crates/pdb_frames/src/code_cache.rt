@@ -1,12 +1,14 @@
-ghost use Rattle.std.specs.Prelude.{◌≡◌, Some, Ok};
+ghost use Rattle.std.specs.Prelude.{◌≡◌, Some, Ok, IfOk};
 ghost use Rattle.pdb_types.specs.Outcomes.{Gives, and_then};
 ghost use Rattle.pdb_functions.specs.Lookup.{found_function};
 ghost use Rattle.pdb_frames.specs.ExtendedInfo.{extended_info};
 ghost use Rattle.pdb_frames.specs.Lines.{function_row};
 ghost use Rattle.pdb_frames.specs.CodeCaches.{Records, HasProgram, function_stack};
 ghost use Rattle.pdb_frames.specs.CodeCache.{FitsCode};
+ghost use Rattle.pdb_frames.specs.CodeParts.{blame_behind, part_to_blame};
 ghost use Rattle.pdb_frames.specs.Origins.{kept_origin, function_module, origin};
 
+use crate::code_parts::CodePart;
 use crate::extended_infos::ExtendedInfos;
 use crate::function_lines::FunctionLines;
 use crate::origins::{Origin, function_module, function_start};
@@ -14,8 +16,8 @@ use crate::procedure_ranges::ProcedureRanges;
 use pdb_functions::PublicOrProcedureSymbol;
 use pdb_inline::InlineRange;
 use pdb_records::{LineInfo, LineProgram, ModuleInfo, PdbInternalSectionOffset};
-use pdb_types::Result;
-use std::alloc::Global;
+use pdb_types::{Error, Result};
+use std::alloc::{AllocError, Global};
 
 /// What was found of modules' code so far. It grows, and is asked before the records are read again.
 ///
@@ -80,6 +82,53 @@ impl<'a> CodeCache<'a> {
             row,
             stack,
         })
+    }
+
+    /// The part of the records that is to blame where it is refused where the code of a function comes from, by
+    /// the records of the function's module: what is known of the module's code, then the function's lines, then
+    /// its inline ranges. What was found is asked, so nothing is read again.
+    ///
+    /// # Errors
+    ///
+    /// [`AllocError`] alone.
+    pub fn part_to_blame(
+        &mut self,
+        module_info: &'a ModuleInfo,
+        function: PublicOrProcedureSymbol<'_>,
+    ) -> Result<CodePart, AllocError>
+        ghost records: { Records }
+        requires fits { FitsCode records self.old }
+        requires module_info { records (function_module (found_function function)) ≡ Some module_info.now }
+        ensures blamed { IfOk result (λ part. part ≡ part_to_blame module_info.now (found_function function.entry)) }
+        ensures fits { FitsCode records self.new }
+    {
+        let position = function_module(function);
+        let start = function_start(function);
+        match self.line_program(position, module_info) {
+            Ok(line_program) => self.blame_behind(position, line_program, start),
+            Err(Error::OutOfMemory) => Err(AllocError),
+            Err(_) => Ok(CodePart::ExtendedInfo(position)),
+        }
+    }
+
+    /// The same, once it is known what is known of the module's code.
+    fn blame_behind(
+        &mut self,
+        position: usize,
+        line_program: &'a LineProgram,
+        start: PdbInternalSectionOffset,
+    ) -> Result<CodePart, AllocError>
+        ghost records: { Records }
+        requires fits { FitsCode records self.old }
+        requires line_program { HasProgram records position line_program.now }
+        ensures blamed { IfOk result (λ part. part ≡ blame_behind position start (Ok line_program.now)) }
+        ensures fits { FitsCode records self.new }
+    {
+        match self.row(position, line_program, start, 0) {
+            Ok(_) => Ok(CodePart::InlineRanges(position, start)),
+            Err(Error::OutOfMemory) => Err(AllocError),
+            Err(_) => Ok(CodePart::Lines(position, start)),
+        }
     }
 
     /// The line program of the module at a position, once all is known of its code that can be.

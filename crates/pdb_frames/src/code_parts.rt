@@ -1,10 +1,7 @@
 ghost use Rattle.std.specs.Prelude.{◌≡◌, [], IfOk, OnOk, OnErr};
-ghost use Rattle.pdb_functions.specs.Lookup.{found_function};
-ghost use Rattle.pdb_frames.specs.CodeParts.{code_part_error, has_code_failed, with_code_part, unsuccessful_code, has_broken_lines, part_to_blame};
+ghost use Rattle.pdb_frames.specs.CodeParts.{code_part_error, has_code_failed, with_code_part, unsuccessful_code};
 
-use crate::origins::{function_module, function_start};
-use pdb_functions::PublicOrProcedureSymbol;
-use pdb_records::{LineProgram, ModuleInfo, PdbInternalSectionOffset};
+use pdb_records::PdbInternalSectionOffset;
 use pdb_types::Error;
 use std::alloc::{AllocError, Global};
 use std::collections::BTreeSet;
@@ -89,32 +86,5 @@ impl FailedCodeParts {
             Ok(_) => Ok(()),
             Err(_) => Err(AllocError),
         }
-    }
-}
-
-/// Whether the lines of the function at a start could not be read.
-fn has_broken_lines(line_program: &LineProgram, start: PdbInternalSectionOffset) -> bool
-    ensures { result ≡ has_broken_lines line_program.now start }
-{
-    match line_program.lines_for_symbol(start) {
-        Some(rows) => rows.fault.is_some(),
-        None => false,
-    }
-}
-
-/// The part of the records that is to blame where it is refused where the code of a function comes from: what
-/// is known of the module's code, then the function's lines, then its inline ranges.
-pub fn part_to_blame(module_info: &ModuleInfo, function: PublicOrProcedureSymbol<'_>) -> CodePart
-    ensures { result ≡ part_to_blame module_info.now (found_function function.entry) }
-{
-    let module_index = function_module(function);
-    let start = function_start(function);
-    match &module_info.line_program {
-        Ok(_) if module_info.inlinees.fault.is_some() => CodePart::ExtendedInfo(module_index),
-        Ok(line_program) if has_broken_lines(line_program, start) => {
-            CodePart::Lines(module_index, start)
-        }
-        Ok(_) => CodePart::InlineRanges(module_index, start),
-        Err(_) => CodePart::ExtendedInfo(module_index),
     }
 }

@@ -74,7 +74,7 @@ fn copy_of_file<'a>(file: &Option<CowStr<'a>>) -> Result<Option<CowStr<'a>>, All
 fn copies_of<'a>(alloc: Global, frames: &[Frame<'a>]) -> Result<Vec<Frame<'a>>, AllocError>
     ensures { IfOk result (λ v. v.items ≡ frames.now) }
 {
-    let mut copies = Vec::new(alloc);
+    let mut copies = Vec::with_capacity(alloc, frames.len())?;
     for frame in frames {
         copies.push(frame.clone()?)?;
     }

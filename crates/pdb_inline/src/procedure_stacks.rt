@@ -37,7 +37,7 @@ fn ranges_at(
 ) -> Result<Vec<InlineRange>, AllocError>
     ensures { IfOk result (λ v. v.items ≡ ranges_at ranges.now positions.now) }
 {
-    let mut found = Vec::new(alloc);
+    let mut found = Vec::with_capacity(alloc, positions.len())?;
     for &position in positions {
         if let Some(range) = ranges.get(position) {
             found.push(*range)?;

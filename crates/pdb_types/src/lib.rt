@@ -34,6 +34,5 @@ pub use forward_references::TypeSizeCache;
 pub use items::{IdMap, ItemIndex, ItemMap, TypeMap};
 pub use provider::ModuleProvider;
 pub use standing::Standing;
-pub use texts::Texts;
 pub use type_sizes::TypeSize;
 pub use unread::{Part, Unread};

@@ -9,10 +9,7 @@ use std::collections::BTreeMap;
 use std::marker::Model;
 
 /// The texts that the records share, each found by its reference in a table that is made once.
-///
-/// It is made in time n log n for n entries, and a text is found in time log n. The texts themselves are lent
-/// by the records.
-pub struct Texts<'a> {
+pub(crate) struct Texts<'a> {
     strings: &'a StringTable,
     known: BTreeMap<u32, &'a RawString>,
 }
@@ -39,8 +36,8 @@ impl Drop for Texts<'_> {
 }
 
 impl<'a> Texts<'a> {
-    /// A table of all texts. The error is that memory ran out.
-    pub fn new(alloc: Global, strings: &'a StringTable) -> Result<Self, AllocError>
+    /// A table of all texts.
+    pub(crate) fn new(alloc: Global, strings: &'a StringTable) -> Result<Self, AllocError>
         ensures { IfOk result (λ texts. texts ≡ strings.now) }
     {
         let mut known = BTreeMap::new(alloc);
@@ -51,7 +48,7 @@ impl<'a> Texts<'a> {
     }
 
     /// The text of the first entry with this reference.
-    pub fn get(&self, reference: StringRef) -> Option<&'a RawString>
+    pub(crate) fn get(&self, reference: StringRef) -> Option<&'a RawString>
         ensures { option_copied result ≡ string_at reference self.now }
     {
         match self.known.get(&reference.0) {

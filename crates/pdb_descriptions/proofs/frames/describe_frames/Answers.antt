@@ -10,7 +10,7 @@ pub returns-in_err-frames-clause-told : goal.returns-in_err-frames-clause-told
 returns-in_err-frames-clause-told g c =
     let p = err_from_is_err_and c.from_residual-in_err-frames.result c.from_residual-in_err-frames.ensures.1 in
     rw (p.1, p.2) (λ no_memory. frames_refused g.P.ModuleProvider.info c.args.names.now.standing
-    (option_copied c.args.strings) c.args.address_map.now c.args.functions.now
+    c.args.files.now c.args.address_map.now c.args.functions.now
     (option_copied c.args.module_info) (found_function c.args.function) c.args.offset c.in_err-frames.field-0.0
     (c.in-Some.start_rva, c.in-Some.end_rva) (sym c.addresses_of.ensures ∙ c.in-Some.is)
     (rw (c.name_of_function.ensures.standing, c.in_ok-name.ensures.name) at (c.in_err-frames.ensures.frames no_memory)))

@@ -1,5 +1,4 @@
 use Rattle.std.proofs.Common.{◌≡◌, ◌++◌, drop}
-use Rattle.std.specs.Option.{option_copied}
 use Rattle.pdb_documents.specs.BrokenParts.{AddsBroken}
 use Rattle.pdb_documents.specs.Worlds.{formatter_world}
 use Rattle.pdb_descriptions.specs.Frames.{inlined_frames, failed_by_ids}
@@ -16,8 +15,8 @@ invariant-loop-range g l =
     let failed_by = failed_by_id info basis l.module_index in
     record {
       frames : l.frames.items
-          ++ inlined_frames (option_copied l.strings) l.line_program name_of (drop l.range-index l.ranges)
-          ≡ inlined_frames (option_copied l.strings) l.line_program name_of l.ranges;
+          ++ inlined_frames l.files l.line_program name_of (drop l.range-index l.ranges)
+          ≡ inlined_frames l.files l.line_program name_of l.ranges;
       standing : l.names.standing ≡ basis;
       failed : failed_by_ids failed_by (drop l.range-index l.ranges) l.names.failed
           ≡ failed_by_ids failed_by l.ranges l.initial.names.failed;

@@ -11,7 +11,7 @@ returns-in_err-told_error-in-Err-clause-not_made g c =
       sections = c.self.inside.tables.sections.items;
       address_map = c.self.inside.address_map.now;
       global_symbols = c.self.inside.global_symbols.now;
-      strings = c.self.inside.tables.strings;
+      strings = c.self.inside.tables.file_names;
       debug_information = c.self.inside.debug_information.now;
       basis = standing;
     }) c.format_id.ensures.standing) (c.args.module_index, c.format_id.ensures.broken) refl))

@@ -1,0 +1,111 @@
+ghost use Rattle.std.specs.Prelude.{◌≡◌, ◌==◌, ℕ, Some, None, option_map, IfOk, OnOk, if◌then◌else◌};
+ghost use Rattle.std.specs.BTreeMap.{get};
+ghost use Rattle.std.specs.Cow.{cow_str_bytes};
+ghost use Rattle.std.specs.Option.{option_copied, option_or};
+ghost use Rattle.std.specs.Ordering.{nat_cmp};
+ghost use Rattle.pdb_records.specs.Names.{lossy};
+ghost use Rattle.pdb_frames.specs.FileNames.{KnowsNames};
+ghost use Rattle.pdb_frames.specs.Lines.{file_name};
+
+use pdb_records::{FileIndex, LineProgram, RawString, StringTable};
+use std::alloc::{AllocError, Global};
+use std::borrow::CowStr;
+use std::collections::BTreeMap;
+use std::marker::Model;
+
+/// Remembers a text by the number of its reference, unless an earlier one has the number.
+fn keep_first<'a>(
+    alloc: Global,
+    names: &mut BTreeMap<u32, CowStr<'a>>,
+    number: u32,
+    text: &'a RawString,
+) -> Result<(), AllocError>
+    ensures { OnOk result ((asked : ℕ) → option_map cow_str_bytes (get nat_cmp names.new asked)
+        ≡ option_or (option_map cow_str_bytes (get nat_cmp names.old asked))
+        (if number == asked then Some (lossy text.now) else None)) }
+{
+    if names.contains_key(&number) {
+        return Ok(());
+    }
+    let name = text.to_string_lossy(alloc)?;
+    match names.insert(number, name) {
+        Ok(_) => Ok(()),
+        Err(_) => Err(AllocError),
+    }
+}
+
+/// The texts of a table, each by the number of its reference.
+fn names_of(alloc: Global, table: &StringTable) -> Result<BTreeMap<u32, CowStr<'_>>, AllocError>
+    ensures { IfOk result (λ names. KnowsNames (Some table.now) names) }
+{
+    let mut names = BTreeMap::new(alloc);
+    for (reference, text) in &table.strings {
+        keep_first(alloc, &mut names, reference.0, text)?;
+    }
+    Ok(names)
+}
+
+/// The names of source files, each found by its reference in a table that is made once.
+///
+/// It is made in time n log n for n entries and linear in their bytes, and a name is found in time log n. A name
+/// in UTF-8 is lent by the records.
+pub struct FileNames<'a> {
+    strings: Option<&'a StringTable>,
+    names: BTreeMap<u32, CowStr<'a>>,
+}
+
+// Clauses see it as the string table, where there is one.
+impl<'a> Model for FileNames<'a> {
+    ghost use Rattle.std.specs.Prelude.{List, Option, ℕ};
+    ghost use Rattle.std.specs.Option.{option_copied};
+    ghost use Rattle.pdb_records.specs.declared.strings.StringRef.{StringRef};
+    ghost use Rattle.pdb_frames.specs.FileNames.{KnowsNames};
+
+    ghost Value = { Option (List (StringRef × List ℕ)) };
+
+    ghost view = { λ f. option_copied f.strings };
+
+    ghost invariant = { λ f. KnowsNames (option_copied f.strings) f.names };
+}
+
+impl Drop for FileNames<'_> {
+    fn drop(self) {
+        let FileNames {
+            strings: _,
+            names: _,
+        } = self;
+    }
+}
+
+impl<'a> FileNames<'a> {
+    /// A table of all texts of the records, where there is a string table. The error is that memory ran out.
+    pub fn new(alloc: Global, strings: Option<&'a StringTable>) -> Result<Self, AllocError>
+        ensures { IfOk result (λ names. names ≡ option_copied strings.entry) }
+    {
+        let names = match strings {
+            Some(table) => names_of(alloc, table)?,
+            None => BTreeMap::new(alloc),
+        };
+        Ok(FileNames { strings, names })
+    }
+
+    /// The name of a file of a module. A name in UTF-8 is lent by the records. It is absent where there is no
+    /// string table, where the module has no such file, or where the table has no such string. The error is that
+    /// memory ran out.
+    pub fn name(
+        &self,
+        line_program: &LineProgram,
+        index: FileIndex,
+    ) -> Result<Option<CowStr<'a>>, AllocError>
+        ensures { IfOk result (λ name. option_map cow_str_bytes name
+            ≡ file_name self.now line_program.now index) }
+    {
+        let Some(file) = line_program.get_file_info(index) else {
+            return Ok(None);
+        };
+        match self.names.get(&file.name.0) {
+            Some(name) => Ok(Some(name.clone()?)),
+            None => Ok(None),
+        }
+    }
+}
