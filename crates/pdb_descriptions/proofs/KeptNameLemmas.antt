@@ -1,10 +1,10 @@
 -- Names that are kept are those that would be printed, now and after other parts of the records failed.
 use Rattle.std.proofs.Common.{◌≡◌, ◌∙◌, ℕ, List, [], ◌∷◌, Option, Some, sym, ap, subst}
-use Rattle.std.specs.Prelude.{String, None, Result, Ok, Err, OnOk, OnErr, option_map, string_bytes}
+use Rattle.std.specs.Prelude.{◌++◌, None, Result, Ok, Err, OnOk, OnErr, option_map, string_bytes}
 use Rattle.std.specs.BTreeMap.{BTreeMap, get, Updates}
-use Rattle.std.specs.Global.{Global}
 use Rattle.std.specs.FinMap.{IsAntisymmetric, nat_cmp-IsAntisymmetric}
 use Rattle.std.specs.Ordering.{nat_cmp}
+use Rattle.std.proofs.lemmas.List.Elements.{All-nil, All-same, All-push, All-weaker}
 use Rattle.pdb_records.specs.Names.{lossy}
 use Rattle.pdb_types.proofs.FindingLemmas.{fits_nothing, fits_same, fits_more}
 use Rattle.pdb_types.specs.FailedParts.{Parts, with_met}
@@ -19,8 +19,9 @@ use Rattle.pdb_documents.specs.Signatures.{signature}
 use Rattle.pdb_documents.specs.Worlds.{World, formatter_world}
 use Rattle.pdb_documents.proofs.MetLemmas.{settled-printed, settled-more}
 use Rattle.pdb_frames.proofs.CodeCacheLemmas.{ties}
-use Rattle.pdb_descriptions.specs.KeptNames.{IsPrinted, signature_cmp, id_cmp, signature_printing, FitsSignatures, FitsIds, HasSignature}
+use Rattle.pdb_descriptions.specs.KeptNames.{IsPrinted, signature_cmp, signature_printing, FitsSignatures, IdFits, FitsIds, HasSignature, HasText}
 use Rattle.pdb_descriptions.specs.Names.{text_of_run}
+use Rattle.pdb_descriptions.specs.declared.kept_ids.KeptId.{KeptId}
 use Rattle.pdb_descriptions.specs.declared.kept_names.KeptSignature.{KeptSignature}
 use Rattle.pdb_descriptions.specs.declared.name_keys.IdKey.{IdKey}
 use Rattle.pdb_descriptions.specs.declared.name_keys.SignatureKey.{SignatureKey}
@@ -64,17 +65,6 @@ signature_cmp-apart a b tied =
     ∙ (ap (λ s. signature_key b.position s a.type_index) (nat_cmp-IsAntisymmetric _ _ rest.0)
     ∙ ap (λ t. signature_key b.position b.symbol t) (nat_cmp-IsAntisymmetric _ _ rest.1))
 
--- the key of these numbers
-abbrev pub id_key : ℕ → ℕ → IdKey
-id_key position index = record { position = position; index = index }
-
--- only equal keys tie
-id_cmp-apart : IsAntisymmetric id_cmp
-id_cmp-apart a b tied =
-    let both = ties (nat_cmp a.position b.position) _ tied in
-    ap (λ p. id_key p a.index) (nat_cmp-IsAntisymmetric _ _ both.0)
-    ∙ ap (λ i. id_key b.position i) (nat_cmp-IsAntisymmetric _ _ both.1)
-
 -- ---- signatures
 
 -- a signature fits a procedure
@@ -110,29 +100,36 @@ signatures_later info f g m same more fits key entry got =
 
 -- ---- ids
 
+-- the key of these numbers
+abbrev pub id_key : ℕ → ℕ → IdKey
+id_key position index = record { position = position; index = index }
+
 -- no text of an id is kept
-pub ids_new : {P : Type 0} (info : P → Infos) (f : Formatter P) (m : BTreeMap IdKey (Option (String Global))) → m.entries ≡ [] → FitsIds info f m
+pub ids_new : {P : Type 0} (info : P → Infos) (f : Formatter P) (kept : List KeptId) → kept ≡ [] → FitsIds info f kept
 unfolding FitsIds
-ids_new info f m empty = fits_nothing id_cmp (λ key text. IsPrinted (id_run info f.standing key.position key.index) f.failed (option_map string_bytes text)) m empty
+ids_new info f kept empty = All-same (IdFits info f) kept [] empty (All-nil (IdFits info f))
 
 -- texts that are kept stay
-pub ids_same : {P : Type 0} (info : P → Infos) (f : Formatter P) (m n : BTreeMap IdKey (Option (String Global))) → n.entries ≡ m.entries → FitsIds info f m → FitsIds info f n
+pub ids_same : {P : Type 0} (info : P → Infos) (f : Formatter P) (kept more : List KeptId) → more ≡ kept → FitsIds info f kept → FitsIds info f more
 unfolding FitsIds
-ids_same info f m n same fits = fits_same id_cmp (λ key text. IsPrinted (id_run info f.standing key.position key.index) f.failed (option_map string_bytes text)) m n same fits
+ids_same info f kept more same fits = All-same (IdFits info f) more kept same fits
 
 -- the text of one more id
-pub ids_more : {P : Type 0} (info : P → Infos) (f : Formatter P) (key : IdKey) (text : Option (String Global)) (m n : BTreeMap IdKey (Option (String Global))) → IsPrinted (id_run info f.standing key.position key.index) f.failed (option_map string_bytes text) → Updates id_cmp m n key (Some text) → FitsIds info f m → FitsIds info f n
+pub ids_more : {P : Type 0} (info : P → Infos) (f : Formatter P) (entry : KeptId) (kept more : List KeptId) → more ≡ kept ++ entry ∷ [] → IdFits info f entry → FitsIds info f kept → FitsIds info f more
 unfolding FitsIds
-ids_more info f key text m n printed updates fits = fits_more id_cmp id_cmp-apart (λ key text. IsPrinted (id_run info f.standing key.position key.index) f.failed (option_map string_bytes text)) m n key text updates printed fits
+ids_more info f entry kept more is fitting fits = All-same (IdFits info f) more (kept ++ entry ∷ []) is (All-push (IdFits info f) kept entry fits fitting)
 
 -- what is kept of an id is printed
-pub id_found : {P : Type 0} (info : P → Infos) (f : Formatter P) (m : BTreeMap IdKey (Option (String Global))) (key : IdKey) (text : Option (String Global)) → FitsIds info f m → get id_cmp m key ≡ Some text → IsPrinted (id_run info f.standing key.position key.index) f.failed (option_map string_bytes text)
+pub id_found : {P : Type 0} (info : P → Infos) (f : Formatter P) (kept : List KeptId) (key : IdKey) (text : Option (List ℕ)) → FitsIds info f kept → HasText kept key text → IsPrinted (id_run info f.standing key.position key.index) f.failed text
 unfolding FitsIds
-id_found info f m key text fits got = fits key text got
+id_found info f kept key text fits has =
+    let i = has.stands.0 in
+    let fitting : IdFits info f has.entry = rw (has.stands.1.1) (fits i has.entry has.stands.1.0) in
+    rw (← has.keyed, ← has.is) fitting
 
 -- texts that are kept fit as more parts fail
-pub ids_later : {P : Type 0} (info : P → Infos) (f g : Formatter P) (m : BTreeMap IdKey (Option (String Global))) → g.standing ≡ f.standing → MoreParts f.failed g.failed → FitsIds info f m → FitsIds info g m
+pub ids_later : {P : Type 0} (info : P → Infos) (f g : Formatter P) (kept : List KeptId) → g.standing ≡ f.standing → MoreParts f.failed g.failed → FitsIds info f kept → FitsIds info g kept
 unfolding FitsIds
-ids_later info f g m same more fits key text got =
-    let d = document_of (formatter_world info f.standing key.position) (id_of_index key.index) in
-    rw (same, more.1) (printed_later d f.failed more.0 (option_map string_bytes text) (fits key text got))
+ids_later info f g kept same more fits = All-weaker (IdFits info f) (IdFits info g) (λ entry fitting.
+    let d = document_of (formatter_world info f.standing entry.key.position) (id_of_index entry.key.index) in
+    rw (same, more.1) (printed_later d f.failed more.0 (option_map string_bytes entry.text) fitting)) kept fits

@@ -1,7 +1,7 @@
 -- Names that were printed once, and are kept.
-use Rattle.std.specs.Prelude.{◌≡◌, ℕ, List, [], Option, Some, String, option_map, string_bytes}
+use Rattle.std.specs.Prelude.{◌≡◌, ℕ, List, [], Option, Some, option_map, string_bytes}
+use Rattle.std.specs.List.{All, IsAmong}
 use Rattle.std.specs.BTreeMap.{BTreeMap, get}
-use Rattle.std.specs.Global.{Global}
 use Rattle.std.specs.Ordering.{nat_cmp, ordering_then}
 use Rattle.std.specs.declared.cmp.Ordering.{Ordering}
 use Rattle.pdb_records.specs.Names.{lossy}
@@ -14,6 +14,7 @@ use Rattle.pdb_documents.specs.Printed.{signature_run, id_run}
 use Rattle.pdb_descriptions.specs.Names.{text_of_run}
 use Rattle.pdb_descriptions.specs.declared.name_keys.IdKey.{IdKey}
 use Rattle.pdb_descriptions.specs.declared.name_keys.SignatureKey.{SignatureKey}
+use Rattle.pdb_descriptions.specs.declared.kept_ids.KeptId.{KeptId}
 use Rattle.pdb_descriptions.specs.declared.kept_names.KeptSignature.{KeptSignature}
 
 -- a text is what is printed, if it can be, and where these parts failed, printing it adds none to them
@@ -27,10 +28,6 @@ signature_cmp a b =
     ordering_then (nat_cmp a.position b.position) (
     ordering_then (nat_cmp a.symbol b.symbol) (nat_cmp a.type_index b.type_index))
 
--- the order of ids whose texts are kept: by module and index
-abbrev pub id_cmp : IdKey → IdKey → Ordering
-id_cmp a b = ordering_then (nat_cmp a.position b.position) (nat_cmp a.index b.index)
-
 -- how the signature of a procedure of this name is printed
 abbrev pub signature_printing : {P : Type 0} → (P → Infos) → Formatter P → SignatureKey → List ℕ → Parts → Run
 signature_printing info f key name = signature_run info f.standing key.position (lossy name) key.type_index
@@ -42,10 +39,13 @@ FitsSignatures info f kept =
     → IsPrinted (signature_printing info f key entry.name.now) f.failed (option_map string_bytes entry.text)
 
 -- what is kept of an id is its text
-unfoldable pub FitsIds : {P : Type 0} → (P → Infos) → Formatter P → BTreeMap IdKey (Option (String Global)) → Type 0
-FitsIds info f kept =
-    (key : IdKey) (text : Option (String Global)) → get id_cmp kept key ≡ Some text
-    → IsPrinted (id_run info f.standing key.position key.index) f.failed (option_map string_bytes text)
+abbrev pub IdFits : {P : Type 0} → (P → Infos) → Formatter P → KeptId → Type 0
+IdFits info f kept =
+    IsPrinted (id_run info f.standing kept.key.position kept.key.index) f.failed (option_map string_bytes kept.text)
+
+-- what is kept of each id is its text
+unfoldable pub FitsIds : {P : Type 0} → (P → Infos) → Formatter P → List KeptId → Type 0
+FitsIds info f kept = All (IdFits info f) kept
 
 -- a text is kept of a procedure, with this name
 pub record HasSignature (kept : BTreeMap SignatureKey KeptSignature) (key : SignatureKey) (name : List ℕ)
@@ -53,4 +53,11 @@ pub record HasSignature (kept : BTreeMap SignatureKey KeptSignature) (key : Sign
   pub entry : KeptSignature
   pub got : get signature_cmp kept key ≡ Some entry
   pub named : entry.name.now ≡ name
+  pub is : option_map string_bytes entry.text ≡ text
+
+-- a text is kept of an id
+pub record HasText (kept : List KeptId) (key : IdKey) (text : Option (List ℕ)) : Type 0 where
+  pub entry : KeptId
+  pub stands : IsAmong kept entry
+  pub keyed : entry.key ≡ key
   pub is : option_map string_bytes entry.text ≡ text

@@ -12,8 +12,9 @@ ghost use Rattle.pdb_documents.specs.Worlds.{formatter_world};
 ghost use Rattle.pdb_frames.specs.Origins.{function_module};
 ghost use Rattle.pdb_descriptions.specs.Names.{signature_text, procedure_name, failed_by_name, function_name, failed_by_function_name, id_name, failed_by_id};
 
+use crate::kept_ids::KeptIds;
 use crate::kept_names::{KeptSignature, id_once, signature_once};
-use crate::name_keys::{IdKey, SignatureKey};
+use crate::name_keys::SignatureKey;
 use crate::names::{mangled_name_instead, text_of, text_of_name};
 use pdb_functions::{GlobalFunctionTable, ProcedureSymbolFunction, PublicOrProcedureSymbol};
 use pdb_records::{IdIndex, Module, TypeIndex};
@@ -32,7 +33,7 @@ pub struct FunctionNames<'a, P: ModuleProvider> {
     alloc: Global,
     formatter: TypeFormatter<'a, P>,
     signatures: BTreeMap<SignatureKey, KeptSignature<'a>>,
-    ids: BTreeMap<IdKey, Option<String>>,
+    ids: KeptIds,
 }
 
 // Clauses see the formatter alone.
@@ -46,7 +47,7 @@ impl<'a, P: ModuleProvider> Model for FunctionNames<'a, P> {
 
     ghost invariant = { λ n. record {
       signatures : FitsSignatures P.info n.formatter n.signatures;
-      ids : FitsIds P.info n.formatter n.ids;
+      ids : FitsIds P.info n.formatter n.ids.texts.items;
     } };
 }
 
@@ -59,7 +60,7 @@ impl<'a, P: ModuleProvider> FunctionNames<'a, P> {
             alloc,
             formatter,
             signatures: BTreeMap::new(alloc),
-            ids: BTreeMap::new(alloc),
+            ids: KeptIds::new(alloc),
         }
     }
 

@@ -8,6 +8,7 @@ ghost use Rattle.pdb_documents.specs.Worlds.{formatter_world};
 ghost use Rattle.pdb_descriptions.specs.KeptNames.{IsPrinted, signature_printing, FitsSignatures, FitsIds, HasSignature};
 ghost use Rattle.pdb_descriptions.specs.Names.{signature_text, id_name, failed_by_id};
 
+use crate::kept_ids::KeptIds;
 use crate::name_keys::{IdKey, SignatureKey, id_key, signature_key};
 use crate::printed_names::{name_of_id, signature_of};
 use pdb_frames::copy_of_name;
@@ -100,29 +101,27 @@ pub(crate) fn signature_once<'a, P: ModuleProvider>(
 
 /// Keeps the text of an id.
 fn keep_id<P: ModuleProvider>(
-    kept: &mut BTreeMap<IdKey, Option<String>>,
+    kept: &mut KeptIds,
     key: IdKey,
     text: &Option<String>,
 ) -> Result<(), AllocError>
-    ensures { (f : Formatter P) → FitsIds P.info f kept.old
+    ensures { (f : Formatter P) → FitsIds P.info f kept.old.texts.items
         → IsPrinted (id_run P.info f.standing key.position key.index) f.failed (option_map string_bytes text.now)
-        → FitsIds P.info f kept.new }
+        → FitsIds P.info f kept.new.texts.items }
 {
     let text = copy_of_name(text)?;
-    match kept.insert(key, text) {
-        Ok(_) => Ok(()),
-        Err(_) => Err(AllocError),
-    }
+    kept.keep(key, text)?;
+    Ok(())
 }
 
 /// The text of an id as the module at a position writes it, if it can be printed. It is printed once.
 pub(crate) fn id_once<P: ModuleProvider>(
     formatter: &mut TypeFormatter<'_, P>,
-    kept: &mut BTreeMap<IdKey, Option<String>>,
+    kept: &mut KeptIds,
     module_index: usize,
     id: IdIndex,
 ) -> Result<Option<String>>
-    requires fits { FitsIds P.info formatter.old kept.old }
+    requires fits { FitsIds P.info formatter.old kept.old.texts.items }
     ensures name { MatchResult result
         (λ name. option_map string_bytes name ≡ id_name P.info formatter.old.standing module_index id)
         (λ e. e ≡ OutOfMemory) }
@@ -131,12 +130,14 @@ pub(crate) fn id_once<P: ModuleProvider>(
         ≡ failed_by_id P.info formatter.old.standing module_index id formatter.old.failed) }
     ensures broken { AddsBroken (formatter_world P.info formatter.old.standing module_index)
         formatter.old.failed formatter.new.failed }
-    ensures fits { FitsIds P.info formatter.new kept.new }
+    ensures fits { FitsIds P.info formatter.new kept.new.texts.items }
 {
     let key = id_key(module_index, id);
-    if let Some(text) = kept.get(&key) {
-        let text = copy_of_name(text)?;
-        return Ok(text);
+    if let Some(position) = kept.position(key) {
+        if let Some(text) = kept.text_at(position, key) {
+            let text = copy_of_name(text)?;
+            return Ok(text);
+        }
     }
     let text = name_of_id(formatter, module_index, id)?;
     keep_id::<P>(kept, key, &text)?;

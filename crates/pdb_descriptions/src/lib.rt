@@ -7,6 +7,7 @@
 mod frames;
 mod function;
 mod function_names;
+mod kept_ids;
 mod kept_names;
 mod name_keys;
 mod names;

@@ -1,3 +1,4 @@
 pub mod CodeCacheLemmas
 pub mod OriginLemmas
 pub mod RowLemmas
+pub mod LentNameLemmas

@@ -7,6 +7,7 @@ ghost use Rattle.pdb_records.specs.Names.{lossy};
 ghost use Rattle.pdb_frames.specs.FileNames.{KnowsNames};
 ghost use Rattle.pdb_frames.specs.Lines.{file_name};
 
+use crate::lent_names::LentNames;
 use pdb_records::{FileIndex, LineProgram, RawString, StringTable};
 use std::alloc::{AllocError, Global};
 use std::borrow::CowStr;
@@ -47,11 +48,12 @@ fn names_of(alloc: Global, table: &StringTable) -> Result<BTreeMap<u32, CowStr<'
 
 /// The names of source files, each found by its reference in a table that is made once.
 ///
-/// It is made in time n log n for n entries and linear in their bytes, and a name is found in time log n. A name
-/// in UTF-8 is lent by the records.
+/// It is made in time n log n for n entries and linear in their bytes, and a name is found in time log n, and mostly
+/// at once. A name in UTF-8 is lent by the records.
 pub struct FileNames<'a> {
     strings: Option<&'a StringTable>,
     names: BTreeMap<u32, CowStr<'a>>,
+    lent: LentNames<'a>,
 }
 
 // Clauses see it as the string table, where there is one.
@@ -59,13 +61,16 @@ impl<'a> Model for FileNames<'a> {
     ghost use Rattle.std.specs.Prelude.{List, Option, ℕ};
     ghost use Rattle.std.specs.Option.{option_copied};
     ghost use Rattle.pdb_records.specs.declared.strings.StringRef.{StringRef};
-    ghost use Rattle.pdb_frames.specs.FileNames.{KnowsNames};
+    ghost use Rattle.pdb_frames.specs.FileNames.{KnowsNames, AreLent};
 
     ghost Value = { Option (List (StringRef × List ℕ)) };
 
     ghost view = { λ f. option_copied f.strings };
 
-    ghost invariant = { λ f. KnowsNames (option_copied f.strings) f.names };
+    ghost invariant = { λ f. record {
+      names : KnowsNames (option_copied f.strings) f.names;
+      lent : AreLent (option_copied f.strings) f.lent.places.items;
+    } };
 }
 
 impl Drop for FileNames<'_> {
@@ -73,6 +78,7 @@ impl Drop for FileNames<'_> {
         let FileNames {
             strings: _,
             names: _,
+            lent: _,
         } = self;
     }
 }
@@ -82,11 +88,20 @@ impl<'a> FileNames<'a> {
     pub fn new(alloc: Global, strings: Option<&'a StringTable>) -> Result<Self, AllocError>
         ensures { IfOk result (λ names. names ≡ option_copied strings.entry) }
     {
-        let names = match strings {
-            Some(table) => names_of(alloc, table)?,
-            None => BTreeMap::new(alloc),
+        let Some(table) = strings else {
+            return Ok(FileNames {
+                strings: None,
+                names: BTreeMap::new(alloc),
+                lent: LentNames::none(alloc),
+            });
         };
-        Ok(FileNames { strings, names })
+        let names = names_of(alloc, table)?;
+        let lent = LentNames::new(alloc, table, &names)?;
+        Ok(FileNames {
+            strings,
+            names,
+            lent,
+        })
     }
 
     /// The name of a file of a module. A name in UTF-8 is lent by the records. It is absent where there is no
@@ -103,7 +118,11 @@ impl<'a> FileNames<'a> {
         let Some(file) = line_program.get_file_info(index) else {
             return Ok(None);
         };
-        match self.names.get(&file.name.0) {
+        let number = file.name.0;
+        if let Some(name) = self.lent.name(number) {
+            return Ok(Some(CowStr::Borrowed(name)));
+        }
+        match self.names.get(&number) {
             Some(name) => Ok(Some(name.clone()?)),
             None => Ok(None),
         }

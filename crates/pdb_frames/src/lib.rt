@@ -15,6 +15,7 @@ mod frame;
 mod function_lines;
 mod function_rows;
 mod inline_ranges;
+mod lent_names;
 mod line_entries;
 mod origins;
 mod procedure_ranges;
