@@ -79,6 +79,12 @@ fn records(alloc: Global, shape: Hostile, count: u32) -> Result<PDB, AllocError>
         items: empty_reading(alloc),
     };
     let mut records = records_of(alloc, types);
+    fill(alloc, &mut records, shape, count)?;
+    Ok(records)
+}
+
+/// Puts the program in place of what the records have but for types.
+fn fill(alloc: Global, records: &mut PDB, shape: Hostile, count: u32) -> Result<(), AllocError> {
     records.sections = Ok(Some(sections(alloc)?));
     records.address_map = Ok(address_map(alloc)?);
     records.debug_information = Ok(debug_information(alloc)?);
@@ -89,7 +95,7 @@ fn records(alloc: Global, shape: Hostile, count: u32) -> Result<PDB, AllocError>
     records
         .module_infos
         .push(Ok(Some(module_info(alloc, shape, count)?)))?;
-    Ok(records)
+    Ok(())
 }
 
 /// So many public symbols at the start of the section.

@@ -60,10 +60,21 @@ fn measure_question<R: Clock + Print + Eprint>(
 ) -> Result<()> {
     let start = Instant::now(rt)?;
     let mut context = data.make_context()?;
-    let making = start.elapsed(rt)?.as_millis();
+    measure_all_passes(rt, &mut context, start, addresses, question)
+}
+
+/// Goes over the addresses several times. The context was begun at this time.
+fn measure_all_passes<R: Clock + Print + Eprint, P: ModuleProvider>(
+    rt: &R,
+    context: &mut Context<'_, P>,
+    begun: Instant,
+    addresses: Addresses,
+    question: Question,
+) -> Result<()> {
+    let making = begun.elapsed(rt)?.as_millis();
     eprintln!(rt; "context made in {making}")?;
     for _ in 0..PASSES {
-        measure_pass(rt, &mut context, addresses, question)?;
+        measure_pass(rt, context, addresses, question)?;
     }
     Ok(())
 }

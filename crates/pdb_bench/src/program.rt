@@ -81,6 +81,12 @@ pub(crate) fn measure_program<R: Clock + Print + Eprint + AllocGlobal>(
 /// A program of this size.
 fn program(alloc: Global, size: Size) -> Result<PDB, AllocError> {
     let mut records = records_of(alloc, types(alloc, Shape::Arguments, 2)?);
+    fill(alloc, &mut records, size)?;
+    Ok(records)
+}
+
+/// Puts a program of this size in place of what the records have but for types.
+fn fill(alloc: Global, records: &mut PDB, size: Size) -> Result<(), AllocError> {
     records.sections = Ok(Some(sections(alloc)?));
     records.address_map = Ok(address_map(alloc)?);
     records.debug_information = Ok(debug_information(alloc, size)?);
@@ -90,7 +96,7 @@ fn program(alloc: Global, size: Size) -> Result<PDB, AllocError> {
         let info = module_info(alloc, size, module)?;
         records.module_infos.push(Ok(Some(info)))?;
     }
-    Ok(records)
+    Ok(())
 }
 
 /// The modules, and that each has the code of its procedures.

@@ -8,6 +8,7 @@ use pdb_records::{
 };
 use pdb_types::{Error, Result};
 use std::alloc::{AllocError, Global};
+use std::process::Abort;
 use std::test::Fail;
 
 /// A contribution: its section, its offset, its size and its module.
@@ -120,12 +121,18 @@ fn refused_contributions(rt: HostRuntime) {
     );
 }
 
-#[test]
-fn thousands_of_contributions(rt: HostRuntime) -> Result<(), Fail> {
-    let mut given = Vec::new(rt.alloc());
+/// Three thousand contributions, one behind the other, each of another module.
+fn side_by_side(alloc: Global) -> Result<Vec<Given>, AllocError> {
+    let mut given = Vec::new(alloc);
     for at in 0..3000u32 {
         given.push((1u16, 0x10 * at, 0x10u32, at as usize))?;
     }
+    Ok(given)
+}
+
+#[test]
+fn thousands_of_contributions(rt: HostRuntime) -> Result<(), Fail> {
+    let given = side_by_side(rt.alloc())?;
     let (kept, starts) = merged(rt.alloc(), &given)?;
     assert_eq!(rt; starts.len(), 3000);
     let table = ContributionTable::new(rt.alloc(), kept)?;
@@ -136,20 +143,25 @@ fn thousands_of_contributions(rt: HostRuntime) -> Result<(), Fail> {
     Ok(())
 }
 
-#[test]
-fn thousands_of_global_functions(rt: HostRuntime) -> Result<(), Fail> {
-    let mut symbols = Vec::new(rt.alloc());
+/// Three thousand public symbols, one behind the other.
+fn publics(alloc: Global) -> Result<Vec<Symbol>, AllocError> {
+    let mut symbols = Vec::new(alloc);
     for at in 0..3000u32 {
         symbols.push(Symbol {
             raw_kind: S_PUB32,
             content: Some(SymbolData::Public(PublicSymbol {
                 offset: place(1, 0x10 * at),
-                name: RawString(Vec::new(rt.alloc())),
+                name: RawString(Vec::new(alloc)),
             })),
         })?;
     }
+    Ok(symbols)
+}
+
+/// Asserts what is found among the functions of three thousand symbols and two starts.
+fn assert_functions(rt: &impl Abort, alloc: Global, symbols: &[Symbol]) -> Result<(), Fail> {
     let starts = [place(1, 8), place(1, 0)];
-    let functions = compute_global_functions(rt.alloc(), &SECTIONS, &symbols, &starts)?;
+    let functions = compute_global_functions(alloc, &SECTIONS, symbols, &starts)?;
     assert_eq!(rt; functions.len(), 3002);
     assert_eq!(rt; functions.as_slice().len(), 3002);
     let over = functions
@@ -163,6 +175,12 @@ fn thousands_of_global_functions(rt: HostRuntime) -> Result<(), Fail> {
         .next_function(place(1, 0xbb70))
         .ok_or("nothing behind")?;
     assert_eq!(rt; next.start_offset.offset, 0x2_0000);
-    laws::first_global_function_of_each_start_is_kept();
     Ok(())
+}
+
+#[test]
+fn thousands_of_global_functions(rt: HostRuntime) -> Result<(), Fail> {
+    let symbols = publics(rt.alloc())?;
+    laws::first_global_function_of_each_start_is_kept();
+    assert_functions(&rt, rt.alloc(), &symbols)
 }

@@ -1,14 +1,16 @@
+use crate::modules::module_of;
 use pdb_functions::{
     BasicModuleInfo, ModuleSectionContribution, ProcedureSymbolFunction, PublicOrProcedureSymbol,
     PublicSymbolFunctionOrPlaceholder, global_function_in, laws,
 };
 use pdb_records::{
-    ModuleInfo, PdbInternalSectionOffset, ProcedureSymbol, RawString, Reading, S_GPROC32,
-    S_LPROC32, S_SEPCODE, S_THUNK32, SeparatedCodeSymbol, StreamError, Symbol, SymbolData,
-    SymbolIndex, ThunkSymbol, TypeIndex,
+    ModuleInfo, PdbInternalSectionOffset, ProcedureSymbol, RawString, S_GPROC32, S_LPROC32,
+    S_SEPCODE, S_THUNK32, SeparatedCodeSymbol, StreamError, Symbol, SymbolData, SymbolIndex,
+    ThunkSymbol, TypeIndex,
 };
 use pdb_types::Error;
 use std::alloc::{AllocError, Global};
+use std::process::Abort;
 use std::test::Fail;
 
 /// A procedure: its offset, its length, its name, the positions of its symbol and its end, and its type.
@@ -18,64 +20,61 @@ fn place(offset: u32) -> PdbInternalSectionOffset {
     PdbInternalSectionOffset { section: 1, offset }
 }
 
-fn procedure(
-    alloc: Global,
-    raw_kind: u16,
-    offset: u32,
-    len: u32,
-    name: &[u8],
-) -> Result<Symbol, AllocError> {
+/// A piece of code, as its symbol tells it.
+#[derive(Clone, Copy)]
+enum Code<'a> {
+    /// A procedure: its kind, its offset, its length and its name.
+    Procedure(u16, u32, u32, &'a [u8]),
+    /// Code apart from its body: its offset, and that of the procedure that it belongs to.
+    Separated(u32, u32),
+    /// A thunk: its offset.
+    Thunk(u32),
+}
+
+fn symbol(alloc: Global, code: Code<'_>) -> Result<Symbol, AllocError> {
+    let (raw_kind, content) = match code {
+        Code::Procedure(raw_kind, offset, len, name) => (
+            raw_kind,
+            SymbolData::Procedure(ProcedureSymbol {
+                offset: place(offset),
+                len,
+                name: RawString(name.to_vec(alloc)?),
+                end: SymbolIndex(9),
+                type_index: TypeIndex(7),
+            }),
+        ),
+        Code::Separated(offset, parent) => (
+            S_SEPCODE,
+            SymbolData::SeparatedCode(SeparatedCodeSymbol {
+                offset: place(offset),
+                len: 4,
+                parent_offset: place(parent),
+                end: SymbolIndex(8),
+            }),
+        ),
+        Code::Thunk(offset) => (
+            S_THUNK32,
+            SymbolData::Thunk(ThunkSymbol {
+                offset: place(offset),
+                len: 6,
+                name: RawString(b"t".to_vec(alloc)?),
+                end: SymbolIndex(6),
+            }),
+        ),
+    };
     Ok(Symbol {
         raw_kind,
-        content: Some(SymbolData::Procedure(ProcedureSymbol {
-            offset: place(offset),
-            len,
-            name: RawString(name.to_vec(alloc)?),
-            end: SymbolIndex(9),
-            type_index: TypeIndex(7),
-        })),
+        content: Some(content),
     })
 }
 
-fn separated_code(offset: u32, parent: u32) -> Symbol {
-    Symbol {
-        raw_kind: S_SEPCODE,
-        content: Some(SymbolData::SeparatedCode(SeparatedCodeSymbol {
-            offset: place(offset),
-            len: 4,
-            parent_offset: place(parent),
-            end: SymbolIndex(8),
-        })),
+/// A module whose symbols are these pieces of code.
+fn module(alloc: Global, code: &[Code<'_>]) -> Result<ModuleInfo, AllocError> {
+    let mut symbols = Vec::new(alloc);
+    for piece in code {
+        symbols.push(symbol(alloc, *piece)?)?;
     }
-}
-
-fn thunk(alloc: Global, offset: u32) -> Result<Symbol, AllocError> {
-    Ok(Symbol {
-        raw_kind: S_THUNK32,
-        content: Some(SymbolData::Thunk(ThunkSymbol {
-            offset: place(offset),
-            len: 6,
-            name: RawString(b"t".to_vec(alloc)?),
-            end: SymbolIndex(6),
-        })),
-    })
-}
-
-fn module(alloc: Global, symbols: Vec<Symbol>, fault: Option<StreamError>) -> ModuleInfo {
-    let missing = StreamError(0);
-    ModuleInfo {
-        symbols: Reading {
-            items: symbols,
-            fault,
-        },
-        line_program: Err(missing),
-        inlinees: Reading {
-            items: Vec::new(alloc),
-            fault: None,
-        },
-        imports: Err(missing),
-        exports: Err(missing),
-    }
+    Ok(module_of(alloc, symbols, None))
 }
 
 fn shown<'a>(
@@ -92,33 +91,46 @@ fn shown<'a>(
     Ok(shown)
 }
 
+/// Asserts that a module has these procedures, in this order.
+fn assert_procedures(
+    rt: &impl Abort,
+    alloc: Global,
+    info: &ModuleInfo,
+    wanted: &[Shown<'_>],
+) -> Result<(), Fail> {
+    let basic = BasicModuleInfo::try_from_module_info(alloc, info)?;
+    let shown = shown(alloc, basic.procedures())?;
+    assert_eq!(rt; shown.as_slice(), wanted);
+    assert_eq!(rt;
+        basic.module_info().symbols.items.len(),
+        info.symbols.items.len()
+    );
+    Ok(())
+}
+
 #[test]
 fn procedures_by_their_starts(rt: HostRuntime) -> Result<(), Fail> {
-    let alloc = rt.alloc();
-    let mut symbols = Vec::new(alloc);
-    symbols.push(procedure(alloc, S_GPROC32, 0x40, 0x10, b"f")?)?;
-    symbols.push(separated_code(0x80, 0x40))?;
-    symbols.push(separated_code(0x90, 0x40))?;
-    symbols.push(procedure(alloc, S_LPROC32, 0x20, 0, b"empty")?)?;
-    symbols.push(procedure(alloc, S_LPROC32, 0x40, 8, b"later")?)?;
-    symbols.push(thunk(alloc, 0x10)?)?;
-    let info = module(alloc, symbols, None);
-    let basic = BasicModuleInfo::try_from_module_info(alloc, &info)?;
-    let shown = shown(alloc, basic.procedures())?;
+    let code = [
+        Code::Procedure(S_GPROC32, 0x40, 0x10, b"f"),
+        Code::Separated(0x80, 0x40),
+        Code::Separated(0x90, 0x40),
+        Code::Procedure(S_LPROC32, 0x20, 0, b"empty"),
+        Code::Procedure(S_LPROC32, 0x40, 8, b"later"),
+        Code::Thunk(0x10),
+    ];
+    let info = module(rt.alloc(), &code)?;
     let wanted: [Shown<'_>; 3] = [
         (0x10, 6, b"t".as_slice(), 5, 6, 0),
         (0x40, 0x10, b"f".as_slice(), 0, 9, 7),
         (0x80, 4, b"f".as_slice(), 1, 8, 7),
     ];
-    assert_eq!(rt; shown.as_slice(), wanted.as_slice());
-    assert_eq!(rt; basic.module_info().symbols.items.len(), 6);
     laws::pick_covers_with_greatest_start();
-    Ok(())
+    assert_procedures(&rt, rt.alloc(), &info, &wanted)
 }
 
 #[test]
 fn module_with_a_fault(rt: HostRuntime) {
-    let info = module(rt.alloc(), Vec::new(rt.alloc()), Some(StreamError(3)));
+    let info = module_of(rt.alloc(), Vec::new(rt.alloc()), Some(StreamError(3)));
     let refused = BasicModuleInfo::try_from_module_info(rt.alloc(), &info);
     assert!(rt;
         matches!(
@@ -128,20 +140,30 @@ fn module_with_a_fault(rt: HostRuntime) {
     );
 }
 
-#[test]
-fn thousands_of_procedures(rt: HostRuntime) -> Result<(), Fail> {
-    let alloc = rt.alloc();
-    let mut symbols = Vec::new(alloc);
+/// Three thousand procedures, the last in the code first, each with the start of the next one in it.
+fn descending(alloc: Global) -> Result<Vec<Code<'static>>, AllocError> {
+    let mut code = Vec::new(alloc);
     for at in 0..3000u32 {
-        symbols.push(procedure(alloc, S_GPROC32, 0x10 * (2999 - at), 0x18, b"f")?)?;
+        code.push(Code::Procedure(S_GPROC32, 0x10 * (2999 - at), 0x18, b"f"))?;
     }
-    let info = module(alloc, symbols, None);
-    let basic = BasicModuleInfo::try_from_module_info(alloc, &info)?;
+    Ok(code)
+}
+
+/// Asserts that a module has three thousand procedures, and where they are found.
+fn assert_thousands(rt: &impl Abort, alloc: Global, info: &ModuleInfo) -> Result<(), Fail> {
+    let basic = BasicModuleInfo::try_from_module_info(alloc, info)?;
     assert_eq!(rt; basic.procedures().len(), 3000);
     let over = basic.procedure_over(place(0x104)).ok_or("nothing over")?;
     assert_eq!(rt; over.offset.offset, 0x100);
     assert!(rt; basic.procedure_over(place(0x1_0000)).is_none());
     Ok(())
+}
+
+#[test]
+fn thousands_of_procedures(rt: HostRuntime) -> Result<(), Fail> {
+    let code = descending(rt.alloc())?;
+    let info = module(rt.alloc(), &code)?;
+    assert_thousands(&rt, rt.alloc(), &info)
 }
 
 #[test]

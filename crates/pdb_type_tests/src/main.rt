@@ -15,12 +15,8 @@
 //! types and ids of a genuine program.
 #![tactic(auto)]
 
-#[cfg(test)]
-mod parts;
 mod printed;
 mod questions;
-#[cfg(test)]
-mod seen;
 
 use pdb_addr2line::{ContextPdbData, TypeFormatter};
 use pdb_json::read_records;

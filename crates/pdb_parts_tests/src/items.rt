@@ -1,64 +1,11 @@
-use bitflags::Flags;
-use pdb_addr2line::pdb::{
-    IdData, IdIndex, IdInformation, Item, ItemInformation, RawString, Reading, StreamError,
-    StringId,
+use pdb_records::{
+    ClassKind, ClassType, IdData, IdIndex, IdInformation, Item, ItemInformation, RawString,
+    Reading, StreamError, StringId, TypeData, TypeIndex, TypeInformation,
 };
-use pdb_addr2line::{Error, ItemIndex, ItemMap, TypeFormatterFlags};
-use pdb_records::{ClassKind, ClassType, TypeData, TypeIndex, TypeInformation};
-use pdb_types::{FailedParts, Part, TypeSizeCache};
+use pdb_types::{ItemIndex, ItemMap, TypeSizeCache};
 use std::alloc::{AllocError, Global};
 use std::process::Abort;
 use std::test::Fail;
-
-/// A fault of a stream.
-fn fault() -> Error {
-    Error::from(pdb_records::Error::Stream(StreamError(9)))
-}
-
-/// What a part tells that is met broken.
-fn told(alloc: Global, failed: &mut FailedParts, part: Part) -> Result<String, Fail> {
-    let error = failed.ask(part, fault())?;
-    Ok(format!(in alloc; "{error}")?)
-}
-
-#[test]
-fn a_part_tells_its_own_error_once(rt: HostRuntime) -> Result<(), Fail> {
-    let alloc = rt.alloc();
-    let mut failed = FailedParts::new(alloc);
-    for (part, again) in [
-        (
-            Part::Imports(3),
-            "Getting the module imports was unsuccessful",
-        ),
-        (
-            Part::Exports(3),
-            "Getting the module exports was unsuccessful",
-        ),
-    ] {
-        assert!(rt; !failed.has_failed(part));
-        for wanted in ["PDB error: stream error 9", again, again] {
-            let text = told(alloc, &mut failed, part)?;
-            assert_eq!(rt; text.as_str(), wanted);
-            assert!(rt; failed.has_failed(part));
-        }
-    }
-    failed.add_met(None)?;
-    assert!(rt; !failed.has_failed(Part::Imports(0)));
-    failed.add_met(Some(Part::Imports(0)))?;
-    assert!(rt; failed.has_failed(Part::Imports(0)));
-    Ok(())
-}
-
-#[test]
-fn flags_are_joined_and_asked_for(rt: HostRuntime) {
-    let chosen = TypeFormatterFlags::default();
-    assert_eq!(rt; chosen.bits(), 23);
-    let joined = chosen.union(TypeFormatterFlags::NO_ARGUMENTS);
-    assert_eq!(rt; joined.bits(), 55);
-    assert!(rt; joined.intersects(TypeFormatterFlags::NO_ARGUMENTS));
-    assert!(rt; !chosen.intersects(TypeFormatterFlags::NO_ARGUMENTS));
-    assert_eq!(rt; TypeFormatterFlags::from_bits_retain(256).bits(), 256);
-}
 
 /// A list with one string under the index 7, and this fault behind it.
 fn ids(alloc: Global, fault: Option<StreamError>) -> Result<IdInformation, AllocError> {

@@ -1,6 +1,6 @@
-use pdb_addr2line::Error;
 use pdb_documents::seen::{Seen, SeenError};
 use pdb_records::TypeIndex;
+use pdb_types::Error;
 use std::alloc::{AllocError, Global};
 use std::collections::BTreeSet;
 use std::test::Fail;

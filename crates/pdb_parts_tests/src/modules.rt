@@ -1,0 +1,24 @@
+use pdb_records::{ModuleInfo, Reading, StreamError, Symbol};
+use std::alloc::Global;
+
+/// A module with these symbols, this fault behind them, and nothing else.
+pub(crate) fn module_of(
+    alloc: Global,
+    symbols: Vec<Symbol>,
+    fault: Option<StreamError>,
+) -> ModuleInfo {
+    let missing = StreamError(0);
+    ModuleInfo {
+        symbols: Reading {
+            items: symbols,
+            fault,
+        },
+        line_program: Err(missing),
+        inlinees: Reading {
+            items: Vec::new(alloc),
+            fault: None,
+        },
+        imports: Err(missing),
+        exports: Err(missing),
+    }
+}
