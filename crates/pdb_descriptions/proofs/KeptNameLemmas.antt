@@ -1,12 +1,8 @@
 -- Names that are kept are those that would be printed, now and after other parts of the records failed.
 use Rattle.std.proofs.Common.{◌≡◌, ◌∙◌, ℕ, List, [], ◌∷◌, Option, Some, sym, ap, subst}
 use Rattle.std.specs.Prelude.{◌++◌, None, Result, Ok, Err, OnOk, OnErr, option_map, string_bytes}
-use Rattle.std.specs.BTreeMap.{BTreeMap, get, Updates}
-use Rattle.std.specs.FinMap.{IsAntisymmetric, nat_cmp-IsAntisymmetric}
-use Rattle.std.specs.Ordering.{nat_cmp}
 use Rattle.std.proofs.lemmas.List.Elements.{All-nil, All-same, All-push, All-weaker}
 use Rattle.pdb_records.specs.Names.{lossy}
-use Rattle.pdb_types.proofs.FindingLemmas.{fits_nothing, fits_same, fits_more}
 use Rattle.pdb_types.specs.FailedParts.{Parts, with_met}
 use Rattle.pdb_types.specs.Standing.{Infos}
 use Rattle.pdb_types.specs.declared.unread.Part.{Part}
@@ -18,11 +14,10 @@ use Rattle.pdb_documents.specs.Printed.{document_of, id_run}
 use Rattle.pdb_documents.specs.Signatures.{signature}
 use Rattle.pdb_documents.specs.Worlds.{World, formatter_world}
 use Rattle.pdb_documents.proofs.MetLemmas.{settled-printed, settled-more}
-use Rattle.pdb_frames.proofs.CodeCacheLemmas.{ties}
-use Rattle.pdb_descriptions.specs.KeptNames.{IsPrinted, signature_cmp, signature_printing, FitsSignatures, IdFits, FitsIds, HasSignature, HasText}
+use Rattle.pdb_descriptions.specs.KeptNames.{IsPrinted, signature_printing, SignatureFits, FitsSignatures, IdFits, FitsIds, HasSignature, HasText}
 use Rattle.pdb_descriptions.specs.Names.{text_of_run}
 use Rattle.pdb_descriptions.specs.declared.kept_ids.KeptId.{KeptId}
-use Rattle.pdb_descriptions.specs.declared.kept_names.KeptSignature.{KeptSignature}
+use Rattle.pdb_descriptions.specs.declared.kept_signatures.KeptSignature.{KeptSignature}
 use Rattle.pdb_descriptions.specs.declared.name_keys.IdKey.{IdKey}
 use Rattle.pdb_descriptions.specs.declared.name_keys.SignatureKey.{SignatureKey}
 
@@ -56,47 +51,38 @@ more_met (Err e) met old new added same = ([], same)
 abbrev pub signature_key : ℕ → ℕ → ℕ → SignatureKey
 signature_key position symbol type_index = record { position = position; symbol = symbol; type_index = type_index }
 
--- only equal keys tie
-signature_cmp-apart : IsAntisymmetric signature_cmp
-signature_cmp-apart a b tied =
-    let first = ties (nat_cmp a.position b.position) _ tied in
-    let rest = ties (nat_cmp a.symbol b.symbol) _ first.1 in
-    ap (λ p. signature_key p a.symbol a.type_index) (nat_cmp-IsAntisymmetric _ _ first.0)
-    ∙ (ap (λ s. signature_key b.position s a.type_index) (nat_cmp-IsAntisymmetric _ _ rest.0)
-    ∙ ap (λ t. signature_key b.position b.symbol t) (nat_cmp-IsAntisymmetric _ _ rest.1))
-
 -- ---- signatures
 
--- a signature fits a procedure
-abbrev SignatureFits : {P : Type 0} → (P → Infos) → Formatter P → SignatureKey → KeptSignature → Type 0
-SignatureFits info f key entry = IsPrinted (signature_printing info f key entry.name.now) f.failed (option_map string_bytes entry.text)
-
 -- no signature is kept
-pub signatures_new : {P : Type 0} (info : P → Infos) (f : Formatter P) (m : BTreeMap SignatureKey KeptSignature) → m.entries ≡ [] → FitsSignatures info f m
+pub signatures_new : {P : Type 0} (info : P → Infos) (f : Formatter P) (kept : List KeptSignature) → kept ≡ [] → FitsSignatures info f kept
 unfolding FitsSignatures
-signatures_new info f m empty = fits_nothing signature_cmp (SignatureFits info f) m empty
+signatures_new info f kept empty = All-same (SignatureFits info f) kept [] empty (All-nil (SignatureFits info f))
 
 -- signatures that are kept stay
-pub signatures_same : {P : Type 0} (info : P → Infos) (f : Formatter P) (m n : BTreeMap SignatureKey KeptSignature) → n.entries ≡ m.entries → FitsSignatures info f m → FitsSignatures info f n
+pub signatures_same : {P : Type 0} (info : P → Infos) (f : Formatter P) (kept more : List KeptSignature) → more ≡ kept → FitsSignatures info f kept → FitsSignatures info f more
 unfolding FitsSignatures
-signatures_same info f m n same fits = fits_same signature_cmp (SignatureFits info f) m n same fits
+signatures_same info f kept more same fits = All-same (SignatureFits info f) more kept same fits
 
 -- one more signature
-pub signatures_more : {P : Type 0} (info : P → Infos) (f : Formatter P) (key : SignatureKey) (entry : KeptSignature) (m n : BTreeMap SignatureKey KeptSignature) → IsPrinted (signature_printing info f key entry.name.now) f.failed (option_map string_bytes entry.text) → Updates signature_cmp m n key (Some entry) → FitsSignatures info f m → FitsSignatures info f n
+pub signatures_more : {P : Type 0} (info : P → Infos) (f : Formatter P) (entry : KeptSignature) (kept more : List KeptSignature) → more ≡ kept ++ entry ∷ [] → SignatureFits info f entry → FitsSignatures info f kept → FitsSignatures info f more
 unfolding FitsSignatures
-signatures_more info f key entry m n printed updates fits = fits_more signature_cmp signature_cmp-apart (SignatureFits info f) m n key entry updates printed fits
+signatures_more info f entry kept more is fitting fits = All-same (SignatureFits info f) more (kept ++ entry ∷ []) is (All-push (SignatureFits info f) kept entry fits fitting)
 
 -- what is kept of a procedure is printed
-pub signature_found : {P : Type 0} (info : P → Infos) (f : Formatter P) (m : BTreeMap SignatureKey KeptSignature) (key : SignatureKey) (name : List ℕ) (text : Option (List ℕ)) → FitsSignatures info f m → HasSignature m key name text → IsPrinted (signature_printing info f key name) f.failed text
+pub signature_found : {P : Type 0} (info : P → Infos) (f : Formatter P) (kept : List KeptSignature) (key : SignatureKey) (name : List ℕ) (text : Option (List ℕ)) → FitsSignatures info f kept → HasSignature kept key name text → IsPrinted (signature_printing info f key name) f.failed text
 unfolding FitsSignatures
-signature_found info f m key name text fits has = rw (← has.named, ← has.is) (fits key has.entry has.got)
+signature_found info f kept key name text fits has =
+    let i = has.stands.0 in
+    let fitting : SignatureFits info f has.entry = rw (has.stands.1.1) (fits i has.entry has.stands.1.0) in
+    rw (← has.keyed, ← has.named, ← has.is) fitting
 
 -- signatures that are kept fit as more parts fail
-pub signatures_later : {P : Type 0} (info : P → Infos) (f g : Formatter P) (m : BTreeMap SignatureKey KeptSignature) → g.standing ≡ f.standing → MoreParts f.failed g.failed → FitsSignatures info f m → FitsSignatures info g m
+pub signatures_later : {P : Type 0} (info : P → Infos) (f g : Formatter P) (kept : List KeptSignature) → g.standing ≡ f.standing → MoreParts f.failed g.failed → FitsSignatures info f kept → FitsSignatures info g kept
 unfolding FitsSignatures
-signatures_later info f g m same more fits key entry got =
-    let d = document_of (formatter_world info f.standing key.position) (signature (formatter_world info f.standing key.position) (lossy entry.name.now) key.type_index) in
-    rw (same, more.1) (printed_later d f.failed more.0 (option_map string_bytes entry.text) (fits key entry got))
+signatures_later info f g kept same more fits = All-weaker (SignatureFits info f) (SignatureFits info g) (λ entry fitting.
+    let w = formatter_world info f.standing entry.key.position in
+    let d = document_of w (signature w (lossy entry.name.now) entry.key.type_index) in
+    rw (same, more.1) (printed_later d f.failed more.0 (option_map string_bytes entry.text) fitting)) kept fits
 
 -- ---- ids
 

@@ -1,9 +1,6 @@
 -- Names that were printed once, and are kept.
-use Rattle.std.specs.Prelude.{◌≡◌, ℕ, List, [], Option, Some, option_map, string_bytes}
+use Rattle.std.specs.Prelude.{◌≡◌, ℕ, List, [], Option, option_map, string_bytes}
 use Rattle.std.specs.List.{All, IsAmong}
-use Rattle.std.specs.BTreeMap.{BTreeMap, get}
-use Rattle.std.specs.Ordering.{nat_cmp, ordering_then}
-use Rattle.std.specs.declared.cmp.Ordering.{Ordering}
 use Rattle.pdb_records.specs.Names.{lossy}
 use Rattle.pdb_types.specs.FailedParts.{Parts}
 use Rattle.pdb_types.specs.Standing.{Infos}
@@ -15,28 +12,25 @@ use Rattle.pdb_descriptions.specs.Names.{text_of_run}
 use Rattle.pdb_descriptions.specs.declared.name_keys.IdKey.{IdKey}
 use Rattle.pdb_descriptions.specs.declared.name_keys.SignatureKey.{SignatureKey}
 use Rattle.pdb_descriptions.specs.declared.kept_ids.KeptId.{KeptId}
-use Rattle.pdb_descriptions.specs.declared.kept_names.KeptSignature.{KeptSignature}
+use Rattle.pdb_descriptions.specs.declared.kept_signatures.KeptSignature.{KeptSignature}
 
 -- a text is what is printed, if it can be, and where these parts failed, printing it adds none to them
 pub record IsPrinted (printing : Parts → Run) (failed : Parts) (text : Option (List ℕ)) : Type 0 where
   pub is : text ≡ text_of_run (printing [])
   pub settled : Settled printing failed
 
--- the order of procedures whose names are kept: by module, symbol and type
-abbrev pub signature_cmp : SignatureKey → SignatureKey → Ordering
-signature_cmp a b =
-    ordering_then (nat_cmp a.position b.position) (
-    ordering_then (nat_cmp a.symbol b.symbol) (nat_cmp a.type_index b.type_index))
-
 -- how the signature of a procedure of this name is printed
 abbrev pub signature_printing : {P : Type 0} → (P → Infos) → Formatter P → SignatureKey → List ℕ → Parts → Run
 signature_printing info f key name = signature_run info f.standing key.position (lossy name) key.type_index
 
 -- what is kept of a procedure is its signature, by the name that is kept with it
-unfoldable pub FitsSignatures : {P : Type 0} → (P → Infos) → Formatter P → BTreeMap SignatureKey KeptSignature → Type 0
-FitsSignatures info f kept =
-    (key : SignatureKey) (entry : KeptSignature) → get signature_cmp kept key ≡ Some entry
-    → IsPrinted (signature_printing info f key entry.name.now) f.failed (option_map string_bytes entry.text)
+abbrev pub SignatureFits : {P : Type 0} → (P → Infos) → Formatter P → KeptSignature → Type 0
+SignatureFits info f kept =
+    IsPrinted (signature_printing info f kept.key kept.name.now) f.failed (option_map string_bytes kept.text)
+
+-- what is kept of each procedure is its signature
+unfoldable pub FitsSignatures : {P : Type 0} → (P → Infos) → Formatter P → List KeptSignature → Type 0
+FitsSignatures info f kept = All (SignatureFits info f) kept
 
 -- what is kept of an id is its text
 abbrev pub IdFits : {P : Type 0} → (P → Infos) → Formatter P → KeptId → Type 0
@@ -48,10 +42,11 @@ unfoldable pub FitsIds : {P : Type 0} → (P → Infos) → Formatter P → List
 FitsIds info f kept = All (IdFits info f) kept
 
 -- a text is kept of a procedure, with this name
-pub record HasSignature (kept : BTreeMap SignatureKey KeptSignature) (key : SignatureKey) (name : List ℕ)
+pub record HasSignature (kept : List KeptSignature) (key : SignatureKey) (name : List ℕ)
     (text : Option (List ℕ)) : Type 0 where
   pub entry : KeptSignature
-  pub got : get signature_cmp kept key ≡ Some entry
+  pub stands : IsAmong kept entry
+  pub keyed : entry.key ≡ key
   pub named : entry.name.now ≡ name
   pub is : option_map string_bytes entry.text ≡ text
 

@@ -13,15 +13,14 @@ ghost use Rattle.pdb_frames.specs.Origins.{function_module};
 ghost use Rattle.pdb_descriptions.specs.Names.{signature_text, procedure_name, failed_by_name, function_name, failed_by_function_name, id_name, failed_by_id};
 
 use crate::kept_ids::KeptIds;
-use crate::kept_names::{KeptSignature, id_once, signature_once};
-use crate::name_keys::SignatureKey;
+use crate::kept_names::{id_once, signature_once};
+use crate::kept_signatures::KeptSignatures;
 use crate::names::{mangled_name_instead, text_of, text_of_name};
 use pdb_functions::{GlobalFunctionTable, ProcedureSymbolFunction, PublicOrProcedureSymbol};
 use pdb_records::{IdIndex, Module, TypeIndex};
 use pdb_signatures::TypeFormatter;
 use pdb_types::{ModuleProvider, Result};
 use std::alloc::Global;
-use std::collections::BTreeMap;
 use std::marker::Model;
 
 /// The names of functions, as a formatter prints them. Each is printed once.
@@ -32,7 +31,7 @@ use std::marker::Model;
 pub struct FunctionNames<'a, P: ModuleProvider> {
     alloc: Global,
     formatter: TypeFormatter<'a, P>,
-    signatures: BTreeMap<SignatureKey, KeptSignature<'a>>,
+    signatures: KeptSignatures<'a>,
     ids: KeptIds,
 }
 
@@ -46,7 +45,7 @@ impl<'a, P: ModuleProvider> Model for FunctionNames<'a, P> {
     ghost view = { λ n. n.formatter };
 
     ghost invariant = { λ n. record {
-      signatures : FitsSignatures P.info n.formatter n.signatures;
+      signatures : FitsSignatures P.info n.formatter n.signatures.texts.items;
       ids : FitsIds P.info n.formatter n.ids.texts.items;
     } };
 }
@@ -59,7 +58,7 @@ impl<'a, P: ModuleProvider> FunctionNames<'a, P> {
         FunctionNames {
             alloc,
             formatter,
-            signatures: BTreeMap::new(alloc),
+            signatures: KeptSignatures::new(alloc),
             ids: KeptIds::new(alloc),
         }
     }

@@ -1,14 +1,15 @@
-ghost use Rattle.std.specs.Prelude.{◌≡◌, true, option_map, string_bytes, IfSome, OnOk, MatchResult};
+ghost use Rattle.std.specs.Prelude.{◌≡◌, option_map, string_bytes, OnOk, MatchResult};
 ghost use Rattle.pdb_records.specs.Names.{lossy};
 ghost use Rattle.pdb_types.specs.declared.error.Error.TheVariants.{OutOfMemory};
 ghost use Rattle.pdb_documents.specs.BrokenParts.{AddsBroken};
 ghost use Rattle.pdb_signatures.specs.Formatters.{Formatter};
 ghost use Rattle.pdb_documents.specs.Printed.{signature_run, id_run};
 ghost use Rattle.pdb_documents.specs.Worlds.{formatter_world};
-ghost use Rattle.pdb_descriptions.specs.KeptNames.{IsPrinted, signature_printing, FitsSignatures, FitsIds, HasSignature};
+ghost use Rattle.pdb_descriptions.specs.KeptNames.{IsPrinted, signature_printing, FitsSignatures, FitsIds};
 ghost use Rattle.pdb_descriptions.specs.Names.{signature_text, id_name, failed_by_id};
 
 use crate::kept_ids::KeptIds;
+use crate::kept_signatures::KeptSignatures;
 use crate::name_keys::{IdKey, SignatureKey, id_key, signature_key};
 use crate::printed_names::{name_of_id, signature_of};
 use pdb_frames::copy_of_name;
@@ -17,65 +18,32 @@ use pdb_records::{IdIndex, RawString};
 use pdb_signatures::TypeFormatter;
 use pdb_types::{ModuleProvider, Result};
 use std::alloc::{AllocError, Global};
-use std::collections::BTreeMap;
-
-/// The signature of a procedure, with the procedure's own name.
-#[derive(Drop)]
-pub(crate) struct KeptSignature<'a> {
-    pub(crate) name: &'a RawString,
-    pub(crate) text: Option<String>,
-}
-
-/// Whether two names are the same.
-fn is_same_name(name: &RawString, other: &RawString) -> bool
-    ensures { result ≡ true → name.now ≡ other.now }
-{
-    name.0 == other.0
-}
-
-/// What is kept of a procedure of this name, where something is.
-fn kept_signature<'k>(
-    kept: &'k BTreeMap<SignatureKey, KeptSignature<'_>>,
-    key: SignatureKey,
-    name: &RawString,
-) -> Option<&'k Option<String>>
-    ensures { IfSome result (λ text. HasSignature kept.now key name.now (option_map string_bytes text.now)) }
-{
-    let entry = kept.get(&key)?;
-    if is_same_name(entry.name, name) {
-        Some(&entry.text)
-    } else {
-        None
-    }
-}
 
 /// Keeps the signature of a procedure of this name.
 fn keep_signature<'a, P: ModuleProvider>(
-    kept: &mut BTreeMap<SignatureKey, KeptSignature<'a>>,
+    kept: &mut KeptSignatures<'a>,
     key: SignatureKey,
     name: &'a RawString,
     text: &Option<String>,
 ) -> Result<(), AllocError>
-    ensures { (f : Formatter P) → FitsSignatures P.info f kept.old
+    ensures { (f : Formatter P) → FitsSignatures P.info f kept.old.texts.items
         → IsPrinted (signature_printing P.info f key name.now) f.failed (option_map string_bytes text.now)
-        → FitsSignatures P.info f kept.new }
+        → FitsSignatures P.info f kept.new.texts.items }
 {
     let text = copy_of_name(text)?;
-    match kept.insert(key, KeptSignature { name, text }) {
-        Ok(_) => Ok(()),
-        Err(_) => Err(AllocError),
-    }
+    kept.keep(key, name, text)?;
+    Ok(())
 }
 
 /// The signature of a procedure of the module at a position, if it can be printed. It is printed once.
 pub(crate) fn signature_once<'a, P: ModuleProvider>(
     alloc: Global,
     formatter: &mut TypeFormatter<'_, P>,
-    kept: &mut BTreeMap<SignatureKey, KeptSignature<'a>>,
+    kept: &mut KeptSignatures<'a>,
     module_index: usize,
     procedure: ProcedureSymbolFunction<'a>,
 ) -> Result<Option<String>>
-    requires fits { FitsSignatures P.info formatter.old kept.old }
+    requires fits { FitsSignatures P.info formatter.old kept.old.texts.items }
     ensures text { MatchResult result
         (λ text. option_map string_bytes text ≡ signature_text P.info formatter.old.standing module_index
         (lossy procedure.entry.name.now) procedure.entry.type_index.0)
@@ -86,11 +54,10 @@ pub(crate) fn signature_once<'a, P: ModuleProvider>(
         formatter.new.failed ≡ run.failed) }
     ensures broken { AddsBroken (formatter_world P.info formatter.old.standing module_index)
         formatter.old.failed formatter.new.failed }
-    ensures fits { FitsSignatures P.info formatter.new kept.new }
+    ensures fits { FitsSignatures P.info formatter.new kept.new.texts.items }
 {
     let key = signature_key(module_index, procedure);
-    if let Some(text) = kept_signature(kept, key, procedure.name) {
-        let text = copy_of_name(text)?;
+    if let Some(text) = kept.text(key, procedure.name)? {
         return Ok(text);
     }
     let name = procedure.name.to_string_lossy(alloc)?;
@@ -133,11 +100,8 @@ pub(crate) fn id_once<P: ModuleProvider>(
     ensures fits { FitsIds P.info formatter.new kept.new.texts.items }
 {
     let key = id_key(module_index, id);
-    if let Some(position) = kept.position(key) {
-        if let Some(text) = kept.text_at(position, key) {
-            let text = copy_of_name(text)?;
-            return Ok(text);
-        }
+    if let Some(text) = kept.text(key)? {
+        return Ok(text);
     }
     let text = name_of_id(formatter, module_index, id)?;
     keep_id::<P>(kept, key, &text)?;

@@ -9,8 +9,10 @@ mod function;
 mod function_names;
 mod kept_ids;
 mod kept_names;
+mod kept_signatures;
 mod name_keys;
 mod names;
+mod positions;
 mod printed_names;
 
 pub use frames::describe_frames;

@@ -3,6 +3,9 @@ ghost use Rattle.std.specs.Prelude.{◌≡◌};
 use pdb_functions::ProcedureSymbolFunction;
 use pdb_records::IdIndex;
 
+/// How far apart the numbers of items with the same index in neighbouring modules are.
+const MODULE_STRIDE: usize = 0x9e37_79b1;
+
 /// A procedure whose name is kept: the position of its module, its symbol, and the index of its type.
 #[derive(Clone, Copy, PartialEq, Eq, PartialOrd, Ord)]
 pub(crate) struct SignatureKey {
@@ -16,6 +19,25 @@ pub(crate) struct SignatureKey {
 pub(crate) struct IdKey {
     pub(crate) position: usize,
     pub(crate) index: u32,
+}
+
+/// A number for an item of the module at a position, in which items that are near one another differ.
+fn number_of(position: usize, index: usize) -> usize {
+    position.wrapping_mul(MODULE_STRIDE).wrapping_add(index)
+}
+
+impl SignatureKey {
+    /// The number by which a procedure is guessed.
+    pub(crate) fn number(self) -> usize {
+        number_of(self.position, self.symbol)
+    }
+}
+
+impl IdKey {
+    /// The number by which an id is guessed.
+    pub(crate) fn number(self) -> usize {
+        number_of(self.position, self.index as usize)
+    }
 }
 
 /// The key of a procedure of the module at a position.

@@ -1,10 +1,10 @@
-ghost use Rattle.std.specs.Prelude.{◌≡◌, [], true, Some, IfSome, IfOk, OnOk, slice_get};
+ghost use Rattle.std.specs.Prelude.{◌≡◌, ◌<◌, [], true, Some, IfSome, IfOk, OnOk, length, slice_get};
 ghost use Rattle.std.specs.Borrow.{sem};
 ghost use Rattle.std.specs.Io.BufRead.{Rests};
 ghost use Rattle.std.specs.Option.{option_copied, option_map_or};
-ghost use Rattle.pdb_functions.specs.Lookup.{procedures_of_module};
+ghost use Rattle.pdb_functions.specs.Lookup.{Infos, procedures_of_module};
 ghost use Rattle.pdb_functions.specs.Procedures.{info_procedures};
-ghost use Rattle.pdb_functions.specs.ModuleInfos.{readable_info, FitsInfos, IsKept};
+ghost use Rattle.pdb_functions.specs.ModuleInfos.{readable_info, FitsInfos, what_is_kept, IsKept};
 ghost use mir.Syntax.{named};
 
 use crate::module_info::BasicModuleInfo;
@@ -12,7 +12,6 @@ use crate::named_info::NamedInfo;
 use pdb_records::{Module, RawString};
 use pdb_types::{Error, ModuleProvider};
 use std::alloc::{AllocError, Global};
-use std::collections::BTreeMap;
 use std::marker::Model;
 
 /// Remembers the procedures of modules, so that they are read once.
@@ -22,7 +21,8 @@ use std::marker::Model;
 pub struct BasicModuleInfoCache<'a, P: ModuleProvider> {
     alloc: Global,
     provider: &'a P,
-    kept: BTreeMap<usize, NamedInfo<'a>>,
+    /// What was made of modules, by their positions.
+    kept: Vec<Option<NamedInfo<'a>>>,
 }
 
 impl<P: ModuleProvider> Drop for BasicModuleInfoCache<'_, P> {
@@ -41,9 +41,9 @@ impl<'a, P: ModuleProvider> Model for BasicModuleInfoCache<'a, P> {
 
     ghost Value = { InfoCache P };
 
-    ghost view = { λ c. record { provider = c.provider.now; kept = c.kept.entries } };
+    ghost view = { λ c. record { provider = c.provider.now; kept = c.kept.items } };
 
-    ghost invariant = { λ c. FitsInfos (P.info c.provider.now) c.kept };
+    ghost invariant = { λ c. FitsInfos (P.info c.provider.now) c.kept.items };
 }
 
 /// The procedures of the module at a position, where it has records that can be read.
@@ -68,49 +68,72 @@ fn read_info<'a, P: ModuleProvider>(
     }
 }
 
-/// Whether something is kept at a position, with this name.
-fn serves(kept: &BTreeMap<usize, NamedInfo<'_>>, module_index: usize, name: &RawString) -> bool
-    ensures { result ≡ true → IsKept kept.now.entries module_index name.now }
+/// What is kept at a position.
+fn kept_at<'k, 'a>(
+    kept: &'k [Option<NamedInfo<'a>>],
+    module_index: usize,
+) -> Option<&'k NamedInfo<'a>>
+    ensures { option_copied result ≡ what_is_kept kept.now module_index }
 {
-    match kept.get(&module_index) {
+    match kept.get(module_index) {
+        Some(entry) => entry.as_ref(),
+        None => None,
+    }
+}
+
+/// Whether something is kept at a position, with this name.
+fn serves(kept: &[Option<NamedInfo<'_>>], module_index: usize, name: &RawString) -> bool
+    ensures { result ≡ true → IsKept kept.now module_index name.now }
+{
+    match kept_at(kept, module_index) {
         Some(entry) => entry.name.0 == name.0,
         None => false,
     }
 }
 
+/// Makes a place for what is kept at a position.
+fn make_place(kept: &mut Vec<Option<NamedInfo<'_>>>, module_index: usize) -> Result<(), AllocError>
+    ensures fits { (infos : Infos) → FitsInfos infos kept.old.items → FitsInfos infos kept.new.items }
+    ensures place { OnOk result (module_index < length kept.new.items) }
+{
+    while kept.len() <= module_index {
+        kept.push(None)?;
+    }
+    Ok(())
+}
+
 /// Keeps what was made of the module at a position, in the place of what was kept there.
 fn keep<'a, P: ModuleProvider>(
     provider: &'a P,
-    kept: &mut BTreeMap<usize, NamedInfo<'a>>,
+    kept: &mut Vec<Option<NamedInfo<'a>>>,
     modules: &[Module],
     module_index: usize,
     entry: NamedInfo<'a>,
 ) -> Result<(), AllocError>
-    requires fits { FitsInfos (P.info provider.now) kept.old }
+    requires fits { FitsInfos (P.info provider.now) kept.old.items }
     requires module_there { slice_get modules.now module_index ≡ Some (record { name = entry.name }) }
     requires info { entry.info ≡ readable_info (P.info provider.now) modules.now module_index }
-    ensures fits { FitsInfos (P.info provider.now) kept.new }
-    ensures kept { OnOk result (IsKept kept.new.entries module_index entry.entry.name) }
+    ensures fits { FitsInfos (P.info provider.now) kept.new.items }
+    ensures kept { OnOk result (IsKept kept.new.items module_index entry.entry.name) }
 {
-    match kept.insert(module_index, entry) {
-        Ok(_) => Ok(()),
-        Err(_) => Err(AllocError),
-    }
+    make_place(kept, module_index)?;
+    kept[module_index] = Some(entry);
+    Ok(())
 }
 
 /// Makes sure that what can be read of a module is kept.
 fn keep_info_of<'a, P: ModuleProvider>(
     alloc: Global,
     provider: &'a P,
-    kept: &mut BTreeMap<usize, NamedInfo<'a>>,
+    kept: &mut Vec<Option<NamedInfo<'a>>>,
     modules: &[Module],
     module_index: usize,
     name: &RawString,
 ) -> Result<(), AllocError>
-    requires fits { FitsInfos (P.info provider.now) kept.old }
+    requires fits { FitsInfos (P.info provider.now) kept.old.items }
     requires module_there { slice_get modules.now module_index ≡ Some (record { name = name.now }) }
-    ensures fits { FitsInfos (P.info provider.now) kept.new }
-    ensures kept { OnOk result (IsKept kept.new.entries module_index name.now) }
+    ensures fits { FitsInfos (P.info provider.now) kept.new.items }
+    ensures kept { OnOk result (IsKept kept.new.items module_index name.now) }
 {
     if serves(kept, module_index, name) {
         return Ok(());
@@ -136,7 +159,7 @@ impl<'a, P: ModuleProvider> BasicModuleInfoCache<'a, P> {
         BasicModuleInfoCache {
             alloc,
             provider,
-            kept: BTreeMap::new(alloc),
+            kept: Vec::new(alloc),
         }
     }
 
@@ -169,7 +192,7 @@ impl<'a, P: ModuleProvider> BasicModuleInfoCache<'a, P> {
         if module_index >= modules.len() {
             return None;
         }
-        match self.kept.get(&module_index) {
+        match kept_at(&self.kept, module_index) {
             Some(entry) => entry.info.as_ref(),
             None => None,
         }

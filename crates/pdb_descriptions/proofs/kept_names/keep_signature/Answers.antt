@@ -1,11 +1,10 @@
 use Rattle.pdb_descriptions.proofs.KeptNameLemmas.{signatures_more, signatures_same}
 use Rattle.pdb_descriptions.proofs.kept_names.keep_signature.Goals as goal
 
-pub returns-in-Ok : goal.returns-in-Ok
-returns-in-Ok g c f fits printed =
-    signatures_more g.P.ModuleProvider.info f c.args.key (record { name = c.args.name; text = c.in_ok-text.text })
-    c.args.kept.now c.insert.new.self (rw c.in_ok-text.ensures printed) c.in-Ok.ensures.updates fits
+pub returns-in_err-keep : goal.returns-in_err-keep
+returns-in_err-keep g c f fits printed = signatures_same g.P.ModuleProvider.info f c.args.kept.now.texts.items c.keep.new.self.texts.items c.in_err-keep.ensures.refused fits
 
 pub returns : goal.returns
 returns g c f fits printed =
-    signatures_same g.P.ModuleProvider.info f c.args.kept.now c.insert.new.self c.in-Err.ensures.err fits
+    signatures_more g.P.ModuleProvider.info f (record { key = c.args.key; name = c.args.name; text = c.in_ok-text.text }) c.args.kept.now.texts.items c.keep.new.self.texts.items c.in_ok-keep.ensures.kept
+    (rw c.in_ok-text.ensures printed) fits

@@ -8,24 +8,24 @@ use Rattle.pdb_descriptions.proofs.kept_names.signature_once.Goals as goal
 pub returns-in-Some-clause-text : goal.returns-in-Some-clause-text
 returns-in-Some-clause-text g c =
     let key = signature_key c.args.module_index c.args.procedure.symbol_index.0 c.args.procedure.type_index.0 in
-    let found = signature_found g.P.ModuleProvider.info c.args.formatter.now c.args.kept.now key _ _ c.requires.fits (rw c.signature_key-key.ensures at c.in-Some.ensures) in
-    c.in_ok-text.ensures ∙ found.is
+    let found = signature_found g.P.ModuleProvider.info c.args.formatter.now c.args.kept.now.texts.items key _ _ c.requires.fits (rw (c.signature_key-key.ensures, c.in-Some.is) at c.in_ok-text.ensures.text) in
+    found.is
 
 pub returns-in-Some-clause-failed : goal.returns-in-Some-clause-failed
 returns-in-Some-clause-failed g c =
     let key = signature_key c.args.module_index c.args.procedure.symbol_index.0 c.args.procedure.type_index.0 in
-    let found = signature_found g.P.ModuleProvider.info c.args.formatter.now c.args.kept.now key _ _ c.requires.fits (rw c.signature_key-key.ensures at c.in-Some.ensures) in
+    let found = signature_found g.P.ModuleProvider.info c.args.formatter.now c.args.kept.now.texts.items key _ _ c.requires.fits (rw (c.signature_key-key.ensures, c.in-Some.is) at c.in_ok-text.ensures.text) in
     sym found.settled
 
 pub returns-in_err-text-2-clause-fits : goal.returns-in_err-text-2-clause-fits
 returns-in_err-text-2-clause-fits g c =
     let more = more_broken _ _ _ c.signature_of.ensures.broken in
-    signatures_later g.P.ModuleProvider.info c.args.formatter.now c.signature_of.new.formatter c.args.kept.now c.signature_of.ensures.standing more c.requires.fits
+    signatures_later g.P.ModuleProvider.info c.args.formatter.now c.signature_of.new.formatter c.text.new.self.texts.items c.signature_of.ensures.standing more (rw c.text.ensures.same c.requires.fits)
 
 pub returns-in_err-keep_signature-clause-fits : goal.returns-in_err-keep_signature-clause-fits
 returns-in_err-keep_signature-clause-fits g c =
     let more = more_broken _ _ _ c.signature_of.ensures.broken in
-    let later = signatures_later g.P.ModuleProvider.info c.args.formatter.now c.signature_of.new.formatter c.args.kept.now c.signature_of.ensures.standing more c.requires.fits in
+    let later = signatures_later g.P.ModuleProvider.info c.args.formatter.now c.signature_of.new.formatter c.text.new.self.texts.items c.signature_of.ensures.standing more (rw c.text.ensures.same c.requires.fits) in
     let w = formatter_world g.P.ModuleProvider.info c.args.formatter.now.standing c.args.module_index in
     let d = document_of w (signature w c.as_str.result.now c.args.procedure.type_index.0) in
     let printed = printed_now d c.args.formatter.now.failed c.signature_of.new.formatter.failed _ c.in_ok-text-2.ensures.text c.in_ok-text-2.ensures.failed in
@@ -35,7 +35,7 @@ returns-in_err-keep_signature-clause-fits g c =
 pub returns-clause-fits : goal.returns-clause-fits
 returns-clause-fits g c =
     let more = more_broken _ _ _ c.signature_of.ensures.broken in
-    let later = signatures_later g.P.ModuleProvider.info c.args.formatter.now c.signature_of.new.formatter c.args.kept.now c.signature_of.ensures.standing more c.requires.fits in
+    let later = signatures_later g.P.ModuleProvider.info c.args.formatter.now c.signature_of.new.formatter c.text.new.self.texts.items c.signature_of.ensures.standing more (rw c.text.ensures.same c.requires.fits) in
     let w = formatter_world g.P.ModuleProvider.info c.args.formatter.now.standing c.args.module_index in
     let d = document_of w (signature w c.as_str.result.now c.args.procedure.type_index.0) in
     let printed = printed_now d c.args.formatter.now.failed c.signature_of.new.formatter.failed _ c.in_ok-text-2.ensures.text c.in_ok-text-2.ensures.failed in
