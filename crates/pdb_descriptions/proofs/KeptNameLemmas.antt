@@ -1,5 +1,5 @@
 -- Names that are kept are those that would be printed, now and after other parts of the records failed.
-use Rattle.std.proofs.Common.{◌≡◌, ◌∙◌, ℕ, List, [], ◌∷◌, Option, Some, sym, ap, subst}
+use Rattle.std.proofs.Common.{◌≡◌, ℕ, List, [], ◌∷◌, Option, Some, sym, subst}
 use Rattle.std.specs.Prelude.{◌++◌, None, Result, Ok, Err, OnOk, OnErr, option_map, string_bytes}
 use Rattle.std.proofs.lemmas.List.Elements.{All-nil, All-same, All-push, All-weaker}
 use Rattle.pdb_records.specs.Names.{lossy}

@@ -1,4 +1,4 @@
-use Rattle.std.proofs.Common.{◌∙◌, sym}
+use Rattle.std.proofs.Common.{sym}
 use Rattle.pdb_documents.specs.Ids.{id_of_index}
 use Rattle.pdb_documents.specs.Printed.{document_of}
 use Rattle.pdb_documents.specs.Worlds.{formatter_world}

@@ -1,4 +1,3 @@
-use Rattle.std.proofs.Common.{sym}
 use Rattle.pdb_descriptions.proofs.KeptNameLemmas.{ids_more, ids_same}
 use Rattle.pdb_descriptions.proofs.kept_names.keep_id.Goals as goal
 
