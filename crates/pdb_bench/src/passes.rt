@@ -89,37 +89,39 @@ fn measure_pass<R: Clock + Print + Eprint, P: ModuleProvider>(
     let name = question.name();
     let count = addresses.count;
     let start = Instant::now(rt)?;
-    let found = count_found(context, addresses, question)?;
+    let found = match question {
+        Question::Function => count_functions(context, addresses)?,
+        Question::Frames => count_frames(context, addresses)?,
+    };
     let time = start.elapsed(rt)?.as_micros();
     println!(rt; "{count} addresses, {found} {name}")?;
     eprintln!(rt; "{name} of {count} addresses in {time} microseconds")?;
     Ok(())
 }
 
-/// How many functions, or frames, the addresses have in all.
-fn count_found<P: ModuleProvider>(
+/// How many functions the addresses have in all.
+fn count_functions<P: ModuleProvider>(
     context: &mut Context<'_, P>,
     addresses: Addresses,
-    question: Question,
-) -> Result<usize> {
+) -> pdb_addr2line::Result<usize> {
     let mut found = 0usize;
     for number in 0..addresses.count {
-        found = found.saturating_add(count_at(context, addresses.at(number), question)?);
+        let function = context.find_function(addresses.at(number))?;
+        found = found.saturating_add(function.iter().count());
     }
     Ok(found)
 }
 
-/// How many functions, or frames, an address has.
-fn count_at<P: ModuleProvider>(
+/// How many frames the addresses have in all.
+fn count_frames<P: ModuleProvider>(
     context: &mut Context<'_, P>,
-    address: u32,
-    question: Question,
-) -> Result<usize> {
-    match question {
-        Question::Function => Ok(context.find_function(address)?.iter().count()),
-        Question::Frames => Ok(match context.find_frames(address)? {
-            Some(told) => told.frames.len(),
-            None => 0,
-        }),
+    addresses: Addresses,
+) -> pdb_addr2line::Result<usize> {
+    let mut found = 0usize;
+    for number in 0..addresses.count {
+        if let Some(told) = context.find_frames(addresses.at(number))? {
+            found = found.saturating_add(told.frames.len());
+        }
     }
+    Ok(found)
 }

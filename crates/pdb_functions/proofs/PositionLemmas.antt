@@ -1,8 +1,6 @@
 -- Where in a list a test begins to pass, if it goes on to pass from there on.
 use Rattle.std.proofs.Common.{◌≡◌, ◌∙◌, ℕ, zero, suc, ◌+◌, ◌<◌, ◌≤◌, Bool, true, false, cond, not, List, [], ◌∷◌, length, get_or, map, Option, Some, None, refl, sym, ap, inl, inr, arith}
-use Rattle.std.specs.Borrow.{Bor}
-use Rattle.std.specs.Prelude.{⊤, ◌==◌, ◌&&◌, ◌||◌, nat_lt, find, is_some, option_map, IfSome}
-use Rattle.std.specs.Option.{option_copied}
+use Rattle.std.specs.Prelude.{⊤, ◌==◌, ◌&&◌, ◌||◌, nat_lt, find, option_map}
 use Rattle.std.specs.List.{AllByRecursion, position_or_len, slice_get}
 use Rattle.std.specs.Ordering.{nat_cmp, MatchOrdering}
 use Rattle.std.specs.declared.cmp.Ordering.{Ordering}
@@ -11,7 +9,6 @@ use Rattle.std.proofs.lemmas.Bool.{cases_lt}
 use Rattle.std.proofs.lemmas.Bool.Decides.{nat_tests}
 use Rattle.std.proofs.lemmas.Cmp.{ranked}
 use Rattle.std.proofs.lemmas.List.Sums.{fails_before_first}
-use Rattle.std.proofs.lemmas.Option.{slice_get_read, slice_get_past}
 use Rattle.pdb_records.specs.declared.addresses.PdbInternalSectionOffset.{PdbInternalSectionOffset}
 use Rattle.pdb_ranges.specs.Last.{last_over}
 use Rattle.pdb_functions.specs.Starts.{is_before, StandsBefore, StartsAscend}
@@ -163,9 +160,3 @@ pub last_up_to : {T : Type 0} (start : T → PdbInternalSectionOffset) (place : 
     → last_over (λ y. not (is_before place (start y))) None xs ≡ slice_get xs k
 last_up_to start place xs k up is =
     last_ahead (λ y. is_before place (start y)) None xs (ascend_goes_on start place xs up) ∙ ap (ahead_of None xs) is
-
--- what is got at a position, where there is an element
-pub got_at : {T : Type 0} (o : Option (Bor T)) (xs : List T) (i : ℕ) → is_some o ≡ nat_lt i (length xs)
-    → IfSome o (λ x. x.now ≡ get_or xs i x.now) → option_copied o ≡ slice_get xs i
-got_at None xs i there is = sym (slice_get_past xs i (grind (arith, nat_tests)))
-got_at (Some x) xs i there is = sym (slice_get_read xs (length xs) i x.now refl (grind (arith, nat_tests)) is)

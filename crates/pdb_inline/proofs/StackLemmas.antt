@@ -1,11 +1,9 @@
 -- The stacks that tables for each depth make are those of the inlined bodies.
 use Rattle.std.proofs.Common.{◌≡◌, ◌∙◌, ℕ, zero, suc, ◌+◌, ◌-◌, ◌<◌, ◌≤◌, Bool, true, false, cond, ◌||◌, List, [], ◌∷◌, ◌++◌, append_assoc, drop, get_or, map, length, length-append, Option, Some, None, refl, sym, ap, arith, inl, inr}
-use Rattle.std.specs.Prelude.{◌==◌, ◌&&◌, IfSome, is_some, nat_lt, option_map, slice_get}
+use Rattle.std.specs.Prelude.{◌==◌, ◌&&◌, is_some, option_map, slice_get}
 use Rattle.std.specs.List.{AllByRecursion}
-use Rattle.std.specs.Borrow.{Bor}
-use Rattle.std.specs.Option.{option_to_list, option_copied}
+use Rattle.std.specs.Option.{option_to_list}
 use Rattle.std.proofs.lemmas.List.{drop_more}
-use Rattle.std.proofs.lemmas.Option.{slice_get_read, slice_get_past}
 use Rattle.std.proofs.lemmas.Bool.{cases_Bool, cases_lt}
 use Rattle.std.proofs.lemmas.Bool.Decides.{nat_tests}
 use Rattle.pdb_ranges.specs.Pick.{pick, later_start}
@@ -201,12 +199,6 @@ ranges_at_are ranges (p ∷ positions) (r ∷ stack) same =
     let first : slice_get ranges p ≡ Some r = cc in
     let rest : map (slice_get ranges) positions ≡ map Some stack = cc in
     rw first (ap (λ rs. r ∷ rs) (ranges_at_are ranges positions stack rest))
-
--- what is got of a list at a position
-pub got_at : {T : Type 0} (o : Option (Bor T)) (xs : List T) (i : ℕ) → is_some o ≡ nat_lt i (length xs)
-    → IfSome o (λ x. x.now ≡ get_or xs i x.now) → option_copied o ≡ slice_get xs i
-got_at None xs i there is = sym (slice_get_past xs i (grind (arith, nat_tests)))
-got_at (Some x) xs i there is = sym (slice_get_read xs (length xs) i x.now refl (grind (arith, nat_tests)) is)
 
 -- one position more
 pub ranges_at_step : (found ranges whole : List InlineRange) (positions : List ℕ) (i d : ℕ) → i < length positions

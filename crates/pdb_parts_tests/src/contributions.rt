@@ -1,5 +1,5 @@
 use pdb_functions::{
-    ContributionTable, ModuleSectionContribution, compute_global_functions,
+    ContributionTable, GlobalFunctionTable, ModuleSectionContribution, compute_global_functions,
     compute_section_contributions, laws,
 };
 use pdb_records::{
@@ -159,9 +159,7 @@ fn publics(alloc: Global) -> Result<Vec<Symbol>, AllocError> {
 }
 
 /// Asserts what is found among the functions of three thousand symbols and two starts.
-fn assert_functions(rt: &impl Abort, alloc: Global, symbols: &[Symbol]) -> Result<(), Fail> {
-    let starts = [place(1, 8), place(1, 0)];
-    let functions = compute_global_functions(alloc, &SECTIONS, symbols, &starts)?;
+fn assert_functions(rt: &impl Abort, functions: &GlobalFunctionTable<'_>) -> Result<(), Fail> {
     assert_eq!(rt; functions.len(), 3002);
     assert_eq!(rt; functions.as_slice().len(), 3002);
     let over = functions
@@ -182,5 +180,7 @@ fn assert_functions(rt: &impl Abort, alloc: Global, symbols: &[Symbol]) -> Resul
 fn thousands_of_global_functions(rt: HostRuntime) -> Result<(), Fail> {
     let symbols = publics(rt.alloc())?;
     laws::first_global_function_of_each_start_is_kept();
-    assert_functions(&rt, rt.alloc(), &symbols)
+    let starts = [place(1, 8), place(1, 0)];
+    let functions = compute_global_functions(rt.alloc(), &SECTIONS, &symbols, &starts)?;
+    assert_functions(&rt, &functions)
 }

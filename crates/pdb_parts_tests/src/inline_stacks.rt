@@ -35,7 +35,52 @@ fn positions(alloc: Global, ranges: &[InlineRange]) -> Result<Vec<usize>, AllocE
     Ok(all)
 }
 
-/// The table, the stacks and the scan all have these positions over an offset.
+/// These ranges have these positions.
+fn assert_positions(
+    rt: &impl Abort,
+    alloc: Global,
+    ranges: &[InlineRange],
+    want: &[usize],
+) -> Result<(), Fail> {
+    let positions = positions(alloc, ranges)?;
+    assert_eq!(rt; positions.as_slice(), want);
+    Ok(())
+}
+
+/// The table of so many ranges is small, and has these positions over an offset, after few probes.
+fn assert_table(rt: &impl Abort, table: &StackTable, ranges: usize, offset: u64, want: &[usize]) {
+    let mut probes = Probes::new();
+    assert_eq!(rt; table.find(offset, &mut probes), want);
+    assert!(rt; table.len() <= ranges.saturating_mul(4));
+    let digits = usize::BITS.saturating_sub(table.len().leading_zeros());
+    assert!(rt; probes.count() <= u64::from(digits));
+}
+
+/// The scan has these positions over an offset.
+fn assert_scan(
+    rt: &impl Abort,
+    alloc: Global,
+    ranges: &[InlineRange],
+    offset: u64,
+    want: &[usize],
+) -> Result<(), Fail> {
+    let scanned = inline_stack(alloc, ranges, offset)?;
+    assert_positions(rt, alloc, &scanned, want)
+}
+
+/// The stacks have these positions over an offset.
+fn assert_stacks(
+    rt: &impl Abort,
+    alloc: Global,
+    stacks: &ProcedureStacks,
+    offset: u64,
+    want: &[usize],
+) -> Result<(), Fail> {
+    let found = stacks.stack(alloc, offset)?;
+    assert_positions(rt, alloc, &found, want)
+}
+
+/// The table, the scan and the stacks all have these positions over an offset.
 fn assert_stack(
     rt: &impl Abort,
     alloc: Global,
@@ -44,19 +89,11 @@ fn assert_stack(
     want: &[usize],
 ) -> Result<(), Fail> {
     let ranges = ranges_of(alloc, shown)?;
+    assert_scan(rt, alloc, &ranges, offset, want)?;
     let table = StackTable::new(alloc, &ranges)?;
-    let mut probes = Probes::new();
-    assert_eq!(rt; table.find(offset, &mut probes), want);
-    assert!(rt; table.len() <= shown.len().saturating_mul(4));
-    let digits = usize::BITS.saturating_sub(table.len().leading_zeros());
-    assert!(rt; probes.count() <= u64::from(digits));
-
-    let scanned = inline_stack(alloc, &ranges, offset)?;
+    assert_table(rt, &table, shown.len(), offset, want);
     let stacks = ProcedureStacks::new(alloc, ranges)?;
-    let found = stacks.stack(alloc, offset)?;
-    assert_eq!(rt; positions(alloc, &scanned)?.as_slice(), want);
-    assert_eq!(rt; positions(alloc, &found)?.as_slice(), want);
-    Ok(())
+    assert_stacks(rt, alloc, &stacks, offset, want)
 }
 
 #[test]
@@ -106,21 +143,36 @@ fn has_no_stack_without_ranges(rt: HostRuntime) -> Result<(), Fail> {
     Ok(())
 }
 
-#[test]
-fn answers_alike_for_a_thousand_nested_ranges(rt: HostRuntime) -> Result<(), Fail> {
-    let alloc = rt.alloc();
+/// The stacks and the scan have the same positions over an offset.
+fn assert_alike(
+    rt: &impl Abort,
+    alloc: Global,
+    ranges: &[InlineRange],
+    stacks: &ProcedureStacks,
+    offset: u64,
+) -> Result<(), Fail> {
+    let scanned = inline_stack(alloc, ranges, offset)?;
+    let want = positions(alloc, &scanned)?;
+    assert_stacks(rt, alloc, stacks, offset, &want)
+}
+
+/// Ranges, each in the one before it.
+fn nested_ranges(alloc: Global) -> Result<Vec<InlineRange>, AllocError> {
     let mut shown = Vec::new(alloc);
     for depth in 0..1000usize {
         let start = depth as u64;
         shown.push((start, 2000 - start, depth))?;
     }
-    let ranges = ranges_of(alloc, &shown)?;
-    let stacks = ProcedureStacks::new(alloc, ranges_of(alloc, &shown)?)?;
+    ranges_of(alloc, &shown)
+}
+
+#[test]
+fn answers_alike_for_a_thousand_nested_ranges(rt: HostRuntime) -> Result<(), Fail> {
+    let alloc = rt.alloc();
+    let ranges = nested_ranges(alloc)?;
+    let stacks = ProcedureStacks::new(alloc, nested_ranges(alloc)?)?;
     for offset in [0, 1, 500, 999, 1000, 1001, 1999, 2000] {
-        let scanned = inline_stack(alloc, &ranges, offset)?;
-        let found = stacks.stack(alloc, offset)?;
-        let want = positions(alloc, &scanned)?;
-        assert_eq!(rt; positions(alloc, &found)?.as_slice(), want.as_slice());
+        assert_alike(&rt, alloc, &ranges, &stacks, offset)?;
     }
     assert_eq!(rt; stacks.stack(alloc, 999)?.len(), 1000);
     Ok(())

@@ -150,8 +150,7 @@ fn descending(alloc: Global) -> Result<Vec<Code<'static>>, AllocError> {
 }
 
 /// Asserts that a module has three thousand procedures, and where they are found.
-fn assert_thousands(rt: &impl Abort, alloc: Global, info: &ModuleInfo) -> Result<(), Fail> {
-    let basic = BasicModuleInfo::try_from_module_info(alloc, info)?;
+fn assert_thousands(rt: &impl Abort, basic: &BasicModuleInfo<'_>) -> Result<(), Fail> {
     assert_eq!(rt; basic.procedures().len(), 3000);
     let over = basic.procedure_over(place(0x104)).ok_or("nothing over")?;
     assert_eq!(rt; over.offset.offset, 0x100);
@@ -163,7 +162,8 @@ fn assert_thousands(rt: &impl Abort, alloc: Global, info: &ModuleInfo) -> Result
 fn thousands_of_procedures(rt: HostRuntime) -> Result<(), Fail> {
     let code = descending(rt.alloc())?;
     let info = module(rt.alloc(), &code)?;
-    assert_thousands(&rt, rt.alloc(), &info)
+    let basic = BasicModuleInfo::try_from_module_info(rt.alloc(), &info)?;
+    assert_thousands(&rt, &basic)
 }
 
 #[test]

@@ -3,6 +3,7 @@ use pdb_records::TypeIndex;
 use pdb_types::Error;
 use std::alloc::{AllocError, Global};
 use std::collections::BTreeSet;
+use std::process::Abort;
 use std::test::Fail;
 
 /// The numbers in a set, one behind the other.
@@ -16,35 +17,58 @@ fn numbers(alloc: Global, set: &BTreeSet<TypeIndex>) -> Result<String, AllocErro
     Ok(text)
 }
 
+/// The set has these numbers.
+fn assert_numbers(
+    rt: &impl Abort,
+    alloc: Global,
+    set: &BTreeSet<TypeIndex>,
+    wanted: &str,
+) -> Result<(), Fail> {
+    let numbers = numbers(alloc, set)?;
+    assert_eq!(rt; numbers.as_str(), wanted);
+    Ok(())
+}
+
+/// A level that is entered with nothing, and takes in two numbers.
+fn enter_empty_level(rt: &impl Abort, alloc: Global, seen: &mut Seen<'_>) -> Result<(), Fail> {
+    let mut level = seen.new_level();
+    level.insert(TypeIndex(4))?;
+    level.insert(TypeIndex(5))?;
+    assert_numbers(rt, alloc, level.set, "012345")
+}
+
+/// A level that is entered with one number, and has another level inside.
+fn enter_inner_level(rt: &impl Abort, alloc: Global, seen: &mut Seen<'_>) -> Result<(), Fail> {
+    let mut level = seen.insert_one(TypeIndex(3))?;
+    assert_numbers(rt, alloc, level.set, "0123")?;
+    enter_empty_level(rt, alloc, &mut level)?;
+    assert_numbers(rt, alloc, level.set, "0123")
+}
+
+/// A level that is entered with one number, takes in another, and has two levels inside.
+fn enter_outer_level(rt: &impl Abort, alloc: Global, seen: &mut Seen<'_>) -> Result<(), Fail> {
+    let mut level = seen.insert_one(TypeIndex(1))?;
+    assert!(rt; level.insert(TypeIndex(0)).is_err());
+    level.insert(TypeIndex(2))?;
+    assert_numbers(rt, alloc, level.set, "012")?;
+    enter_inner_level(rt, alloc, &mut level)?;
+    assert_numbers(rt, alloc, level.set, "012")
+}
+
+/// The set has what it had, before and after it is lent back.
+fn enter_levels(rt: &impl Abort, alloc: Global, set: &mut BTreeSet<TypeIndex>) -> Result<(), Fail> {
+    let mut seen = Seen::new(alloc, set);
+    enter_outer_level(rt, alloc, &mut seen)?;
+    assert_numbers(rt, alloc, seen.set, "0")
+}
+
 #[test]
 fn levels_take_out_what_they_put_in(rt: HostRuntime) -> Result<(), Fail> {
     let alloc = rt.alloc();
     let mut set = BTreeSet::new(alloc);
     set.insert(TypeIndex(0))?;
-    {
-        let mut seen = Seen::new(alloc, &mut set);
-        {
-            let mut one = seen.insert_one(TypeIndex(1))?;
-            assert!(rt; one.insert(TypeIndex(0)).is_err());
-            one.insert(TypeIndex(2))?;
-            assert_eq!(rt; numbers(alloc, one.set)?.as_str(), "012");
-            {
-                let mut two = one.insert_one(TypeIndex(3))?;
-                assert_eq!(rt; numbers(alloc, two.set)?.as_str(), "0123");
-                {
-                    let mut three = two.new_level();
-                    three.insert(TypeIndex(4))?;
-                    three.insert(TypeIndex(5))?;
-                    assert_eq!(rt; numbers(alloc, three.set)?.as_str(), "012345");
-                }
-                assert_eq!(rt; numbers(alloc, two.set)?.as_str(), "0123");
-            }
-            assert_eq!(rt; numbers(alloc, one.set)?.as_str(), "012");
-        }
-        assert_eq!(rt; numbers(alloc, seen.set)?.as_str(), "0");
-    }
-    assert_eq!(rt; numbers(alloc, &set)?.as_str(), "0");
-    Ok(())
+    enter_levels(&rt, alloc, &mut set)?;
+    assert_numbers(&rt, alloc, &set, "0")
 }
 
 /// What the error says that an index is refused for.

@@ -1,28 +1,37 @@
 use pdb_ranges::{Probes, Segment, Segments, laws};
 use std::alloc::{AllocError, Global};
+use std::process::Abort;
 use std::test::Fail;
+
+/// The table has these values at these numbers.
+fn assert_values(rt: &impl Abort, table: &Segments<u64>, values: &[(u64, Option<u64>)]) {
+    let mut probes = Probes::new();
+    for &(x, value) in values {
+        assert_eq!(rt; table.find(x, &mut probes), value);
+    }
+}
 
 #[test]
 fn paints_over_what_was_there(rt: HostRuntime) -> Result<(), Fail> {
     let mut table = Segments::new(rt.alloc());
-    table.paint(0, 10, b'a')?;
-    table.paint(3, 5, b'b')?;
-    table.paint(5, 5, b'c')?;
-    table.paint(8, 6, b'c')?;
+    table.paint(0, 10, 1)?;
+    table.paint(3, 5, 2)?;
+    table.paint(5, 5, 3)?;
+    table.paint(8, 6, 3)?;
     assert_eq!(rt; table.len(), 3);
+    let values = [
+        (2, Some(1)),
+        (4, Some(2)),
+        (5, Some(1)),
+        (9, Some(1)),
+        (10, None),
+        (u64::MAX, None),
+    ];
+    assert_values(&rt, &table, &values);
 
-    let mut probes = Probes::new();
-    assert_eq!(rt; table.find(2, &mut probes), Some(b'a'));
-    assert_eq!(rt; table.find(4, &mut probes), Some(b'b'));
-    assert_eq!(rt; table.find(5, &mut probes), Some(b'a'));
-    assert_eq!(rt; table.find(9, &mut probes), Some(b'a'));
-    assert_eq!(rt; table.find(10, &mut probes), None);
-    assert_eq!(rt; table.find(u64::MAX, &mut probes), None);
-
-    table.paint(2, u64::MAX, b'd')?;
+    table.paint(2, u64::MAX, 4)?;
     assert_eq!(rt; table.len(), 2);
-    assert_eq!(rt; table.find(1, &mut probes), Some(b'a'));
-    assert_eq!(rt; table.find(u64::MAX - 1, &mut probes), Some(b'd'));
+    assert_values(&rt, &table, &[(1, Some(1)), (u64::MAX - 1, Some(4))]);
     Ok(())
 }
 
@@ -88,6 +97,23 @@ fn segment(start: u64, end: u64, value: u64) -> Segment<u64> {
     Segment { start, end, value }
 }
 
+/// The table after the segments were painted one after the other.
+fn painted_in_turn(alloc: Global, segments: &[Segment<u64>]) -> Result<Segments<u64>, AllocError> {
+    let mut table = Segments::new(alloc);
+    for segment in segments {
+        table.paint(segment.start, segment.end, segment.value)?;
+    }
+    Ok(table)
+}
+
+/// Two tables have the same values up to a number.
+fn assert_alike(rt: &impl Abort, table: &Segments<u64>, other: &Segments<u64>, end: u64) {
+    let mut probes = Probes::new();
+    for x in 0..end {
+        assert_eq!(rt; table.find(x, &mut probes), other.find(x, &mut probes));
+    }
+}
+
 #[test]
 fn paints_a_list_as_one_after_the_other(rt: HostRuntime) -> Result<(), Fail> {
     let list = [
@@ -103,21 +129,23 @@ fn paints_a_list_as_one_after_the_other(rt: HostRuntime) -> Result<(), Fail> {
     ];
     let at_once = Segments::of_painted(rt.alloc(), &list)?;
     assert!(rt; at_once.len() <= 18);
+    let values = [
+        (11, Some(6)),
+        (22, Some(9)),
+        (23, Some(7)),
+        (24, Some(2)),
+        (50, None),
+    ];
+    assert_values(&rt, &at_once, &values);
+    let in_turn = painted_in_turn(rt.alloc(), &list)?;
+    assert_alike(&rt, &at_once, &in_turn, 64);
+    Ok(())
+}
 
-    let mut in_turn = Segments::new(rt.alloc());
-    for segment in &list {
-        in_turn.paint(segment.start, segment.end, segment.value)?;
-    }
-    let mut probes = Probes::new();
-    for x in 0..64 {
-        assert_eq!(rt; at_once.find(x, &mut probes), in_turn.find(x, &mut probes));
-    }
-    assert_eq!(rt; at_once.find(11, &mut probes), Some(6));
-    assert_eq!(rt; at_once.find(22, &mut probes), Some(9));
-    assert_eq!(rt; at_once.find(23, &mut probes), Some(7));
-    assert_eq!(rt; at_once.find(24, &mut probes), Some(2));
-    assert_eq!(rt; at_once.find(50, &mut probes), None);
-    assert_eq!(rt; Segments::<u64>::of_painted(rt.alloc(), &[])?.len(), 0);
+#[test]
+fn paints_nothing(rt: HostRuntime) -> Result<(), Fail> {
+    let table = Segments::<u64>::of_painted(rt.alloc(), &[])?;
+    assert_eq!(rt; table.len(), 0);
     laws::last_painted_gives_the_value::<u64>();
     Ok(())
 }

@@ -17,3 +17,4 @@ pub mod DigitLemmas
 pub mod SearchLemmas
 pub mod TurnLemmas
 pub mod EdgeLemmas
+pub mod ElementLemmas

@@ -80,10 +80,3 @@ pub unwritten : {A : Type 0} (r : Result A ReportFault) (state : SinkState) → 
 unwritten (Ok done) state is = tt
 unwritten (Err fault) state is =
     subst (EndsListEarly [] state state) (sym is) (ends_unlisted [] state OutOfMemory refl)
-
--- a call that ends with a fault
-pub ends_with : {A : Type 0} (r : Result A ReportFault) (fault : ReportFault) (functions : List Description) (before after : SinkState)
-    → IsErrAnd r (λ given. given ≡ fault) → EndsListEarly functions before after fault
-    → IfErr r (EndsListEarly functions before after)
-ends_with (Ok done) fault functions before after is ends = tt
-ends_with (Err given) fault functions before after is ends = subst (EndsListEarly functions before after) (sym is) ends

@@ -3,7 +3,8 @@ use Rattle.pdb_addr2line.specs.Functions.{functions_at, start_addresses}
 use Rattle.pdb_reporting.specs.PrintedLines.{list_text}
 use Rattle.pdb_reporting.specs.Reports.{EndsListEarly}
 use Rattle.pdb_reporting.specs.Sinks.{Takes}
-use Rattle.pdb_reporting.proofs.ListLemmas.{takes_one_listed, ends_listed, ends_with}
+use Rattle.pdb_reporting.proofs.ListLemmas.{takes_one_listed, ends_listed}
+use Rattle.pdb_reporting.proofs.ReportLemmas.{fails_with}
 use Rattle.pdb_reporting.proofs.reports.report_list.Goals as goal
 
 pub loop-start-preserved : goal.loop-start-preserved
@@ -34,4 +35,4 @@ returns-in_err-put_listed-clause-fault g c =
     let amid : EndsListEarly (functions_at info sources starts) before after fault =
     ends_listed info sources starts c.loop-start.start-index before (state c.loop-start.sink) after c.loop-start.invariant.taken fault c.in_err-put_listed.ensures.fault in
     let ends = subst (λ xs. EndsListEarly (functions_at info sources xs) before after fault) is amid in
-    ends_with _ fault (functions_at info sources (start_addresses info sources)) before after c.from_residual-in_err-put_listed.ensures.1 ends
+    fails_with _ fault (EndsListEarly (functions_at info sources (start_addresses info sources)) before after) c.from_residual-in_err-put_listed.ensures.1 ends

@@ -2,7 +2,8 @@ use Rattle.std.proofs.Common.{◌≡◌, ◌∙◌}
 use Rattle.std.specs.List.{position_or_len}
 use Rattle.pdb_functions.specs.GlobalFunctions.{global_function}
 use Rattle.pdb_functions.specs.Starts.{is_before}
-use Rattle.pdb_functions.proofs.PositionLemmas.{map-StartsAscend, got_at}
+use Rattle.pdb_ranges.proofs.ElementLemmas.{got_at}
+use Rattle.pdb_functions.proofs.PositionLemmas.{map-StartsAscend}
 use Rattle.pdb_functions.proofs.TableLemmas.{first_function_behind}
 use Rattle.pdb_functions.proofs.global_function_table.GlobalFunctionTable.first_behind.Goals as goal
 
