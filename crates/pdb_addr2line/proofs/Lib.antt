@@ -8,3 +8,4 @@ pub mod FunctionLemmas
 pub mod FunctionStepLemmas
 pub mod StartLemmas
 pub mod RunLemmas
+pub mod FoundLemmas

@@ -4,6 +4,7 @@ ghost use Rattle.pdb_functions.specs.Lookup.{procedures_of_module};
 ghost use Rattle.pdb_functions.specs.ModuleInfos.{readable_info};
 ghost use Rattle.pdb_functions.specs.Procedures.{module_procedure};
 ghost use Rattle.pdb_functions.specs.Spans.{procedure_covers};
+ghost use Rattle.pdb_functions.specs.SymbolNames.{GoesBySymbol};
 ghost use Rattle.pdb_ranges.specs.Pick.{pick};
 ghost use Rattle.pdb_types.specs.Outcomes.{Gives};
 ghost use Rattle.pdb_functions.specs.Lookup.{found_function};
@@ -95,6 +96,7 @@ pub(crate) fn describe_frames_by<'a, P: ModuleProvider>(
     offset: u32,
 ) -> Result<Option<FunctionFrames<'a>>>
     ghost records: { Records }
+    requires named { GoesBySymbol (P.info names.old.provider) names.old.standing.modules (found_function function) }
     requires code { FitsCode records caches.old.code }
     requires module_info { IfSome module_info
         (λ info. records (function_module (found_function function)) ≡ Some info.now) }
@@ -102,6 +104,7 @@ pub(crate) fn describe_frames_by<'a, P: ModuleProvider>(
         address_map.now tables.now.global_functions (option_copied module_info.entry)
         (found_function function.entry) offset) }
     ensures standing { names.new.standing ≡ names.old.standing }
+    ensures provider { names.new.provider ≡ names.old.provider }
     ensures failed { ButForMemory result (names.new.failed ≡ failed_by_frames P.info names.old.standing
         address_map.now tables.now.global_functions (option_copied module_info.entry)
         (found_function function.entry) offset names.old.failed) }

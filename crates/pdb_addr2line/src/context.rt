@@ -115,6 +115,7 @@ impl<'a, P: ModuleProvider> Model for Context<'a, P> {
           c.tables.sections.items c.global_symbols.now.symbols.items c.debug_information.now;
       places : c.tables.places ≡ c.address_map.now;
       infos : c.caches.infos.provider ≡ c.provider.now;
+      named : c.names.provider ≡ c.provider.now;
       code : FitsCode (readable_info (P.info c.provider.now) c.names.standing.modules) c.caches.code;
       starts : IfSome c.caches.starts (λ v. v.items ≡ start_addresses P.info (record {
         provider = c.provider.now;
@@ -173,7 +174,7 @@ impl<'a, P: ModuleProvider> Context<'a, P> {
             address_map,
             global_symbols,
             debug_information,
-            names: FunctionNames::new(alloc, formatter),
+            names: FunctionNames::new(alloc, provider, formatter),
             code_failed: FailedCodeParts::new(alloc),
             tables,
             caches: Caches::new(alloc, provider),

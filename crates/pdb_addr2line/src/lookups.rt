@@ -7,6 +7,7 @@ ghost use Rattle.pdb_functions.specs.Lookup.{found_function, procedures_of_modul
 ghost use Rattle.pdb_functions.specs.ModuleInfos.{readable_info};
 ghost use Rattle.pdb_functions.specs.Procedures.{module_procedure};
 ghost use Rattle.pdb_functions.specs.Spans.{contribution_covers, procedure_covers};
+ghost use Rattle.pdb_functions.specs.SymbolNames.{GoesBySymbol};
 ghost use Rattle.pdb_ranges.specs.Pick.{pick};
 ghost use Rattle.pdb_descriptions.specs.Names.{GainsBroken};
 ghost use Rattle.pdb_descriptions.specs.Function.{description, described, failed_by_telling};
@@ -97,6 +98,8 @@ impl<'a, P: ModuleProvider> Context<'a, P> {
         found: PublicOrProcedureSymbol<'a>,
         offset: u32,
     ) -> Result<Option<FunctionFrames<'a>>>
+        requires named { GoesBySymbol (P.info self.old.sources.provider) self.old.sources.basis.modules
+            (found_function found) }
         ensures told { let blamed = blamed_for P.info self.old.sources (found_function found.entry) in
             Gives (λ f. f) result (told_refusal self.old.code_failed blamed
             (frames_of P.info self.old.sources offset (found_function found.entry))) }
@@ -120,6 +123,8 @@ impl<'a, P: ModuleProvider> Context<'a, P> {
         module_info: Option<&'a ModuleInfo>,
         offset: u32,
     ) -> Result<Option<FunctionFrames<'a>>>
+        requires named { GoesBySymbol (P.info self.old.sources.provider) self.old.sources.basis.modules
+            (found_function found) }
         requires records { option_copied module_info
             ≡ records_of P.info self.old.sources (found_function found) }
         ensures told { let blamed = blamed_for P.info self.old.sources (found_function found.entry) in
@@ -181,6 +186,8 @@ impl<'a, P: ModuleProvider> Context<'a, P> {
         module_info: Option<&'a ModuleInfo>,
         offset: u32,
     ) -> Result<Option<FunctionFrames<'a>>>
+        requires named { GoesBySymbol (P.info self.old.sources.provider) self.old.sources.basis.modules
+            (found_function found) }
         requires records { option_copied module_info
             ≡ records_of P.info self.old.sources (found_function found) }
         ensures told { Gives (λ f. f) result
@@ -205,6 +212,8 @@ impl<'a, P: ModuleProvider> Context<'a, P> {
 
     /// What is told of a function that lies over a place.
     fn describe(&mut self, found: PublicOrProcedureSymbol<'a>) -> Result<Option<Function>>
+        requires named { GoesBySymbol (P.info self.old.sources.provider) self.old.sources.basis.modules
+            (found_function found) }
         ensures told { MatchResult result
             (λ f. option_map description f ≡ described P.info self.old.sources.basis self.old.sources.address_map
             (global_functions_of self.old.sources) (found_function found.entry))

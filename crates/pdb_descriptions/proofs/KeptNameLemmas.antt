@@ -6,6 +6,8 @@ use Rattle.pdb_records.specs.Names.{lossy}
 use Rattle.pdb_types.specs.FailedParts.{Parts, with_met}
 use Rattle.pdb_types.specs.Standing.{Infos}
 use Rattle.pdb_types.specs.declared.unread.Part.{Part}
+use Rattle.pdb_functions.specs.Lookup.{procedures_of_module}
+use Rattle.pdb_functions.specs.SymbolNames.{name_by_symbol}
 use Rattle.pdb_documents.specs.BrokenParts.{AddsBroken, with_parts, Settled}
 use Rattle.pdb_documents.specs.Documents.{Document, run}
 use Rattle.pdb_signatures.specs.Formatters.{Formatter}
@@ -54,35 +56,42 @@ signature_key position symbol type_index = record { position = position; symbol 
 -- ---- signatures
 
 -- no signature is kept
-pub signatures_new : {P : Type 0} (info : P → Infos) (f : Formatter P) (kept : List KeptSignature) → kept ≡ [] → FitsSignatures info f kept
+pub signatures_new : {P : Type 0} (info : P → Infos) (records : Infos) (f : Formatter P) (kept : List KeptSignature) → kept ≡ [] → FitsSignatures info records f kept
 unfolding FitsSignatures
-signatures_new info f kept empty = All-same (SignatureFits info f) kept [] empty (All-nil (SignatureFits info f))
+signatures_new info records f kept empty = All-same (SignatureFits info records f) kept [] empty (All-nil (SignatureFits info records f))
 
 -- signatures that are kept stay
-pub signatures_same : {P : Type 0} (info : P → Infos) (f : Formatter P) (kept more : List KeptSignature) → more ≡ kept → FitsSignatures info f kept → FitsSignatures info f more
+pub signatures_same : {P : Type 0} (info : P → Infos) (records : Infos) (f : Formatter P) (kept more : List KeptSignature) → more ≡ kept → FitsSignatures info records f kept → FitsSignatures info records f more
 unfolding FitsSignatures
-signatures_same info f kept more same fits = All-same (SignatureFits info f) more kept same fits
+signatures_same info records f kept more same fits = All-same (SignatureFits info records f) more kept same fits
 
 -- one more signature
-pub signatures_more : {P : Type 0} (info : P → Infos) (f : Formatter P) (entry : KeptSignature) (kept more : List KeptSignature) → more ≡ kept ++ entry ∷ [] → SignatureFits info f entry → FitsSignatures info f kept → FitsSignatures info f more
+pub signatures_more : {P : Type 0} (info : P → Infos) (records : Infos) (f : Formatter P) (entry : KeptSignature) (kept more : List KeptSignature) → more ≡ kept ++ entry ∷ [] → SignatureFits info records f entry → FitsSignatures info records f kept → FitsSignatures info records f more
 unfolding FitsSignatures
-signatures_more info f entry kept more is fitting fits = All-same (SignatureFits info f) more (kept ++ entry ∷ []) is (All-push (SignatureFits info f) kept entry fits fitting)
+signatures_more info records f entry kept more is fitting fits = All-same (SignatureFits info records f) more (kept ++ entry ∷ []) is (All-push (SignatureFits info records f) kept entry fits fitting)
 
--- what is kept of a procedure is printed
-pub signature_found : {P : Type 0} (info : P → Infos) (f : Formatter P) (kept : List KeptSignature) (key : SignatureKey) (name : List ℕ) (text : Option (List ℕ)) → FitsSignatures info f kept → HasSignature kept key name text → IsPrinted (signature_printing info f key name) f.failed text
+-- what is kept of a procedure is printed, by the name that its symbol has
+pub signature_found : {P : Type 0} (info : P → Infos) (records : Infos) (f : Formatter P) (kept : List KeptSignature) (key : SignatureKey) (name : List ℕ) (text : Option (List ℕ)) → FitsSignatures info records f kept → HasSignature kept key text
+    → name_by_symbol key.symbol (procedures_of_module records f.standing.modules key.position) ≡ Some name → IsPrinted (signature_printing info f key name) f.failed text
 unfolding FitsSignatures
-signature_found info f kept key name text fits has =
+signature_found info records f kept key name text fits has named =
     let i = has.stands.0 in
-    let fitting : SignatureFits info f has.entry = rw (has.stands.1.1) (fits i has.entry has.stands.1.0) in
-    rw (← has.keyed, ← has.named, ← has.is) fitting
+    let fitting : SignatureFits info records f has.entry = rw (has.stands.1.1) (fits i has.entry has.stands.1.0) in
+    rw (← has.keyed, ← has.is) (fitting name (rw has.keyed named))
+
+-- a signature that is printed by the name of a symbol is printed by each name that the symbol has
+pub printed_by_symbol : {P : Type 0} (info : P → Infos) (records : Infos) (f : Formatter P) (key : SignatureKey) (name : List ℕ) (text : Option (List ℕ))
+    → name_by_symbol key.symbol (procedures_of_module records f.standing.modules key.position) ≡ Some name → IsPrinted (signature_printing info f key name) f.failed text
+    → (other : List ℕ) → name_by_symbol key.symbol (procedures_of_module records f.standing.modules key.position) ≡ Some other → IsPrinted (signature_printing info f key other) f.failed text
+printed_by_symbol info records f key name text named printed other also = let same : name ≡ other = cc in rw (← same) printed
 
 -- signatures that are kept fit as more parts fail
-pub signatures_later : {P : Type 0} (info : P → Infos) (f g : Formatter P) (kept : List KeptSignature) → g.standing ≡ f.standing → MoreParts f.failed g.failed → FitsSignatures info f kept → FitsSignatures info g kept
+pub signatures_later : {P : Type 0} (info : P → Infos) (records : Infos) (f g : Formatter P) (kept : List KeptSignature) → g.standing ≡ f.standing → MoreParts f.failed g.failed → FitsSignatures info records f kept → FitsSignatures info records g kept
 unfolding FitsSignatures
-signatures_later info f g kept same more fits = All-weaker (SignatureFits info f) (SignatureFits info g) (λ entry fitting.
+signatures_later info records f g kept same more fits = All-weaker (SignatureFits info records f) (SignatureFits info records g) (λ entry fitting name named.
     let w = formatter_world info f.standing entry.key.position in
-    let d = document_of w (signature w (lossy entry.name.now) entry.key.type_index) in
-    rw (same, more.1) (printed_later d f.failed more.0 (option_map string_bytes entry.text) fitting)) kept fits
+    let d = document_of w (signature w (lossy name) entry.key.type_index) in
+    rw (same, more.1) (printed_later d f.failed more.0 (option_map string_bytes entry.text) (fitting name (rw same at named)))) kept fits
 
 -- ---- ids
 

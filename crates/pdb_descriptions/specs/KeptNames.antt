@@ -1,9 +1,11 @@
 -- Names that were printed once, and are kept.
-use Rattle.std.specs.Prelude.{◌≡◌, ℕ, List, [], Option, option_map, string_bytes}
+use Rattle.std.specs.Prelude.{◌≡◌, ℕ, List, [], Option, Some, option_map, string_bytes}
 use Rattle.std.specs.List.{All, IsAmong}
 use Rattle.pdb_records.specs.Names.{lossy}
 use Rattle.pdb_types.specs.FailedParts.{Parts}
-use Rattle.pdb_types.specs.Standing.{Infos}
+use Rattle.pdb_types.specs.Standing.{Basis, Infos}
+use Rattle.pdb_functions.specs.Lookup.{procedures_of_module}
+use Rattle.pdb_functions.specs.SymbolNames.{name_by_symbol}
 use Rattle.pdb_documents.specs.BrokenParts.{Settled}
 use Rattle.pdb_documents.specs.Documents.{Run}
 use Rattle.pdb_signatures.specs.Formatters.{Formatter}
@@ -14,6 +16,13 @@ use Rattle.pdb_descriptions.specs.declared.name_keys.SignatureKey.{SignatureKey}
 use Rattle.pdb_descriptions.specs.declared.kept_ids.KeptId.{KeptId}
 use Rattle.pdb_descriptions.specs.declared.kept_signatures.KeptSignature.{KeptSignature}
 
+-- what names are printed by: what a formatter stands on, the parts that it met broken, and the provider of the records
+-- that have the procedures
+pub record Namer (P : Type 0) : Type 0 where
+  pub standing : Basis P
+  pub failed : Parts
+  pub provider : P
+
 -- a text is what is printed, if it can be, and where these parts failed, printing it adds none to them
 pub record IsPrinted (printing : Parts → Run) (failed : Parts) (text : Option (List ℕ)) : Type 0 where
   pub is : text ≡ text_of_run (printing [])
@@ -23,14 +32,15 @@ pub record IsPrinted (printing : Parts → Run) (failed : Parts) (text : Option 
 abbrev pub signature_printing : {P : Type 0} → (P → Infos) → Formatter P → SignatureKey → List ℕ → Parts → Run
 signature_printing info f key name = signature_run info f.standing key.position (lossy name) key.type_index
 
--- what is kept of a procedure is its signature, by the name that is kept with it
-abbrev pub SignatureFits : {P : Type 0} → (P → Infos) → Formatter P → KeptSignature → Type 0
-SignatureFits info f kept =
-    IsPrinted (signature_printing info f kept.key kept.name.now) f.failed (option_map string_bytes kept.text)
+-- what is kept of a procedure is its signature, by the name that its symbol has in these records
+abbrev pub SignatureFits : {P : Type 0} → (P → Infos) → Infos → Formatter P → KeptSignature → Type 0
+SignatureFits info records f kept = (name : List ℕ)
+    → name_by_symbol kept.key.symbol (procedures_of_module records f.standing.modules kept.key.position) ≡ Some name
+    → IsPrinted (signature_printing info f kept.key name) f.failed (option_map string_bytes kept.text)
 
 -- what is kept of each procedure is its signature
-unfoldable pub FitsSignatures : {P : Type 0} → (P → Infos) → Formatter P → List KeptSignature → Type 0
-FitsSignatures info f kept = All (SignatureFits info f) kept
+unfoldable pub FitsSignatures : {P : Type 0} → (P → Infos) → Infos → Formatter P → List KeptSignature → Type 0
+FitsSignatures info records f kept = All (SignatureFits info records f) kept
 
 -- what is kept of an id is its text
 abbrev pub IdFits : {P : Type 0} → (P → Infos) → Formatter P → KeptId → Type 0
@@ -41,13 +51,11 @@ IdFits info f kept =
 unfoldable pub FitsIds : {P : Type 0} → (P → Infos) → Formatter P → List KeptId → Type 0
 FitsIds info f kept = All (IdFits info f) kept
 
--- a text is kept of a procedure, with this name
-pub record HasSignature (kept : List KeptSignature) (key : SignatureKey) (name : List ℕ)
-    (text : Option (List ℕ)) : Type 0 where
+-- a text is kept of a procedure
+pub record HasSignature (kept : List KeptSignature) (key : SignatureKey) (text : Option (List ℕ)) : Type 0 where
   pub entry : KeptSignature
   pub stands : IsAmong kept entry
   pub keyed : entry.key ≡ key
-  pub named : entry.name.now ≡ name
   pub is : option_map string_bytes entry.text ≡ text
 
 -- a text is kept of an id

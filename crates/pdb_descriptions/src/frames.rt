@@ -4,6 +4,7 @@ ghost use Rattle.pdb_types.specs.Outcomes.{Gives};
 ghost use Rattle.pdb_types.specs.declared.error.Error.TheVariants.{OutOfMemory};
 ghost use Rattle.pdb_records.specs.Addresses.{rva};
 ghost use Rattle.pdb_functions.specs.Lookup.{found_function};
+ghost use Rattle.pdb_functions.specs.SymbolNames.{GoesBySymbol};
 ghost use Rattle.pdb_documents.specs.BrokenParts.{AddsBroken};
 ghost use Rattle.pdb_documents.specs.Worlds.{formatter_world};
 ghost use Rattle.pdb_descriptions.specs.Frames.{own_frame, inlined_frame, inlined_frames, origin_frames, function_frames, function_size, described_frames, failed_by_ids, bodies_over, failed_by_frames, ButForMemory};
@@ -83,6 +84,7 @@ fn inlined_frames<'a, P: ModuleProvider>(
         (id_name P.info names.old.standing module_index) ranges.now)
         (λ e. e ≡ OutOfMemory) }
     ensures standing { names.new.standing ≡ names.old.standing }
+    ensures provider { names.new.provider ≡ names.old.provider }
     ensures failed { OnOk result (names.new.failed
         ≡ failed_by_ids (failed_by_id P.info names.old.standing module_index) ranges.now names.old.failed) }
     ensures broken { AddsBroken (formatter_world P.info names.old.standing module_index)
@@ -111,6 +113,7 @@ fn frames_of_origin<'a, P: ModuleProvider>(
         (id_name P.info names.old.standing module_index) (option_map string_bytes name) (kept_origin origin.now))
         (λ e. e ≡ OutOfMemory) }
     ensures standing { names.new.standing ≡ names.old.standing }
+    ensures provider { names.new.provider ≡ names.old.provider }
     ensures failed { OnOk result (names.new.failed
         ≡ failed_by_ids (failed_by_id P.info names.old.standing module_index)
         (kept_origin origin.now).stack names.old.failed) }
@@ -165,6 +168,7 @@ fn frames_of_function<'a, P: ModuleProvider>(
         Gives (λ v. v.items) result (function_frames files.now name_of
         (option_map string_bytes name) (option_copied module_info.entry) found offset) }
     ensures standing { names.new.standing ≡ names.old.standing }
+    ensures provider { names.new.provider ≡ names.old.provider }
     ensures failed { let found = found_function function.entry in
         let failed_by = failed_by_id P.info names.old.standing (function_module found) in
         let bodies = bodies_over (option_copied module_info.entry) found offset in
@@ -238,12 +242,14 @@ pub fn describe_frames<'a, P: ModuleProvider>(
     offset: u32,
 ) -> Result<Option<FunctionFrames<'a>>>
     ghost records: { Records }
+    requires named { GoesBySymbol (P.info names.old.provider) names.old.standing.modules (found_function function) }
     requires code { FitsCode records code.old }
     requires module_info { IfSome module_info (λ info. records (function_module (found_function function)) ≡ Some info.now) }
     ensures told { Gives (λ f. f) result (described_frames P.info names.old.standing files.now
         address_map.now functions.now (option_copied module_info.entry)
         (found_function function.entry) offset) }
     ensures standing { names.new.standing ≡ names.old.standing }
+    ensures provider { names.new.provider ≡ names.old.provider }
     ensures failed { ButForMemory result (names.new.failed ≡ failed_by_frames P.info names.old.standing
         address_map.now functions.now (option_copied module_info.entry)
         (found_function function.entry) offset names.old.failed) }

@@ -1,11 +1,12 @@
-ghost use Rattle.std.specs.Prelude.{◌≡◌, option_map, string_bytes, IfOk, OnOk, MatchResult};
+ghost use Rattle.std.specs.Prelude.{◌≡◌, Some, option_map, string_bytes, IfOk, OnOk, MatchResult};
 ghost use Rattle.std.specs.Option.{option_copied, option_map_or};
 ghost use Rattle.pdb_records.specs.Addresses.{rva};
 ghost use Rattle.pdb_records.specs.Names.{lossy};
 ghost use Rattle.pdb_types.specs.declared.error.Error.TheVariants.{OutOfMemory};
 ghost use Rattle.pdb_functions.specs.GlobalFunctions.{global_function};
 ghost use Rattle.pdb_functions.specs.Procedures.{module_procedure};
-ghost use Rattle.pdb_functions.specs.Lookup.{found_function};
+ghost use Rattle.pdb_functions.specs.Lookup.{found_function, procedures_of_module};
+ghost use Rattle.pdb_functions.specs.SymbolNames.{name_by_symbol, GoesBySymbol};
 ghost use Rattle.pdb_descriptions.specs.Names.{procedure_name, failed_by_name, GainsBroken};
 ghost use Rattle.pdb_descriptions.specs.Function.{description, global_end, described_global, described_procedure, described, failed_by_telling};
 
@@ -54,12 +55,16 @@ fn describe_procedure<'a, P: ModuleProvider>(
     module_index: usize,
     procedure: ProcedureSymbolFunction<'a>,
 ) -> Result<Option<Function>>
+    requires named { name_by_symbol procedure.symbol_index.0
+        (procedures_of_module (P.info names.old.provider) names.old.standing.modules module_index)
+        ≡ Some procedure.name.now }
     ensures told { MatchResult result
         (λ f. option_map description f ≡ described_procedure address_map.now (module_procedure procedure.entry)
         (procedure_name P.info names.old.standing functions.now
         module_index (module_procedure procedure.entry)))
         (λ e. e ≡ OutOfMemory) }
     ensures standing { names.new.standing ≡ names.old.standing }
+    ensures provider { names.new.provider ≡ names.old.provider }
     ensures failed { OnOk result (names.new.failed ≡ option_map_or
         (λ _. failed_by_name P.info names.old.standing functions.now
         module_index (module_procedure procedure.entry) names.old.failed)
@@ -127,11 +132,13 @@ pub fn describe<'a, P: ModuleProvider>(
     names: &mut FunctionNames<'a, P>,
     found: PublicOrProcedureSymbol<'a>,
 ) -> Result<Option<Function>>
+    requires named { GoesBySymbol (P.info names.old.provider) names.old.standing.modules (found_function found) }
     ensures told { MatchResult result
         (λ f. option_map description f ≡ described P.info names.old.standing address_map.now
         functions.now (found_function found.entry))
         (λ e. e ≡ OutOfMemory) }
     ensures standing { names.new.standing ≡ names.old.standing }
+    ensures provider { names.new.provider ≡ names.old.provider }
     ensures failed { OnOk result (names.new.failed ≡ failed_by_telling P.info names.old.standing
         address_map.now functions.now (found_function found.entry) names.old.failed) }
     ensures broken { GainsBroken P.info names.old.standing names.old.failed names.new.failed }

@@ -1,10 +1,11 @@
-ghost use Rattle.std.specs.Prelude.{◌≡◌, option_map, string_bytes, OnOk, OnErr, MatchResult};
+ghost use Rattle.std.specs.Prelude.{◌≡◌, Some, option_map, string_bytes, OnOk, OnErr, MatchResult};
 ghost use Rattle.pdb_records.specs.Names.{lossy};
 ghost use Rattle.pdb_types.specs.FailedParts.{with_met};
 ghost use Rattle.pdb_types.specs.TypeSizes.{size_of};
 ghost use Rattle.pdb_types.specs.declared.error.Error.TheVariants.{OutOfMemory};
-ghost use Rattle.pdb_functions.specs.Lookup.{found_function};
+ghost use Rattle.pdb_functions.specs.Lookup.{found_function, procedures_of_module};
 ghost use Rattle.pdb_functions.specs.Procedures.{module_procedure};
+ghost use Rattle.pdb_functions.specs.SymbolNames.{name_by_symbol, GoesBySymbol};
 ghost use Rattle.pdb_documents.specs.Answers.{AnswersText};
 ghost use Rattle.pdb_documents.specs.BrokenParts.{AddsBroken};
 ghost use Rattle.pdb_documents.specs.Printed.{signature_run, id_run};
@@ -31,41 +32,47 @@ use std::marker::Model;
 pub struct FunctionNames<'a, P: ModuleProvider> {
     alloc: Global,
     formatter: TypeFormatter<'a, P>,
-    signatures: KeptSignatures<'a>,
+    signatures: KeptSignatures<'a, P>,
     ids: KeptIds,
 }
 
-// Clauses see the formatter alone.
+// Clauses see the formatter, and the provider of the procedures' records.
 impl<'a, P: ModuleProvider> Model for FunctionNames<'a, P> {
-    ghost use Rattle.pdb_signatures.specs.Formatters.{Formatter};
-    ghost use Rattle.pdb_descriptions.specs.KeptNames.{FitsSignatures, FitsIds};
+    ghost use Rattle.pdb_descriptions.specs.KeptNames.{Namer, FitsSignatures, FitsIds};
 
-    ghost Value = { Formatter P };
+    ghost Value = { Namer P };
 
-    ghost view = { λ n. n.formatter };
+    ghost view = { λ n. record {
+      standing = n.formatter.standing;
+      failed = n.formatter.failed;
+      provider = n.signatures.provider.now;
+    } };
 
     ghost invariant = { λ n. record {
-      signatures : FitsSignatures P.info n.formatter n.signatures.texts.items;
+      signatures : FitsSignatures P.info (P.info n.signatures.provider.now) n.formatter n.signatures.texts.items;
       ids : FitsIds P.info n.formatter n.ids.texts.items;
     } };
 }
 
 impl<'a, P: ModuleProvider> FunctionNames<'a, P> {
-    /// The names that a formatter prints. It takes no memory.
-    pub fn new(alloc: Global, formatter: TypeFormatter<'a, P>) -> Self
-        ensures { result ≡ formatter.entry }
+    /// The names that a formatter prints of procedures whose records a provider has. It takes no memory.
+    pub fn new(alloc: Global, provider: &'a P, formatter: TypeFormatter<'a, P>) -> Self
+        ensures standing { result.standing ≡ formatter.entry.standing }
+        ensures failed { result.failed ≡ formatter.entry.failed }
+        ensures provider { result.provider ≡ provider.now }
     {
         FunctionNames {
             alloc,
             formatter,
-            signatures: KeptSignatures::new(alloc),
+            signatures: KeptSignatures::new(alloc, provider),
             ids: KeptIds::new(alloc),
         }
     }
 
     /// The formatter back, with what it remembers.
     pub fn into_type_formatter(self) -> TypeFormatter<'a, P>
-        ensures { result ≡ self.entry }
+        ensures standing { result.standing ≡ self.entry.standing }
+        ensures failed { result.failed ≡ self.entry.failed }
     {
         self.formatter
     }
@@ -83,6 +90,7 @@ impl<'a, P: ModuleProvider> FunctionNames<'a, P> {
             (λ size. size ≡ (size_of P.info self.old.standing module_index index.0).size)
             (λ e. e ≡ OutOfMemory) }
         ensures standing { self.new.standing ≡ self.old.standing }
+        ensures provider { self.new.provider ≡ self.old.provider }
         ensures remembered { OnOk result (self.new.failed ≡
             with_met self.old.failed (size_of P.info self.old.standing module_index index.0).met) }
         ensures unchanged { OnErr result (self.new.failed ≡ self.old.failed) }
@@ -101,6 +109,7 @@ impl<'a, P: ModuleProvider> FunctionNames<'a, P> {
             (signature_run P.info self.old.standing module_index name.now index.0 self.old.failed)
             result self.new.failed }
         ensures standing { self.new.standing ≡ self.old.standing }
+        ensures provider { self.new.provider ≡ self.old.provider }
         ensures broken { AddsBroken (formatter_world P.info self.old.standing module_index)
             self.old.failed self.new.failed }
     {
@@ -113,6 +122,7 @@ impl<'a, P: ModuleProvider> FunctionNames<'a, P> {
             (id_run P.info self.old.standing module_index index.0 self.old.failed)
             result self.new.failed }
         ensures standing { self.new.standing ≡ self.old.standing }
+        ensures provider { self.new.provider ≡ self.old.provider }
         ensures broken { AddsBroken (formatter_world P.info self.old.standing module_index)
             self.old.failed self.new.failed }
     {
@@ -126,6 +136,7 @@ impl<'a, P: ModuleProvider> FunctionNames<'a, P> {
             (λ name. option_map string_bytes name ≡ id_name P.info self.old.standing module_index id)
             (λ e. e ≡ OutOfMemory) }
         ensures standing { self.new.standing ≡ self.old.standing }
+        ensures provider { self.new.provider ≡ self.old.provider }
         ensures failed { OnOk result (self.new.failed
             ≡ failed_by_id P.info self.old.standing module_index id self.old.failed) }
         ensures broken { AddsBroken (formatter_world P.info self.old.standing module_index)
@@ -139,13 +150,17 @@ impl<'a, P: ModuleProvider> FunctionNames<'a, P> {
         &mut self,
         functions: &GlobalFunctionTable<'_>,
         module_index: usize,
-        procedure: ProcedureSymbolFunction<'a>,
+        procedure: ProcedureSymbolFunction<'_>,
     ) -> Result<Option<String>>
+        requires named { name_by_symbol procedure.symbol_index.0
+            (procedures_of_module (P.info self.old.provider) self.old.standing.modules module_index)
+            ≡ Some procedure.name.now }
         ensures name { MatchResult result
             (λ name. option_map string_bytes name ≡ procedure_name P.info self.old.standing
             functions.now module_index (module_procedure procedure.entry))
             (λ e. e ≡ OutOfMemory) }
         ensures standing { self.new.standing ≡ self.old.standing }
+        ensures provider { self.new.provider ≡ self.old.provider }
         ensures failed { OnOk result (self.new.failed ≡ failed_by_name P.info self.old.standing
             functions.now module_index (module_procedure procedure.entry) self.old.failed) }
         ensures broken { AddsBroken (formatter_world P.info self.old.standing module_index)
@@ -162,13 +177,17 @@ impl<'a, P: ModuleProvider> FunctionNames<'a, P> {
     fn signature(
         &mut self,
         module_index: usize,
-        procedure: ProcedureSymbolFunction<'a>,
+        procedure: ProcedureSymbolFunction<'_>,
     ) -> Result<Option<String>>
+        requires named { name_by_symbol procedure.symbol_index.0
+            (procedures_of_module (P.info self.old.provider) self.old.standing.modules module_index)
+            ≡ Some procedure.name.now }
         ensures text { MatchResult result
             (λ text. option_map string_bytes text ≡ signature_text P.info self.old.standing module_index
             (lossy procedure.entry.name.now) procedure.entry.type_index.0)
             (λ e. e ≡ OutOfMemory) }
         ensures standing { self.new.standing ≡ self.old.standing }
+        ensures provider { self.new.provider ≡ self.old.provider }
         ensures failed { OnOk result (let run = signature_run P.info self.old.standing module_index
             (lossy procedure.entry.name.now) procedure.entry.type_index.0 self.old.failed in
             self.new.failed ≡ run.failed) }
@@ -188,13 +207,15 @@ impl<'a, P: ModuleProvider> FunctionNames<'a, P> {
     pub(crate) fn name_of_function(
         &mut self,
         functions: &GlobalFunctionTable<'_>,
-        function: PublicOrProcedureSymbol<'a>,
+        function: PublicOrProcedureSymbol<'_>,
     ) -> Result<Option<String>>
+        requires named { GoesBySymbol (P.info self.old.provider) self.old.standing.modules (found_function function) }
         ensures name { MatchResult result
             (λ name. option_map string_bytes name ≡ function_name P.info self.old.standing
             functions.now (found_function function.entry))
             (λ e. e ≡ OutOfMemory) }
         ensures standing { self.new.standing ≡ self.old.standing }
+        ensures provider { self.new.provider ≡ self.old.provider }
         ensures failed { OnOk result (self.new.failed ≡ failed_by_function_name P.info self.old.standing
             functions.now (found_function function.entry) self.old.failed) }
         ensures broken { AddsBroken

@@ -1,6 +1,8 @@
-ghost use Rattle.std.specs.Prelude.{◌≡◌, option_map, string_bytes, OnOk, MatchResult};
+ghost use Rattle.std.specs.Prelude.{◌≡◌, Some, List, ℕ, option_map, string_bytes, OnOk, MatchResult};
 ghost use Rattle.pdb_records.specs.Names.{lossy};
 ghost use Rattle.pdb_types.specs.declared.error.Error.TheVariants.{OutOfMemory};
+ghost use Rattle.pdb_functions.specs.Lookup.{procedures_of_module};
+ghost use Rattle.pdb_functions.specs.SymbolNames.{name_by_symbol};
 ghost use Rattle.pdb_documents.specs.BrokenParts.{AddsBroken};
 ghost use Rattle.pdb_signatures.specs.Formatters.{Formatter};
 ghost use Rattle.pdb_documents.specs.Printed.{signature_run, id_run};
@@ -14,36 +16,41 @@ use crate::name_keys::{IdKey, SignatureKey, id_key, signature_key};
 use crate::printed_names::{name_of_id, signature_of};
 use pdb_frames::copy_of_name;
 use pdb_functions::ProcedureSymbolFunction;
-use pdb_records::{IdIndex, RawString};
+use pdb_records::IdIndex;
 use pdb_signatures::TypeFormatter;
 use pdb_types::{ModuleProvider, Result};
 use std::alloc::{AllocError, Global};
 
-/// Keeps the signature of a procedure of this name.
-fn keep_signature<'a, P: ModuleProvider>(
-    kept: &mut KeptSignatures<'a>,
+/// Keeps the signature of a procedure.
+fn keep_signature<P: ModuleProvider>(
+    kept: &mut KeptSignatures<'_, P>,
     key: SignatureKey,
-    name: &'a RawString,
     text: &Option<String>,
 ) -> Result<(), AllocError>
-    ensures { (f : Formatter P) → FitsSignatures P.info f kept.old.texts.items
-        → IsPrinted (signature_printing P.info f key name.now) f.failed (option_map string_bytes text.now)
-        → FitsSignatures P.info f kept.new.texts.items }
+    ensures fits { (f : Formatter P) → FitsSignatures P.info (P.info kept.old.provider.now) f kept.old.texts.items
+        → ((name : List ℕ) → name_by_symbol key.symbol
+        (procedures_of_module (P.info kept.old.provider.now) f.standing.modules key.position) ≡ Some name
+        → IsPrinted (signature_printing P.info f key name) f.failed (option_map string_bytes text.now))
+        → FitsSignatures P.info (P.info kept.old.provider.now) f kept.new.texts.items }
+    ensures provider { kept.new.provider ≡ kept.old.provider }
 {
     let text = copy_of_name(text)?;
-    kept.keep(key, name, text)?;
+    kept.keep(key, text)?;
     Ok(())
 }
 
 /// The signature of a procedure of the module at a position, if it can be printed. It is printed once.
-pub(crate) fn signature_once<'a, P: ModuleProvider>(
+pub(crate) fn signature_once<P: ModuleProvider>(
     alloc: Global,
     formatter: &mut TypeFormatter<'_, P>,
-    kept: &mut KeptSignatures<'a>,
+    kept: &mut KeptSignatures<'_, P>,
     module_index: usize,
-    procedure: ProcedureSymbolFunction<'a>,
+    procedure: ProcedureSymbolFunction<'_>,
 ) -> Result<Option<String>>
-    requires fits { FitsSignatures P.info formatter.old kept.old.texts.items }
+    requires fits { FitsSignatures P.info (P.info kept.old.provider.now) formatter.old kept.old.texts.items }
+    requires named { name_by_symbol procedure.symbol_index.0
+        (procedures_of_module (P.info kept.old.provider.now) formatter.old.standing.modules module_index)
+        ≡ Some procedure.name.now }
     ensures text { MatchResult result
         (λ text. option_map string_bytes text ≡ signature_text P.info formatter.old.standing module_index
         (lossy procedure.entry.name.now) procedure.entry.type_index.0)
@@ -54,15 +61,16 @@ pub(crate) fn signature_once<'a, P: ModuleProvider>(
         formatter.new.failed ≡ run.failed) }
     ensures broken { AddsBroken (formatter_world P.info formatter.old.standing module_index)
         formatter.old.failed formatter.new.failed }
-    ensures fits { FitsSignatures P.info formatter.new kept.new.texts.items }
+    ensures fits { FitsSignatures P.info (P.info kept.old.provider.now) formatter.new kept.new.texts.items }
+    ensures provider { kept.new.provider ≡ kept.old.provider }
 {
     let key = signature_key(module_index, procedure);
-    if let Some(text) = kept.text(key, procedure.name)? {
+    if let Some(text) = kept.text(key)? {
         return Ok(text);
     }
     let name = procedure.name.to_string_lossy(alloc)?;
     let text = signature_of(formatter, name.as_str(), module_index, procedure.type_index)?;
-    keep_signature::<P>(kept, key, procedure.name, &text)?;
+    keep_signature(kept, key, &text)?;
     Ok(text)
 }
 

@@ -9,4 +9,5 @@ pub mod StartLemmas
 pub mod RunLemmas
 pub mod GlobalFunctionLemmas
 pub mod ModuleInfoLemmas
+pub mod SymbolLemmas
 pub mod SectionLemmas

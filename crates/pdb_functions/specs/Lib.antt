@@ -8,4 +8,5 @@ pub mod Keys
 pub mod SectionTables
 pub mod Lookup
 pub mod ModuleInfos
+pub mod SymbolNames
 pub mod Laws

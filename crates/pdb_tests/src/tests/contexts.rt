@@ -14,6 +14,13 @@ const PROGRAM: &[u8] = br#"{"sections":[{"virtual_address":4096,"virtual_size":2
 "type_information":[{"index":4096,"kind":"Primitive","primitive":"F80","indirection":false}],
 "id_information":[],"string_table":[],"module_infos":[null]}"#;
 
+/// What a context is made of, from the text of a records file.
+pub(super) fn data_of(alloc: Global, text: &[u8]) -> Result<ContextPdbData<'static>, Fail> {
+    let records = read_records(alloc, text)?;
+    let data = ContextPdbData::try_from_pdb(alloc, records)?;
+    Ok(data)
+}
+
 /// A context over records of its own, whose modules a provider knows, and with a formatter.
 pub(super) fn context_of<'a, P: ModuleProvider>(
     alloc: Global,
@@ -59,7 +66,7 @@ fn check_context<P: ModuleProvider>(
 
 #[test]
 fn a_context_with_flags_of_its_own(rt: HostRuntime) -> Result<(), Fail> {
-    let data = ContextPdbData::try_from_pdb(rt.alloc(), read_records(rt.alloc(), PROGRAM)?)?;
+    let data = data_of(rt.alloc(), PROGRAM)?;
     let flags = TypeFormatterFlags::NO_ARGUMENTS;
     check_context(&rt, data.make_context_with_formatter_flags(flags)?)
 }
@@ -77,7 +84,7 @@ fn check_parts(
 
 #[test]
 fn a_context_of_parts(rt: HostRuntime) -> Result<(), Fail> {
-    let data = ContextPdbData::try_from_pdb(rt.alloc(), read_records(rt.alloc(), PROGRAM)?)?;
+    let data = data_of(rt.alloc(), PROGRAM)?;
     let records = read_records(rt.alloc(), PROGRAM)?;
     check_parts(&rt, rt.alloc(), &data, &records)
 }

@@ -1,9 +1,8 @@
-use crate::tests::contexts::context_of;
+use crate::tests::contexts::{context_of, data_of};
 use crate::tests::frames::PROGRAM;
 use pdb_addr2line::pdb::{Module, ModuleInfo, PDB, StreamError};
 use pdb_addr2line::{
-    Answer, Call, Context, ContextPdbData, Function, ModuleProvider, TypeFormatter,
-    TypeFormatterFlags,
+    Answer, Call, Context, Function, ModuleProvider, TypeFormatter, TypeFormatterFlags,
 };
 use pdb_json::read_records;
 use std::alloc::{AllocError, Global};
@@ -161,7 +160,7 @@ fn count_calls<P: ModuleProvider>(
 
 #[test]
 fn equal_calls_ask_the_provider_once(rt: HostRuntime) -> Result<(), Fail> {
-    let data = ContextPdbData::try_from_pdb(rt.alloc(), read_records(rt.alloc(), PROGRAM)?)?;
+    let data = data_of(rt.alloc(), PROGRAM)?;
     count_calls(&rt, rt.alloc(), &data)
 }
 
@@ -183,7 +182,7 @@ fn walk<P: ModuleProvider>(
 
 #[test]
 fn functions_one_by_one(rt: HostRuntime) -> Result<(), Fail> {
-    let data = ContextPdbData::try_from_pdb(rt.alloc(), read_records(rt.alloc(), PROGRAM)?)?;
+    let data = data_of(rt.alloc(), PROGRAM)?;
     let mut context = data.make_context()?;
     walk(&rt, rt.alloc(), &mut context)
 }

@@ -1,6 +1,6 @@
+use crate::tests::contexts::data_of;
+use pdb_addr2line::TypeFormatterFlags;
 use pdb_addr2line::pdb::TypeIndex;
-use pdb_addr2line::{ContextPdbData, TypeFormatterFlags};
-use pdb_json::read_records;
 use std::test::Fail;
 
 /// A program for a machine with pointers of four bytes, with a primitive type, a pointer to it of the
@@ -15,7 +15,7 @@ const TYPES: &[u8] = br#"{"sections":[],"address_map":[],"global_symbols":[],
 
 #[test]
 fn sizes_of_types_in_a_records_file(rt: HostRuntime) -> Result<(), Fail> {
-    let data = ContextPdbData::try_from_pdb(rt.alloc(), read_records(rt.alloc(), TYPES)?)?;
+    let data = data_of(rt.alloc(), TYPES)?;
     let mut formatter = data.make_type_formatter()?;
     for (index, size) in [
         (4096, 10),
@@ -33,7 +33,7 @@ fn sizes_of_types_in_a_records_file(rt: HostRuntime) -> Result<(), Fail> {
 
 #[test]
 fn a_formatter_with_flags_of_its_own(rt: HostRuntime) -> Result<(), Fail> {
-    let data = ContextPdbData::try_from_pdb(rt.alloc(), read_records(rt.alloc(), TYPES)?)?;
+    let data = data_of(rt.alloc(), TYPES)?;
     let mut formatter = data.make_type_formatter_with_flags(TypeFormatterFlags::NO_ARGUMENTS)?;
     assert_eq!(rt; formatter.get_type_size(0, TypeIndex(4096))?, 10u64);
     Ok(())

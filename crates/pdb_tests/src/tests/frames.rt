@@ -1,5 +1,5 @@
-use pdb_addr2line::{Context, ContextPdbData, Frame, FunctionFrames, ModuleProvider};
-use pdb_json::read_records;
+use crate::tests::contexts::data_of;
+use pdb_addr2line::{Context, Frame, FunctionFrames, ModuleProvider};
 use std::alloc::Global;
 use std::process::Abort;
 use std::test::Fail;
@@ -87,12 +87,12 @@ fn clone_function<P: ModuleProvider>(
 
 #[test]
 fn frames_are_kept_over_later_calls(rt: HostRuntime) -> Result<(), Fail> {
-    let data = ContextPdbData::try_from_pdb(rt.alloc(), read_records(rt.alloc(), PROGRAM)?)?;
+    let data = data_of(rt.alloc(), PROGRAM)?;
     keep_frames(&rt, rt.alloc(), &mut data.make_context()?)
 }
 
 #[test]
 fn a_clone_of_a_function(rt: HostRuntime) -> Result<(), Fail> {
-    let data = ContextPdbData::try_from_pdb(rt.alloc(), read_records(rt.alloc(), PROGRAM)?)?;
+    let data = data_of(rt.alloc(), PROGRAM)?;
     clone_function(&rt, &mut data.make_context()?)
 }

@@ -1,12 +1,13 @@
+use crate::tests::contexts::data_of;
 use pdb_addr2line::parts::BasicModuleInfo;
 use pdb_addr2line::pdb::{
     AddressMap, AddressRange, CrossModuleExports, CrossModuleImports, FileIndex, FileInfo,
-    ImportedModule, LineInfo, LineProgram, PdbInternalSectionOffset, RawString, Reading, Rva,
-    StringRef, StringTable, SymbolLines,
+    ImportedModule, LineInfo, LineProgram, Module, ModuleInfo, PdbInternalSectionOffset, RawString,
+    Reading, Rva, StringRef, StringTable, SymbolLines,
 };
 use pdb_addr2line::{Context, ContextPdbData, ModuleProvider};
 use pdb_json::read_records;
-use std::alloc::Global;
+use std::alloc::{AllocError, Global};
 use std::process::Abort;
 use std::test::Fail;
 
@@ -35,7 +36,7 @@ const NOTHING: &[u8] = br#"{"sections":[],"address_map":[],"global_symbols":[],
 
 /// How many starts of functions a program has.
 fn count_starts(alloc: Global, text: &[u8]) -> Result<usize, Fail> {
-    let data = ContextPdbData::try_from_pdb(alloc, read_records(alloc, text)?)?;
+    let data = data_of(alloc, text)?;
     Ok(data.make_context()?.function_count())
 }
 
@@ -68,20 +69,34 @@ fn contexts_of_owned_and_lent_records(rt: HostRuntime) -> Result<(), Fail> {
     check_procedure(&rt, &mut data.make_context()?)
 }
 
-#[test]
-fn module_infos_and_procedures(rt: HostRuntime) -> Result<(), Fail> {
-    let data = ContextPdbData::try_from_pdb(rt.alloc(), read_records(rt.alloc(), PROGRAM)?)?;
-    let module = pdb_addr2line::pdb::Module {
-        name: RawString(Vec::new(rt.alloc())),
-    };
-    assert!(rt; matches!(data.get_module_info(1, &module), Ok(None)));
-    let Ok(Some(info)) = data.get_module_info(0, &module) else {
-        return Err(Fail::from("no info"));
-    };
-    let basic = BasicModuleInfo::try_from_module_info(rt.alloc(), info)?;
+/// Whether the records of a module have one procedure.
+fn check_module_info(rt: &impl Abort, alloc: Global, info: &ModuleInfo) -> Result<(), Fail> {
+    let basic = BasicModuleInfo::try_from_module_info(alloc, info)?;
     assert_eq!(rt; basic.procedures().len(), 1);
     assert_eq!(rt; basic.module_info().symbols.items.len(), 1);
     Ok(())
+}
+
+/// Whether a program has the records of one module.
+fn check_module_infos(
+    rt: &impl Abort,
+    alloc: Global,
+    data: &ContextPdbData<'_>,
+) -> Result<(), Fail> {
+    let module = Module {
+        name: RawString(Vec::new(alloc)),
+    };
+    assert!(rt; matches!(data.get_module_info(1, &module), Ok(None)));
+    match data.get_module_info(0, &module) {
+        Ok(Some(info)) => check_module_info(rt, alloc, info),
+        _ => Err(Fail::from("no info")),
+    }
+}
+
+#[test]
+fn module_infos_and_procedures(rt: HostRuntime) -> Result<(), Fail> {
+    let data = data_of(rt.alloc(), PROGRAM)?;
+    check_module_infos(&rt, rt.alloc(), &data)
 }
 
 #[test]
@@ -90,6 +105,20 @@ fn name_that_is_no_text(rt: HostRuntime) -> Result<(), Fail> {
     let text = name.to_string_lossy(rt.alloc())?.into_owned(rt.alloc())?;
     assert_eq!(rt; text.as_bytes(), [0x66u8, 0xef, 0xbf, 0xbd].as_slice());
     Ok(())
+}
+
+/// Whether addresses of two sections are told, and what isn't in them isn't.
+fn check_places(rt: &impl Abort, map: &AddressMap) {
+    for (address, section, offset) in [(0x1000, 1, 0), (0x100f, 1, 15), (0xffff_ffff, 2, 255)] {
+        let place = PdbInternalSectionOffset { section, offset };
+        assert!(rt; Rva(address).to_internal_offset(map) == Some(place));
+        assert!(rt; place.to_rva(map) == Some(Rva(address)));
+    }
+    assert!(rt; Rva(0x1010).to_internal_offset(map) == None);
+    for (section, offset) in [(0, 0), (3, 0), (2, 256)] {
+        let place = PdbInternalSectionOffset { section, offset };
+        assert!(rt; place.to_rva(map) == None);
+    }
 }
 
 #[test]
@@ -107,69 +136,90 @@ fn places_of_addresses(rt: HostRuntime) -> Result<(), Fail> {
     let map = AddressMap {
         sections: ranges.to_vec(rt.alloc())?,
     };
-    for (address, section, offset) in [(0x1000, 1, 0), (0x100f, 1, 15), (0xffff_ffff, 2, 255)] {
-        let place = PdbInternalSectionOffset { section, offset };
-        assert!(rt; Rva(address).to_internal_offset(&map) == Some(place));
-        assert!(rt; place.to_rva(&map) == Some(Rva(address)));
-    }
-    assert!(rt; Rva(0x1010).to_internal_offset(&map) == None);
-    for (section, offset) in [(0, 0), (3, 0), (2, 256)] {
-        let place = PdbInternalSectionOffset { section, offset };
-        assert!(rt; place.to_rva(&map) == None);
-    }
+    check_places(&rt, &map);
     Ok(())
 }
 
-#[test]
-fn lines_files_and_strings(rt: HostRuntime) -> Result<(), Fail> {
-    let place = PdbInternalSectionOffset {
-        section: 1,
-        offset: 16,
-    };
+/// Where the entries of a line program start.
+const PLACE: PdbInternalSectionOffset = PdbInternalSectionOffset {
+    section: 1,
+    offset: 16,
+};
+
+/// An entry of a line program, with one row or none.
+fn entry(alloc: Global, rows: usize) -> Result<SymbolLines, AllocError> {
     let row = LineInfo {
         offset: 16,
         file_index: FileIndex(0),
         line_start: 3,
     };
-    let mut entries = Vec::new(rt.alloc());
-    for lines in [1usize, 0] {
-        let items = [row][..lines].to_vec(rt.alloc())?;
-        entries.push(SymbolLines {
-            offset: place,
-            lines: Reading { items, fault: None },
-        })?;
+    let items = [row][..rows.min(1)].to_vec(alloc)?;
+    Ok(SymbolLines {
+        offset: PLACE,
+        lines: Reading { items, fault: None },
+    })
+}
+
+/// A line program with two entries for one place, of which the first has a row, and a file.
+fn line_program(alloc: Global) -> Result<LineProgram, AllocError> {
+    let mut entries = Vec::new(alloc);
+    for rows in [1usize, 0] {
+        entries.push(entry(alloc, rows)?)?;
     }
-    let program = LineProgram {
-        entries,
-        files: [FileInfo { name: StringRef(5) }].to_vec(rt.alloc())?,
-    };
-    let rows = program.lines_for_symbol(place).ok_or("no rows")?;
+    let files = [FileInfo { name: StringRef(5) }].to_vec(alloc)?;
+    Ok(LineProgram { entries, files })
+}
+
+/// Whether the first entry counts, and the file is told.
+fn check_line_program(rt: &impl Abort, program: &LineProgram) -> Result<(), Fail> {
+    let rows = program.lines_for_symbol(PLACE).ok_or("no rows")?;
     assert_eq!(rt; rows.items.len(), 1, "the first entry counts");
     let file = program.get_file_info(FileIndex(0)).ok_or("no file")?;
     assert!(rt; file.name == StringRef(5));
     assert!(rt; program.get_file_info(FileIndex(1)).is_none());
-    let mut strings = Vec::new(rt.alloc());
+    Ok(())
+}
+
+#[test]
+fn lines_and_files(rt: HostRuntime) -> Result<(), Fail> {
+    let program = line_program(rt.alloc())?;
+    check_line_program(&rt, &program)
+}
+
+/// A string table with two texts for one reference.
+fn string_table(alloc: Global) -> Result<StringTable, AllocError> {
+    let mut strings = Vec::new(alloc);
     for text in ["first", "second"] {
-        let bytes = text.as_bytes().to_vec(rt.alloc())?;
+        let bytes = text.as_bytes().to_vec(alloc)?;
         strings.push((StringRef(5), RawString(bytes)))?;
     }
-    let table = StringTable { strings };
+    Ok(StringTable { strings })
+}
+
+#[test]
+fn strings_by_their_references(rt: HostRuntime) -> Result<(), Fail> {
+    let table = string_table(rt.alloc())?;
     let text = table.get(StringRef(5)).ok_or("no text")?;
     assert_eq!(rt; text.0.as_slice(), b"first".as_slice());
     assert!(rt; table.get(StringRef(4)).is_none());
     Ok(())
 }
 
-#[test]
-fn imports_and_exports(rt: HostRuntime) -> Result<(), Fail> {
-    let mut modules = Vec::new(rt.alloc());
+/// What a module takes from two others: two indices each.
+fn imports(alloc: Global) -> Result<CrossModuleImports, AllocError> {
+    let mut modules = Vec::new(alloc);
     for key in [8u32, 9] {
         modules.push(ImportedModule {
             module: StringRef(key),
-            locals: [70u32, 71].to_vec(rt.alloc())?,
+            locals: [70u32, 71].to_vec(alloc)?,
         })?;
     }
-    let imports = CrossModuleImports { modules };
+    Ok(CrossModuleImports { modules })
+}
+
+#[test]
+fn imports_by_their_indices(rt: HostRuntime) -> Result<(), Fail> {
+    let imports = imports(rt.alloc())?;
     assert!(rt; matches!(imports.resolve_import(0x8010_0001), Ok((StringRef(9), 71))));
     assert!(rt; matches!(imports.resolve_import(0x8000_0000), Ok((StringRef(8), 70))));
     for index in [0x8000_0002u32, 0x8020_0000, 0x8008_0000] {
@@ -178,6 +228,11 @@ fn imports_and_exports(rt: HostRuntime) -> Result<(), Fail> {
             matches!(found, Err(pdb_addr2line::pdb::Error::CrossModuleRefNotFound(i)) if i == index)
         );
     }
+    Ok(())
+}
+
+#[test]
+fn exports_by_their_indices(rt: HostRuntime) -> Result<(), Fail> {
     let exports = CrossModuleExports {
         exports: [(7u32, 0x1003u32), (7, 0x1004)].to_vec(rt.alloc())?,
     };

@@ -1,5 +1,5 @@
-use pdb_addr2line::{Context, ContextPdbData, ModuleProvider};
-use pdb_json::read_records;
+use crate::tests::contexts::data_of;
+use pdb_addr2line::{Context, ModuleProvider};
 use pdb_reporting::{Command, Out, ReportFault, Sink, report};
 use std::io;
 use std::io::BufWriter;
@@ -50,7 +50,7 @@ fn check_room<P: ModuleProvider>(
 
 #[test]
 fn writer_that_refuses(rt: HostRuntime) -> Result<(), Fail> {
-    let data = ContextPdbData::try_from_pdb(rt.alloc(), read_records(rt.alloc(), NOTHING)?)?;
+    let data = data_of(rt.alloc(), NOTHING)?;
     let mut context = data.make_context()?;
     for room in 0..=44usize {
         check_room(&rt, &mut context, room);

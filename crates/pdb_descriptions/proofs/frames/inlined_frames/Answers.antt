@@ -22,6 +22,7 @@ loop-range-preserved g c =
     record {
       frames = grind (arith, common_steps, name, c.in_ok-inlined_frame.ensures, c.in_ok-push.ensures.items);
       standing = search rules;
+      provider = search rules;
       failed = grind (arith, common_steps, failed);
       broken = adds-then c.loop-range.invariant.broken (rw c.loop-range.invariant.standing at c.name_of_id.ensures.broken);
     }

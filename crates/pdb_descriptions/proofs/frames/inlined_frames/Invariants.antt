@@ -18,6 +18,7 @@ invariant-loop-range g l =
           ++ inlined_frames l.files l.line_program name_of (drop l.range-index l.ranges)
           ≡ inlined_frames l.files l.line_program name_of l.ranges;
       standing : l.names.standing ≡ basis;
+      provider : l.names.provider ≡ l.initial.names.provider;
       failed : failed_by_ids failed_by (drop l.range-index l.ranges) l.names.failed
           ≡ failed_by_ids failed_by l.ranges l.initial.names.failed;
       broken : AddsBroken (formatter_world info basis l.module_index) l.initial.names.failed l.names.failed;

@@ -1,3 +1,5 @@
+use Rattle.pdb_functions.specs.Lookup.{found_function}
+use Rattle.pdb_addr2line.proofs.FoundLemmas.{at_goes_by_symbol}
 use Rattle.pdb_addr2line.proofs.context.Context.find_function.Goals as goal
 
 pub returns-in-Some-clause-answer : goal.returns-in-Some-clause-answer
@@ -9,3 +11,8 @@ pub returns-in-Some-clause-failed : goal.returns-in-Some-clause-failed
 returns-in-Some-clause-failed g c =
     let found = rw (c.in-Some.is) at c.in_ok-found.ensures.answer in
     rw (← found) (rw c.found.ensures.kept at c.describe.ensures.failed)
+
+pub describe-requires : goal.describe-requires
+describe-requires g c =
+    let found = rw (c.in-Some.is) at c.in_ok-found.ensures.answer in
+    record { named = rw c.found.ensures.kept (at_goes_by_symbol g.P.ModuleProvider.info c.args.self.now.sources c.args.address (found_function c.in-Some.found) found) }
