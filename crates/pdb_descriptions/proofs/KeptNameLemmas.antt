@@ -16,10 +16,9 @@ use Rattle.pdb_documents.specs.Printed.{document_of, id_run}
 use Rattle.pdb_documents.specs.Signatures.{signature}
 use Rattle.pdb_documents.specs.Worlds.{World, formatter_world}
 use Rattle.pdb_documents.proofs.MetLemmas.{settled-printed, settled-more}
-use Rattle.pdb_descriptions.specs.KeptNames.{IsPrinted, signature_printing, SignatureFits, FitsSignatures, IdFits, FitsIds, HasSignature, HasText}
+use Rattle.pdb_descriptions.specs.KeptNames.{IsPrinted, signature_printing, SignatureFits, FitsSignatures, IdFits, FitsIds, HasText}
 use Rattle.pdb_descriptions.specs.Names.{text_of_run}
-use Rattle.pdb_descriptions.specs.declared.kept_ids.KeptId.{KeptId}
-use Rattle.pdb_descriptions.specs.declared.kept_signatures.KeptSignature.{KeptSignature}
+use Rattle.pdb_descriptions.specs.declared.kept_texts.KeptText.{KeptText}
 use Rattle.pdb_descriptions.specs.declared.name_keys.IdKey.{IdKey}
 use Rattle.pdb_descriptions.specs.declared.name_keys.SignatureKey.{SignatureKey}
 
@@ -56,22 +55,22 @@ signature_key position symbol type_index = record { position = position; symbol 
 -- ---- signatures
 
 -- no signature is kept
-pub signatures_new : {P : Type 0} (info : P → Infos) (records : Infos) (f : Formatter P) (kept : List KeptSignature) → kept ≡ [] → FitsSignatures info records f kept
+pub signatures_new : {P : Type 0} (info : P → Infos) (records : Infos) (f : Formatter P) (kept : List (KeptText SignatureKey)) → kept ≡ [] → FitsSignatures info records f kept
 unfolding FitsSignatures
 signatures_new info records f kept empty = All-same (SignatureFits info records f) kept [] empty (All-nil (SignatureFits info records f))
 
 -- signatures that are kept stay
-pub signatures_same : {P : Type 0} (info : P → Infos) (records : Infos) (f : Formatter P) (kept more : List KeptSignature) → more ≡ kept → FitsSignatures info records f kept → FitsSignatures info records f more
+pub signatures_same : {P : Type 0} (info : P → Infos) (records : Infos) (f : Formatter P) (kept more : List (KeptText SignatureKey)) → more ≡ kept → FitsSignatures info records f kept → FitsSignatures info records f more
 unfolding FitsSignatures
 signatures_same info records f kept more same fits = All-same (SignatureFits info records f) more kept same fits
 
 -- one more signature
-pub signatures_more : {P : Type 0} (info : P → Infos) (records : Infos) (f : Formatter P) (entry : KeptSignature) (kept more : List KeptSignature) → more ≡ kept ++ entry ∷ [] → SignatureFits info records f entry → FitsSignatures info records f kept → FitsSignatures info records f more
+pub signatures_more : {P : Type 0} (info : P → Infos) (records : Infos) (f : Formatter P) (entry : KeptText SignatureKey) (kept more : List (KeptText SignatureKey)) → more ≡ kept ++ entry ∷ [] → SignatureFits info records f entry → FitsSignatures info records f kept → FitsSignatures info records f more
 unfolding FitsSignatures
 signatures_more info records f entry kept more is fitting fits = All-same (SignatureFits info records f) more (kept ++ entry ∷ []) is (All-push (SignatureFits info records f) kept entry fits fitting)
 
 -- what is kept of a procedure is printed, by the name that its symbol has
-pub signature_found : {P : Type 0} (info : P → Infos) (records : Infos) (f : Formatter P) (kept : List KeptSignature) (key : SignatureKey) (name : List ℕ) (text : Option (List ℕ)) → FitsSignatures info records f kept → HasSignature kept key text
+pub signature_found : {P : Type 0} (info : P → Infos) (records : Infos) (f : Formatter P) (kept : List (KeptText SignatureKey)) (key : SignatureKey) (name : List ℕ) (text : Option (List ℕ)) → FitsSignatures info records f kept → HasText kept key text
     → name_by_symbol key.symbol (procedures_of_module records f.standing.modules key.position) ≡ Some name → IsPrinted (signature_printing info f key name) f.failed text
 unfolding FitsSignatures
 signature_found info records f kept key name text fits has named =
@@ -86,7 +85,7 @@ pub printed_by_symbol : {P : Type 0} (info : P → Infos) (records : Infos) (f :
 printed_by_symbol info records f key name text named printed other also = let same : name ≡ other = cc in rw (← same) printed
 
 -- signatures that are kept fit as more parts fail
-pub signatures_later : {P : Type 0} (info : P → Infos) (records : Infos) (f g : Formatter P) (kept : List KeptSignature) → g.standing ≡ f.standing → MoreParts f.failed g.failed → FitsSignatures info records f kept → FitsSignatures info records g kept
+pub signatures_later : {P : Type 0} (info : P → Infos) (records : Infos) (f g : Formatter P) (kept : List (KeptText SignatureKey)) → g.standing ≡ f.standing → MoreParts f.failed g.failed → FitsSignatures info records f kept → FitsSignatures info records g kept
 unfolding FitsSignatures
 signatures_later info records f g kept same more fits = All-weaker (SignatureFits info records f) (SignatureFits info records g) (λ entry fitting name named.
     let w = formatter_world info f.standing entry.key.position in
@@ -100,22 +99,22 @@ abbrev pub id_key : ℕ → ℕ → IdKey
 id_key position index = record { position = position; index = index }
 
 -- no text of an id is kept
-pub ids_new : {P : Type 0} (info : P → Infos) (f : Formatter P) (kept : List KeptId) → kept ≡ [] → FitsIds info f kept
+pub ids_new : {P : Type 0} (info : P → Infos) (f : Formatter P) (kept : List (KeptText IdKey)) → kept ≡ [] → FitsIds info f kept
 unfolding FitsIds
 ids_new info f kept empty = All-same (IdFits info f) kept [] empty (All-nil (IdFits info f))
 
 -- texts that are kept stay
-pub ids_same : {P : Type 0} (info : P → Infos) (f : Formatter P) (kept more : List KeptId) → more ≡ kept → FitsIds info f kept → FitsIds info f more
+pub ids_same : {P : Type 0} (info : P → Infos) (f : Formatter P) (kept more : List (KeptText IdKey)) → more ≡ kept → FitsIds info f kept → FitsIds info f more
 unfolding FitsIds
 ids_same info f kept more same fits = All-same (IdFits info f) more kept same fits
 
 -- the text of one more id
-pub ids_more : {P : Type 0} (info : P → Infos) (f : Formatter P) (entry : KeptId) (kept more : List KeptId) → more ≡ kept ++ entry ∷ [] → IdFits info f entry → FitsIds info f kept → FitsIds info f more
+pub ids_more : {P : Type 0} (info : P → Infos) (f : Formatter P) (entry : KeptText IdKey) (kept more : List (KeptText IdKey)) → more ≡ kept ++ entry ∷ [] → IdFits info f entry → FitsIds info f kept → FitsIds info f more
 unfolding FitsIds
 ids_more info f entry kept more is fitting fits = All-same (IdFits info f) more (kept ++ entry ∷ []) is (All-push (IdFits info f) kept entry fits fitting)
 
 -- what is kept of an id is printed
-pub id_found : {P : Type 0} (info : P → Infos) (f : Formatter P) (kept : List KeptId) (key : IdKey) (text : Option (List ℕ)) → FitsIds info f kept → HasText kept key text → IsPrinted (id_run info f.standing key.position key.index) f.failed text
+pub id_found : {P : Type 0} (info : P → Infos) (f : Formatter P) (kept : List (KeptText IdKey)) (key : IdKey) (text : Option (List ℕ)) → FitsIds info f kept → HasText kept key text → IsPrinted (id_run info f.standing key.position key.index) f.failed text
 unfolding FitsIds
 id_found info f kept key text fits has =
     let i = has.stands.0 in
@@ -123,7 +122,7 @@ id_found info f kept key text fits has =
     rw (← has.keyed, ← has.is) fitting
 
 -- texts that are kept fit as more parts fail
-pub ids_later : {P : Type 0} (info : P → Infos) (f g : Formatter P) (kept : List KeptId) → g.standing ≡ f.standing → MoreParts f.failed g.failed → FitsIds info f kept → FitsIds info g kept
+pub ids_later : {P : Type 0} (info : P → Infos) (f g : Formatter P) (kept : List (KeptText IdKey)) → g.standing ≡ f.standing → MoreParts f.failed g.failed → FitsIds info f kept → FitsIds info g kept
 unfolding FitsIds
 ids_later info f g kept same more fits = All-weaker (IdFits info f) (IdFits info g) (λ entry fitting.
     let d = document_of (formatter_world info f.standing entry.key.position) (id_of_index entry.key.index) in

@@ -13,9 +13,10 @@ ghost use Rattle.pdb_documents.specs.Worlds.{formatter_world};
 ghost use Rattle.pdb_frames.specs.Origins.{function_module};
 ghost use Rattle.pdb_descriptions.specs.Names.{signature_text, procedure_name, failed_by_name, function_name, failed_by_function_name, id_name, failed_by_id};
 
-use crate::kept_ids::KeptIds;
 use crate::kept_names::{id_once, signature_once};
 use crate::kept_signatures::KeptSignatures;
+use crate::kept_texts::KeptTexts;
+use crate::name_keys::IdKey;
 use crate::names::{mangled_name_instead, text_of, text_of_name};
 use pdb_functions::{GlobalFunctionTable, ProcedureSymbolFunction, PublicOrProcedureSymbol};
 use pdb_records::{IdIndex, Module, TypeIndex};
@@ -33,7 +34,7 @@ pub struct FunctionNames<'a, P: ModuleProvider> {
     alloc: Global,
     formatter: TypeFormatter<'a, P>,
     signatures: KeptSignatures<'a, P>,
-    ids: KeptIds,
+    ids: KeptTexts<IdKey>,
 }
 
 // Clauses see the formatter, and the provider of the procedures' records.
@@ -49,8 +50,8 @@ impl<'a, P: ModuleProvider> Model for FunctionNames<'a, P> {
     } };
 
     ghost invariant = { λ n. record {
-      signatures : FitsSignatures P.info (P.info n.signatures.provider.now) n.formatter n.signatures.texts.items;
-      ids : FitsIds P.info n.formatter n.ids.texts.items;
+      signatures : FitsSignatures P.info (P.info n.signatures.provider.now) n.formatter n.signatures.texts.entries.items;
+      ids : FitsIds P.info n.formatter n.ids.entries.items;
     } };
 }
 
@@ -65,7 +66,7 @@ impl<'a, P: ModuleProvider> FunctionNames<'a, P> {
             alloc,
             formatter,
             signatures: KeptSignatures::new(alloc, provider),
-            ids: KeptIds::new(alloc),
+            ids: KeptTexts::new(alloc),
         }
     }
 

@@ -10,8 +10,8 @@ ghost use Rattle.pdb_documents.specs.Worlds.{formatter_world};
 ghost use Rattle.pdb_descriptions.specs.KeptNames.{IsPrinted, signature_printing, FitsSignatures, FitsIds};
 ghost use Rattle.pdb_descriptions.specs.Names.{signature_text, id_name, failed_by_id};
 
-use crate::kept_ids::KeptIds;
 use crate::kept_signatures::KeptSignatures;
+use crate::kept_texts::KeptTexts;
 use crate::name_keys::{IdKey, SignatureKey, id_key, signature_key};
 use crate::printed_names::{name_of_id, signature_of};
 use pdb_frames::copy_of_name;
@@ -27,15 +27,15 @@ fn keep_signature<P: ModuleProvider>(
     key: SignatureKey,
     text: &Option<String>,
 ) -> Result<(), AllocError>
-    ensures fits { (f : Formatter P) → FitsSignatures P.info (P.info kept.old.provider.now) f kept.old.texts.items
+    ensures fits { (f : Formatter P) → FitsSignatures P.info (P.info kept.old.provider.now) f kept.old.texts.entries.items
         → ((name : List ℕ) → name_by_symbol key.symbol
         (procedures_of_module (P.info kept.old.provider.now) f.standing.modules key.position) ≡ Some name
         → IsPrinted (signature_printing P.info f key name) f.failed (option_map string_bytes text.now))
-        → FitsSignatures P.info (P.info kept.old.provider.now) f kept.new.texts.items }
+        → FitsSignatures P.info (P.info kept.old.provider.now) f kept.new.texts.entries.items }
     ensures provider { kept.new.provider ≡ kept.old.provider }
 {
     let text = copy_of_name(text)?;
-    kept.keep(key, text)?;
+    kept.texts.keep(key, text)?;
     Ok(())
 }
 
@@ -47,7 +47,7 @@ pub(crate) fn signature_once<P: ModuleProvider>(
     module_index: usize,
     procedure: ProcedureSymbolFunction<'_>,
 ) -> Result<Option<String>>
-    requires fits { FitsSignatures P.info (P.info kept.old.provider.now) formatter.old kept.old.texts.items }
+    requires fits { FitsSignatures P.info (P.info kept.old.provider.now) formatter.old kept.old.texts.entries.items }
     requires named { name_by_symbol procedure.symbol_index.0
         (procedures_of_module (P.info kept.old.provider.now) formatter.old.standing.modules module_index)
         ≡ Some procedure.name.now }
@@ -61,11 +61,11 @@ pub(crate) fn signature_once<P: ModuleProvider>(
         formatter.new.failed ≡ run.failed) }
     ensures broken { AddsBroken (formatter_world P.info formatter.old.standing module_index)
         formatter.old.failed formatter.new.failed }
-    ensures fits { FitsSignatures P.info (P.info kept.old.provider.now) formatter.new kept.new.texts.items }
+    ensures fits { FitsSignatures P.info (P.info kept.old.provider.now) formatter.new kept.new.texts.entries.items }
     ensures provider { kept.new.provider ≡ kept.old.provider }
 {
     let key = signature_key(module_index, procedure);
-    if let Some(text) = kept.text(key)? {
+    if let Some(text) = kept.texts.text(key)? {
         return Ok(text);
     }
     let name = procedure.name.to_string_lossy(alloc)?;
@@ -76,13 +76,13 @@ pub(crate) fn signature_once<P: ModuleProvider>(
 
 /// Keeps the text of an id.
 fn keep_id<P: ModuleProvider>(
-    kept: &mut KeptIds,
+    kept: &mut KeptTexts<IdKey>,
     key: IdKey,
     text: &Option<String>,
 ) -> Result<(), AllocError>
-    ensures { (f : Formatter P) → FitsIds P.info f kept.old.texts.items
+    ensures { (f : Formatter P) → FitsIds P.info f kept.old.entries.items
         → IsPrinted (id_run P.info f.standing key.position key.index) f.failed (option_map string_bytes text.now)
-        → FitsIds P.info f kept.new.texts.items }
+        → FitsIds P.info f kept.new.entries.items }
 {
     let text = copy_of_name(text)?;
     kept.keep(key, text)?;
@@ -92,11 +92,11 @@ fn keep_id<P: ModuleProvider>(
 /// The text of an id as the module at a position writes it, if it can be printed. It is printed once.
 pub(crate) fn id_once<P: ModuleProvider>(
     formatter: &mut TypeFormatter<'_, P>,
-    kept: &mut KeptIds,
+    kept: &mut KeptTexts<IdKey>,
     module_index: usize,
     id: IdIndex,
 ) -> Result<Option<String>>
-    requires fits { FitsIds P.info formatter.old kept.old.texts.items }
+    requires fits { FitsIds P.info formatter.old kept.old.entries.items }
     ensures name { MatchResult result
         (λ name. option_map string_bytes name ≡ id_name P.info formatter.old.standing module_index id)
         (λ e. e ≡ OutOfMemory) }
@@ -105,7 +105,7 @@ pub(crate) fn id_once<P: ModuleProvider>(
         ≡ failed_by_id P.info formatter.old.standing module_index id formatter.old.failed) }
     ensures broken { AddsBroken (formatter_world P.info formatter.old.standing module_index)
         formatter.old.failed formatter.new.failed }
-    ensures fits { FitsIds P.info formatter.new kept.new.texts.items }
+    ensures fits { FitsIds P.info formatter.new kept.new.entries.items }
 {
     let key = id_key(module_index, id);
     if let Some(text) = kept.text(key)? {

@@ -7,9 +7,9 @@
 mod frames;
 mod function;
 mod function_names;
-mod kept_ids;
 mod kept_names;
 mod kept_signatures;
+mod kept_texts;
 mod name_keys;
 mod names;
 mod positions;

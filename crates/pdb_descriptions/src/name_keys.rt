@@ -1,5 +1,6 @@
 ghost use Rattle.std.specs.Prelude.{◌≡◌};
 
+use crate::kept_texts::TextKey;
 use pdb_functions::ProcedureSymbolFunction;
 use pdb_records::IdIndex;
 
@@ -26,16 +27,22 @@ fn number_of(position: usize, index: usize) -> usize {
     position.wrapping_mul(MODULE_STRIDE).wrapping_add(index)
 }
 
-impl SignatureKey {
-    /// The number by which a procedure is guessed.
-    pub(crate) fn number(self) -> usize {
+impl TextKey for SignatureKey {
+    fn is(self, other: Self) -> bool {
+        self == other
+    }
+
+    fn number(self) -> usize {
         number_of(self.position, self.symbol)
     }
 }
 
-impl IdKey {
-    /// The number by which an id is guessed.
-    pub(crate) fn number(self) -> usize {
+impl TextKey for IdKey {
+    fn is(self, other: Self) -> bool {
+        self == other
+    }
+
+    fn number(self) -> usize {
         number_of(self.position, self.index as usize)
     }
 }

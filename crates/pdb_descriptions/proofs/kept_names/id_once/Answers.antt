@@ -7,23 +7,23 @@ use Rattle.pdb_descriptions.proofs.kept_names.id_once.Goals as goal
 
 pub returns-in-Some-clause-name : goal.returns-in-Some-clause-name
 returns-in-Some-clause-name g c =
-    let found = id_found g.P.ModuleProvider.info c.args.formatter.now c.args.kept.now.texts.items (id_key c.args.module_index c.args.id.0) _ c.requires.fits (rw (c.id_key-key.ensures, c.in-Some.is) at c.in_ok-text.ensures.text) in
+    let found = id_found g.P.ModuleProvider.info c.args.formatter.now c.args.kept.now.entries.items (id_key c.args.module_index c.args.id.0) _ c.requires.fits (rw (c.id_key-key.ensures, c.in-Some.is) at c.in_ok-text.ensures.text) in
     found.is
 
 pub returns-in-Some-clause-failed : goal.returns-in-Some-clause-failed
 returns-in-Some-clause-failed g c =
-    let found = id_found g.P.ModuleProvider.info c.args.formatter.now c.args.kept.now.texts.items (id_key c.args.module_index c.args.id.0) _ c.requires.fits (rw (c.id_key-key.ensures, c.in-Some.is) at c.in_ok-text.ensures.text) in
+    let found = id_found g.P.ModuleProvider.info c.args.formatter.now c.args.kept.now.entries.items (id_key c.args.module_index c.args.id.0) _ c.requires.fits (rw (c.id_key-key.ensures, c.in-Some.is) at c.in_ok-text.ensures.text) in
     sym found.settled
 
 pub returns-in_err-text-2-clause-fits : goal.returns-in_err-text-2-clause-fits
 returns-in_err-text-2-clause-fits g c =
     let more = more_broken _ _ _ c.name_of_id.ensures.broken in
-    ids_later g.P.ModuleProvider.info c.args.formatter.now c.name_of_id.new.formatter c.text.new.self.texts.items c.name_of_id.ensures.standing more (rw c.text.ensures.same c.requires.fits)
+    ids_later g.P.ModuleProvider.info c.args.formatter.now c.name_of_id.new.formatter c.text.new.self.entries.items c.name_of_id.ensures.standing more (rw c.text.ensures.same c.requires.fits)
 
 pub returns-in_err-keep_id-clause-fits : goal.returns-in_err-keep_id-clause-fits
 returns-in_err-keep_id-clause-fits g c =
     let more = more_broken _ _ _ c.name_of_id.ensures.broken in
-    let later = ids_later g.P.ModuleProvider.info c.args.formatter.now c.name_of_id.new.formatter c.text.new.self.texts.items c.name_of_id.ensures.standing more (rw c.text.ensures.same c.requires.fits) in
+    let later = ids_later g.P.ModuleProvider.info c.args.formatter.now c.name_of_id.new.formatter c.text.new.self.entries.items c.name_of_id.ensures.standing more (rw c.text.ensures.same c.requires.fits) in
     let d = document_of (formatter_world g.P.ModuleProvider.info c.args.formatter.now.standing c.args.module_index) (id_of_index c.args.id.0) in
     let printed = printed_now d c.args.formatter.now.failed c.name_of_id.new.formatter.failed _ c.in_ok-text-2.ensures.name c.in_ok-text-2.ensures.failed in
     c.keep_id.ensures c.name_of_id.new.formatter later (rw (c.id_key-key.ensures, c.name_of_id.ensures.standing) printed)
@@ -31,7 +31,7 @@ returns-in_err-keep_id-clause-fits g c =
 pub returns-clause-fits : goal.returns-clause-fits
 returns-clause-fits g c =
     let more = more_broken _ _ _ c.name_of_id.ensures.broken in
-    let later = ids_later g.P.ModuleProvider.info c.args.formatter.now c.name_of_id.new.formatter c.text.new.self.texts.items c.name_of_id.ensures.standing more (rw c.text.ensures.same c.requires.fits) in
+    let later = ids_later g.P.ModuleProvider.info c.args.formatter.now c.name_of_id.new.formatter c.text.new.self.entries.items c.name_of_id.ensures.standing more (rw c.text.ensures.same c.requires.fits) in
     let d = document_of (formatter_world g.P.ModuleProvider.info c.args.formatter.now.standing c.args.module_index) (id_of_index c.args.id.0) in
     let printed = printed_now d c.args.formatter.now.failed c.name_of_id.new.formatter.failed _ c.in_ok-text-2.ensures.name c.in_ok-text-2.ensures.failed in
     c.keep_id.ensures c.name_of_id.new.formatter later (rw (c.id_key-key.ensures, c.name_of_id.ensures.standing) printed)

@@ -3,6 +3,6 @@ use Rattle.pdb_descriptions.proofs.function_names.FunctionNames.new.Goals as goa
 
 pub invariant_of-result : goal.invariant_of-result
 invariant_of-result g c = record {
-  signatures = signatures_new g.P.ModuleProvider.info (g.P.ModuleProvider.info c.new.result.provider.now) c.args.formatter c.new.result.texts.items c.new.ensures.texts;
-  ids = ids_new g.P.ModuleProvider.info c.args.formatter c.new-2.result.texts.items c.new-2.ensures;
+  signatures = signatures_new g.P.ModuleProvider.info (g.P.ModuleProvider.info c.new.result.provider.now) c.args.formatter c.new.result.texts.entries.items c.new.ensures.texts;
+  ids = ids_new g.P.ModuleProvider.info c.args.formatter c.new-2.result.entries.items c.new-2.ensures;
 }
