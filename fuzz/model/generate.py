@@ -1,0 +1,116 @@
+"""A random records file and what to ask about it: generate(seed) gives its bytes and the words of the runs.
+
+Usage: generate.py SEED
+
+It writes the file's text to standard output and the words of each run to standard error.
+"""
+import sys
+
+from generate_code import FIRST_MODULE_KEY, Code
+from generate_file import broken_text, json_text, with_changes
+from generate_runs import Runs
+
+MODULE_NAMES = ["a.obj", "A.obj", "b.obj", "B.OBJ", "c.obj", "Ä.obj", "Ä.obj", "ä.obj", "", "a.obj "]
+FILE_NAMES = ["a.cpp", "b.cpp", "C:\\x\\y.h", "", "dé.cpp", "a.h"]
+MACHINES = ["Amd64", "Amd64", "Arm64", "Ia64", "RiscV64", "RiscV128", "I386", "Other", "amd64"]
+
+
+class Generator(Code, Runs):
+    def records(self):
+        """The value of a records file."""
+        self.crossing = self.choose([0, 0, 0.04, 0.1, 0.25])  # how often an index is of another module
+        self.make_layout()
+        self.starts = []
+        self.make_modules()
+        self.enter("types")
+        self.make_types()
+        self.make_ids()
+        types, ids = self.reading(0.12, self.types), self.reading(0.12, self.ids)
+        strings = self.make_strings()
+        self.enter("layout")
+        contributions = self.make_contributions()
+        self.enter("symbols")
+        infos = self.make_infos(contributions)
+        self.module = 0
+        self.enter("layout")
+        publics = self.make_publics()
+        return self.file(types, ids, strings, contributions, infos, publics)
+
+    def make_modules(self):
+        """The names of the modules, the numbers that each exports, and the keys of files."""
+        is_wild = self.wildness and self.mode == "mixed"
+        self.modules = [self.choose(MODULE_NAMES[:5] if self.chance(0.7) else MODULE_NAMES)
+                        for _ in range(self.choose([0, 1, 1, 1, 2, 2, 3, 3] if is_wild else [1, 2, 3]))]
+        self.exports = {n: [self.random.randrange(1, 6) for _ in self.times(0, 3)]
+                        for n in range(len(self.modules) + 1)}
+        self.refs = [1, 2, 3, 4] + ([5, 0] if self.wildness else [])
+
+    def make_strings(self):
+        """The names of files, of which one key may stand twice, and of modules."""
+        strings = [{"ref": key, "text": self.choose(FILE_NAMES)}
+                   for key in self.random.sample([1, 2, 3, 4, 3], 4)]
+        for n, name in enumerate(self.modules):
+            if self.broken(0.15):
+                name = self.choose(["none.OBJ", "None.Ä", "c.obj", "ä.obj"])
+            if not self.broken(0.05):
+                other_case = name.swapcase() if self.wildness or name.isascii() else name
+                strings.append({"ref": FIRST_MODULE_KEY + n, "text": self.choose([name, other_case])})
+        self.random.shuffle(strings)
+        return strings
+
+    def make_infos(self, contributions):
+        """The records of the modules; they may be one too few, or one too many."""
+        infos = []
+        count = len(self.modules)
+        for n in range(count):
+            infos.append(None if self.broken(0.1 if n else 0.06) else self.stream(0.06, self.make_info(n)))
+        has_one_past = any(contribution["module"] == count for contribution in contributions)
+        if self.broken(0.06) and infos:
+            infos.pop()
+        elif self.broken(0.06) or (has_one_past and self.chance(0.8)):
+            infos.append(self.choose([None, self.make_info(count), {"error": 2}]))
+        return infos
+
+    def file(self, types, ids, strings, contributions, infos, publics):
+        """The file of these records, with some streams that failed."""
+        seldom = 0.012
+        file = {
+            "sections": self.stream(seldom, None if self.broken(0.01) else self.sections),
+            "address_map": self.stream(seldom, self.address_map),
+            "global_symbols": self.stream(seldom, self.reading(seldom, publics)),
+            "debug_information": self.stream(seldom, {
+                "machine_type": self.stream(seldom, self.choose(MACHINES)),
+                "modules": self.reading(seldom, [{"name": name} for name in self.modules]),
+                "section_contributions": self.reading(seldom, contributions)}),
+            "type_information": self.stream(seldom, types),
+            "id_information": self.stream(seldom, ids),
+            "string_table": self.failed() if self.crossing and self.chance(0.06)
+            else self.stream(0.08, strings),
+            "module_infos": infos,
+        }
+        if self.chance(0.4):
+            file["version"] = self.choose([1, 1, None])
+        return file
+
+
+def generate(seed):
+    """The bytes of a file and the words of its runs. About every fourth file has a fault."""
+    generator = Generator(seed)
+    file = generator.records()
+    runs = generator.runs(file)
+    roll = generator.random.random()
+    style = generator.choose(["plain", "plain", "escaped", "spaced"])
+    if roll < 0.2:
+        file = with_changes(generator, file)
+        runs = runs[:2] + generator.choose([[], runs[2:3]])
+    data = json_text(generator, file, style).encode("utf-8")
+    if 0.2 <= roll < 0.26:
+        data, runs = broken_text(generator, data), runs[:1]
+    return data, runs
+
+
+if __name__ == "__main__":
+    data, runs = generate(int(sys.argv[1]))
+    sys.stdout.buffer.write(data + b"\n")
+    for words in runs:
+        print(" ".join(words), file=sys.stderr)

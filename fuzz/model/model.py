@@ -1,0 +1,133 @@
+"""A model of pdb_report by plain scans of the records.
+
+Usage: model.py RECORDS (frames|names ADDRESS...|list)
+
+`run(words, get)` gives standard output, the status and standard error. `words` are the program's arguments;
+`get(name)` gives the bytes of a file, or None. Left out are want of memory, a standard output that can't be
+written, and arguments that aren't UTF-8.
+"""
+import re
+import sys
+import threading
+
+from errors import Error, note
+from frames import Context
+from records import Fault, read_records
+
+USAGE = "usage: pdb_report RECORDS (frames|names ADDRESS...|list)"
+
+
+def shown(name):
+    return "<unknown>" if name is None else name
+
+
+def span(start, end):
+    return f"0x{start:x}.." + ("??" if end is None else f"0x{end:x}")
+
+
+def names_text(context, address):
+    """The line of an address under `names`."""
+    found = context.find_function(address)
+    if found is None:
+        return f"{address:x} - no function found\n"
+    start, end, name = found
+    return f"0x{address:x} - {shown(name)} {span(start, end)}\n"
+
+
+def frames_text(context, address):
+    """The lines of an address under `frames`."""
+    found = context.find_frames(address)
+    if found is None:
+        return f"{address:x} - no frames found\n"
+    note(f"frames of depth {min(4, len(found))}")
+    lines = [f"0x{address:x} - {len(found)} frames:\n"]
+    for function, file, line in found:
+        file = "??" if file is None else file
+        lines.append(f"     {shown(function)} at {file}:{'??' if line is None else line}\n")
+    return "".join(lines)
+
+
+def list_text(context, address):
+    """The line of the function at a start address under `list`; nothing where none is found there."""
+    found = context.find_function(address)
+    if found is None:
+        return ""
+    start, end, name = found
+    return f"{span(start, end)} {shown(name)}\n"
+
+
+TEXTS = {"names": names_text, "frames": frames_text, "list": list_text}
+
+
+def parse_words(words):
+    """(records, command, addresses), or None where the words ask for nothing known."""
+    if len(words) < 2:
+        return None
+    name, command, rest = words[0], words[1], words[2:]
+    if command == "list":
+        return (name, command, []) if not rest else None
+    if command not in ("frames", "names"):
+        return None
+    if not all(re.fullmatch(r"(0x)?[0-9a-fA-F]{1,8}", word) for word in rest):
+        return None
+    return name, command, [int(word, 16) for word in rest]
+
+
+def ended(status, text="", error=None):
+    """What a run leaves: standard output, the status, and the one line on standard error."""
+    return text.encode(), status, f"{error}\n".encode() if error else b""
+
+
+def report(pdb, command, addresses):
+    """The run over records; an error ends it behind the texts of the addresses before."""
+    texts = []
+    try:
+        context = Context(pdb)
+        for address in context.start_addresses() if command == "list" else addresses:
+            texts.append(TEXTS[command](context, address))
+    except Error as error:
+        note("ended: " + error.text)
+        return ended(1, "".join(texts), f"pdb_report: {error.text}")
+    return ended(0, "".join(texts))
+
+
+def run(words, get):
+    """Standard output, the status and standard error of a run."""
+    parsed = parse_words(words)
+    if parsed is None:
+        return ended(2, error=USAGE)
+    name, command, addresses = parsed
+    data = get(name)
+    if data is None:
+        return ended(2, error=f"pdb_report: cannot read {name}")
+    try:
+        pdb = read_records(data)
+    except Fault as fault:
+        return ended(2, error=f"pdb_report: {name}: {fault}")
+    return report(pdb, command, addresses)
+
+
+def read_file(name):
+    try:
+        with open(name, "rb") as file:
+            return file.read()
+    except OSError:
+        return None
+
+
+def with_big_stack(call):
+    """What the call answers in a thread whose stack is large enough for deep recursion."""
+    sys.setrecursionlimit(100_000)
+    threading.stack_size(512 * 1024 * 1024)
+    answers = []
+    thread = threading.Thread(target=lambda: answers.append(call()))
+    thread.start()
+    thread.join()
+    return answers[0]
+
+
+if __name__ == "__main__":
+    stdout, status, stderr = with_big_stack(lambda: run(sys.argv[1:], read_file))
+    sys.stdout.buffer.write(stdout)
+    sys.stderr.buffer.write(stderr)
+    sys.exit(status)
