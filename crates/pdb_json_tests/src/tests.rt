@@ -18,32 +18,48 @@ fn answer(alloc: Global, text: &str) -> Result<String, AllocError> {
     }
 }
 
-/// Makes one change of the small file and compares the answer.
-fn check_change(rt: &impl Abort, alloc: Global, line: &str) -> Result<(), Fail> {
-    let (old, rest) = line.split_once(" => ").ok_or("a change")?;
-    let (new, wanted) = rest.split_once(" => ").ok_or("an answer")?;
+/// The answer to the small file with `new` in the place of `old`.
+fn answer_to_change(alloc: Global, old: &str, new: &str) -> Result<String, Fail> {
     let (before, after) = EXAMPLE.split_once(old).ok_or("no such text")?;
     let text = format!(in alloc; "{before}{new}{after}")?;
-    assert_eq!(rt; answer(alloc, &text)?.as_str(), wanted, "{line}");
+    Ok(answer(alloc, &text)?)
+}
+
+/// The parts of a line: what stands there, what is put in its place, and the answer.
+fn parts(line: &str) -> Option<(&str, &str, &str)> {
+    let (old, rest) = line.split_once(" => ")?;
+    let (new, wanted) = rest.split_once(" => ")?;
+    Some((old, new, wanted))
+}
+
+/// Makes one change of the small file and compares the answer.
+fn check_change(rt: &impl Abort, alloc: Global, line: &str) -> Result<(), Fail> {
+    let (old, new, wanted) = parts(line).ok_or("no change")?;
+    let told = answer_to_change(alloc, old, new)?;
+    assert!(rt; told.as_str() == wanted, "{line}");
     Ok(())
 }
 
 #[test]
 fn changes_are_told(rt: HostRuntime) -> Result<(), Fail> {
-    assert_eq!(rt; answer(rt.alloc(), EXAMPLE)?.as_str(), "read");
+    assert!(rt; answer(rt.alloc(), EXAMPLE)?.as_str() == "read");
     for line in CHANGES.lines() {
         check_change(&rt, rt.alloc(), line)?;
     }
     Ok(())
 }
 
+/// Whether bytes are refused as no JSON text.
+fn is_no_json(alloc: Global, bytes: &[u8]) -> bool {
+    matches!(read_records(alloc, bytes), Err(RecordFault::NotJson))
+}
+
 #[test]
 fn a_cut_file_is_no_json(rt: HostRuntime) -> Result<(), Fail> {
-    for (end, byte) in EXAMPLE.as_bytes().iter().enumerate() {
-        let cut = read_records(rt.alloc(), &EXAMPLE.as_bytes()[..end]);
+    for end in 0..EXAMPLE.len() {
         assert!(rt;
-            matches!(cut, Err(RecordFault::NotJson)),
-            "cut before {byte} at {end}"
+            is_no_json(rt.alloc(), &EXAMPLE.as_bytes()[..end]),
+            "cut at {end}"
         );
     }
     Ok(())
@@ -56,28 +72,42 @@ fn nested(alloc: Global, depth: usize) -> Result<String, AllocError> {
     format!(in alloc; "{opened}{closed}")
 }
 
+/// Whether this is what is answered.
+fn is_answered(alloc: Global, text: &str, wanted: &str) -> Result<bool, AllocError> {
+    Ok(answer(alloc, text)?.as_str() == wanted)
+}
+
 #[test]
 fn texts_that_are_no_file_are_told(rt: HostRuntime) -> Result<(), Fail> {
-    let alloc = rt.alloc();
-    let (deep, too_deep) = (nested(alloc, 127)?, nested(alloc, 128)?);
     let answers = [
-        (deep.as_str(), ": wanted object"),
-        (too_deep.as_str(), "not a JSON text"),
         ("", "not a JSON text"),
         ("7", ": wanted object"),
         ("{}", "/sections: wanted array"),
     ];
     for (text, wanted) in &answers {
-        assert_eq!(rt; answer(alloc, text)?.as_str(), *wanted);
+        assert!(rt; is_answered(rt.alloc(), text, wanted)?);
+    }
+    Ok(())
+}
+
+#[test]
+fn texts_that_are_nested_too_deep_are_told(rt: HostRuntime) -> Result<(), Fail> {
+    for (depth, wanted) in [(127, ": wanted object"), (128, "not a JSON text")] {
+        let text = nested(rt.alloc(), depth)?;
+        assert!(rt; is_answered(rt.alloc(), text.as_str(), wanted)?);
     }
     Ok(())
 }
 
 #[test]
 fn bytes_that_are_no_text_are_told(rt: HostRuntime) -> Result<(), Fail> {
-    let told = read_records(rt.alloc(), b"{\"more\":\"\xff\"}");
-    assert!(rt; matches!(told, Err(RecordFault::NotJson)));
-    let out_of_memory = RecordFault::OutOfMemory.to_string(rt.alloc())?;
-    assert_eq!(rt; out_of_memory.as_str(), "out of memory");
+    assert!(rt; is_no_json(rt.alloc(), b"{\"more\":\"\xff\"}"));
+    Ok(())
+}
+
+#[test]
+fn want_of_memory_is_told(rt: HostRuntime) -> Result<(), Fail> {
+    let told = RecordFault::OutOfMemory.to_string(rt.alloc())?;
+    assert!(rt; told.as_str() == "out of memory");
     Ok(())
 }

@@ -58,38 +58,32 @@ fn with_type(alloc: Global, members: &str) -> Result<String, Fail> {
 }
 
 /// The number of the variant that the one type's name stands for.
-fn variant_number(alloc: Global, members: &str) -> Result<u8, Fail> {
+fn variant_number(alloc: Global, members: &str) -> Result<Option<u8>, Fail> {
     let text = with_type(alloc, members)?;
     let pdb = read_records(alloc, text.as_bytes())?;
-    variant_of_type(&pdb)
+    Ok(variant_of_type(&pdb))
 }
 
 /// The number of the variant in the one type of records.
-fn variant_of_type(pdb: &PDB) -> Result<u8, Fail> {
+fn variant_of_type(pdb: &PDB) -> Option<u8> {
     let Ok(types) = &pdb.type_information else {
-        return Err(Fail::from("the stream failed"));
+        return None;
     };
-    match types.items.items.as_slice() {
-        [
-            Item {
-                content: Ok(TypeData::Primitive(primitive)),
-                ..
-            },
-        ] => Ok(primitive.kind as u8),
-        [
-            Item {
-                content: Ok(TypeData::Class(class)),
-                ..
-            },
-        ] => Ok(class.class_kind as u8),
-        [
-            Item {
-                content: Ok(TypeData::Pointer(pointer)),
-                ..
-            },
-        ] => Ok(pointer.mode as u8),
-        _ => Err(Fail::from("another type")),
+    let [item] = types.items.items.as_slice() else {
+        return None;
+    };
+    match &item.content {
+        Ok(TypeData::Primitive(primitive)) => Some(primitive.kind as u8),
+        Ok(TypeData::Class(class)) => Some(class.class_kind as u8),
+        Ok(TypeData::Pointer(pointer)) => Some(pointer.mode as u8),
+        _ => None,
     }
+}
+
+/// The number of the variant that a name between these texts stands for.
+fn variant_named(alloc: Global, name: &str, before: &str, after: &str) -> Result<Option<u8>, Fail> {
+    let members = format!(in alloc; "{before}{name}{after}")?;
+    variant_number(alloc, &members)
 }
 
 /// Asserts that each name stands for the variant at its place.
@@ -100,13 +94,9 @@ fn check_names(
     before: &str,
     after: &str,
 ) -> Result<(), Fail> {
-    for (number, name) in names.split(' ').enumerate() {
-        let members = format!(in alloc; "{before}{name}{after}")?;
-        assert_eq!(rt;
-            usize::from(variant_number(alloc, &members)?),
-            number,
-            "{name}"
-        );
+    for (number, name) in (0u8..).zip(names.split(' ')) {
+        let variant = variant_named(alloc, name, before, after)?;
+        assert!(rt; variant == Some(number), "{name}");
     }
     Ok(())
 }
@@ -124,45 +114,59 @@ fn names_stand_for_their_variants(rt: HostRuntime) -> Result<(), Fail> {
 }
 
 /// The number of the variant that a machine's name in the small file stands for.
-fn machine_number(alloc: Global, name: &str) -> Result<u8, Fail> {
+fn machine_number(alloc: Global, name: &str) -> Result<Option<u8>, Fail> {
     let (before, after) = EXAMPLE.split_once("Amd64").ok_or("no such name")?;
     let text = format!(in alloc; "{before}{name}{after}")?;
     let pdb = read_records(alloc, text.as_bytes())?;
-    machine_of(&pdb)
+    Ok(machine_of(&pdb))
 }
 
 /// The number of the variant of a machine.
-fn machine_of(pdb: &PDB) -> Result<u8, Fail> {
+fn machine_of(pdb: &PDB) -> Option<u8> {
     match &pdb.debug_information {
-        Ok(debug) => Ok(debug.machine_type.ok().ok_or("no machine")? as u8),
-        Err(_) => Err(Fail::from("the stream failed")),
+        Ok(debug) => Some(debug.machine_type.ok()? as u8),
+        Err(_) => None,
     }
 }
 
 #[test]
 fn machines_are_named(rt: HostRuntime) -> Result<(), Fail> {
-    for (number, name) in MACHINES.split(' ').enumerate() {
-        assert_eq!(rt;
-            usize::from(machine_number(rt.alloc(), name)?),
-            number,
-            "{name}"
-        );
+    for (number, name) in (0u8..).zip(MACHINES.split(' ')) {
+        let machine = machine_number(rt.alloc(), name)?;
+        assert!(rt; machine == Some(number), "{name}");
     }
     Ok(())
 }
 
+/// The parts of a line: a width, a number, and whether it is read.
+fn parts(line: &str) -> Option<(&str, &str, &str)> {
+    let (width, rest) = line.split_once(' ')?;
+    let (number, wanted) = rest.split_once(' ')?;
+    Some((width, number, wanted))
+}
+
+/// The answer to the small file with an enumerate of this number.
+fn answer_to_number(alloc: Global, width: &str, number: &str) -> Result<String, Fail> {
+    let before = "\"Enumerate\",\"name\":\"e\",\"value\":{\"kind\":\"";
+    let members = format!(in alloc; "{before}{width}\",\"value\":{number}}}")?;
+    let text = with_type(alloc, &members)?;
+    Ok(answer(alloc, &text)?)
+}
+
+/// The answer where the number is read, and where it is out of range.
+fn wanted_answer(wanted: &str) -> &str {
+    match wanted {
+        "read" => "read",
+        _ => "/type_information/0/value/value: number out of range",
+    }
+}
+
 #[test]
 fn numbers_fit_their_widths(rt: HostRuntime) -> Result<(), Fail> {
-    let alloc = rt.alloc();
     for line in WIDTHS.lines() {
-        let (width, rest) = line.split_once(' ').ok_or("a width")?;
-        let (number, wanted) = rest.split_once(' ').ok_or("a number")?;
-        let value = "\"Enumerate\",\"name\":\"e\",\"value\":{\"kind\":\"";
-        let members = format!(in alloc; "{value}{width}\",\"value\":{number}}}")?;
-        let told = answer(alloc, &with_type(alloc, &members)?)?;
-        let fault = "/type_information/0/value/value: number out of range";
-        let wanted = if wanted == "read" { wanted } else { fault };
-        assert_eq!(rt; told.as_str(), wanted, "{line}");
+        let (width, number, wanted) = parts(line).ok_or("no number")?;
+        let told = answer_to_number(rt.alloc(), width, number)?;
+        assert!(rt; told.as_str() == wanted_answer(wanted), "{line}");
     }
     Ok(())
 }
