@@ -8,17 +8,28 @@ use pdb_records::{
 };
 use pdb_types::{Error, Result};
 use std::alloc::{AllocError, Global};
-use std::process::Abort;
-use std::test::Fail;
 
 /// A contribution: its section, its offset, its size and its module.
 type Given = (u16, u32, u32, usize);
 
-/// A place: its section and its offset.
-type Place = (u16, u32);
+/// The merged contributions, and where those that count start.
+type Merged = (
+    Vec<ModuleSectionContribution>,
+    Vec<PdbInternalSectionOffset>,
+);
+
+/// Contributions in no order. Two of one module have a gap between them, one lies in no code, and one is empty.
+static GIVEN: [Given; 6] = [
+    (1, 0x40, 0x10, 1),
+    (1, 0, 0x10, 0),
+    (1, 0x20, 0x10, 0),
+    (2, 0x10, 0x10, 3),
+    (1, 0x60, 0, 2),
+    (1, 0xffff_fff0, 0x0f, 4),
+];
 
 /// A section of code, and one that holds none.
-const SECTIONS: [ImageSectionHeader; 2] = [
+static SECTIONS: [ImageSectionHeader; 2] = [
     ImageSectionHeader {
         virtual_address: 0x1000,
         virtual_size: 0x2_0000,
@@ -31,10 +42,12 @@ const SECTIONS: [ImageSectionHeader; 2] = [
     },
 ];
 
+/// A place, by its section and its offset.
 fn place(section: u16, offset: u32) -> PdbInternalSectionOffset {
     PdbInternalSectionOffset { section, offset }
 }
 
+/// A merged contribution, by its section, its start and end, and its module.
 fn run(
     section_index: u16,
     start_offset: u32,
@@ -49,6 +62,26 @@ fn run(
     }
 }
 
+/// What [`GIVEN`] is merged into.
+fn kept() -> [ModuleSectionContribution; 3] {
+    [
+        run(1, 0, 0x30, 0),
+        run(1, 0x40, 0x50, 1),
+        run(1, 0xffff_fff0, 0xffff_ffff, 4),
+    ]
+}
+
+/// Where those of [`GIVEN`] that count start.
+fn starts() -> [PdbInternalSectionOffset; 4] {
+    [
+        place(1, 0x40),
+        place(1, 0),
+        place(1, 0x20),
+        place(1, 0xffff_fff0),
+    ]
+}
+
+/// The debug information that tells these contributions.
 fn debug_information(alloc: Global, given: &[Given]) -> Result<DebugInformation, AllocError> {
     let mut items = Vec::new(alloc);
     for &(section, offset, size, module) in given {
@@ -68,55 +101,49 @@ fn debug_information(alloc: Global, given: &[Given]) -> Result<DebugInformation,
     })
 }
 
-/// The merged contributions, and where those that count start.
-fn merged(alloc: Global, given: &[Given]) -> Result<(Vec<ModuleSectionContribution>, Vec<Place>)> {
+/// What these contributions are merged into, and where those that count start.
+fn merged(alloc: Global, given: &[Given]) -> Result<Merged> {
     let debug = debug_information(alloc, given)?;
-    let (merged, starts) = compute_section_contributions(alloc, &debug, &SECTIONS)?;
-    let mut places = Vec::new(alloc);
-    for start in &starts {
-        places.push((start.section, start.offset))?;
+    compute_section_contributions(alloc, &debug, &SECTIONS)
+}
+
+/// Whether [`GIVEN`] is merged into what is kept of it.
+fn is_merged(alloc: Global) -> bool {
+    match merged(alloc, &GIVEN) {
+        Ok((merged, places)) => {
+            merged.as_slice() == kept().as_slice() && places.as_slice() == starts().as_slice()
+        }
+        Err(_) => false,
     }
-    Ok((merged, places))
 }
 
 #[test]
-fn contributions_and_where_they_start(rt: HostRuntime) -> Result<(), Fail> {
-    let (kept, starts) = merged(
-        rt.alloc(),
-        &[
-            (1, 0x40, 0x10, 1),
-            (1, 0, 0x10, 0),
-            (1, 0x20, 0x10, 0),
-            (2, 0x10, 0x10, 3),
-            (1, 0x60, 0, 2),
-            (1, 0xffff_fff0, 0x0f, 4),
-        ],
-    )?;
-    let wanted = [
-        run(1, 0, 0x30, 0),
-        run(1, 0x40, 0x50, 1),
-        run(1, 0xffff_fff0, 0xffff_ffff, 4),
-    ];
-    assert_eq!(rt; kept.as_slice(), wanted.as_slice());
-    let places: [Place; 4] = [(1, 0x40), (1, 0), (1, 0x20), (1, 0xffff_fff0)];
-    assert_eq!(rt; starts.as_slice(), places.as_slice());
+fn contributions_and_where_they_start(rt: HostRuntime) {
+    assert!(rt; is_merged(rt.alloc()));
     laws::merged_contributions_are_apart();
     laws::merged_contributions_hold_all();
     laws::order_of_contributions_agrees_with_equality();
-    Ok(())
+}
+
+/// Why these contributions are refused.
+fn refusal(alloc: Global, given: &[Given]) -> Option<Error> {
+    match merged(alloc, given) {
+        Ok(_) => None,
+        Err(error) => Some(error),
+    }
 }
 
 #[test]
 fn refused_contributions(rt: HostRuntime) {
-    let too_large = merged(rt.alloc(), &[(1, 0xffff_fff0, 0x20, 0)]);
-    assert!(rt; matches!(&too_large, Err(Error::SectionContributionEndTooLarge(0, 1))));
-    let unordered = merged(rt.alloc(), &[(1, 0, 0x20, 0), (1, 0, 0x10, 0)]);
-    assert!(rt; matches!(&unordered, Err(Error::UnorderedSectionContributions(0, 1))));
-    let overlapping = merged(rt.alloc(), &[(1, 0, 0x20, 0), (1, 0x10, 0x20, 1)]);
+    let too_large = refusal(rt.alloc(), &[(1, 0xffff_fff0, 0x20, 0)]);
+    assert!(rt; matches!(too_large, Some(Error::SectionContributionEndTooLarge(0, 1))));
+    let unordered = refusal(rt.alloc(), &[(1, 0, 0x20, 0), (1, 0, 0x10, 0)]);
+    assert!(rt; matches!(unordered, Some(Error::UnorderedSectionContributions(0, 1))));
+    let overlapping = refusal(rt.alloc(), &[(1, 0, 0x20, 0), (1, 0x10, 0x20, 1)]);
     assert!(rt;
         matches!(
-            &overlapping,
-            Err(Error::OverlappingSectionContributions(1, 0, 1))
+            overlapping,
+            Some(Error::OverlappingSectionContributions(1, 0, 1))
         )
     );
 }
@@ -130,16 +157,33 @@ fn side_by_side(alloc: Global) -> Result<Vec<Given>, AllocError> {
     Ok(given)
 }
 
+/// Whether a table has those contributions, and finds the one over a place.
+fn is_table_of_thousands(table: &ContributionTable) -> bool {
+    table.as_slice().len() == 3000
+        && table.contribution_over(place(1, 0x7fff)) == Some(run(1, 0x7ff0, 0x8000, 0x7ff))
+        && table.contribution_over(place(2, 0)).is_none()
+}
+
+/// Whether contributions make such a table.
+fn make_table_of_thousands(alloc: Global, kept: Vec<ModuleSectionContribution>) -> bool {
+    match ContributionTable::new(alloc, kept) {
+        Ok(table) => is_table_of_thousands(&table),
+        Err(_) => false,
+    }
+}
+
+/// Whether contributions all start something, and make such a table when they are merged.
+fn are_thousands_found(alloc: Global, given: &[Given]) -> bool {
+    match merged(alloc, given) {
+        Ok((kept, starts)) => starts.len() == 3000 && make_table_of_thousands(alloc, kept),
+        Err(_) => false,
+    }
+}
+
 #[test]
-fn thousands_of_contributions(rt: HostRuntime) -> Result<(), Fail> {
+fn thousands_of_contributions(rt: HostRuntime) -> Result<(), AllocError> {
     let given = side_by_side(rt.alloc())?;
-    let (kept, starts) = merged(rt.alloc(), &given)?;
-    assert_eq!(rt; starts.len(), 3000);
-    let table = ContributionTable::new(rt.alloc(), kept)?;
-    assert_eq!(rt; table.as_slice().len(), 3000);
-    let over = table.contribution_over(place(1, 0x7fff));
-    assert_eq!(rt; over, Some(run(1, 0x7ff0, 0x8000, 0x7ff)));
-    assert_eq!(rt; table.contribution_over(place(2, 0)), None);
+    assert!(rt; are_thousands_found(rt.alloc(), &given));
     Ok(())
 }
 
@@ -158,29 +202,38 @@ fn publics(alloc: Global) -> Result<Vec<Symbol>, AllocError> {
     Ok(symbols)
 }
 
-/// Asserts what is found among the functions of three thousand symbols and two starts.
-fn assert_functions(rt: &impl Abort, functions: &GlobalFunctionTable<'_>) -> Result<(), Fail> {
-    assert_eq!(rt; functions.len(), 3002);
-    assert_eq!(rt; functions.as_slice().len(), 3002);
-    let over = functions
-        .function_over(place(1, 0x1f))
-        .ok_or("nothing over")?;
-    assert_eq!(rt; over.start_offset.offset, 0x10);
-    assert!(rt; over.name.is_some());
-    let at = functions.function_at(place(1, 8)).ok_or("nothing at 8")?;
-    assert!(rt; at.name.is_none());
-    let next = functions
-        .next_function(place(1, 0xbb70))
-        .ok_or("nothing behind")?;
-    assert_eq!(rt; next.start_offset.offset, 0x2_0000);
-    Ok(())
+/// Whether a function is found over, at and behind a place.
+fn finds_functions(functions: &GlobalFunctionTable<'_>) -> bool {
+    let over = functions.function_over(place(1, 0x1f));
+    let at = functions.function_at(place(1, 8));
+    let next = functions.next_function(place(1, 0xbb70));
+    let (Some(over), Some(at), Some(next)) = (over, at, next) else {
+        return false;
+    };
+    over.start_offset.offset == 0x10
+        && over.name.is_some()
+        && at.name.is_none()
+        && next.start_offset.offset == 0x2_0000
+}
+
+/// Whether these are the functions of three thousand symbols and two starts.
+fn are_thousands(functions: &GlobalFunctionTable<'_>) -> bool {
+    functions.len() == 3002 && functions.as_slice().len() == 3002 && finds_functions(functions)
+}
+
+/// Whether symbols and two starts have such functions.
+fn have_thousands(alloc: Global, symbols: &[Symbol]) -> bool {
+    let starts = [place(1, 8), place(1, 0)];
+    match compute_global_functions(alloc, &SECTIONS, symbols, &starts) {
+        Ok(functions) => are_thousands(&functions),
+        Err(_) => false,
+    }
 }
 
 #[test]
-fn thousands_of_global_functions(rt: HostRuntime) -> Result<(), Fail> {
+fn thousands_of_global_functions(rt: HostRuntime) -> Result<(), AllocError> {
     let symbols = publics(rt.alloc())?;
     laws::first_global_function_of_each_start_is_kept();
-    let starts = [place(1, 8), place(1, 0)];
-    let functions = compute_global_functions(rt.alloc(), &SECTIONS, &symbols, &starts)?;
-    assert_functions(&rt, &functions)
+    assert!(rt; have_thousands(rt.alloc(), &symbols));
+    Ok(())
 }

@@ -2,11 +2,54 @@ use pdb_inline::{InlineRange, ProcedureStacks, StackTable, inline_stack};
 use pdb_ranges::Probes;
 use pdb_records::IdIndex;
 use std::alloc::{AllocError, Global};
-use std::process::Abort;
-use std::test::Fail;
 
 /// A range: its start and end, and its depth.
 type Range = (u64, u64, usize);
+
+/// An offset, and the positions of the ranges over it.
+type Over<'a> = (u64, &'a [usize]);
+
+/// Ranges of several depths, in no order.
+static SEVERAL: [Range; 6] = [
+    (0x10, 0x40, 0),
+    (0x20, 0x30, 1),
+    (0x18, 0x50, 0),
+    (0x24, 0x28, 3),
+    (0x10, 0x40, usize::MAX),
+    (0x2c, 0x2c, 0),
+];
+
+/// What is over offsets in and around those.
+static OVER_SEVERAL: [Over<'static>; 11] = [
+    (0, &[]),
+    (0xf, &[]),
+    (0x10, &[0]),
+    (0x17, &[0]),
+    (0x18, &[2]),
+    (0x20, &[2, 1]),
+    (0x24, &[2, 1]),
+    (0x2c, &[2, 1]),
+    (0x30, &[2]),
+    (0x50, &[]),
+    (u64::MAX, &[]),
+];
+
+/// Ranges of one depth, two of which start together.
+static EQUAL_STARTS: [Range; 3] = [(0x10, 0x20, 0), (0x10, 0x30, 0), (0x8, 0x40, 0)];
+
+/// What is over offsets in and behind those.
+static OVER_EQUAL_STARTS: [Over<'static>; 4] = [
+    (0x8, &[2]),
+    (0x10, &[0]),
+    (0x20, &[1]),
+    (0x30, &[2]),
+];
+
+/// What is over offsets where there are no ranges.
+static OVER_NOTHING: [Over<'static>; 3] = [(0, &[]), (1, &[]), (u64::MAX, &[])];
+
+/// Offsets in and around nested ranges.
+static OFFSETS: [u64; 8] = [0, 1, 500, 999, 1000, 1001, 1999, 2000];
 
 /// Ranges, each of a call of its position.
 fn ranges_of(alloc: Global, shown: &[Range]) -> Result<Vec<InlineRange>, AllocError> {
@@ -26,134 +69,110 @@ fn ranges_of(alloc: Global, shown: &[Range]) -> Result<Vec<InlineRange>, AllocEr
     Ok(ranges)
 }
 
-/// The positions of ranges, by what is called in them.
-fn positions(alloc: Global, ranges: &[InlineRange]) -> Result<Vec<usize>, AllocError> {
-    let mut all = Vec::new(alloc);
+/// The position of a range, by what is called in it.
+fn position(range: &InlineRange) -> usize {
+    range.inlinee.0 as usize
+}
+
+/// Whether ranges have these positions.
+fn have_positions(ranges: &[InlineRange], wanted: &[usize]) -> bool {
+    let mut rest = wanted;
     for range in ranges {
-        all.push(range.inlinee.0 as usize)?;
+        match rest {
+            [first, behind @ ..] if *first == position(range) => rest = behind,
+            _ => return false,
+        }
     }
-    Ok(all)
+    rest.is_empty()
 }
 
-/// These ranges have these positions.
-fn assert_positions(
-    rt: &impl Abort,
-    alloc: Global,
-    ranges: &[InlineRange],
-    want: &[usize],
-) -> Result<(), Fail> {
-    let positions = positions(alloc, ranges)?;
-    assert_eq!(rt; positions.as_slice(), want);
-    Ok(())
+/// Whether two lists of ranges have the same positions.
+fn are_alike(ranges: &[InlineRange], others: &[InlineRange]) -> bool {
+    let mut rest = others;
+    for range in ranges {
+        match rest {
+            [first, behind @ ..] if position(first) == position(range) => rest = behind,
+            _ => return false,
+        }
+    }
+    rest.is_empty()
 }
 
-/// The table of so many ranges is small, and has these positions over an offset, after few probes.
-fn assert_table(rt: &impl Abort, table: &StackTable, ranges: usize, offset: u64, want: &[usize]) {
+/// Whether the scan of ranges has these positions over an offset.
+fn scan_finds(alloc: Global, ranges: &[InlineRange], offset: u64, wanted: &[usize]) -> bool {
+    match inline_stack(alloc, ranges, offset) {
+        Ok(scanned) => have_positions(&scanned, wanted),
+        Err(_) => false,
+    }
+}
+
+/// Whether a table has these positions over an offset, after few probes.
+fn finds(table: &StackTable, offset: u64, wanted: &[usize]) -> bool {
     let mut probes = Probes::new();
-    assert_eq!(rt; table.find(offset, &mut probes), want);
-    assert!(rt; table.len() <= ranges.saturating_mul(4));
     let digits = usize::BITS.saturating_sub(table.len().leading_zeros());
-    assert!(rt; probes.count() <= u64::from(digits));
+    table.find(offset, &mut probes) == wanted && probes.count() <= u64::from(digits)
 }
 
-/// The scan has these positions over an offset.
-fn assert_scan(
-    rt: &impl Abort,
-    alloc: Global,
-    ranges: &[InlineRange],
-    offset: u64,
-    want: &[usize],
-) -> Result<(), Fail> {
-    let scanned = inline_stack(alloc, ranges, offset)?;
-    assert_positions(rt, alloc, &scanned, want)
+/// Whether the table of ranges is small, and has these positions over an offset.
+fn table_finds(alloc: Global, ranges: &[InlineRange], offset: u64, wanted: &[usize]) -> bool {
+    match StackTable::new(alloc, ranges) {
+        Ok(table) => {
+            table.len() <= ranges.len().saturating_mul(4) && finds(&table, offset, wanted)
+        }
+        Err(_) => false,
+    }
 }
 
-/// The stacks have these positions over an offset.
-fn assert_stacks(
-    rt: &impl Abort,
-    alloc: Global,
-    stacks: &ProcedureStacks,
-    offset: u64,
-    want: &[usize],
-) -> Result<(), Fail> {
-    let found = stacks.stack(alloc, offset)?;
-    assert_positions(rt, alloc, &found, want)
+/// The ranges over an offset, as the stacks of ranges have them.
+fn stack(alloc: Global, shown: &[Range], offset: u64) -> Result<Vec<InlineRange>, AllocError> {
+    let stacks = ProcedureStacks::new(alloc, ranges_of(alloc, shown)?)?;
+    stacks.stack(alloc, offset)
 }
 
-/// The table, the scan and the stacks all have these positions over an offset.
-fn assert_stack(
-    rt: &impl Abort,
-    alloc: Global,
-    shown: &[Range],
-    offset: u64,
-    want: &[usize],
-) -> Result<(), Fail> {
-    let ranges = ranges_of(alloc, shown)?;
-    assert_scan(rt, alloc, &ranges, offset, want)?;
-    let table = StackTable::new(alloc, &ranges)?;
-    assert_table(rt, &table, shown.len(), offset, want);
-    let stacks = ProcedureStacks::new(alloc, ranges)?;
-    assert_stacks(rt, alloc, &stacks, offset, want)
+/// Whether the stacks of ranges have these positions over an offset.
+fn stacks_find(alloc: Global, shown: &[Range], offset: u64, wanted: &[usize]) -> bool {
+    match stack(alloc, shown, offset) {
+        Ok(found) => have_positions(&found, wanted),
+        Err(_) => false,
+    }
+}
+
+/// Whether the scan and the table of ranges have these positions over an offset.
+fn scan_and_table_find(alloc: Global, shown: &[Range], offset: u64, wanted: &[usize]) -> bool {
+    match ranges_of(alloc, shown) {
+        Ok(ranges) => {
+            scan_finds(alloc, &ranges, offset, wanted)
+                && table_finds(alloc, &ranges, offset, wanted)
+        }
+        Err(_) => false,
+    }
+}
+
+/// Whether the scan, the table and the stacks of ranges have what is over all these offsets.
+fn all_find(alloc: Global, shown: &[Range], over: &[Over<'_>]) -> bool {
+    for &(offset, wanted) in over {
+        if !scan_and_table_find(alloc, shown, offset, wanted)
+            || !stacks_find(alloc, shown, offset, wanted)
+        {
+            return false;
+        }
+    }
+    true
 }
 
 #[test]
-fn finds_positions_at_several_offsets(rt: HostRuntime) -> Result<(), Fail> {
-    let ranges: [Range; 6] = [
-        (0x10, 0x40, 0),
-        (0x20, 0x30, 1),
-        (0x18, 0x50, 0),
-        (0x24, 0x28, 3),
-        (0x10, 0x40, usize::MAX),
-        (0x2c, 0x2c, 0),
-    ];
-    let cases: [(u64, &[usize]); 11] = [
-        (0, &[]),
-        (0xf, &[]),
-        (0x10, &[0]),
-        (0x17, &[0]),
-        (0x18, &[2]),
-        (0x20, &[2, 1]),
-        (0x24, &[2, 1]),
-        (0x2c, &[2, 1]),
-        (0x30, &[2]),
-        (0x50, &[]),
-        (u64::MAX, &[]),
-    ];
-    for (offset, want) in cases {
-        assert_stack(&rt, rt.alloc(), &ranges, offset, want)?;
-    }
-    Ok(())
+fn finds_positions_at_several_offsets(rt: HostRuntime) {
+    assert!(rt; all_find(rt.alloc(), &SEVERAL, &OVER_SEVERAL));
 }
 
 #[test]
-fn takes_the_first_of_equal_starts(rt: HostRuntime) -> Result<(), Fail> {
-    let ranges: [Range; 3] = [(0x10, 0x20, 0), (0x10, 0x30, 0), (0x8, 0x40, 0)];
-    let cases: [(u64, &[usize]); 4] = [(0x8, &[2]), (0x10, &[0]), (0x20, &[1]), (0x30, &[2])];
-    for (offset, want) in cases {
-        assert_stack(&rt, rt.alloc(), &ranges, offset, want)?;
-    }
-    Ok(())
+fn takes_the_first_of_equal_starts(rt: HostRuntime) {
+    assert!(rt; all_find(rt.alloc(), &EQUAL_STARTS, &OVER_EQUAL_STARTS));
 }
 
 #[test]
-fn has_no_stack_without_ranges(rt: HostRuntime) -> Result<(), Fail> {
-    for offset in [0, 1, u64::MAX] {
-        assert_stack(&rt, rt.alloc(), &[], offset, &[])?;
-    }
-    Ok(())
-}
-
-/// The stacks and the scan have the same positions over an offset.
-fn assert_alike(
-    rt: &impl Abort,
-    alloc: Global,
-    ranges: &[InlineRange],
-    stacks: &ProcedureStacks,
-    offset: u64,
-) -> Result<(), Fail> {
-    let scanned = inline_stack(alloc, ranges, offset)?;
-    let want = positions(alloc, &scanned)?;
-    assert_stacks(rt, alloc, stacks, offset, &want)
+fn has_no_stack_without_ranges(rt: HostRuntime) {
+    assert!(rt; all_find(rt.alloc(), &[], &OVER_NOTHING));
 }
 
 /// Ranges, each in the one before it.
@@ -166,14 +185,50 @@ fn nested_ranges(alloc: Global) -> Result<Vec<InlineRange>, AllocError> {
     ranges_of(alloc, &shown)
 }
 
-#[test]
-fn answers_alike_for_a_thousand_nested_ranges(rt: HostRuntime) -> Result<(), Fail> {
-    let alloc = rt.alloc();
-    let ranges = nested_ranges(alloc)?;
-    let stacks = ProcedureStacks::new(alloc, nested_ranges(alloc)?)?;
-    for offset in [0, 1, 500, 999, 1000, 1001, 1999, 2000] {
-        assert_alike(&rt, alloc, &ranges, &stacks, offset)?;
+/// The stacks of nested ranges.
+fn nested_stacks(alloc: Global) -> Result<ProcedureStacks, AllocError> {
+    ProcedureStacks::new(alloc, nested_ranges(alloc)?)
+}
+
+/// Whether stacks and the scan of ranges have the same positions over an offset.
+fn answer_alike(
+    alloc: Global,
+    stacks: &ProcedureStacks,
+    ranges: &[InlineRange],
+    offset: u64,
+) -> Result<bool, AllocError> {
+    let found = stacks.stack(alloc, offset)?;
+    let scanned = inline_stack(alloc, ranges, offset)?;
+    Ok(are_alike(&found, &scanned))
+}
+
+/// Whether stacks and the scan of ranges have the same positions over all these offsets.
+fn all_answer_alike(
+    alloc: Global,
+    stacks: &ProcedureStacks,
+    ranges: &[InlineRange],
+    offsets: &[u64],
+) -> Result<bool, AllocError> {
+    for &offset in offsets {
+        if !answer_alike(alloc, stacks, ranges, offset)? {
+            return Ok(false);
+        }
     }
-    assert_eq!(rt; stacks.stack(alloc, 999)?.len(), 1000);
+    Ok(true)
+}
+
+/// Whether stacks of nested ranges have the positions that the scan has, and all of them in the middle.
+fn are_nested_stacks(alloc: Global, stacks: &ProcedureStacks) -> Result<bool, AllocError> {
+    let ranges = nested_ranges(alloc)?;
+    Ok(
+        all_answer_alike(alloc, stacks, &ranges, &OFFSETS)?
+            && stacks.stack(alloc, 999)?.len() == 1000,
+    )
+}
+
+#[test]
+fn answers_alike_for_a_thousand_nested_ranges(rt: HostRuntime) -> Result<(), AllocError> {
+    let stacks = nested_stacks(rt.alloc())?;
+    assert!(rt; matches!(are_nested_stacks(rt.alloc(), &stacks), Ok(true)));
     Ok(())
 }

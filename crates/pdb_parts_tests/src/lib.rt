@@ -23,3 +23,5 @@ mod range_sets;
 mod seen;
 #[cfg(test)]
 mod segments;
+#[cfg(test)]
+mod symbols;

@@ -1,4 +1,5 @@
 use pdb_records::{ModuleInfo, Reading, StreamError, Symbol};
+use pdb_types::Error;
 use std::alloc::Global;
 
 /// A module with these symbols, this fault behind them, and nothing else.
@@ -21,4 +22,9 @@ pub(crate) fn module_of(
         imports: Err(missing),
         exports: Err(missing),
     }
+}
+
+/// Whether an error is this fault of a stream.
+pub(crate) fn is_fault(error: &Error, fault: StreamError) -> bool {
+    matches!(error, Error::PdbError(pdb_records::Error::Stream(found)) if *found == fault)
 }

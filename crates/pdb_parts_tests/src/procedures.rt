@@ -1,4 +1,4 @@
-use crate::modules::module_of;
+use crate::modules::{is_fault, module_of};
 use pdb_functions::{
     BasicModuleInfo, ModuleSectionContribution, ProcedureSymbolFunction, PublicOrProcedureSymbol,
     PublicSymbolFunctionOrPlaceholder, global_function_in, laws,
@@ -10,12 +10,28 @@ use pdb_records::{
 };
 use pdb_types::Error;
 use std::alloc::{AllocError, Global};
-use std::process::Abort;
-use std::test::Fail;
 
 /// A procedure: its offset, its length, its name, the positions of its symbol and its end, and its type.
 type Shown<'a> = (u32, u32, &'a [u8], usize, usize, u32);
 
+/// Procedures of which one is empty and one starts where another does, with code apart and a thunk.
+static CODE: [Code<'static>; 6] = [
+    Code::Procedure(S_GPROC32, 0x40, 0x10, b"f"),
+    Code::Separated(0x80, 0x40),
+    Code::Separated(0x90, 0x40),
+    Code::Procedure(S_LPROC32, 0x20, 0, b"empty"),
+    Code::Procedure(S_LPROC32, 0x40, 8, b"later"),
+    Code::Thunk(0x10),
+];
+
+/// The procedures that those are.
+static PROCEDURES: [Shown<'static>; 3] = [
+    (0x10, 6, b"t", 5, 6, 0),
+    (0x40, 0x10, b"f", 0, 9, 7),
+    (0x80, 4, b"f", 1, 8, 7),
+];
+
+/// A place of the first section.
 fn place(offset: u32) -> PdbInternalSectionOffset {
     PdbInternalSectionOffset { section: 1, offset }
 }
@@ -31,6 +47,18 @@ enum Code<'a> {
     Thunk(u32),
 }
 
+/// What a module gives.
+#[derive(Clone, Copy)]
+enum Wanted<'a> {
+    /// These procedures, in this order.
+    Procedures(&'a [Shown<'a>]),
+    /// Three thousand procedures.
+    Thousands,
+    /// A refusal for this fault.
+    Fault(StreamError),
+}
+
+/// The symbol that tells a piece of code.
 fn symbol(alloc: Global, code: Code<'_>) -> Result<Symbol, AllocError> {
     let (raw_kind, content) = match code {
         Code::Procedure(raw_kind, offset, len, name) => (
@@ -68,76 +96,100 @@ fn symbol(alloc: Global, code: Code<'_>) -> Result<Symbol, AllocError> {
     })
 }
 
-/// A module whose symbols are these pieces of code.
-fn module(alloc: Global, code: &[Code<'_>]) -> Result<ModuleInfo, AllocError> {
+/// The symbols that tell pieces of code.
+fn symbols(alloc: Global, code: &[Code<'_>]) -> Result<Vec<Symbol>, AllocError> {
     let mut symbols = Vec::new(alloc);
     for piece in code {
         symbols.push(symbol(alloc, *piece)?)?;
     }
-    Ok(module_of(alloc, symbols, None))
+    Ok(symbols)
 }
 
-fn shown<'a>(
-    alloc: Global,
-    procedures: &[ProcedureSymbolFunction<'a>],
-) -> Result<Vec<Shown<'a>>, AllocError> {
-    let mut shown = Vec::new(alloc);
-    for p in procedures {
-        let name: &'a RawString = p.name;
-        let (position, end) = (p.symbol_index.0, p.end_symbol_index.0);
-        let bytes = name.0.as_slice();
-        shown.push((p.offset.offset, p.len, bytes, position, end, p.type_index.0))?;
+/// Whether a procedure is this one.
+fn is_procedure(procedure: &ProcedureSymbolFunction<'_>, wanted: &Shown<'_>) -> bool {
+    let &(offset, len, bytes, position, end, type_index) = wanted;
+    let name: &RawString = procedure.name;
+    procedure.offset == place(offset)
+        && procedure.len == len
+        && name.0.as_slice() == bytes
+        && procedure.symbol_index == SymbolIndex(position)
+        && procedure.end_symbol_index == SymbolIndex(end)
+        && procedure.type_index == TypeIndex(type_index)
+}
+
+/// Whether procedures are these, in this order.
+fn are_procedures(procedures: &[ProcedureSymbolFunction<'_>], wanted: &[Shown<'_>]) -> bool {
+    let mut rest = wanted;
+    for procedure in procedures {
+        match rest {
+            [first, behind @ ..] if is_procedure(procedure, first) => rest = behind,
+            _ => return false,
+        }
     }
-    Ok(shown)
+    rest.is_empty()
 }
 
-/// Asserts that a module has these procedures, in this order.
-fn assert_procedures(
-    rt: &impl Abort,
+/// Whether there are three thousand procedures, with one over a place and none over another.
+fn are_thousands(basic: &BasicModuleInfo<'_>) -> bool {
+    let Some(over) = basic.procedure_over(place(0x104)) else {
+        return false;
+    };
+    over.offset.offset == 0x100
+        && basic.procedures().len() == 3000
+        && basic.procedure_over(place(0x1_0000)).is_none()
+}
+
+/// Whether a module was read as is wanted.
+fn is_read_as(basic: &BasicModuleInfo<'_>, wanted: Wanted<'_>) -> bool {
+    match wanted {
+        Wanted::Procedures(procedures) => are_procedures(basic.procedures(), procedures),
+        Wanted::Thousands => are_thousands(basic),
+        Wanted::Fault(_) => false,
+    }
+}
+
+/// Whether a module is refused as is wanted.
+fn is_refused_as(error: &Error, wanted: Wanted<'_>) -> bool {
+    match wanted {
+        Wanted::Fault(fault) => is_fault(error, fault),
+        _ => false,
+    }
+}
+
+/// Whether a module keeps its symbols and its procedures are as is wanted, or it is refused so.
+fn gives(alloc: Global, info: &ModuleInfo, wanted: Wanted<'_>) -> bool {
+    match BasicModuleInfo::try_from_module_info(alloc, info) {
+        Ok(basic) => {
+            basic.module_info().symbols.items.len() == info.symbols.items.len()
+                && is_read_as(&basic, wanted)
+        }
+        Err(error) => is_refused_as(&error, wanted),
+    }
+}
+
+/// Whether a module of these pieces of code, with this fault behind them, gives what is wanted.
+fn code_gives(
     alloc: Global,
-    info: &ModuleInfo,
-    wanted: &[Shown<'_>],
-) -> Result<(), Fail> {
-    let basic = BasicModuleInfo::try_from_module_info(alloc, info)?;
-    let shown = shown(alloc, basic.procedures())?;
-    assert_eq!(rt; shown.as_slice(), wanted);
-    assert_eq!(rt;
-        basic.module_info().symbols.items.len(),
-        info.symbols.items.len()
-    );
-    Ok(())
+    code: &[Code<'_>],
+    fault: Option<StreamError>,
+    wanted: Wanted<'_>,
+) -> bool {
+    match symbols(alloc, code) {
+        Ok(symbols) => gives(alloc, &module_of(alloc, symbols, fault), wanted),
+        Err(_) => false,
+    }
 }
 
 #[test]
-fn procedures_by_their_starts(rt: HostRuntime) -> Result<(), Fail> {
-    let code = [
-        Code::Procedure(S_GPROC32, 0x40, 0x10, b"f"),
-        Code::Separated(0x80, 0x40),
-        Code::Separated(0x90, 0x40),
-        Code::Procedure(S_LPROC32, 0x20, 0, b"empty"),
-        Code::Procedure(S_LPROC32, 0x40, 8, b"later"),
-        Code::Thunk(0x10),
-    ];
-    let info = module(rt.alloc(), &code)?;
-    let wanted: [Shown<'_>; 3] = [
-        (0x10, 6, b"t".as_slice(), 5, 6, 0),
-        (0x40, 0x10, b"f".as_slice(), 0, 9, 7),
-        (0x80, 4, b"f".as_slice(), 1, 8, 7),
-    ];
+fn procedures_by_their_starts(rt: HostRuntime) {
     laws::pick_covers_with_greatest_start();
-    assert_procedures(&rt, rt.alloc(), &info, &wanted)
+    assert!(rt; code_gives(rt.alloc(), &CODE, None, Wanted::Procedures(&PROCEDURES)));
 }
 
 #[test]
 fn module_with_a_fault(rt: HostRuntime) {
-    let info = module_of(rt.alloc(), Vec::new(rt.alloc()), Some(StreamError(3)));
-    let refused = BasicModuleInfo::try_from_module_info(rt.alloc(), &info);
-    assert!(rt;
-        matches!(
-            &refused,
-            Err(Error::PdbError(pdb_records::Error::Stream(StreamError(3))))
-        )
-    );
+    let fault = StreamError(3);
+    assert!(rt; code_gives(rt.alloc(), &[], Some(fault), Wanted::Fault(fault)));
 }
 
 /// Three thousand procedures, the last in the code first, each with the start of the next one in it.
@@ -149,38 +201,41 @@ fn descending(alloc: Global) -> Result<Vec<Code<'static>>, AllocError> {
     Ok(code)
 }
 
-/// Asserts that a module has three thousand procedures, and where they are found.
-fn assert_thousands(rt: &impl Abort, basic: &BasicModuleInfo<'_>) -> Result<(), Fail> {
-    assert_eq!(rt; basic.procedures().len(), 3000);
-    let over = basic.procedure_over(place(0x104)).ok_or("nothing over")?;
-    assert_eq!(rt; over.offset.offset, 0x100);
-    assert!(rt; basic.procedure_over(place(0x1_0000)).is_none());
+#[test]
+fn thousands_of_procedures(rt: HostRuntime) -> Result<(), AllocError> {
+    let code = descending(rt.alloc())?;
+    assert!(rt; code_gives(rt.alloc(), &code, None, Wanted::Thousands));
     Ok(())
 }
 
-#[test]
-fn thousands_of_procedures(rt: HostRuntime) -> Result<(), Fail> {
-    let code = descending(rt.alloc())?;
-    let info = module(rt.alloc(), &code)?;
-    let basic = BasicModuleInfo::try_from_module_info(rt.alloc(), &info)?;
-    assert_thousands(&rt, &basic)
-}
-
-#[test]
-fn global_function_of_a_contribution(rt: HostRuntime) {
+/// What a global function that starts at an offset is in the contribution of module 5 from 0x10 on.
+fn found_from(offset: u32) -> Option<PublicOrProcedureSymbol<'static>> {
     let contribution = ModuleSectionContribution {
         section_index: 1,
         start_offset: 0x10,
         end_offset: 0x20,
         module_index: 5,
     };
-    for (offset, counts) in [(0x0fu32, false), (0x10, true), (0x18, true)] {
-        let function = PublicSymbolFunctionOrPlaceholder {
-            start_offset: place(offset),
-            name: None,
-        };
-        let found = global_function_in(contribution, Some(function));
-        assert_eq!(rt; found.is_some(), counts);
-        assert!(rt; matches!(found, None | Some(PublicOrProcedureSymbol::Public(5, _))));
-    }
+    let function = PublicSymbolFunctionOrPlaceholder {
+        start_offset: place(offset),
+        name: None,
+    };
+    global_function_in(contribution, Some(function))
+}
+
+#[test]
+fn global_function_of_a_contribution(rt: HostRuntime) {
+    assert!(rt; found_from(0x0f).is_none());
+    assert!(rt;
+        matches!(
+            found_from(0x10),
+            Some(PublicOrProcedureSymbol::Public(5, _))
+        )
+    );
+    assert!(rt;
+        matches!(
+            found_from(0x18),
+            Some(PublicOrProcedureSymbol::Public(5, _))
+        )
+    );
 }

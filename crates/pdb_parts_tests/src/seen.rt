@@ -3,99 +3,105 @@ use pdb_records::TypeIndex;
 use pdb_types::Error;
 use std::alloc::{AllocError, Global};
 use std::collections::BTreeSet;
-use std::process::Abort;
-use std::test::Fail;
 
-/// The numbers in a set, one behind the other.
-fn numbers(alloc: Global, set: &BTreeSet<TypeIndex>) -> Result<String, AllocError> {
-    let mut text = String::new(alloc);
+/// Whether a set has the numbers below this one, in their order, and no others.
+fn has_numbers_below(set: &BTreeSet<TypeIndex>, end: u32) -> bool {
+    let mut wanted: u32 = 0;
     for index in set {
-        let number = index.0;
-        let digit = format!(in alloc; "{number}")?;
-        text.push_str(digit.as_str())?;
+        if index.0 != wanted {
+            return false;
+        }
+        wanted = wanted.saturating_add(1);
     }
-    Ok(text)
+    wanted == end
 }
 
-/// The set has these numbers.
-fn assert_numbers(
-    rt: &impl Abort,
-    alloc: Global,
-    set: &BTreeSet<TypeIndex>,
-    wanted: &str,
-) -> Result<(), Fail> {
-    let numbers = numbers(alloc, set)?;
-    assert_eq!(rt; numbers.as_str(), wanted);
-    Ok(())
-}
-
-/// A level that is entered with nothing, and takes in two numbers.
-fn enter_empty_level(rt: &impl Abort, alloc: Global, seen: &mut Seen<'_>) -> Result<(), Fail> {
+/// Whether a level that is entered with nothing takes in two numbers.
+fn holds_empty_level(seen: &mut Seen<'_>) -> bool {
     let mut level = seen.new_level();
-    level.insert(TypeIndex(4))?;
-    level.insert(TypeIndex(5))?;
-    assert_numbers(rt, alloc, level.set, "012345")
+    level.insert(TypeIndex(4)).is_ok()
+        && level.insert(TypeIndex(5)).is_ok()
+        && has_numbers_below(level.set, 6)
 }
 
-/// A level that is entered with one number, and has another level inside.
-fn enter_inner_level(rt: &impl Abort, alloc: Global, seen: &mut Seen<'_>) -> Result<(), Fail> {
-    let mut level = seen.insert_one(TypeIndex(3))?;
-    assert_numbers(rt, alloc, level.set, "0123")?;
-    enter_empty_level(rt, alloc, &mut level)?;
-    assert_numbers(rt, alloc, level.set, "0123")
+/// Whether the level of the number 3 is as before when another level was inside.
+fn is_inner_level(level: &mut Seen<'_>) -> bool {
+    has_numbers_below(level.set, 4) && holds_empty_level(level) && has_numbers_below(level.set, 4)
 }
 
-/// A level that is entered with one number, takes in another, and has two levels inside.
-fn enter_outer_level(rt: &impl Abort, alloc: Global, seen: &mut Seen<'_>) -> Result<(), Fail> {
-    let mut level = seen.insert_one(TypeIndex(1))?;
-    assert!(rt; level.insert(TypeIndex(0)).is_err());
-    level.insert(TypeIndex(2))?;
-    assert_numbers(rt, alloc, level.set, "012")?;
-    enter_inner_level(rt, alloc, &mut level)?;
-    assert_numbers(rt, alloc, level.set, "012")
+/// Whether a level is entered with the number 3.
+fn holds_inner_level(seen: &mut Seen<'_>) -> bool {
+    match seen.insert_one(TypeIndex(3)) {
+        Ok(mut level) => is_inner_level(&mut level),
+        Err(_) => false,
+    }
 }
 
-/// The set has what it had, before and after it is lent back.
-fn enter_levels(rt: &impl Abort, alloc: Global, set: &mut BTreeSet<TypeIndex>) -> Result<(), Fail> {
+/// Whether the level of the number 1 takes in another number, and is as before when two levels were inside.
+fn is_outer_level(level: &mut Seen<'_>) -> bool {
+    level.insert(TypeIndex(0)).is_err()
+        && level.insert(TypeIndex(2)).is_ok()
+        && has_numbers_below(level.set, 3)
+        && holds_inner_level(level)
+        && has_numbers_below(level.set, 3)
+}
+
+/// Whether a level is entered with the number 1.
+fn holds_outer_level(seen: &mut Seen<'_>) -> bool {
+    match seen.insert_one(TypeIndex(1)) {
+        Ok(mut level) => is_outer_level(&mut level),
+        Err(_) => false,
+    }
+}
+
+/// Whether a set has what it had when levels were entered, before it is lent back.
+fn holds_levels(alloc: Global, set: &mut BTreeSet<TypeIndex>) -> bool {
     let mut seen = Seen::new(alloc, set);
-    enter_outer_level(rt, alloc, &mut seen)?;
-    assert_numbers(rt, alloc, seen.set, "0")
+    holds_outer_level(&mut seen) && has_numbers_below(seen.set, 1)
 }
 
 #[test]
-fn levels_take_out_what_they_put_in(rt: HostRuntime) -> Result<(), Fail> {
-    let alloc = rt.alloc();
-    let mut set = BTreeSet::new(alloc);
-    set.insert(TypeIndex(0))?;
-    enter_levels(&rt, alloc, &mut set)?;
-    assert_numbers(&rt, alloc, &set, "0")
+fn levels_take_out_what_they_put_in(rt: HostRuntime) {
+    let mut set = BTreeSet::new(rt.alloc());
+    assert!(rt; set.insert(TypeIndex(0)).is_ok());
+    assert!(rt; holds_levels(rt.alloc(), &mut set) && has_numbers_below(&set, 1));
 }
 
-/// What the error says that an index is refused for.
-fn refusal(alloc: Global, seen: &mut Seen<'_>, index: u32) -> Result<String, AllocError> {
-    match seen.insert(TypeIndex(index)) {
-        Ok(()) => Ok(String::new(alloc)),
-        Err(error) => told(alloc, error),
-    }
-}
-
-/// The text of an error.
-fn told(alloc: Global, error: SeenError) -> Result<String, AllocError> {
+/// Whether an error has this text.
+fn tells(alloc: Global, error: SeenError, wanted: &str) -> Result<bool, AllocError> {
     let error = Error::from(error);
-    format!(in alloc; "{error}")
+    Ok(format!(in alloc; "{error}")?.as_str() == wanted)
+}
+
+/// Whether an index is refused with this text.
+fn is_refused(
+    alloc: Global,
+    seen: &mut Seen<'_>,
+    index: TypeIndex,
+    wanted: &str,
+) -> Result<bool, AllocError> {
+    match seen.insert(index) {
+        Ok(()) => Ok(false),
+        Err(error) => tells(alloc, error, wanted),
+    }
+}
+
+/// Whether an index is put into a set, and is circular from then on.
+fn is_circular_once_put_in(
+    alloc: Global,
+    set: &mut BTreeSet<TypeIndex>,
+) -> Result<bool, AllocError> {
+    let index = TypeIndex(4097);
+    let mut seen = Seen::new(alloc, set);
+    let is_put_in = seen.insert(index).is_ok();
+    let is_circular = is_refused(alloc, &mut seen, index, "Type with index 4097 is circular");
+    Ok(is_put_in && is_circular?)
 }
 
 #[test]
-fn an_index_that_is_open_is_circular(rt: HostRuntime) -> Result<(), Fail> {
-    let alloc = rt.alloc();
-    let mut set = BTreeSet::new(alloc);
-    let mut seen = Seen::new(alloc, &mut set);
-    for wanted in ["", "Type with index 4097 is circular"] {
-        assert_eq!(rt; refusal(alloc, &mut seen, 4097)?.as_str(), wanted);
-    }
-    assert_eq!(rt;
-        told(alloc, SeenError::OutOfMemory)?.as_str(),
-        "Out of memory"
-    );
-    Ok(())
+fn an_index_that_is_open_is_circular(rt: HostRuntime) {
+    let mut set = BTreeSet::new(rt.alloc());
+    assert!(rt; matches!(is_circular_once_put_in(rt.alloc(), &mut set), Ok(true)));
+    let told = tells(rt.alloc(), SeenError::OutOfMemory, "Out of memory");
+    assert!(rt; matches!(told, Ok(true)));
 }

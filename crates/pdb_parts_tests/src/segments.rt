@@ -1,55 +1,106 @@
 use pdb_ranges::{Probes, Segment, Segments, laws};
 use std::alloc::{AllocError, Global};
-use std::process::Abort;
-use std::test::Fail;
 
-/// The table has these values at these numbers.
-fn assert_values(rt: &impl Abort, table: &Segments<u64>, values: &[(u64, Option<u64>)]) {
+/// A segment: its start, its end and its value.
+type Painted = (u64, u64, u64);
+
+/// A number, and its value in a table.
+type Valued = (u64, Option<u64>);
+
+/// Segments of which the second lies in the first, two are empty, and the last lies over the others.
+static FEW: [Painted; 5] = [
+    (0, 10, 1),
+    (3, 5, 2),
+    (5, 5, 3),
+    (8, 6, 3),
+    (2, u64::MAX, 4),
+];
+
+/// Values where those but the last were painted.
+static BEFORE_LAST: [Valued; 6] = [
+    (2, Some(1)),
+    (4, Some(2)),
+    (5, Some(1)),
+    (9, Some(1)),
+    (10, None),
+    (u64::MAX, None),
+];
+
+/// Segments of which many lie over others, and two are empty.
+static MANY: [Painted; 9] = [
+    (10, 40, 1),
+    (20, 30, 2),
+    (25, 25, 3),
+    (35, 50, 4),
+    (60, 55, 5),
+    (0, 12, 6),
+    (22, 24, 7),
+    (45, 48, 8),
+    (22, 23, 9),
+];
+
+/// Values where those were painted.
+static OF_MANY: [Valued; 5] = [
+    (11, Some(6)),
+    (22, Some(9)),
+    (23, Some(7)),
+    (24, Some(2)),
+    (50, None),
+];
+
+/// Whether a table has these values at these numbers.
+fn has_values(table: &Segments<u64>, values: &[Valued]) -> bool {
     let mut probes = Probes::new();
     for &(x, value) in values {
-        assert_eq!(rt; table.find(x, &mut probes), value);
+        if table.find(x, &mut probes) != value {
+            return false;
+        }
+    }
+    true
+}
+
+/// The table after segments were painted one after the other.
+fn painted_in_turn(alloc: Global, painted: &[Painted]) -> Result<Segments<u64>, AllocError> {
+    let mut table = Segments::new(alloc);
+    for &(start, end, value) in painted {
+        table.paint(start, end, value)?;
+    }
+    Ok(table)
+}
+
+/// Whether segments that are painted one after the other make a table of so many, with these values.
+fn paint(alloc: Global, painted: &[Painted], len: usize, values: &[Valued]) -> bool {
+    match painted_in_turn(alloc, painted) {
+        Ok(table) => table.len() == len && has_values(&table, values),
+        Err(_) => false,
     }
 }
 
 #[test]
-fn paints_over_what_was_there(rt: HostRuntime) -> Result<(), Fail> {
-    let mut table = Segments::new(rt.alloc());
-    table.paint(0, 10, 1)?;
-    table.paint(3, 5, 2)?;
-    table.paint(5, 5, 3)?;
-    table.paint(8, 6, 3)?;
-    assert_eq!(rt; table.len(), 3);
-    let values = [
-        (2, Some(1)),
-        (4, Some(2)),
-        (5, Some(1)),
-        (9, Some(1)),
-        (10, None),
-        (u64::MAX, None),
-    ];
-    assert_values(&rt, &table, &values);
+fn paints_over_what_was_there(rt: HostRuntime) {
+    assert!(rt; paint(rt.alloc(), &FEW[..4], 3, &BEFORE_LAST));
+    let values = [(1, Some(1)), (u64::MAX - 1, Some(4))];
+    assert!(rt; paint(rt.alloc(), &FEW, 2, &values));
+}
 
-    table.paint(2, u64::MAX, 4)?;
-    assert_eq!(rt; table.len(), 2);
-    assert_values(&rt, &table, &[(1, Some(1)), (u64::MAX - 1, Some(4))]);
-    Ok(())
+/// Whether a table without segments has no value for a number, and looks at nothing.
+fn looks_at_nothing(table: &Segments<u8>) -> bool {
+    let mut probes = Probes::new();
+    probes.tick();
+    table.find(7, &mut probes).is_none() && probes.count() == 1
 }
 
 #[test]
-fn counts_probes(rt: HostRuntime) -> Result<(), Fail> {
+fn counts_probes(rt: HostRuntime) {
     let mut probes = Probes::new();
-    assert_eq!(rt; probes.count(), 0);
+    assert!(rt; probes.count() == 0);
     probes.tick();
-    assert_eq!(rt; probes.count(), 1);
-
-    let table = Segments::<u8>::new(rt.alloc());
-    assert_eq!(rt; table.find(7, &mut probes), None);
-    assert_eq!(rt; probes.count(), 1);
-    Ok(())
+    assert!(rt; probes.count() == 1);
+    assert!(rt; looks_at_nothing(&Segments::new(rt.alloc())));
 }
 
-// How many entries of a list a binary search for x looks at, where the entry at a place is the range from 4 times
-// the place on, of two numbers.
+/// How many entries of a list a binary search for x looks at, where the entry at a place is the range from 4 times
+/// the place on, of two numbers.
 fn looks(entries: usize, x: u64) -> u64 {
     let (mut from, mut to) = (0, entries);
     for looks in 0..64u64 {
@@ -69,105 +120,121 @@ fn looks(entries: usize, x: u64) -> u64 {
     64
 }
 
-#[test]
-fn searches_with_few_probes(rt: HostRuntime) -> Result<(), Fail> {
-    let mut table = Segments::new(rt.alloc());
+/// A thousand ranges of two numbers, each four behind the one before and with its position as the value.
+fn spaced(alloc: Global) -> Result<Segments<u64>, AllocError> {
+    let mut table = Segments::new(alloc);
     for at in 0..1000u64 {
         table.paint(4 * at, 4 * at + 2, at)?;
-    }
-    assert_eq!(rt; table.len(), 1000);
-    for x in 0..4010u64 {
-        let mut probes = Probes::new();
-        let found = table.find(x, &mut probes);
-        assert!(rt; probes.count() <= 10);
-        assert_eq!(rt; probes.count(), looks(1000, x));
-        assert_eq!(rt;
-            found,
-            if x % 4 < 2 && x < 4000 {
-                Some(x / 4)
-            } else {
-                None
-            }
-        );
-    }
-    Ok(())
-}
-
-fn segment(start: u64, end: u64, value: u64) -> Segment<u64> {
-    Segment { start, end, value }
-}
-
-/// The table after the segments were painted one after the other.
-fn painted_in_turn(alloc: Global, segments: &[Segment<u64>]) -> Result<Segments<u64>, AllocError> {
-    let mut table = Segments::new(alloc);
-    for segment in segments {
-        table.paint(segment.start, segment.end, segment.value)?;
     }
     Ok(table)
 }
 
-/// Two tables have the same values up to a number.
-fn assert_alike(rt: &impl Abort, table: &Segments<u64>, other: &Segments<u64>, end: u64) {
+/// The value of a number in those ranges.
+fn spaced_value(x: u64) -> Option<u64> {
+    if x % 4 < 2 && x < 4000 {
+        Some(x / 4)
+    } else {
+        None
+    }
+}
+
+/// Whether a number has its value in those ranges, after as many probes as a binary search takes.
+fn is_found(table: &Segments<u64>, x: u64) -> bool {
+    let mut probes = Probes::new();
+    table.find(x, &mut probes) == spaced_value(x)
+        && probes.count() <= 10
+        && probes.count() == looks(1000, x)
+}
+
+/// Whether there are those ranges, and each number in and around them is found.
+fn are_spaced(table: &Segments<u64>) -> bool {
+    for x in 0..4010u64 {
+        if !is_found(table, x) {
+            return false;
+        }
+    }
+    table.len() == 1000
+}
+
+#[test]
+fn searches_with_few_probes(rt: HostRuntime) -> Result<(), AllocError> {
+    let table = spaced(rt.alloc())?;
+    assert!(rt; are_spaced(&table));
+    Ok(())
+}
+
+/// Segments that are painted at once.
+fn painted_at_once(alloc: Global, painted: &[Painted]) -> Result<Segments<u64>, AllocError> {
+    let mut segments = Vec::new(alloc);
+    for &(start, end, value) in painted {
+        segments.push(Segment { start, end, value })?;
+    }
+    Segments::of_painted(alloc, &segments)
+}
+
+/// Whether two tables have the same values up to a number.
+fn are_alike(table: &Segments<u64>, other: &Segments<u64>, end: u64) -> bool {
     let mut probes = Probes::new();
     for x in 0..end {
-        assert_eq!(rt; table.find(x, &mut probes), other.find(x, &mut probes));
+        if table.find(x, &mut probes) != other.find(x, &mut probes) {
+            return false;
+        }
+    }
+    true
+}
+
+/// Whether a table is small, and as if [`MANY`] were painted one after the other.
+fn is_painted_in_turn(alloc: Global, table: &Segments<u64>) -> bool {
+    match painted_in_turn(alloc, &MANY) {
+        Ok(in_turn) => table.len() <= 18 && are_alike(table, &in_turn, 64),
+        Err(_) => false,
     }
 }
 
 #[test]
-fn paints_a_list_as_one_after_the_other(rt: HostRuntime) -> Result<(), Fail> {
-    let list = [
-        segment(10, 40, 1),
-        segment(20, 30, 2),
-        segment(25, 25, 3),
-        segment(35, 50, 4),
-        segment(60, 55, 5),
-        segment(0, 12, 6),
-        segment(22, 24, 7),
-        segment(45, 48, 8),
-        segment(22, 23, 9),
-    ];
-    let at_once = Segments::of_painted(rt.alloc(), &list)?;
-    assert!(rt; at_once.len() <= 18);
-    let values = [
-        (11, Some(6)),
-        (22, Some(9)),
-        (23, Some(7)),
-        (24, Some(2)),
-        (50, None),
-    ];
-    assert_values(&rt, &at_once, &values);
-    let in_turn = painted_in_turn(rt.alloc(), &list)?;
-    assert_alike(&rt, &at_once, &in_turn, 64);
+fn paints_a_list_as_one_after_the_other(rt: HostRuntime) -> Result<(), AllocError> {
+    let table = painted_at_once(rt.alloc(), &MANY)?;
+    assert!(rt; has_values(&table, &OF_MANY) && is_painted_in_turn(rt.alloc(), &table));
     Ok(())
 }
 
 #[test]
-fn paints_nothing(rt: HostRuntime) -> Result<(), Fail> {
-    let table = Segments::<u64>::of_painted(rt.alloc(), &[])?;
-    assert_eq!(rt; table.len(), 0);
+fn paints_nothing(rt: HostRuntime) -> Result<(), AllocError> {
+    let table = painted_at_once(rt.alloc(), &[])?;
+    assert!(rt; table.len() == 0);
     laws::last_painted_gives_the_value::<u64>();
     Ok(())
 }
 
-// Each in the one before it.
-fn nested(alloc: Global, count: u64) -> Result<Vec<Segment<u64>>, AllocError> {
-    let mut segments = Vec::new(alloc);
-    for at in 0..count {
-        segments.push(segment(at, (count - at).saturating_add(count), at))?;
+/// Three thousand segments, each in the one before it.
+fn nested(alloc: Global) -> Result<Vec<Painted>, AllocError> {
+    let mut painted = Vec::new(alloc);
+    for at in 0..3000u64 {
+        painted.push((at, 6000 - at, at))?;
     }
-    Ok(segments)
+    Ok(painted)
+}
+
+/// The table of nested segments.
+fn nested_table(alloc: Global) -> Result<Segments<u64>, AllocError> {
+    let painted = nested(alloc)?;
+    painted_at_once(alloc, &painted)
+}
+
+/// Whether nested segments have their values, and are found with few probes.
+fn are_nested(table: &Segments<u64>) -> bool {
+    let mut probes = Probes::new();
+    table.len() == 5999
+        && table.find(1234, &mut probes) == Some(1234)
+        && table.find(4000, &mut probes) == Some(1999)
+        && table.find(5999, &mut probes) == Some(0)
+        && table.find(6000, &mut probes).is_none()
+        && probes.count() <= 4 * 13
 }
 
 #[test]
-fn paints_thousands_of_segments(rt: HostRuntime) -> Result<(), Fail> {
-    let mut probes = Probes::new();
-    let table = Segments::of_painted(rt.alloc(), &nested(rt.alloc(), 3000)?)?;
-    assert_eq!(rt; table.len(), 5999);
-    assert_eq!(rt; table.find(1234, &mut probes), Some(1234));
-    assert_eq!(rt; table.find(4000, &mut probes), Some(1999));
-    assert_eq!(rt; table.find(5999, &mut probes), Some(0));
-    assert_eq!(rt; table.find(6000, &mut probes), None);
-    assert!(rt; probes.count() <= 4 * 13);
+fn paints_thousands_of_segments(rt: HostRuntime) -> Result<(), AllocError> {
+    let table = nested_table(rt.alloc())?;
+    assert!(rt; are_nested(&table));
     Ok(())
 }

@@ -1,8 +1,8 @@
 //! Signatures and ids that are asked for, and what is wanted of them.
 
 use bitflags::Flags;
+use pdb_addr2line::pdb::{IdIndex, TypeIndex};
 use pdb_addr2line::{ContextPdbData, Error, TypeFormatter, TypeFormatterFlags};
-use pdb_records::{IdIndex, TypeIndex};
 use std::alloc::Global;
 use std::fmt;
 

@@ -1,0 +1,24 @@
+//! Lists of calls, each made to a context of its own.
+
+use crate::lists::{answers_differ, lists_of};
+use crate::tally::Tally;
+use pdb_addr2line::ContextPdbData;
+use std::io;
+
+/// Makes the calls over records.
+pub(crate) fn over_data<R: Print + AllocGlobal>(
+    rt: &R,
+    data: &ContextPdbData<'_>,
+    part: &str,
+    tally: Tally,
+) -> io::Result<Tally> {
+    let mut tally = tally;
+    for list in lists_of(rt.alloc(), part)? {
+        tally = tally.asked(list.calls());
+        if answers_differ(rt.alloc(), data, list) {
+            println!(rt; "{0} differs", list.first())?;
+            tally = tally.differing();
+        }
+    }
+    Ok(tally)
+}
