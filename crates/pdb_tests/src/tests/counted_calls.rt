@@ -1,14 +1,14 @@
-use crate::tests::contexts::{context_of, data_of};
-use crate::tests::frames::PROGRAM;
+use crate::tests::contexts::{
+    MadeContext, context_of, holds_over_context, holds_over_data, holds_over_records,
+};
+use crate::tests::frames::{PROGRAM, is_the_procedure};
 use pdb_addr2line::pdb::{Module, ModuleInfo, PDB, StreamError};
 use pdb_addr2line::{
-    Answer, Call, Context, Function, ModuleProvider, TypeFormatter, TypeFormatterFlags,
+    Answer, Call, Context, ContextPdbData, Error, Function, FunctionIter, ModuleProvider,
+    TypeFormatter, TypeFormatterFlags,
 };
-use pdb_json::read_records;
 use std::alloc::{AllocError, Global};
 use std::cell::Cell;
-use std::process::Abort;
-use std::test::Fail;
 
 /// Counts how often another provider is asked.
 #[derive(Drop)]
@@ -44,145 +44,169 @@ fn formatter_of<'a, P: ModuleProvider>(
     alloc: Global,
     provider: &'a P,
     pdb: &'a PDB,
-) -> Result<TypeFormatter<'a, P>, Fail> {
+) -> Option<TypeFormatter<'a, P>> {
     let (Ok(debug), Ok(types), Ok(ids)) = (
         &pdb.debug_information,
         &pdb.type_information,
         &pdb.id_information,
     ) else {
-        return Err(Fail::from("a stream failed"));
+        return None;
     };
-    let formatter = TypeFormatter::new_from_parts(
-        alloc,
-        provider,
-        copies(alloc, &debug.modules.items)?,
-        debug,
-        types,
-        ids,
-        pdb.string_table.as_ref().ok(),
-        TypeFormatterFlags::default(),
-    )?;
-    Ok(formatter)
+    let modules = copies(alloc, &debug.modules.items).ok()?;
+    let strings = pdb.string_table.as_ref().ok();
+    let flags = TypeFormatterFlags::default();
+    TypeFormatter::new_from_parts(alloc, provider, modules, debug, types, ids, strings, flags).ok()
 }
 
-/// Whether a function tells of the procedure.
-fn check_function(rt: &impl Abort, function: &Function) -> Result<(), Fail> {
-    assert_eq!(rt; function.start_rva, 0x1010);
-    assert_eq!(rt; function.end_rva, Some(0x1050));
-    let name = function.name.as_ref().ok_or("no name")?;
-    assert_eq!(rt; name.as_str(), "P");
-    Ok(())
+/// A context over these records, whose modules a provider knows.
+fn context_over<'a, P: ModuleProvider>(
+    alloc: Global,
+    provider: &'a P,
+    pdb: &'a PDB,
+) -> Option<Context<'a, P>> {
+    let formatter = formatter_of(alloc, provider, pdb)?;
+    context_of(alloc, provider, pdb, formatter)
 }
 
 /// Whether functions are the start of the contribution, which has no name, and the procedure.
-fn check_functions(rt: &impl Abort, functions: &[Function]) -> Result<(), Fail> {
+fn are_the_functions(functions: &[Function]) -> bool {
     let [contribution, procedure] = functions else {
-        return Err(Fail::from("wanted two functions"));
+        return false;
     };
-    assert_eq!(rt; contribution.start_rva, 0x1000);
-    assert!(rt; contribution.name.is_none());
-    check_function(rt, procedure)
+    contribution.start_rva == 0x1000 && contribution.name.is_none() && is_the_procedure(procedure)
 }
 
-/// Whether an answer is that to its call.
-fn check_answer(rt: &impl Abort, answer: &Answer<'_>) -> Result<(), Fail> {
+/// Whether an answer is the procedure.
+fn answers_the_procedure(answer: &Answer<'_>) -> bool {
     match answer {
-        Answer::Function(Some(function)) => check_function(rt, function),
-        Answer::Frames(Ok(Some(told))) => {
-            assert_eq!(rt; told.frames.len(), 3);
-            Ok(())
-        }
-        Answer::Functions(functions) => check_functions(rt, functions),
-        _ => Err(Fail::from("no answer")),
+        Answer::Function(Some(function)) => is_the_procedure(function),
+        _ => false,
     }
 }
 
-/// Asks for the function and the frames of an address, and for all functions.
-fn ask<P: ModuleProvider>(
-    rt: &impl Abort,
-    alloc: Global,
-    context: &mut Context<'_, P>,
-) -> Result<(), Fail> {
-    let calls = [
-        Call::FindFunction(0x1025),
-        Call::FindFrames(0x1025),
-        Call::Functions,
-    ];
+/// Whether an answer is the frames of the procedure.
+fn answers_the_frames(answer: &Answer<'_>) -> bool {
+    match answer {
+        Answer::Frames(Ok(Some(told))) => told.frames.len() == 3,
+        _ => false,
+    }
+}
+
+/// Whether an answer is all functions.
+fn answers_the_functions(answer: &Answer<'_>) -> bool {
+    match answer {
+        Answer::Functions(functions) => are_the_functions(functions),
+        _ => false,
+    }
+}
+
+/// The calls that a context is asked: for the function and the frames of an address, and for all functions.
+const CALLS: &[Call<'static>] = &[
+    Call::FindFunction(0x1025),
+    Call::FindFrames(0x1025),
+    Call::Functions,
+];
+
+/// Whether these are the answers to the calls.
+fn are_the_answers(answers: &[Answer<'_>]) -> bool {
+    let [function, frames, functions] = answers else {
+        return false;
+    };
+    answers_the_procedure(function)
+        && answers_the_frames(frames)
+        && answers_the_functions(functions)
+}
+
+/// Whether a context answers the calls.
+fn answers_calls<P: ModuleProvider>(alloc: Global, context: &mut Context<'_, P>) -> bool {
     let mut answers = Vec::new(alloc);
-    context.run_calls(&calls, &mut answers)?;
-    assert_eq!(rt; answers.len(), 3);
-    for answer in &answers {
-        check_answer(rt, answer)?;
-    }
-    Ok(())
+    context.run_calls(CALLS, &mut answers).is_ok() && are_the_answers(&answers)
 }
 
-/// Asks a context twice: the second time the provider isn't asked any more.
-fn ask_twice<P: ModuleProvider>(
-    rt: &impl Abort,
+/// Whether a context that is asked twice asks the provider at the first time alone.
+fn asks_once<P: ModuleProvider>(
     alloc: Global,
     context: &mut Context<'_, P>,
     asked: &Cell<u32>,
-) -> Result<(), Fail> {
-    ask(rt, alloc, context)?;
+) -> bool {
+    let answered = answers_calls(alloc, context);
     let first = asked.get();
-    assert!(rt; first > 0);
-    ask(rt, alloc, context)?;
-    assert_eq!(rt; asked.get(), first);
-    Ok(())
+    answered && first > 0 && answers_calls(alloc, context) && asked.get() == first
 }
 
-/// Asks a context over these records, whose modules a counting provider knows.
-fn ask_over<P: ModuleProvider>(
-    rt: &impl Abort,
+/// Whether a context over these records asks a counting provider once.
+fn asks_provider_once<P: ModuleProvider>(
     alloc: Global,
     counting: &Counting<'_, P>,
     records: &PDB,
-) -> Result<(), Fail> {
-    let formatter = formatter_of(alloc, counting, records)?;
-    let mut context = context_of(alloc, counting, records, formatter)?;
-    ask_twice(rt, alloc, &mut context, &counting.asked)
+) -> bool {
+    match context_over(alloc, counting, records) {
+        Some(mut context) => asks_once(alloc, &mut context, &counting.asked),
+        None => false,
+    }
 }
 
-/// Asks a context over records of its own, whose modules another provider knows.
-fn count_calls<P: ModuleProvider>(
-    rt: &impl Abort,
-    alloc: Global,
-    provider: &P,
-) -> Result<(), Fail> {
+/// Whether a context over records of its own, whose modules another provider knows, asks for them once.
+fn asks_for_modules_once(alloc: Global, data: &ContextPdbData<'_>) -> bool {
     let counting = Counting {
-        provider,
+        provider: data,
         asked: Cell::new(0),
     };
-    let records = read_records(alloc, PROGRAM)?;
-    ask_over(rt, alloc, &counting, &records)
+    holds_over_records(
+        alloc,
+        PROGRAM,
+        |records| asks_provider_once(alloc, &counting, records),
+    )
 }
 
 #[test]
-fn equal_calls_ask_the_provider_once(rt: HostRuntime) -> Result<(), Fail> {
-    let data = data_of(rt.alloc(), PROGRAM)?;
-    count_calls(&rt, rt.alloc(), &data)
+fn equal_calls_ask_the_provider_once(rt: HostRuntime) {
+    let alloc = rt.alloc();
+    assert!(rt; holds_over_data(alloc, PROGRAM, |data| asks_for_modules_once(alloc, data)));
 }
 
-/// Walks over the functions one by one. The end of the section is tried too, and no function lies over it.
-fn walk<P: ModuleProvider>(
-    rt: &impl Abort,
+/// The functions that are left.
+fn rest_of<P: ModuleProvider>(
     alloc: Global,
-    context: &mut Context<'_, P>,
-) -> Result<(), Fail> {
-    let mut functions = context.functions()?;
-    assert_eq!(rt; functions.remaining(), 3);
-    let mut found = Vec::new(alloc);
+    functions: &mut FunctionIter<'_, '_, P>,
+) -> Result<Vec<Function>, Error> {
+    let mut rest = Vec::new(alloc);
     while let Some(function) = functions.next() {
-        found.push(function?)?;
+        rest.push(function?)?;
     }
-    assert_eq!(rt; functions.remaining(), 0);
-    check_functions(rt, &found)
+    Ok(rest)
+}
+
+/// Whether the functions that are left are those of the program.
+fn gives_the_rest<P: ModuleProvider>(
+    alloc: Global,
+    functions: &mut FunctionIter<'_, '_, P>,
+) -> bool {
+    match rest_of(alloc, functions) {
+        Ok(rest) => are_the_functions(&rest),
+        Err(_) => false,
+    }
+}
+
+/// Whether the functions of the program are given. The end of the section is tried too, and no function
+/// lies over it.
+fn gives_the_functions<P: ModuleProvider>(
+    alloc: Global,
+    functions: &mut FunctionIter<'_, '_, P>,
+) -> bool {
+    functions.remaining() == 3 && gives_the_rest(alloc, functions) && functions.remaining() == 0
+}
+
+/// Whether a context gives the functions one by one.
+fn gives_one_by_one(alloc: Global, context: &mut MadeContext<'_, '_>) -> bool {
+    match context.functions() {
+        Ok(mut functions) => gives_the_functions(alloc, &mut functions),
+        Err(_) => false,
+    }
 }
 
 #[test]
-fn functions_one_by_one(rt: HostRuntime) -> Result<(), Fail> {
-    let data = data_of(rt.alloc(), PROGRAM)?;
-    let mut context = data.make_context()?;
-    walk(&rt, rt.alloc(), &mut context)
+fn functions_one_by_one(rt: HostRuntime) {
+    let alloc = rt.alloc();
+    assert!(rt; holds_over_context(alloc, PROGRAM, |context| gives_one_by_one(alloc, context)));
 }

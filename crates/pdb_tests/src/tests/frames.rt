@@ -1,8 +1,5 @@
-use crate::tests::contexts::data_of;
-use pdb_addr2line::{Context, Frame, FunctionFrames, ModuleProvider};
-use std::alloc::Global;
-use std::process::Abort;
-use std::test::Fail;
+use crate::tests::contexts::{MadeContext, holds_over_context, is_named};
+use pdb_addr2line::{Frame, Function, FunctionFrames};
 
 /// A procedure with one site inside another. The inner one has a row; so has the procedure itself.
 pub(super) const PROGRAM: &[u8] =
@@ -21,78 +18,116 @@ pub(super) const PROGRAM: &[u8] =
 "line_program":{"entries":[{"section":1,"offset":16,"lines":[{"offset":16,"file_index":1,"line_start":3}]}],"files":[1,2]},
 "inlinees":[4097,4098],"imports":[],"exports":[]}]}"#;
 
-/// What a frame tells of where its code comes from.
-fn place(alloc: Global, frame: &Frame<'_>) -> Result<String, Fail> {
-    let file = match &frame.file {
-        Some(file) => file.as_str(),
-        None => "??",
+/// Whether a function is the procedure.
+pub(super) fn is_the_procedure(function: &Function) -> bool {
+    function.start_rva == 0x1010 && function.end_rva == Some(0x1050) && is_named(function, "P")
+}
+
+/// Whether the code of a frame is of this line of a file.
+fn is_at(frame: &Frame<'_>, wanted: &str, line: u32) -> bool {
+    match &frame.file {
+        Some(file) => file.as_str() == wanted && frame.line == Some(line),
+        None => false,
+    }
+}
+
+/// Whether a frame tells of no file and no line.
+fn is_nowhere(frame: &Frame<'_>) -> bool {
+    frame.file.is_none() && frame.line.is_none()
+}
+
+/// Whether a frame is of the procedure.
+fn is_of_the_procedure(frame: &Frame<'_>) -> bool {
+    match &frame.function {
+        Some(name) => name.as_str() == "P",
+        None => false,
+    }
+}
+
+/// Whether frames are those at 0x1025, from inside to outside: of the two sites, and of the procedure.
+fn are_at_places(frames: &[Frame<'_>]) -> bool {
+    let [inner, outer, procedure] = frames else {
+        return false;
     };
-    let line = frame.line.unwrap_or(0);
-    Ok(format!(in alloc; "{file}:{line}")?)
+    is_at(inner, "b.cpp", 7)
+        && is_nowhere(outer)
+        && is_at(procedure, "p.cpp", 3)
+        && is_of_the_procedure(procedure)
 }
 
 /// Whether frames tell of the procedure and the sites at 0x1025.
-fn check_frames(rt: &impl Abort, alloc: Global, frames: &FunctionFrames<'_>) -> Result<(), Fail> {
-    assert_eq!(rt; frames.start_rva, 0x1010);
-    assert_eq!(rt; frames.end_rva, Some(0x1050));
-    assert_eq!(rt; frames.frames.len(), 3);
-    for (frame, want) in frames.frames.iter().zip(["b.cpp:7", "??:0", "p.cpp:3"]) {
-        assert_eq!(rt; place(alloc, frame)?.as_str(), want);
-    }
-    let name = frames.frames[2].function.as_ref().ok_or("no name")?;
-    assert_eq!(rt; name.as_str(), "P");
-    Ok(())
+fn are_the_frames(told: &FunctionFrames<'_>) -> bool {
+    told.start_rva == 0x1010 && told.end_rva == Some(0x1050) && are_at_places(&told.frames)
 }
 
-/// Asks for the frames of the addresses ahead, and of one in no function.
-fn ask_for_others<P: ModuleProvider>(
-    rt: &impl Abort,
-    context: &mut Context<'_, P>,
-) -> Result<(), Fail> {
+/// Whether a clone of frames tells of the procedure and the sites at 0x1025.
+fn are_the_frames_in_a_clone(told: &FunctionFrames<'_>) -> bool {
+    match told.clone() {
+        Ok(clone) => are_the_frames(&clone),
+        Err(_) => false,
+    }
+}
+
+/// Whether a context finds this many frames at an address.
+fn finds_frames(context: &mut MadeContext<'_, '_>, address: u32, count: usize) -> bool {
+    match context.find_frames(address) {
+        Ok(Some(told)) => told.frames.len() == count,
+        _ => false,
+    }
+}
+
+/// Whether a context finds the frames of the addresses ahead.
+fn finds_frames_ahead(context: &mut MadeContext<'_, '_>) -> bool {
     for address in 0x1010..0x1024u32 {
-        let other = context.find_frames(address)?.ok_or("no frames")?;
-        assert_eq!(rt; other.frames.len(), if address < 0x1020 { 1 } else { 3 });
+        let count = if address < 0x1020 { 1 } else { 3 };
+        if !finds_frames(context, address, count) {
+            return false;
+        }
     }
-    assert!(rt; context.find_frames(0x2000)?.is_none());
-    Ok(())
+    true
 }
 
-/// Keeps frames while the context is asked again.
-fn keep_frames<P: ModuleProvider>(
-    rt: &impl Abort,
-    alloc: Global,
-    context: &mut Context<'_, P>,
-) -> Result<(), Fail> {
-    let frames = context.find_frames(0x1025)?.ok_or("no frames")?;
-    ask_for_others(rt, context)?;
-    check_frames(rt, alloc, &frames)?;
-    check_frames(rt, alloc, &frames.clone()?)
+/// Whether a context finds no frames at an address in no function.
+fn finds_none_elsewhere(context: &mut MadeContext<'_, '_>) -> bool {
+    match context.find_frames(0x2000) {
+        Ok(found) => found.is_none(),
+        Err(_) => false,
+    }
 }
 
-/// Clones a function that a context found.
-fn clone_function<P: ModuleProvider>(
-    rt: &impl Abort,
-    context: &mut Context<'_, P>,
-) -> Result<(), Fail> {
-    let found = context.find_function(0x1025)?.ok_or("no function")?;
-    let function = found.clone()?;
-    assert_eq!(rt;
-        (function.start_rva, function.end_rva),
-        (0x1010, Some(0x1050))
-    );
-    let name = function.name.ok_or("no name")?;
-    assert_eq!(rt; name.as_str(), "P");
-    Ok(())
+/// Whether frames are kept while the context is asked again.
+fn keeps_frames(context: &mut MadeContext<'_, '_>) -> bool {
+    let Ok(Some(frames)) = context.find_frames(0x1025) else {
+        return false;
+    };
+    finds_frames_ahead(context)
+        && finds_none_elsewhere(context)
+        && are_the_frames(&frames)
+        && are_the_frames_in_a_clone(&frames)
 }
 
 #[test]
-fn frames_are_kept_over_later_calls(rt: HostRuntime) -> Result<(), Fail> {
-    let data = data_of(rt.alloc(), PROGRAM)?;
-    keep_frames(&rt, rt.alloc(), &mut data.make_context()?)
+fn frames_are_kept_over_later_calls(rt: HostRuntime) {
+    assert!(rt; holds_over_context(rt.alloc(), PROGRAM, keeps_frames));
+}
+
+/// Whether a clone of a function is the procedure.
+fn is_the_procedure_in_a_clone(function: &Function) -> bool {
+    match function.clone() {
+        Ok(clone) => is_the_procedure(&clone),
+        Err(_) => false,
+    }
+}
+
+/// Whether a clone of the function that a context finds is the procedure.
+fn finds_what_is_cloned(context: &mut MadeContext<'_, '_>) -> bool {
+    match context.find_function(0x1025) {
+        Ok(Some(function)) => is_the_procedure_in_a_clone(&function),
+        _ => false,
+    }
 }
 
 #[test]
-fn a_clone_of_a_function(rt: HostRuntime) -> Result<(), Fail> {
-    let data = data_of(rt.alloc(), PROGRAM)?;
-    clone_function(&rt, &mut data.make_context()?)
+fn a_clone_of_a_function(rt: HostRuntime) {
+    assert!(rt; holds_over_context(rt.alloc(), PROGRAM, finds_what_is_cloned));
 }

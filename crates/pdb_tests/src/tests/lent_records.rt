@@ -1,10 +1,8 @@
+use crate::tests::contexts::holds_over_records;
 use pdb_addr2line::pdb::Error::Stream;
 use pdb_addr2line::pdb::{PDB, StreamError};
 use pdb_addr2line::{ContextPdbData, Error};
-use pdb_json::read_records;
 use std::alloc::Global;
-use std::process::Abort;
-use std::test::Fail;
 
 /// A program with something in each of its streams.
 const PROGRAM: &[u8] = br#"{"sections":[{"virtual_address":4096,"virtual_size":256,"execute":true}],
@@ -14,17 +12,33 @@ const PROGRAM: &[u8] = br#"{"sections":[{"virtual_address":4096,"virtual_size":2
 "section_contributions":[{"section":1,"offset":0,"size":64,"module":0}]},
 "type_information":[],"id_information":[],"string_table":[],"module_infos":[null]}"#;
 
+/// A stream that a context can't do without.
+#[derive(Clone, Copy)]
+enum Required {
+    GlobalSymbols,
+    DebugInformation,
+    TypeInformation,
+    IdInformation,
+    AddressMap,
+}
+
 /// The streams that a context can't do without, in the order in which they are looked at.
-const STREAMS: usize = 5;
+const REQUIRED: [Required; 5] = [
+    Required::GlobalSymbols,
+    Required::DebugInformation,
+    Required::TypeInformation,
+    Required::IdInformation,
+    Required::AddressMap,
+];
 
 /// Makes a stream one that failed.
-fn fail(pdb: &mut PDB, stream: usize, fault: StreamError) {
+fn fail(pdb: &mut PDB, stream: Required, fault: StreamError) {
     match stream {
-        0 => pdb.global_symbols = Err(fault),
-        1 => pdb.debug_information = Err(fault),
-        2 => pdb.type_information = Err(fault),
-        3 => pdb.id_information = Err(fault),
-        _ => pdb.address_map = Err(fault),
+        Required::GlobalSymbols => pdb.global_symbols = Err(fault),
+        Required::DebugInformation => pdb.debug_information = Err(fault),
+        Required::TypeInformation => pdb.type_information = Err(fault),
+        Required::IdInformation => pdb.id_information = Err(fault),
+        Required::AddressMap => pdb.address_map = Err(fault),
     }
 }
 
@@ -83,30 +97,40 @@ fn lend(alloc: Global, pdb: &mut PDB) -> Result<(), Error> {
     Ok(())
 }
 
-/// Lends records of which a stream failed. They are refused for its fault, and stay as they were.
-fn check_refusal(rt: &(impl Abort + AllocGlobal), pdb: &mut PDB, fault: StreamError) {
-    let before = count(pdb);
-    let ended = lend(rt.alloc(), pdb);
-    assert!(rt; matches!(ended, Err(Error::PdbError(Stream(told))) if told == fault));
-    assert!(rt; count(pdb) == before);
-}
-
-#[test]
-fn refused_records_stay_as_they_were_lent(rt: HostRuntime) -> Result<(), Fail> {
-    for stream in 0..STREAMS {
-        let mut pdb = read_records(rt.alloc(), PROGRAM)?;
-        let fault = StreamError(stream as u32);
-        fail(&mut pdb, stream, fault);
-        check_refusal(&rt, &mut pdb, fault);
+/// Whether lent records are refused for a fault.
+fn are_refused(alloc: Global, pdb: &mut PDB, fault: StreamError) -> bool {
+    match lend(alloc, pdb) {
+        Err(Error::PdbError(Stream(told))) => told == fault,
+        _ => false,
     }
-    Ok(())
+}
+
+/// Whether lent records of which a stream failed are refused for its fault, and stay as they were.
+fn stay_when_refused(alloc: Global, pdb: &mut PDB, stream: Required) -> bool {
+    let fault = StreamError(stream as u32);
+    fail(pdb, stream, fault);
+    let before = count(pdb);
+    are_refused(alloc, pdb, fault) && count(pdb) == before
 }
 
 #[test]
-fn records_stay_as_they_were_lent(rt: HostRuntime) -> Result<(), Fail> {
-    let mut pdb = read_records(rt.alloc(), PROGRAM)?;
-    let before = count(&pdb);
-    assert!(rt; lend(rt.alloc(), &mut pdb).is_ok());
-    assert!(rt; count(&pdb) == before);
-    Ok(())
+fn refused_records_stay_as_they_were_lent(rt: HostRuntime) {
+    let alloc = rt.alloc();
+    for stream in REQUIRED {
+        assert!(rt;
+            holds_over_records(alloc, PROGRAM, |pdb| stay_when_refused(alloc, pdb, stream))
+        );
+    }
+}
+
+/// Whether lent records are taken, and stay as they were.
+fn stay_when_taken(alloc: Global, pdb: &mut PDB) -> bool {
+    let before = count(pdb);
+    lend(alloc, pdb).is_ok() && count(pdb) == before
+}
+
+#[test]
+fn records_stay_as_they_were_lent(rt: HostRuntime) {
+    let alloc = rt.alloc();
+    assert!(rt; holds_over_records(alloc, PROGRAM, |pdb| stay_when_taken(alloc, pdb)));
 }

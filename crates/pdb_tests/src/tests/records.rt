@@ -1,15 +1,14 @@
-use crate::tests::contexts::data_of;
+use crate::tests::contexts::{
+    MadeContext, holds_over_context, holds_over_data, holds_over_made, holds_over_records, is_named,
+};
 use pdb_addr2line::parts::BasicModuleInfo;
 use pdb_addr2line::pdb::{
-    AddressMap, AddressRange, CrossModuleExports, CrossModuleImports, FileIndex, FileInfo,
-    ImportedModule, LineInfo, LineProgram, Module, ModuleInfo, PdbInternalSectionOffset, RawString,
-    Reading, Rva, StringRef, StringTable, SymbolLines,
+    AddressMap, AddressRange, CrossModuleExports, CrossModuleImports, Error, FileIndex, FileInfo,
+    ImportedModule, LineInfo, LineProgram, Module, ModuleInfo, PDB, PdbInternalSectionOffset,
+    RawString, Reading, Rva, StringRef, StringTable, SymbolLines,
 };
-use pdb_addr2line::{Context, ContextPdbData, ModuleProvider};
-use pdb_json::read_records;
+use pdb_addr2line::{ContextPdbData, Function, ModuleProvider};
 use std::alloc::{AllocError, Global};
-use std::process::Abort;
-use std::test::Fail;
 
 /// A program with one section, one module and one procedure at 0x10 whose name is to be replaced.
 const PROGRAM: &[u8] = br#"{"sections":[{"virtual_address":4096,"virtual_size":256,"execute":true}],
@@ -34,109 +33,136 @@ const NOTHING: &[u8] = br#"{"sections":[],"address_map":[],"global_symbols":[],
 "debug_information":{"machine_type":"Amd64","modules":[],"section_contributions":[]},
 "type_information":[],"id_information":[],"string_table":[],"module_infos":[]}"#;
 
-/// How many starts of functions a program has.
-fn count_starts(alloc: Global, text: &[u8]) -> Result<usize, Fail> {
-    let data = data_of(alloc, text)?;
-    Ok(data.make_context()?.function_count())
+/// Whether the context over a program has this many starts of functions.
+fn has_starts(alloc: Global, text: &[u8], count: usize) -> bool {
+    holds_over_context(alloc, text, |context| context.function_count() == count)
 }
 
 #[test]
-fn starts_and_section_ends_are_counted(rt: HostRuntime) -> Result<(), Fail> {
-    for (text, count) in [(PUBLIC_SYMBOL, 3usize), (NOTHING, 0)] {
-        assert_eq!(rt; count_starts(rt.alloc(), text)?, count);
+fn starts_and_section_ends_are_counted(rt: HostRuntime) {
+    assert!(rt; has_starts(rt.alloc(), PUBLIC_SYMBOL, 3));
+    assert!(rt; has_starts(rt.alloc(), NOTHING, 0));
+}
+
+/// Whether a function is the procedure.
+fn is_the_procedure(function: &Function) -> bool {
+    function.start_rva == 0x1010 && function.end_rva == Some(0x1050) && is_named(function, "f")
+}
+
+/// Whether a context finds the procedure, and has two starts of functions.
+fn finds_the_procedure(context: &mut MadeContext<'_, '_>) -> bool {
+    match context.find_function(0x1020) {
+        Ok(Some(function)) => is_the_procedure(&function) && context.function_count() == 2,
+        _ => false,
     }
-    Ok(())
 }
 
-/// Whether a context tells of the procedure.
-fn check_procedure<P: ModuleProvider>(
-    rt: &impl Abort,
-    context: &mut Context<'_, P>,
-) -> Result<(), Fail> {
-    assert_eq!(rt; context.function_count(), 2);
-    let function = context.find_function(0x1020)?.ok_or("no function")?;
-    assert_eq!(rt; function.start_rva, 0x1010);
-    assert_eq!(rt; function.end_rva, Some(0x1050));
-    let name = function.name.ok_or("no name")?;
-    assert_eq!(rt; name.as_str(), "f");
-    Ok(())
+/// Whether a context over lent records tells of the procedure.
+fn tells_the_procedure_when_lent(alloc: Global, records: &mut PDB) -> bool {
+    match ContextPdbData::try_from_pdb_ref(alloc, records) {
+        Ok(data) => holds_over_made(&data, finds_the_procedure),
+        Err(_) => false,
+    }
 }
 
 #[test]
-fn contexts_of_owned_and_lent_records(rt: HostRuntime) -> Result<(), Fail> {
-    let mut lent = read_records(rt.alloc(), PROGRAM)?;
-    let data = ContextPdbData::try_from_pdb_ref(rt.alloc(), &mut lent)?;
-    check_procedure(&rt, &mut data.make_context()?)
+fn contexts_of_owned_and_lent_records(rt: HostRuntime) {
+    let alloc = rt.alloc();
+    assert!(rt;
+        holds_over_records(
+            alloc,
+            PROGRAM,
+            |records| tells_the_procedure_when_lent(alloc, records)
+        )
+    );
 }
 
 /// Whether the records of a module have one procedure.
-fn check_module_info(rt: &impl Abort, alloc: Global, info: &ModuleInfo) -> Result<(), Fail> {
-    let basic = BasicModuleInfo::try_from_module_info(alloc, info)?;
-    assert_eq!(rt; basic.procedures().len(), 1);
-    assert_eq!(rt; basic.module_info().symbols.items.len(), 1);
-    Ok(())
+fn has_one_procedure(alloc: Global, info: &ModuleInfo) -> bool {
+    match BasicModuleInfo::try_from_module_info(alloc, info) {
+        Ok(basic) => {
+            basic.procedures().len() == 1 && basic.module_info().symbols.items.len() == 1
+        }
+        Err(_) => false,
+    }
 }
 
-/// Whether a program has the records of one module.
-fn check_module_infos(
-    rt: &impl Abort,
-    alloc: Global,
-    data: &ContextPdbData<'_>,
-) -> Result<(), Fail> {
+/// Whether a program has the records of one module, which has one procedure.
+fn has_one_module(alloc: Global, data: &ContextPdbData<'_>) -> bool {
     let module = Module {
         name: RawString(Vec::new(alloc)),
     };
-    assert!(rt; matches!(data.get_module_info(1, &module), Ok(None)));
-    match data.get_module_info(0, &module) {
-        Ok(Some(info)) => check_module_info(rt, alloc, info),
-        _ => Err(Fail::from("no info")),
+    match (
+        data.get_module_info(0, &module),
+        data.get_module_info(1, &module),
+    ) {
+        (Ok(Some(info)), Ok(None)) => has_one_procedure(alloc, info),
+        _ => false,
     }
 }
 
 #[test]
-fn module_infos_and_procedures(rt: HostRuntime) -> Result<(), Fail> {
-    let data = data_of(rt.alloc(), PROGRAM)?;
-    check_module_infos(&rt, rt.alloc(), &data)
+fn module_infos_and_procedures(rt: HostRuntime) {
+    let alloc = rt.alloc();
+    assert!(rt; holds_over_data(alloc, PROGRAM, |data| has_one_module(alloc, data)));
+}
+
+/// Whether a name is told with a sign in place of the byte that is no text.
+fn is_told_with_a_sign(alloc: Global, name: &RawString) -> Result<bool, AllocError> {
+    let text = name.to_string_lossy(alloc)?.into_owned(alloc)?;
+    Ok(text.as_bytes() == [0x66, 0xef, 0xbf, 0xbd].as_slice())
 }
 
 #[test]
-fn name_that_is_no_text(rt: HostRuntime) -> Result<(), Fail> {
+fn name_that_is_no_text(rt: HostRuntime) -> Result<(), AllocError> {
     let name = RawString([0x66, 0xff].to_vec(rt.alloc())?);
-    let text = name.to_string_lossy(rt.alloc())?.into_owned(rt.alloc())?;
-    assert_eq!(rt; text.as_bytes(), [0x66u8, 0xef, 0xbf, 0xbd].as_slice());
+    assert!(rt; is_told_with_a_sign(rt.alloc(), &name)?);
     Ok(())
 }
 
-/// Whether addresses of two sections are told, and what isn't in them isn't.
-fn check_places(rt: &impl Abort, map: &AddressMap) {
-    for (address, section, offset) in [(0x1000, 1, 0), (0x100f, 1, 15), (0xffff_ffff, 2, 255)] {
-        let place = PdbInternalSectionOffset { section, offset };
-        assert!(rt; Rva(address).to_internal_offset(map) == Some(place));
-        assert!(rt; place.to_rva(map) == Some(Rva(address)));
-    }
-    assert!(rt; Rva(0x1010).to_internal_offset(map) == None);
-    for (section, offset) in [(0, 0), (3, 0), (2, 256)] {
-        let place = PdbInternalSectionOffset { section, offset };
-        assert!(rt; place.to_rva(map) == None);
-    }
+/// A place in a section.
+fn place(section: u16, offset: u32) -> PdbInternalSectionOffset {
+    PdbInternalSectionOffset { section, offset }
 }
 
+/// Whether a place is that of an address, and the address that of the place.
+fn lies_at(map: &AddressMap, address: Rva, place: PdbInternalSectionOffset) -> bool {
+    address.to_internal_offset(map) == Some(place) && place.to_rva(map) == Some(address)
+}
+
+/// Whether addresses of two sections are told.
+fn tells_places(map: &AddressMap) -> bool {
+    lies_at(map, Rva(0x1000), place(1, 0))
+        && lies_at(map, Rva(0x100f), place(1, 15))
+        && lies_at(map, Rva(0xffff_ffff), place(2, 255))
+}
+
+/// Whether nothing is told of what isn't in the sections.
+fn tells_nothing_else(map: &AddressMap) -> bool {
+    Rva(0x1010).to_internal_offset(map) == None
+        && place(0, 0).to_rva(map) == None
+        && place(3, 0).to_rva(map) == None
+        && place(2, 256).to_rva(map) == None
+}
+
+/// Where two sections lie. The second would end past the greatest address.
+const SECTIONS: [AddressRange; 2] = [
+    AddressRange {
+        virtual_address: 0x1000,
+        virtual_size: 0x10,
+    },
+    AddressRange {
+        virtual_address: 0xffff_ff00,
+        virtual_size: 0xffff_ffff,
+    },
+];
+
 #[test]
-fn places_of_addresses(rt: HostRuntime) -> Result<(), Fail> {
-    let ranges = [
-        AddressRange {
-            virtual_address: 0x1000,
-            virtual_size: 0x10,
-        },
-        AddressRange {
-            virtual_address: 0xffff_ff00,
-            virtual_size: 0xffff_ffff,
-        },
-    ];
+fn places_of_addresses(rt: HostRuntime) -> Result<(), AllocError> {
     let map = AddressMap {
-        sections: ranges.to_vec(rt.alloc())?,
+        sections: SECTIONS.to_vec(rt.alloc())?,
     };
-    check_places(&rt, &map);
+    assert!(rt; tells_places(&map) && tells_nothing_else(&map));
     Ok(())
 }
 
@@ -146,14 +172,16 @@ const PLACE: PdbInternalSectionOffset = PdbInternalSectionOffset {
     offset: 16,
 };
 
-/// An entry of a line program, with one row or none.
-fn entry(alloc: Global, rows: usize) -> Result<SymbolLines, AllocError> {
-    let row = LineInfo {
-        offset: 16,
-        file_index: FileIndex(0),
-        line_start: 3,
-    };
-    let items = [row][..rows.min(1)].to_vec(alloc)?;
+/// A row of a line program.
+const ROW: LineInfo = LineInfo {
+    offset: 16,
+    file_index: FileIndex(0),
+    line_start: 3,
+};
+
+/// An entry of a line program with these rows.
+fn entry(alloc: Global, rows: &[LineInfo]) -> Result<SymbolLines, AllocError> {
+    let items = rows.to_vec(alloc)?;
     Ok(SymbolLines {
         offset: PLACE,
         lines: Reading { items, fault: None },
@@ -163,27 +191,34 @@ fn entry(alloc: Global, rows: usize) -> Result<SymbolLines, AllocError> {
 /// A line program with two entries for one place, of which the first has a row, and a file.
 fn line_program(alloc: Global) -> Result<LineProgram, AllocError> {
     let mut entries = Vec::new(alloc);
-    for rows in [1usize, 0] {
+    for rows in [[ROW].as_slice(), &[]] {
         entries.push(entry(alloc, rows)?)?;
     }
     let files = [FileInfo { name: StringRef(5) }].to_vec(alloc)?;
     Ok(LineProgram { entries, files })
 }
 
-/// Whether the first entry counts, and the file is told.
-fn check_line_program(rt: &impl Abort, program: &LineProgram) -> Result<(), Fail> {
-    let rows = program.lines_for_symbol(PLACE).ok_or("no rows")?;
-    assert_eq!(rt; rows.items.len(), 1, "the first entry counts");
-    let file = program.get_file_info(FileIndex(0)).ok_or("no file")?;
-    assert!(rt; file.name == StringRef(5));
-    assert!(rt; program.get_file_info(FileIndex(1)).is_none());
-    Ok(())
+/// Whether the first entry for a place counts.
+fn takes_the_first_entry(program: &LineProgram) -> bool {
+    match program.lines_for_symbol(PLACE) {
+        Some(rows) => rows.items.len() == 1,
+        None => false,
+    }
+}
+
+/// Whether the file is told, and no other.
+fn tells_the_file(program: &LineProgram) -> bool {
+    match program.get_file_info(FileIndex(0)) {
+        Some(file) => file.name == StringRef(5) && program.get_file_info(FileIndex(1)).is_none(),
+        None => false,
+    }
 }
 
 #[test]
-fn lines_and_files(rt: HostRuntime) -> Result<(), Fail> {
+fn lines_and_files(rt: HostRuntime) -> Result<(), AllocError> {
     let program = line_program(rt.alloc())?;
-    check_line_program(&rt, &program)
+    assert!(rt; takes_the_first_entry(&program) && tells_the_file(&program));
+    Ok(())
 }
 
 /// A string table with two texts for one reference.
@@ -196,12 +231,20 @@ fn string_table(alloc: Global) -> Result<StringTable, AllocError> {
     Ok(StringTable { strings })
 }
 
+/// Whether the first text for a reference is told, and none for another reference.
+fn tells_the_first_text(table: &StringTable) -> bool {
+    match table.get(StringRef(5)) {
+        Some(text) => {
+            text.0.as_slice() == b"first".as_slice() && table.get(StringRef(4)).is_none()
+        }
+        None => false,
+    }
+}
+
 #[test]
-fn strings_by_their_references(rt: HostRuntime) -> Result<(), Fail> {
+fn strings_by_their_references(rt: HostRuntime) -> Result<(), AllocError> {
     let table = string_table(rt.alloc())?;
-    let text = table.get(StringRef(5)).ok_or("no text")?;
-    assert_eq!(rt; text.0.as_slice(), b"first".as_slice());
-    assert!(rt; table.get(StringRef(4)).is_none());
+    assert!(rt; tells_the_first_text(&table));
     Ok(())
 }
 
@@ -217,26 +260,43 @@ fn imports(alloc: Global) -> Result<CrossModuleImports, AllocError> {
     Ok(CrossModuleImports { modules })
 }
 
-#[test]
-fn imports_by_their_indices(rt: HostRuntime) -> Result<(), Fail> {
-    let imports = imports(rt.alloc())?;
-    assert!(rt; matches!(imports.resolve_import(0x8010_0001), Ok((StringRef(9), 71))));
-    assert!(rt; matches!(imports.resolve_import(0x8000_0000), Ok((StringRef(8), 70))));
-    for index in [0x8000_0002u32, 0x8020_0000, 0x8008_0000] {
-        let found = imports.resolve_import(index);
-        assert!(rt;
-            matches!(found, Err(pdb_addr2line::pdb::Error::CrossModuleRefNotFound(i)) if i == index)
-        );
+/// Whether an index is that of an index in another module.
+fn is_imported(imports: &CrossModuleImports, index: u32, module: StringRef, local: u32) -> bool {
+    match imports.resolve_import(index) {
+        Ok((told_module, told_local)) => told_module == module && told_local == local,
+        Err(_) => false,
     }
+}
+
+/// Whether an index is refused as that of no import.
+fn is_not_imported(imports: &CrossModuleImports, index: u32) -> bool {
+    match imports.resolve_import(index) {
+        Err(Error::CrossModuleRefNotFound(told)) => told == index,
+        _ => false,
+    }
+}
+
+/// Whether the imports are told, and others are refused.
+fn tells_the_imports(imports: &CrossModuleImports) -> bool {
+    is_imported(imports, 0x8010_0001, StringRef(9), 71)
+        && is_imported(imports, 0x8000_0000, StringRef(8), 70)
+        && is_not_imported(imports, 0x8000_0002)
+        && is_not_imported(imports, 0x8020_0000)
+        && is_not_imported(imports, 0x8008_0000)
+}
+
+#[test]
+fn imports_by_their_indices(rt: HostRuntime) -> Result<(), AllocError> {
+    let imports = imports(rt.alloc())?;
+    assert!(rt; tells_the_imports(&imports));
     Ok(())
 }
 
 #[test]
-fn exports_by_their_indices(rt: HostRuntime) -> Result<(), Fail> {
+fn exports_by_their_indices(rt: HostRuntime) -> Result<(), AllocError> {
     let exports = CrossModuleExports {
         exports: [(7u32, 0x1003u32), (7, 0x1004)].to_vec(rt.alloc())?,
     };
-    assert_eq!(rt; exports.resolve_import(7), Some(0x1003));
-    assert_eq!(rt; exports.resolve_import(8), None);
+    assert!(rt; exports.resolve_import(7) == Some(0x1003) && exports.resolve_import(8) == None);
     Ok(())
 }

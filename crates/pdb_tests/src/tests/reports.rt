@@ -1,10 +1,8 @@
-use crate::tests::contexts::data_of;
-use pdb_addr2line::{Context, ModuleProvider};
+use crate::tests::contexts::{MadeContext, holds_over_context};
 use pdb_reporting::{Command, Out, ReportFault, Sink, report};
+use std::alloc::Global;
 use std::io;
 use std::io::BufWriter;
-use std::process::Abort;
-use std::test::Fail;
 
 /// Records with no section, so that each address has a short line.
 const NOTHING: &[u8] = br#"{"sections":null,"address_map":[],"global_symbols":[],
@@ -32,40 +30,51 @@ impl io::Write for Narrow {
     }
 }
 
-/// Reports two addresses to a writer with this much room, where 44 bytes are enough.
-fn check_room<P: ModuleProvider>(
-    rt: &(impl Abort + AllocGlobal),
-    context: &mut Context<'_, P>,
-    room: usize,
-) {
+/// How much room a report of two addresses takes.
+const REPORTED: usize = 44;
+
+/// Whether a report ended as one to a writer with this much room should.
+fn ends_as_it_should(told: &Result<(), ReportFault>, room: usize) -> bool {
+    match told {
+        Ok(()) => room >= REPORTED,
+        Err(ReportFault::Write) => room < REPORTED,
+        Err(ReportFault::Lookup(_)) => false,
+    }
+}
+
+/// Whether a report of two addresses to a writer with this much room is refused if there is too little.
+fn reports_into(alloc: Global, context: &mut MadeContext<'_, '_>, room: usize) -> bool {
     let mut sink = Out::new(Narrow { room });
-    let told = report(rt.alloc(), context, Command::Names, &[1, 2], &mut sink);
-    if room < 44 {
-        assert!(rt; matches!(&told, Err(ReportFault::Write)), "at {room}");
-    } else {
-        assert!(rt; told.is_ok());
+    let told = report(alloc, context, Command::Names, &[1, 2], &mut sink);
+    ends_as_it_should(&told, room) && sink.failed() == (room < REPORTED)
+}
+
+/// Whether reports to writers with ever more room are refused until there is enough.
+fn reports_into_all(alloc: Global, context: &mut MadeContext<'_, '_>) -> bool {
+    for room in 0..=REPORTED {
+        if !reports_into(alloc, context, room) {
+            return false;
+        }
     }
-    assert_eq!(rt; sink.failed(), room < 44, "at {room}");
+    true
 }
 
 #[test]
-fn writer_that_refuses(rt: HostRuntime) -> Result<(), Fail> {
-    let data = data_of(rt.alloc(), NOTHING)?;
-    let mut context = data.make_context()?;
-    for room in 0..=44usize {
-        check_room(&rt, &mut context, room);
-    }
-    Ok(())
+fn writer_that_refuses(rt: HostRuntime) {
+    let alloc = rt.alloc();
+    assert!(rt; holds_over_context(alloc, NOTHING, |context| reports_into_all(alloc, context)));
+}
+
+/// Whether a writer refuses what it kept back, when it is to write it, if there is too little room.
+fn is_refused_late(alloc: Global, room: usize, refused: bool) -> io::Result<bool> {
+    let mut sink = Out::new(BufWriter::new(alloc, Narrow { room })?);
+    let taken = sink.put(b"0x100").is_ok() && !sink.failed();
+    Ok(taken && sink.flush().is_err() == refused && sink.failed() == refused)
 }
 
 #[test]
-fn writer_that_keeps_back_what_it_can_not_write(rt: HostRuntime) -> Result<(), Fail> {
-    for (room, refused) in [(5usize, false), (4, true)] {
-        let mut sink = Out::new(BufWriter::new(rt.alloc(), Narrow { room })?);
-        assert!(rt; sink.put(b"0x100").is_ok());
-        assert!(rt; !sink.failed());
-        assert_eq!(rt; sink.flush().is_err(), refused);
-        assert_eq!(rt; sink.failed(), refused);
-    }
+fn writer_that_keeps_back_what_it_can_not_write(rt: HostRuntime) -> io::Result<()> {
+    assert!(rt; is_refused_late(rt.alloc(), 5, false)?);
+    assert!(rt; is_refused_late(rt.alloc(), 4, true)?);
     Ok(())
 }
