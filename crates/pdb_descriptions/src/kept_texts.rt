@@ -1,6 +1,7 @@
 ghost use Rattle.std.specs.Prelude.{◌≡◌, true, [], ◌∷◌, ◌++◌, option_map, string_bytes, IfSome, IfOk, OnOk, OnErr};
 ghost use Rattle.pdb_descriptions.specs.KeptNames.{HasText};
 
+use crate::name_keys::Item;
 use crate::positions::Positions;
 use pdb_frames::copy_of_name;
 use std::alloc::{AllocError, Global};
@@ -11,8 +12,8 @@ pub(crate) trait TextKey: Copy + Ord + Drop {
     fn is(self, other: Self) -> bool
         ensures { result ≡ true → self ≡ other };
 
-    /// The number by which the place of a text is guessed.
-    fn number(self) -> usize;
+    /// What has the text. It is guessed by that where the text stands.
+    fn item(self) -> Item;
 }
 
 /// A text that was printed, if it can be.
@@ -52,19 +53,31 @@ impl<K: TextKey> KeptTexts<K> {
         }
     }
 
+    /// The text that a guess leads to, if it is kept by this key.
+    fn text_by(&self, guess: Option<u32>, key: K) -> Option<&Option<String>>
+        ensures { IfSome result (λ text. HasText self.now.entries.items key (option_map string_bytes text.now)) }
+    {
+        let position = guess?;
+        self.text_at(position as usize, key)
+    }
+
     /// The text of a key, if it stands where it is guessed.
     fn guessed(&self, key: K) -> Option<&Option<String>>
         ensures { IfSome result (λ text. HasText self.now.entries.items key (option_map string_bytes text.now)) }
     {
-        let position = self.positions.guess(key.number())?;
-        self.text_at(position, key)
+        for &guess in self.positions.guesses(key.item()) {
+            if let Some(text) = self.text_by(guess, key) {
+                return Some(text);
+            }
+        }
+        None
     }
 
     /// The position of the text that was kept last by a key, where one was.
     fn position(&mut self, key: K) -> Option<usize>
         ensures { self.new.entries ≡ self.old.entries }
     {
-        self.positions.find(&key, key.number())
+        self.positions.find(&key, key.item())
     }
 
     /// A copy of the text of a key, where one is kept.
@@ -93,7 +106,7 @@ impl<K: TextKey> KeptTexts<K> {
             ≡ self.old.entries.items ++ record { key = key; text = text } ∷ []) }
         ensures refused { OnErr result (self.new.entries.items ≡ self.old.entries.items) }
     {
-        self.positions.push(key, self.entries.len())?;
+        self.positions.push(key, key.item(), self.entries.len())?;
         self.entries.push(KeptText { key, text })?;
         Ok(())
     }

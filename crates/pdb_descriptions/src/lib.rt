@@ -7,6 +7,7 @@
 mod frames;
 mod function;
 mod function_names;
+mod guesses;
 mod kept_names;
 mod kept_signatures;
 mod kept_texts;

@@ -4,8 +4,12 @@ use crate::kept_texts::TextKey;
 use pdb_functions::ProcedureSymbolFunction;
 use pdb_records::IdIndex;
 
-/// How far apart the numbers of items with the same index in neighbouring modules are.
-const MODULE_STRIDE: usize = 0x9e37_79b1;
+/// An item of a module: the module's position, and the item's number there.
+#[derive(Clone, Copy)]
+pub(crate) struct Item {
+    pub(crate) module: usize,
+    pub(crate) number: usize,
+}
 
 /// A procedure whose name is kept: the position of its module, its symbol, and the index of its type.
 #[derive(Clone, Copy, PartialEq, Eq, PartialOrd, Ord)]
@@ -22,18 +26,16 @@ pub(crate) struct IdKey {
     pub(crate) index: u32,
 }
 
-/// A number for an item of the module at a position, in which items that are near one another differ.
-fn number_of(position: usize, index: usize) -> usize {
-    position.wrapping_mul(MODULE_STRIDE).wrapping_add(index)
-}
-
 impl TextKey for SignatureKey {
     fn is(self, other: Self) -> bool {
         self == other
     }
 
-    fn number(self) -> usize {
-        number_of(self.position, self.symbol)
+    fn item(self) -> Item {
+        Item {
+            module: self.position,
+            number: self.symbol,
+        }
     }
 }
 
@@ -42,8 +44,11 @@ impl TextKey for IdKey {
         self == other
     }
 
-    fn number(self) -> usize {
-        number_of(self.position, self.index as usize)
+    fn item(self) -> Item {
+        Item {
+            module: self.position,
+            number: self.index as usize,
+        }
     }
 }
 

@@ -1,6 +1,6 @@
 -- What tables of segments find is what is defined.
-use Rattle.std.proofs.Common.{◌≡◌, ◌∙◌, ℕ, suc, true, not, List, map, Some, None, sym, ap, arith}
-use Rattle.std.specs.Prelude.{find, option_map}
+use Rattle.std.proofs.Common.{◌≡◌, ◌∙◌, ℕ, suc, Bool, true, false, not, cond, List, map, Option, Some, None, refl, sym, ap, arith}
+use Rattle.std.specs.Prelude.{find, option_map, option_and_then}
 use Rattle.std.specs.List.{position_or_len, slice_get}
 use Rattle.std.proofs.lemmas.List.Folds.{find_at}
 use Rattle.std.proofs.lemmas.Bool.Decides.{nat_tests}
@@ -17,6 +17,14 @@ use Rattle.pdb_functions.specs.Starts.{is_before, StartsAscend}
 use Rattle.pdb_functions.proofs.AscendLemmas.{climbs_in_section}
 use Rattle.pdb_ranges.proofs.LastLemmas.{pick-last, map-last_over}
 use Rattle.pdb_functions.proofs.PositionLemmas.{none_up_to, last_up_to, map-find}
+
+-- where the position of a span is painted over another, that span is at the one that shows
+pub painted_position : {T : Type 0} (spans : List T) (position : ℕ) (span : T) (over : Bool) (before : Option ℕ)
+    → slice_get spans position ≡ Some span
+    → option_and_then (slice_get spans) (cond over (Some position) before)
+    ≡ cond over (Some span) (option_and_then (slice_get spans) before)
+painted_position spans position span true before got = got
+painted_position spans position span false before got = refl
 
 -- of procedures that ascend the last one over a place starts last
 pub last_procedure : (place : PdbInternalSectionOffset) (ps : List ProcedureSymbolFunction) → StartsAscend (λ p. p.offset) ps

@@ -3,8 +3,8 @@ ghost use Rattle.pdb_ranges.specs.Probes.{digits};
 ghost use Rattle.pdb_functions.specs.Spans.{contribution_covers};
 
 use crate::contributions::ModuleSectionContribution;
-use crate::placed::{Placed, find, key, segments_of};
-use pdb_ranges::{Probes, Segment, Segments};
+use crate::placed::{Keys, Placed, find, key, segments_of};
+use pdb_ranges::{Probes, Segments};
 use pdb_records::PdbInternalSectionOffset;
 use std::alloc::{AllocError, Global};
 use std::marker::Model;
@@ -12,7 +12,7 @@ use std::marker::Model;
 impl Placed for ModuleSectionContribution {
     ghost is_over = { λ place c. contribution_covers place c };
 
-    fn segment(&self) -> Segment<Self> {
+    fn keys(&self) -> Keys {
         let section = self.section_index;
         let start = PdbInternalSectionOffset {
             section,
@@ -22,24 +22,24 @@ impl Placed for ModuleSectionContribution {
             section,
             offset: self.end_offset,
         };
-        Segment {
+        Keys {
             start: key(start),
             end: key(end),
-            value: *self,
         }
     }
 }
 
-/// A list of contributions, with a table of which of them lies over each place.
+/// A list of contributions, with a table of the position of the first one that lies over each place.
 #[derive(Drop)]
 pub struct ContributionTable {
-    contributions: Vec<ModuleSectionContribution>,
-    segments: Segments<ModuleSectionContribution>,
+    last_first: Vec<ModuleSectionContribution>,
+    segments: Segments<usize>,
 }
 
 // Clauses see a table as the list of the contributions.
 impl Model for ContributionTable {
-    ghost use Rattle.std.specs.Prelude.{◌≡◌, ◌*◌, ◌^◌, ◌<◌, ◌≤◌, List, find, length};
+    ghost use Rattle.std.specs.Prelude.{◌≡◌, ◌*◌, ◌^◌, ◌<◌, ◌≤◌, List, find, length, reverse};
+    ghost use Rattle.std.specs.Prelude.{slice_get, option_and_then};
     ghost use Rattle.pdb_records.specs.declared.addresses.PdbInternalSectionOffset.{PdbInternalSectionOffset};
     ghost use Rattle.pdb_ranges.specs.Segments.{value_at};
     ghost use Rattle.pdb_functions.specs.declared.contributions.ModuleSectionContribution.{ModuleSectionContribution};
@@ -48,12 +48,13 @@ impl Model for ContributionTable {
 
     ghost Value = { List ModuleSectionContribution };
 
-    ghost view = { λ t. t.contributions.items };
+    ghost view = { λ t. reverse t.last_first.items };
 
     ghost invariant = { λ t. record {
       firsts : (place : PdbInternalSectionOffset) → place.offset < 2 ^ 32
-          → value_at t.segments (key place) ≡ find (contribution_covers place) t.contributions.items;
-      at_most_two_each : length t.segments ≤ 2 * length t.contributions.items;
+          → option_and_then (slice_get t.last_first.items) (value_at t.segments (key place))
+          ≡ find (contribution_covers place) (reverse t.last_first.items);
+      at_most_two_each : length t.segments ≤ 2 * length t.last_first.items;
     } };
 }
 
@@ -66,20 +67,13 @@ impl ContributionTable {
     ) -> Result<Self, AllocError>
         ensures { IfOk result (λ table. table ≡ contributions.items) }
     {
-        let mut last_first = Vec::from_slice(alloc, &contributions)?;
+        let mut last_first = contributions;
         last_first.reverse();
         let segments = segments_of(alloc, &last_first)?;
         Ok(ContributionTable {
-            contributions,
+            last_first,
             segments,
         })
-    }
-
-    /// The contributions, in the order in which they were given.
-    pub fn as_slice(&self) -> &[ModuleSectionContribution]
-        ensures { result.now ≡ self.now }
-    {
-        &self.contributions
     }
 
     /// The first contribution over a place. Each entry of the table that is looked at counts.
@@ -91,7 +85,7 @@ impl ContributionTable {
         ensures found { result ≡ find (contribution_covers place) self.now }
         ensures few { probes.new ≤ probes.old + digits (2 * length self.now) }
     {
-        find(&self.segments, place, probes)
+        find(&self.last_first, &self.segments, place, probes)
     }
 
     /// The first contribution of the list over a place. It is found by a binary search.

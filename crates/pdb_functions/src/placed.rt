@@ -1,6 +1,6 @@
 // What lies over places, as tables of segments that are searched by the key of a place.
 
-ghost use Rattle.std.specs.Prelude.{◌≡◌, ◌+◌, ◌*◌, ◌^◌, ◌<◌, ◌≤◌, Bool, None, length, IfOk};
+ghost use Rattle.std.specs.Prelude.{◌≡◌, ◌+◌, ◌*◌, ◌^◌, ◌<◌, ◌≤◌, Bool, None, length, slice_get, option_and_then, IfOk};
 ghost use Rattle.pdb_records.specs.declared.addresses.PdbInternalSectionOffset.{PdbInternalSectionOffset};
 ghost use Rattle.pdb_ranges.specs.Probes.{digits};
 ghost use Rattle.pdb_ranges.specs.Segments.{value_at};
@@ -24,39 +24,56 @@ pub(crate) fn key(place: PdbInternalSectionOffset) -> u64
     u64::from(place.section) * ROOM + u64::from(place.offset)
 }
 
+/// The keys from a first one up to the one before an end.
+#[derive(Clone, Copy)]
+pub(crate) struct Keys {
+    pub(crate) start: u64,
+    pub(crate) end: u64,
+}
+
 /// What lies over the places from a start up to an end, in one section.
 pub(crate) trait Placed: Copy {
     /// Whether it lies over a place.
     ghost is_over: { PdbInternalSectionOffset → Self → Bool };
 
     /// The keys of the places that it lies over.
-    fn segment(&self) -> Segment<Self>
-        ensures value { result.value ≡ self.now }
-        ensures keys { HasKeys result.start result.end (λ place. is_over place self.now) };
+    fn keys(&self) -> Keys
+        ensures { HasKeys result.start result.end (λ place. is_over place self.now) };
 }
 
-/// The table in which each place has the last of the spans over it.
-pub(crate) fn segments_of<T: Placed>(alloc: Global, spans: &[T]) -> Result<Segments<T>, AllocError>
+/// The table in which each place has the position of the last of the spans over it.
+pub(crate) fn segments_of<T: Placed>(
+    alloc: Global,
+    spans: &[T],
+) -> Result<Segments<usize>, AllocError>
     ensures values { IfOk result (λ table. (place : PdbInternalSectionOffset) → place.offset < 2 ^ 32
-        → value_at table (key place) ≡ last_over (T.is_over place) None spans.now) }
+        → option_and_then (slice_get spans.now) (value_at table (key place))
+        ≡ last_over (T.is_over place) None spans.now) }
     ensures at_most_two_each { IfOk result (λ table. length table ≤ 2 * length spans.now) }
 {
     let mut segments = Vec::new(alloc);
-    for span in spans {
-        segments.push(span.segment())?;
+    for (position, span) in spans.iter().enumerate() {
+        let Keys { start, end } = span.keys();
+        segments.push(Segment {
+            start,
+            end,
+            value: position,
+        })?;
     }
     let table = Segments::of_painted(alloc, &segments)?;
     Ok(table)
 }
 
-/// The span over a place.
+/// The span whose position the table has for a place.
 pub(crate) fn find<T: Copy>(
-    table: &Segments<T>,
+    spans: &[T],
+    table: &Segments<usize>,
     place: PdbInternalSectionOffset,
     probes: &mut Probes,
 ) -> Option<T>
-    ensures value { result ≡ value_at table.now (key place) }
+    ensures value { result ≡ option_and_then (slice_get spans.now) (value_at table.now (key place)) }
     ensures few { probes.new ≤ probes.old + digits (length table.now) }
 {
-    table.find(key(place), probes)
+    let position = table.find(key(place), probes)?;
+    spans.get(position).copied()
 }

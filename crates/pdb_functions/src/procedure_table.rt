@@ -5,9 +5,9 @@ ghost use Rattle.pdb_functions.specs.Procedures.{module_procedure};
 ghost use Rattle.pdb_functions.specs.Spans.{procedure_covers};
 ghost use Rattle.pdb_functions.specs.Starts.{StartsAscend};
 
-use crate::placed::{Placed, find, key, segments_of};
+use crate::placed::{Keys, Placed, find, key, segments_of};
 use crate::procedures::ProcedureSymbolFunction;
-use pdb_ranges::{Probes, Segment, Segments};
+use pdb_ranges::{Probes, Segments};
 use pdb_records::PdbInternalSectionOffset;
 use std::alloc::{AllocError, Global};
 use std::marker::Model;
@@ -15,26 +15,26 @@ use std::marker::Model;
 impl Placed for ProcedureSymbolFunction<'_> {
     ghost is_over = { λ place p. procedure_covers place (module_procedure p) };
 
-    fn segment(&self) -> Segment<Self> {
+    fn keys(&self) -> Keys {
         let start = key(self.offset);
-        Segment {
+        Keys {
             start,
             end: start + u64::from(self.len),
-            value: *self,
         }
     }
 }
 
-/// The procedures of a module by section and start, with a table of which of them lies over each place.
+/// The procedures of a module by section and start, with a table of the positions of those that lie over places.
 #[derive(Drop)]
 pub(crate) struct ProcedureTable<'a> {
     procedures: Vec<ProcedureSymbolFunction<'a>>,
-    segments: Segments<ProcedureSymbolFunction<'a>>,
+    segments: Segments<usize>,
 }
 
 // Clauses see a table as the list of the procedures.
 impl<'a> Model for ProcedureTable<'a> {
-    ghost use Rattle.std.specs.Prelude.{◌≡◌, ◌*◌, ◌^◌, ◌<◌, ◌≤◌, List, map, option_map, length};
+    ghost use Rattle.std.specs.Prelude.{◌≡◌, ◌*◌, ◌^◌, ◌<◌, ◌≤◌, List, map, length};
+    ghost use Rattle.std.specs.Prelude.{option_map, option_and_then, slice_get};
     ghost use Rattle.pdb_records.specs.declared.addresses.PdbInternalSectionOffset.{PdbInternalSectionOffset};
     ghost use Rattle.pdb_ranges.specs.Pick.{pick};
     ghost use Rattle.pdb_ranges.specs.Segments.{value_at};
@@ -48,7 +48,8 @@ impl<'a> Model for ProcedureTable<'a> {
 
     ghost invariant = { λ t. record {
       picks : (place : PdbInternalSectionOffset) → place.offset < 2 ^ 32
-          → option_map module_procedure (value_at t.segments (key place))
+          → option_map module_procedure
+          (option_and_then (slice_get t.procedures.items) (value_at t.segments (key place)))
           ≡ pick (procedure_covers place) (λ p. p.offset.offset) (map module_procedure t.procedures.items);
       at_most_two_each : length t.segments ≤ 2 * length t.procedures.items;
     } };
@@ -87,7 +88,7 @@ impl<'a> ProcedureTable<'a> {
             ≡ pick (procedure_covers place) (λ p. p.offset.offset) self.now }
         ensures few { probes.new ≤ probes.old + digits (2 * length self.now) }
     {
-        find(&self.segments, place, probes)
+        find(&self.procedures, &self.segments, place, probes)
     }
 
     /// Of the procedures over a place the one that starts last.

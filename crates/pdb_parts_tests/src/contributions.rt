@@ -157,9 +157,9 @@ fn side_by_side(alloc: Global) -> Result<Vec<Given>, AllocError> {
     Ok(given)
 }
 
-/// Whether a table has those contributions, and finds the one over a place.
+/// Whether a table of those contributions finds the ones over some places.
 fn is_table_of_thousands(table: &ContributionTable) -> bool {
-    table.as_slice().len() == 3000
+    table.contribution_over(place(1, 0)) == Some(run(1, 0, 0x10, 0))
         && table.contribution_over(place(1, 0x7fff)) == Some(run(1, 0x7ff0, 0x8000, 0x7ff))
         && table.contribution_over(place(2, 0)).is_none()
 }

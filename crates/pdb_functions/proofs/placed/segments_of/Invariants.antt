@@ -1,5 +1,5 @@
 use Rattle.std.proofs.Common.{◌≡◌, ◌^◌, ◌<◌, drop, length}
-use Rattle.std.specs.Prelude.{None}
+use Rattle.std.specs.Prelude.{None, slice_get, option_and_then}
 use Rattle.pdb_records.specs.declared.addresses.PdbInternalSectionOffset.{PdbInternalSectionOffset}
 use Rattle.pdb_ranges.specs.Segments.{painted_in_turn}
 use Rattle.pdb_functions.specs.Keys.{key}
@@ -7,10 +7,12 @@ use Rattle.pdb_ranges.specs.Last.{last_over}
 use Rattle.pdb_functions.proofs.placed.segments_of.Given as goal
 
 -- what the segments so far give a place, or else the last of what is left over it, is the last of all
-abbrev pub invariant-loop-span : goal.invariant-loop-span
-invariant-loop-span g l = record {
+abbrev pub invariant-loop-position : goal.invariant-loop-position
+invariant-loop-position g l = record {
   values : (place : PdbInternalSectionOffset) → place.offset < 2 ^ 32
-      → last_over (g.T.Placed.is_over place) (painted_in_turn l.segments.items None (key place)) (drop l.span-index l.spans)
+      → last_over (g.T.Placed.is_over place)
+      (option_and_then (slice_get l.spans) (painted_in_turn l.segments.items None (key place)))
+      (drop l.position l.spans)
       ≡ last_over (g.T.Placed.is_over place) None l.spans;
-  count : length l.segments.items ≡ l.span-index;
+  count : length l.segments.items ≡ l.position;
 }

@@ -1,9 +1,11 @@
 use Rattle.std.proofs.Common.{◌≡◌, ◌*◌, length, arith}
+use Rattle.std.proofs.lemmas.List.{length-reverse}
 use Rattle.pdb_ranges.proofs.DigitLemmas.{digits_mono}
 use Rattle.pdb_functions.proofs.contribution_table.ContributionTable.search.Goals as goal
 
 pub returns-clause-few : goal.returns-clause-few
 returns-clause-few c =
-    let same : length c.args.self.now ≡ length c.self.inside.contributions.items = rw (← c.self.view_is) in
+    let same : length c.args.self.now ≡ length c.self.inside.last_first.items =
+    rw (← c.self.view_is) (length-reverse c.self.inside.last_first.items) in
     let fewer = digits_mono (length c.self.inside.segments) (2 * length c.args.self.now) (omega (arith, same, c.self.invariant.at_most_two_each)) in
     omega (arith, fewer, c.find.ensures.few)

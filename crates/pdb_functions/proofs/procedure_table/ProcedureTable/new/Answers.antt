@@ -4,6 +4,7 @@ use Rattle.pdb_functions.proofs.procedure_table.ProcedureTable.new.Goals as goal
 pub invariant_of-result : goal.invariant_of-result
 invariant_of-result c = record {
   picks = λ place fits.
-      rw (c.in_ok-segments.ensures.values place fits, c.deref.ensures.value) (last_procedure place c.args.procedures.items c.requires);
+      rw (rw c.deref.ensures.value at (c.in_ok-segments.ensures.values place fits))
+      (last_procedure place c.args.procedures.items c.requires);
   at_most_two_each = rw (← c.deref.ensures.value) c.in_ok-segments.ensures.at_most_two_each;
 }
