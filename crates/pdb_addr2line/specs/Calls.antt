@@ -1,5 +1,6 @@
 -- Calls of a context, and what it answers to them.
-use Rattle.std.specs.Prelude.{◌≡◌, ℕ, List, [], ◌∷◌, ◌++◌, Option, Some, None, Result, Ok, Err, length, map, option_map, string_bytes, String}
+use Rattle.std.specs.Prelude.{◌≡◌, ℕ, List, [], ◌∷◌, ◌++◌, Option, Some, None, Result}
+use Rattle.std.specs.Prelude.{Ok, Err, length, map, option_map, string_bytes, String}
 use Rattle.std.specs.Global.{Global}
 use Rattle.std.specs.Result.{result_ok}
 use Rattle.pdb_types.specs.Errors.{ToldError, told}
@@ -11,11 +12,13 @@ use Rattle.pdb_frames.specs.Frame.{FramesDescription}
 use Rattle.pdb_documents.specs.Documents.{Failure, failure_error, Run}
 use Rattle.pdb_documents.specs.Printed.{signature_run, id_run}
 use Rattle.pdb_addr2line.specs.declared.calls.Call.{Call}
-use Rattle.pdb_addr2line.specs.declared.calls.Call.TheVariants.{FindFunction, FindFrames, Functions, FunctionCount, TypeSize, FormatFunction, FormatId}
+use Rattle.pdb_addr2line.specs.declared.calls.Call.TheVariants.{FindFunction, FindFrames, Functions}
+use Rattle.pdb_addr2line.specs.declared.calls.Call.TheVariants.{FunctionCount, TypeSize, FormatFunction, FormatId}
 use Rattle.pdb_addr2line.specs.declared.calls.Answer.{Answer}
 use Rattle.pdb_addr2line.specs.declared.calls.Answer.TheVariants as answer
 use Rattle.pdb_descriptions.specs.Function.{Description, description}
-use Rattle.pdb_addr2line.specs.Functions.{functions_of, after_function, start_addresses, after_functions, OnlyGainsBroken}
+use Rattle.pdb_addr2line.specs.Functions.{functions_of, after_function, start_addresses}
+use Rattle.pdb_addr2line.specs.Functions.{after_functions, OnlyGainsBroken}
 use Rattle.pdb_addr2line.specs.Lookups.{function_at, frames_told, failed_after_frames, code_failed_after}
 use Rattle.pdb_addr2line.specs.Sources.{ContextState, Sources, global_functions_of}
 
@@ -51,8 +54,8 @@ text_unless (Some failure) text = Err (failure_error failure)
 abbrev pub printed : Run → Result (List ℕ) ToldError
 printed r = text_unless r.fault r.text
 
--- the answer to one call: what a plain scan of the records tells, save that a part of them that failed before tells that it
--- did
+-- the answer to one call: what a plain scan of the records tells, save that a part of them that failed before tells
+-- that it did
 abbrev pub answer_to : {P : Type 0} → (P → Infos) → ContextState P → Call → ToldAnswer
 answer_to info c (FindFunction address) = ToldFunction (function_at info c.sources address)
 answer_to info c (FindFrames address) = ToldFrames (frames_told info c address)
@@ -108,8 +111,8 @@ pub record Appends (before after : List Answer) (wanted : List ToldAnswer) : Typ
   pub is : after ≡ before ++ appended
   pub told : map told_answer appended ≡ wanted
 
--- a context and a list of answers where memory ran out: some first calls are answered, and the one behind them counts as
--- not made
+-- a context and a list of answers where memory ran out: some first calls are answered, and the one behind them counts
+-- as not made
 pub record StopsEarly {P : Type 0} (info : P → Infos) (before : ContextState P) (calls : List Call)
     (answers answers' : List Answer) (after : ContextState P) : Type 0 where
   pub made : List Call

@@ -20,14 +20,15 @@ abbrev pub lender : {P : Type 0} → FunctionIter P → ContextState P
 lender it = it.context.now
 
 -- addresses are passed that no function lies over, and others are left; the context told that there is none
-pub record Passes {P : Type 0} (info : P → Infos) (before after : ContextState P) (all passed left : List ℕ) : Type 0 where
+pub record Passes {P : Type 0} (info : P → Infos) (before after : ContextState P) (all passed left : List ℕ)
+    : Type 0 where
   pub parts : all ≡ passed ++ left
   pub none : functions_at info before.sources passed ≡ []
   pub told : after ≡ after_functions info before passed
 
 -- after addresses that are passed, a function lies over one, and the context told it
-pub record Finds {P : Type 0} (info : P → Infos) (before after : ContextState P) (all left : List ℕ) (found : Description)
-    : Type 0 where
+pub record Finds {P : Type 0} (info : P → Infos) (before after : ContextState P) (all left : List ℕ)
+    (found : Description) : Type 0 where
   pub passed : List ℕ
   pub address : ℕ
   pub between : ContextState P

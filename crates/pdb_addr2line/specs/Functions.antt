@@ -62,6 +62,7 @@ pub record OnlyGainsBroken {P : Type 0} (info : P → Infos) (before after : Con
   pub code_failed : after.code_failed ≡ before.code_failed
 
 -- a context that told the functions over the first of these addresses, and then had no memory to tell another
-pub record IsCutShort {P : Type 0} (info : P → Infos) (before after : ContextState P) (addresses : List ℕ) : Type 0 where
+pub record IsCutShort {P : Type 0} (info : P → Infos) (before after : ContextState P) (addresses : List ℕ)
+    : Type 0 where
   pub done : ℕ
   pub interrupted : OnlyGainsBroken info (after_functions info before (take done addresses)) after

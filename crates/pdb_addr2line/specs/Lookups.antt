@@ -101,8 +101,8 @@ abbrev pub failed_by_refusal : {A : Type 0} → CodeParts → Option CodePart �
 failed_by_refusal failed part (Ok answer) = failed
 failed_by_refusal failed part (Err e) = with_blamed failed part
 
--- what is told of the frames over an address: what stands there by the records, and of a part of the records of code that
--- failed before that it did
+-- what is told of the frames over an address: what stands there by the records, and of a part of the records of code
+-- that failed before that it did
 abbrev pub frames_told : {P : Type 0} → (P → Infos) → ContextState P → ℕ → Result (Option FramesDescription) Error
 frames_told info c address =
     told_refusal c.code_failed (blamed_at info c.sources address) (frames_at info c.sources address)

@@ -28,8 +28,8 @@ pub record Sources (P : Type 0) : Type 0 where
   pub debug_information : DebugInformation
   pub basis : Basis P
 
--- a context: what it stands on, the parts of the records that its formatter met broken, and those of the records of code
--- that it met broken itself
+-- a context: what it stands on, the parts of the records that its formatter met broken, and those of the records of
+-- code that it met broken itself
 pub record ContextState (P : Type 0) : Type 0 where
   pub sources : Sources P
   pub failed : Parts

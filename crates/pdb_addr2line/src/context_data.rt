@@ -1,7 +1,8 @@
 ghost use Rattle.std.specs.Prelude.{◌≡◌, [], None, Some, IfOk};
 ghost use Rattle.pdb_types.specs.Provided.{provided};
 ghost use Rattle.pdb_types.specs.Outcomes.{Gives, Refuses};
-ghost use Rattle.pdb_addr2line.specs.ContextData.{records_refusal, formatter_refusal, sections_read, info_at, default_flags, context_over, context_of, formatter_of};
+ghost use Rattle.pdb_addr2line.specs.ContextData.{records_refusal, formatter_refusal, sections_read, info_at};
+ghost use Rattle.pdb_addr2line.specs.ContextData.{default_flags, context_over, context_of, formatter_of};
 ghost use Rattle.std.specs.Borrow.{sem};
 ghost use Rattle.std.specs.Io.BufRead.{Rests};
 ghost use Rattle.pdb_records.specs.contracts.pdb.PDB.{the_row};

@@ -1,7 +1,8 @@
 ghost use Rattle.std.specs.Prelude.{◌≡◌, [], ◌∷◌, ◌++◌, length, map, option_map, IfOk, OnOk, OnErr, MatchResult};
 ghost use Rattle.pdb_types.specs.declared.error.Error.TheVariants.{OutOfMemory};
 ghost use Rattle.pdb_descriptions.specs.Function.{description};
-ghost use Rattle.pdb_addr2line.specs.Functions.{start_addresses, functions_at, functions_of, after_function, after_functions, IsCutShort, OnlyGainsBroken};
+ghost use Rattle.pdb_addr2line.specs.Functions.{start_addresses, functions_at, functions_of, after_function};
+ghost use Rattle.pdb_addr2line.specs.Functions.{after_functions, IsCutShort, OnlyGainsBroken};
 ghost use Rattle.pdb_addr2line.specs.FunctionSteps.{untried, lender, TellsNext};
 ghost use Rattle.pdb_addr2line.specs.Lookups.{function_at};
 

@@ -3,9 +3,11 @@ ghost use Rattle.pdb_types.specs.FailedParts.{with_met};
 ghost use Rattle.pdb_types.specs.TypeSizes.{size_of};
 ghost use Rattle.pdb_types.specs.declared.error.Error.TheVariants.{OutOfMemory};
 ghost use Rattle.pdb_documents.specs.Printed.{signature_run, id_run};
-ghost use Rattle.pdb_addr2line.specs.Calls.{ToldFunction, ToldFrames, ToldFunctions, ToldSize, ToldText, told_answer, printed, with_failed, after_frames};
+ghost use Rattle.pdb_addr2line.specs.Calls.{ToldFunction, ToldFrames, ToldFunctions, ToldSize};
+ghost use Rattle.pdb_addr2line.specs.Calls.{ToldText, told_answer, printed, with_failed, after_frames};
 ghost use Rattle.pdb_addr2line.specs.Calls.{Appends, StopsEarly, answer_to, answers_to, after_call, after_calls};
-ghost use Rattle.pdb_addr2line.specs.Functions.{after_function, after_functions, functions_of, start_addresses, OnlyGainsBroken};
+ghost use Rattle.pdb_addr2line.specs.Functions.{after_function, after_functions, functions_of};
+ghost use Rattle.pdb_addr2line.specs.Functions.{start_addresses, OnlyGainsBroken};
 ghost use Rattle.pdb_addr2line.specs.Lookups.{function_at, frames_told};
 
 use crate::calls::{Answer, Call};

@@ -1,5 +1,6 @@
 -- The frames of a function at an offset in its code.
-use Rattle.std.specs.Prelude.{◌≢◌, ℕ, ◌-◌, List, [], ◌∷◌, ◌++◌, Option, Some, None, Result, Ok, Err, map, reverse, fold, option_map, option_and_then}
+use Rattle.std.specs.Prelude.{◌≢◌, ℕ, ◌-◌, List, [], ◌∷◌, ◌++◌, Option, Some, None, Result}
+use Rattle.std.specs.Prelude.{Ok, Err, map, reverse, fold, option_map, option_and_then}
 use Rattle.std.specs.Option.{option_map_or}
 use Rattle.pdb_records.specs.Addresses.{rva}
 use Rattle.pdb_records.specs.LinePrograms.{Lines}
@@ -63,8 +64,8 @@ function_frames strings name_of name None found x =
 function_frames strings name_of name (Some info) found x =
     and_then (origin info found x) (λ o. Ok (origin_frames strings name_of name o))
 
--- the size of a function in bytes, where it is known: a global function reaches to the next one of its section, if there
--- is one
+-- the size of a function in bytes, where it is known: a global function reaches to the next one of its section, if
+-- there is one
 abbrev pub function_size : List GlobalFunction → FoundFunction → Option ℕ
 function_size globals (found_procedure m p) = Some p.len
 function_size globals (found_global m f) =

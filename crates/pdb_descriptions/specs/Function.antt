@@ -1,5 +1,6 @@
 -- What is told of a function.
-use Rattle.std.specs.Prelude.{ℕ, ◌+◌, ◌^◌, List, string_bytes, Option, Some, None, option_map, option_and_then, nat_lt, if◌then◌else◌}
+use Rattle.std.specs.Prelude.{ℕ, ◌+◌, ◌^◌, List, string_bytes, Option, Some, None}
+use Rattle.std.specs.Prelude.{option_map, option_and_then, nat_lt, if◌then◌else◌}
 use Rattle.std.specs.Option.{option_map_or}
 use Rattle.pdb_records.specs.Names.{lossy}
 use Rattle.pdb_records.specs.Addresses.{rva}

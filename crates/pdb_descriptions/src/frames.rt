@@ -1,4 +1,5 @@
-ghost use Rattle.std.specs.Prelude.{◌≡◌, [], ◌∷◌, ◌++◌, None, option_map, option_and_then, string_bytes, Some, IfOk, IfSome, OnOk, MatchResult};
+ghost use Rattle.std.specs.Prelude.{◌≡◌, [], ◌∷◌, ◌++◌, None, option_map, option_and_then};
+ghost use Rattle.std.specs.Prelude.{string_bytes, Some, IfOk, IfSome, OnOk, MatchResult};
 ghost use Rattle.std.specs.Option.{option_copied};
 ghost use Rattle.pdb_types.specs.Outcomes.{Gives};
 ghost use Rattle.pdb_types.specs.declared.error.Error.TheVariants.{OutOfMemory};
@@ -7,7 +8,9 @@ ghost use Rattle.pdb_functions.specs.Lookup.{found_function};
 ghost use Rattle.pdb_functions.specs.SymbolNames.{GoesBySymbol};
 ghost use Rattle.pdb_documents.specs.BrokenParts.{AddsBroken};
 ghost use Rattle.pdb_documents.specs.Worlds.{formatter_world};
-ghost use Rattle.pdb_descriptions.specs.Frames.{own_frame, inlined_frame, inlined_frames, origin_frames, function_frames, function_size, described_frames, failed_by_ids, bodies_over, failed_by_frames, ButForMemory};
+ghost use Rattle.pdb_descriptions.specs.Frames.{own_frame, inlined_frame, inlined_frames, origin_frames};
+ghost use Rattle.pdb_descriptions.specs.Frames.{function_frames, function_size, described_frames};
+ghost use Rattle.pdb_descriptions.specs.Frames.{failed_by_ids, bodies_over, failed_by_frames, ButForMemory};
 ghost use Rattle.pdb_descriptions.specs.Function.{sum_in_32_bits};
 ghost use Rattle.pdb_descriptions.specs.Names.{id_name, failed_by_id};
 ghost use Rattle.pdb_frames.specs.CodeCache.{FitsCode};
@@ -162,7 +165,8 @@ fn frames_of_function<'a, P: ModuleProvider>(
 ) -> Result<Vec<Frame<'a>>>
     ghost records: { Records }
     requires code { FitsCode records code.old }
-    requires module_info { IfSome module_info (λ info. records (function_module (found_function function)) ≡ Some info.now) }
+    requires module_info { IfSome module_info
+        (λ info. records (function_module (found_function function)) ≡ Some info.now) }
     ensures frames { let found = found_function function.entry in
         let name_of = id_name P.info names.old.standing (function_module found) in
         Gives (λ v. v.items) result (function_frames files.now name_of
@@ -244,7 +248,8 @@ pub fn describe_frames<'a, P: ModuleProvider>(
     ghost records: { Records }
     requires named { GoesBySymbol (P.info names.old.provider) names.old.standing.modules (found_function function) }
     requires code { FitsCode records code.old }
-    requires module_info { IfSome module_info (λ info. records (function_module (found_function function)) ≡ Some info.now) }
+    requires module_info { IfSome module_info
+        (λ info. records (function_module (found_function function)) ≡ Some info.now) }
     ensures told { Gives (λ f. f) result (described_frames P.info names.old.standing files.now
         address_map.now functions.now (option_copied module_info.entry)
         (found_function function.entry) offset) }

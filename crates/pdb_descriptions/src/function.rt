@@ -8,7 +8,8 @@ ghost use Rattle.pdb_functions.specs.Procedures.{module_procedure};
 ghost use Rattle.pdb_functions.specs.Lookup.{found_function, procedures_of_module};
 ghost use Rattle.pdb_functions.specs.SymbolNames.{name_by_symbol, GoesBySymbol};
 ghost use Rattle.pdb_descriptions.specs.Names.{procedure_name, failed_by_name, GainsBroken};
-ghost use Rattle.pdb_descriptions.specs.Function.{description, global_end, described_global, described_procedure, described, failed_by_telling};
+ghost use Rattle.pdb_descriptions.specs.Function.{description, global_end, described_global};
+ghost use Rattle.pdb_descriptions.specs.Function.{described_procedure, described, failed_by_telling};
 
 use crate::function_names::FunctionNames;
 use crate::names::text_of_name;

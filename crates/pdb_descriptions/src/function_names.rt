@@ -11,7 +11,8 @@ ghost use Rattle.pdb_documents.specs.BrokenParts.{AddsBroken};
 ghost use Rattle.pdb_documents.specs.Printed.{signature_run, id_run};
 ghost use Rattle.pdb_documents.specs.Worlds.{formatter_world};
 ghost use Rattle.pdb_frames.specs.Origins.{function_module};
-ghost use Rattle.pdb_descriptions.specs.Names.{signature_text, procedure_name, failed_by_name, function_name, failed_by_function_name, id_name, failed_by_id};
+ghost use Rattle.pdb_descriptions.specs.Names.{signature_text, procedure_name, failed_by_name, function_name};
+ghost use Rattle.pdb_descriptions.specs.Names.{failed_by_function_name, id_name, failed_by_id};
 
 use crate::kept_names::{id_once, signature_once};
 use crate::kept_signatures::KeptSignatures;
@@ -50,7 +51,8 @@ impl<'a, P: ModuleProvider> Model for FunctionNames<'a, P> {
     } };
 
     ghost invariant = { λ n. record {
-      signatures : FitsSignatures P.info (P.info n.signatures.provider.now) n.formatter n.signatures.texts.entries.items;
+      signatures : FitsSignatures P.info (P.info n.signatures.provider.now) n.formatter
+          n.signatures.texts.entries.items;
       ids : FitsIds P.info n.formatter n.ids.entries.items;
     } };
 }

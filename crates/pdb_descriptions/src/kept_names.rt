@@ -27,7 +27,8 @@ fn keep_signature<P: ModuleProvider>(
     key: SignatureKey,
     text: &Option<String>,
 ) -> Result<(), AllocError>
-    ensures fits { (f : Formatter P) → FitsSignatures P.info (P.info kept.old.provider.now) f kept.old.texts.entries.items
+    ensures fits { (f : Formatter P)
+        → FitsSignatures P.info (P.info kept.old.provider.now) f kept.old.texts.entries.items
         → ((name : List ℕ) → name_by_symbol key.symbol
         (procedures_of_module (P.info kept.old.provider.now) f.standing.modules key.position) ≡ Some name
         → IsPrinted (signature_printing P.info f key name) f.failed (option_map string_bytes text.now))

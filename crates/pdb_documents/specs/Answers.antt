@@ -1,5 +1,6 @@
 -- What calls that print answer.
-use Rattle.std.specs.Prelude.{◌≡◌, ◌≢◌, ℕ, Bool, true, false, List, Some, None, Result, Ok, Err, option_map, String, string_bytes}
+use Rattle.std.specs.Prelude.{◌≡◌, ◌≢◌, ℕ, Bool, true, false, List, Some, None}
+use Rattle.std.specs.Prelude.{Result, Ok, Err, option_map, String, string_bytes}
 use Rattle.std.specs.Global.{Global}
 use Rattle.pdb_types.specs.declared.error.Error.{Error}
 use Rattle.pdb_types.specs.declared.error.Error.TheVariants.{OutOfMemory, FormatError}
@@ -38,5 +39,6 @@ pub record Fails {W : Type 0} (gives : W → List ℕ → W → Type 0) (r : Run
 -- what a call that prints into a writer did is what a run does
 abbrev pub AnswersWritten : {W A : Type 0} → (W → List ℕ → W → Type 0) → Run → W → W → Result A Error → Parts
     → Type 0
-AnswersWritten gives r before after (Ok done) failed = (r.fault ≡ None) × (r.failed ≡ failed) × gives before r.text after
+AnswersWritten gives r before after (Ok done) failed =
+    (r.fault ≡ None) × (r.failed ≡ failed) × gives before r.text after
 AnswersWritten gives r before after (Err e) failed = Fails gives r before after e failed

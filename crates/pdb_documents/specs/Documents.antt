@@ -1,5 +1,6 @@
 -- Documents: what is to be printed, and what printing it does.
-use Rattle.std.specs.Prelude.{ℕ, ◌==◌, ◌-◌, ◌||◌, ◌++◌, Bool, false, List, [], Option, Some, None, length, slice_get, if◌then◌else◌}
+use Rattle.std.specs.Prelude.{ℕ, ◌==◌, ◌-◌, ◌||◌, ◌++◌, Bool, false, List, []}
+use Rattle.std.specs.Prelude.{Option, Some, None, length, slice_get, if◌then◌else◌}
 use Rattle.pdb_records.specs.declared.error.Error.TheVariants as records
 use Rattle.pdb_types.specs.declared.error.Error.TheVariants.{PdbError}
 use Rattle.pdb_types.specs.declared.unread.Part.{Part}
@@ -35,7 +36,8 @@ pub data Document : Type 0 where
   -- nothing, and no error: this part of the records was met broken on the way
   Met : Part → Document
 
--- what printing a document does: the text that is written, why it fails where it does, and the parts that failed by then
+-- what printing a document does: the text that is written, why it fails where it does, and the parts that failed by
+-- then
 pub record Run : Type 0 where
   pub text : List ℕ
   pub fault : Option Failure

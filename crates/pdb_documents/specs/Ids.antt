@@ -9,7 +9,8 @@ use Rattle.pdb_records.specs.declared.ids.IdIndex.{IdIndex}
 use Rattle.pdb_records.specs.declared.ids.MemberFunctionId.{MemberFunctionId}
 use Rattle.pdb_records.specs.declared.types.TypeData.{TypeData}
 use Rattle.pdb_records.specs.declared.types.TypeData.TheVariants.{MemberFunction, Procedure}
-use Rattle.pdb_types.specs.declared.error.Error.TheVariants.{FunctionIdIsNotProcedureType, MemberFunctionIdIsNotMemberFunctionType}
+use Rattle.pdb_types.specs.declared.error.Error.TheVariants.{FunctionIdIsNotProcedureType}
+use Rattle.pdb_types.specs.declared.error.Error.TheVariants.{MemberFunctionIdIsNotMemberFunctionType}
 use Rattle.pdb_types.specs.Errors.{Plain}
 use Rattle.pdb_documents.specs.Functions.{returned_if_wanted, types_between, function_arguments}
 use Rattle.pdb_documents.specs.Namespaces.{namespace_text}

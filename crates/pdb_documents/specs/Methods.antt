@@ -1,5 +1,6 @@
 -- The arguments of methods. The list `inside` has the indices of types that are open.
-use Rattle.std.specs.Prelude.{◌==◌, ◌&&◌, ℕ, Bool, false, List, [], ◌∷◌, Option, Some, None, Result, Ok, codes, if◌then◌else◌}
+use Rattle.std.specs.Prelude.{◌==◌, ◌&&◌, ℕ, Bool, false, List, [], ◌∷◌, Option}
+use Rattle.std.specs.Prelude.{Some, None, Result, Ok, codes, if◌then◌else◌}
 use Rattle.pdb_records.specs.declared.types.TypeIndex.{TypeIndex}
 use Rattle.pdb_records.specs.declared.types.MemberFunctionType.{MemberFunctionType}
 use Rattle.pdb_records.specs.declared.types.TypeData.{TypeData}
@@ -29,8 +30,8 @@ this_by_target class this (Modifier m) =
     if m.underlying_type.0 == class.0 then plain_this m.constant else printed_this this
 this_by_target class this other = printed_this this
 
--- what the type of `this` tells: with a pointer to the class the method is not constant. With another pointer its target
--- decides, and else `this` is an argument
+-- what the type of `this` tells: with a pointer to the class the method is not constant. With another pointer its
+-- target decides, and else `this` is an argument
 abbrev pub this_by_type : World → TypeIndex → TypeIndex → TypeData → Result This Trouble
 this_by_type w class this (Pointer p) =
     if p.underlying_type.0 == class.0 then Ok (plain_this false)

@@ -1,7 +1,13 @@
 -- How the types that the compiler brings are printed.
 use Rattle.std.specs.Prelude.{ℕ, ◌++◌, Bool, List, [], codes, if◌then◌else◌}
 use Rattle.pdb_records.specs.declared.types.PrimitiveKind.{PrimitiveKind}
-use Rattle.pdb_records.specs.declared.types.PrimitiveKind.TheVariants.{NoType, Void, Char, UChar, RChar, WChar, RChar16, RChar32, Char8, I8, U8, Short, UShort, I16, U16, Long, ULong, I32, U32, Quad, UQuad, I64, U64, Octa, UOcta, I128, U128, F16, F32, F32PP, F48, F64, F80, F128, Complex32, Complex64, Complex80, Complex128, Bool8, Bool16, Bool32, Bool64, HRESULT}
+use Rattle.pdb_records.specs.declared.types.PrimitiveKind.TheVariants.{NoType, Void, Char, UChar, RChar, WChar}
+use Rattle.pdb_records.specs.declared.types.PrimitiveKind.TheVariants.{RChar16, RChar32, Char8, I8, U8, Short}
+use Rattle.pdb_records.specs.declared.types.PrimitiveKind.TheVariants.{UShort, I16, U16, Long, ULong, I32, U32}
+use Rattle.pdb_records.specs.declared.types.PrimitiveKind.TheVariants.{Quad, UQuad, I64, U64, Octa, UOcta, I128}
+use Rattle.pdb_records.specs.declared.types.PrimitiveKind.TheVariants.{U128, F16, F32, F32PP, F48, F64, F80, F128}
+use Rattle.pdb_records.specs.declared.types.PrimitiveKind.TheVariants.{Complex32, Complex64, Complex80, Complex128}
+use Rattle.pdb_records.specs.declared.types.PrimitiveKind.TheVariants.{Bool8, Bool16, Bool32, Bool64, HRESULT}
 use Rattle.pdb_records.specs.declared.types.PrimitiveType.{PrimitiveType}
 use Rattle.pdb_types.specs.declared.flags.TypeFormatterFlags.{TypeFormatterFlags}
 use Rattle.pdb_documents.specs.Flags.{with_space_before_pointer}

@@ -44,8 +44,8 @@ signature_run info s position name index =
 abbrev pub id_run : {P : Type 0} → (P → Infos) → Basis P → ℕ → ℕ → Parts → Run
 id_run info s position index = run (document_of (formatter_world info s position) (id_of_index index))
 
--- printing succeeded or failed in two runs alike: with the same text, and for the same missing type or for another error
--- in both
+-- printing succeeded or failed in two runs alike: with the same text, and for the same missing type or for another
+-- error in both
 abbrev pub AlikeFault : Option Failure → Option Failure → Type 0
 AlikeFault None None = Unit {0}
 AlikeFault (Some (TypeNotFound i)) (Some (TypeNotFound j)) = i ≡ j

@@ -1,5 +1,6 @@
 -- How far printing has come.
-use Rattle.std.specs.Prelude.{◌≡◌, ℕ, ◌++◌, Bool, true, false, List, [], ◌∷◌, Option, Some, None, take, drop, reverse, is_some, if◌then◌else◌}
+use Rattle.std.specs.Prelude.{◌≡◌, ℕ, ◌++◌, Bool, true, false, List, [], ◌∷◌, Option}
+use Rattle.std.specs.Prelude.{Some, None, take, drop, reverse, is_some, if◌then◌else◌}
 use Rattle.std.specs.String.Boundary.{IsSplitPoint}
 use Rattle.std.specs.BTreeSet.{BTreeSet, contains}
 use Rattle.std.specs.Ordering.{nat_cmp}
@@ -21,13 +22,14 @@ use Rattle.pdb_documents.specs.Attributes.{attributes_text}
 use Rattle.pdb_documents.specs.Wording.{wording_text}
 use Rattle.pdb_documents.specs.Documents.{Failure, TypeNotFound, Told, Run, caught_by, ends_in_sigil}
 use Rattle.pdb_documents.specs.Worlds.{World}
-use Rattle.pdb_documents.specs.Plans.{Plan, Index, OfType, MethodArguments, Chain, BehindModifier, Modified, Elements, Id, Later, written, is_among}
+use Rattle.pdb_documents.specs.Plans.{Plan, Index, OfType, MethodArguments, Chain, BehindModifier}
+use Rattle.pdb_documents.specs.Plans.{Modified, Elements, Id, Later, written, is_among}
 use Rattle.pdb_documents.specs.Functions.{returned, further_types, types_between, function_arguments}
 use Rattle.pdb_documents.specs.Ids.{scope}
 use Rattle.pdb_documents.specs.Methods.{arguments_behind}
 
--- how far printing has come: what is still to be done, the next first, the text so far, and why printing fails, where it
--- does
+-- how far printing has come: what is still to be done, the next first, the text so far, and why printing fails, where
+-- it does
 pub record Stage : Type 0 where
   pub steps : List Pending
   pub text : List ℕ
@@ -146,8 +148,8 @@ Opens index old new false =
 abbrev pub OpensAlone : Option ℕ → Stage → Stage → Type 0
 OpensAlone index old new = (outer : BTreeSet ℕ) × (new ≡ with_step (EndId outer index) old)
 
--- what the end of something does to a run: what is printed no longer is, where printing failed; an index that closes and
--- an id that ends do nothing to the run
+-- what the end of something does to a run: what is printed no longer is, where printing failed; an index that closes
+-- and an id that ends do nothing to the run
 abbrev pub ended_run : TypeFormatterFlags → Pending → Run → Run
 ended_run chosen (Print task) r = r
 ended_run chosen (Close index) r = r

@@ -6,12 +6,16 @@ use Rattle.std.specs.Ordering.{nat_cmp}
 use Rattle.pdb_records.specs.declared.types.MemberFunctionType.{MemberFunctionType}
 use Rattle.pdb_records.specs.declared.types.ProcedureType.{ProcedureType}
 use Rattle.pdb_records.specs.declared.types.TypeData.{TypeData}
-use Rattle.pdb_records.specs.declared.types.TypeData.TheVariants.{Primitive, Class, MemberFunction, Procedure, Pointer, Array, Union, Enumeration, Enumerate, Modifier, ArgumentList, Other}
+use Rattle.pdb_records.specs.declared.types.TypeData.TheVariants.{Primitive, Class, MemberFunction, Procedure}
+use Rattle.pdb_records.specs.declared.types.TypeData.TheVariants.{Pointer, Array, Union, Enumeration}
+use Rattle.pdb_records.specs.declared.types.TypeData.TheVariants.{Enumerate, Modifier, ArgumentList, Other}
 use Rattle.pdb_documents.specs.Primitives.{primitive_text}
 use Rattle.pdb_documents.specs.Attributes.{Attribute, attribute_of, with_target, attributes_text}
 use Rattle.pdb_documents.specs.Wording.{unhandled_text, class_word, declared_text, dimensions_text}
 use Rattle.pdb_documents.specs.Worlds.{World}
-use Rattle.pdb_documents.specs.Plans.{Task, Index, OfType, MethodArguments, Chain, BehindModifier, Modified, Elements, Id, Plan, Later, Buffered, Catch, ◌▸◌, written, circular, is_among, on_read, on_printed, opened, opening, met_before}
+use Rattle.pdb_documents.specs.Plans.{Task, Index, OfType, MethodArguments, Chain, BehindModifier}
+use Rattle.pdb_documents.specs.Plans.{Modified, Elements, Id, Plan, Later, Buffered, Catch, ◌▸◌, written}
+use Rattle.pdb_documents.specs.Plans.{circular, is_among, on_read, on_printed, opened, opening, met_before}
 use Rattle.pdb_documents.specs.Functions.{returned, returned_if_wanted, list_of_arguments}
 use Rattle.pdb_documents.specs.Methods.{method_arguments}
 use Rattle.pdb_documents.specs.Ids.{id_by_kind}

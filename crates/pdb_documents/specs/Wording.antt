@@ -1,5 +1,6 @@
 -- The words and names that types are printed with.
-use Rattle.std.specs.Prelude.{ℕ, ◌==◌, ◌/◌, ◌++◌, false, List, [], ◌∷◌, reverse, Option, Some, None, codes, if◌then◌else◌}
+use Rattle.std.specs.Prelude.{ℕ, ◌==◌, ◌/◌, ◌++◌, false, List, [], ◌∷◌, reverse}
+use Rattle.std.specs.Prelude.{Option, Some, None, codes, if◌then◌else◌}
 use Rattle.std.specs.Fmt.{decimal, digits}
 use Rattle.pdb_records.specs.Names.{lossy}
 use Rattle.pdb_records.specs.declared.types.ClassKind.{ClassKind}
@@ -7,7 +8,10 @@ use Rattle.pdb_records.specs.declared.types.ClassKind.TheVariants as class
 use Rattle.pdb_records.specs.declared.types.TypeIndex.{TypeIndex}
 use Rattle.pdb_types.specs.declared.flags.TypeFormatterFlags.{TypeFormatterFlags}
 use Rattle.pdb_documents.specs.declared.wording.Wording.{Wording}
-use Rattle.pdb_documents.specs.declared.wording.Wording.TheVariants.{Text, MissingType, UnimplementedKind, UnhandledKind, UnhandledScope, Declared, FunctionName, Namespace, Primitive, Pointers, Dimensions}
+use Rattle.pdb_documents.specs.declared.wording.Wording.TheVariants.{Text, MissingType, UnimplementedKind}
+use Rattle.pdb_documents.specs.declared.wording.Wording.TheVariants.{UnhandledKind, UnhandledScope}
+use Rattle.pdb_documents.specs.declared.wording.Wording.TheVariants.{Declared, FunctionName, Namespace}
+use Rattle.pdb_documents.specs.declared.wording.Wording.TheVariants.{Primitive, Pointers, Dimensions}
 use Rattle.pdb_documents.specs.Flags.{with_names_alone, with_space_after_comma, without_static}
 use Rattle.pdb_documents.specs.Namespaces.{namespace_text}
 use Rattle.pdb_documents.specs.Primitives.{primitive_text}

@@ -1,5 +1,6 @@
 ghost use Rattle.std.specs.Prelude.{◌≡◌, ◌++◌, OnOk, reverse, string_bytes};
-ghost use Rattle.pdb_documents.specs.Attributes.{attribute_of, with_target, sigil, space_before_sigil, before_sigil, attribute_text, attributes_text};
+ghost use Rattle.pdb_documents.specs.Attributes.{attribute_of, with_target, sigil, space_before_sigil};
+ghost use Rattle.pdb_documents.specs.Attributes.{before_sigil, attribute_text, attributes_text};
 
 use crate::options::with_space_before_pointer;
 use pdb_records::{PointerMode, PointerType};

@@ -1,5 +1,6 @@
 ghost use Rattle.std.specs.Prelude.{◌≡◌};
-ghost use Rattle.pdb_documents.specs.Flags.{without_return_type, without_static, with_space_after_comma, with_space_before_pointer, with_names_alone, without_arguments};
+ghost use Rattle.pdb_documents.specs.Flags.{without_return_type, without_static, with_space_after_comma};
+ghost use Rattle.pdb_documents.specs.Flags.{with_space_before_pointer, with_names_alone, without_arguments};
 
 use bitflags::Flags;
 use pdb_types::TypeFormatterFlags;

@@ -69,7 +69,8 @@ pub fn write_primitive(
     primitive: &PrimitiveType,
     constant: bool,
 ) -> Result<(), AllocError>
-    ensures { OnOk result (string_bytes text.new ≡ string_bytes text.old ++ primitive_text flags primitive.now constant) }
+    ensures { OnOk result
+        (string_bytes text.new ≡ string_bytes text.old ++ primitive_text flags primitive.now constant) }
 {
     let name = primitive_name(primitive.kind);
     if primitive.indirection {

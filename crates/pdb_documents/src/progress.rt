@@ -1,9 +1,11 @@
-ghost use Rattle.std.specs.Prelude.{◌≡◌, ◌++◌, ℕ, true, false, [], ◌∷◌, List, None, length, reverse, take, drop, string_bytes, IfOk, OnOk, is_some};
+ghost use Rattle.std.specs.Prelude.{◌≡◌, ◌++◌, ℕ, true, false, [], ◌∷◌, List, None, length};
+ghost use Rattle.std.specs.Prelude.{reverse, take, drop, string_bytes, IfOk, OnOk, is_some};
 ghost use Rattle.std.specs.String.Boundary.{IsSplitPoint};
 ghost use Rattle.pdb_types.specs.FailedParts.{Parts};
 ghost use Rattle.pdb_documents.specs.Attributes.{attributes_text};
 ghost use Rattle.pdb_documents.specs.Documents.{caught_by, is_sigil, ends_in_sigil};
-ghost use Rattle.pdb_documents.specs.Progress.{released_by, Stage, beginning, with_step, with_text, with_failure, failure_of, failure_in, MayBeCut, Opens, OpensAlone, Takes};
+ghost use Rattle.pdb_documents.specs.Progress.{released_by, Stage, beginning, with_step, with_text, with_failure};
+ghost use Rattle.pdb_documents.specs.Progress.{failure_of, failure_in, MayBeCut, Opens, OpensAlone, Takes};
 ghost use Rattle.pdb_documents.specs.Wording.{wording_text, missing_text};
 
 use crate::answers::Printed;
@@ -33,7 +35,8 @@ pub struct Progress<'s> {
 
 impl<'s> Model for Progress<'s> {
     ghost use Rattle.std.specs.Prelude.{reverse, string_bytes};
-    ghost use Rattle.pdb_documents.specs.Progress.{released_by, Stage, failure_in, open_in, marks_in, IsSetOf, PutsBack, MayBeCut};
+    ghost use Rattle.pdb_documents.specs.Progress.{released_by, Stage, failure_in, open_in};
+    ghost use Rattle.pdb_documents.specs.Progress.{marks_in, IsSetOf, PutsBack, MayBeCut};
 
     ghost Value = { Stage };
 

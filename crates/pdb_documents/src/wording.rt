@@ -1,7 +1,9 @@
 ghost use Rattle.std.specs.Prelude.{◌≡◌, ◌++◌, OnOk, string_bytes};
 ghost use Rattle.pdb_records.specs.Names.{lossy};
 ghost use Rattle.pdb_documents.specs.Namespaces.{namespace_text};
-ghost use Rattle.pdb_documents.specs.Wording.{missing_text, unimplemented_text, unhandled_text, unhandled_scope_text, class_word, declared_text, function_name, static_text, comma, wording_text};
+ghost use Rattle.pdb_documents.specs.Wording.{missing_text, unimplemented_text, unhandled_text};
+ghost use Rattle.pdb_documents.specs.Wording.{unhandled_scope_text, class_word, declared_text};
+ghost use Rattle.pdb_documents.specs.Wording.{function_name, static_text, comma, wording_text};
 
 use crate::attributes::{Attribute, write_attributes};
 use crate::dimensions::write_dimensions;

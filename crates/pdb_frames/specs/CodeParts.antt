@@ -10,7 +10,9 @@ use Rattle.pdb_records.specs.declared.addresses.PdbInternalSectionOffset.{PdbInt
 use Rattle.pdb_records.specs.declared.modules.ModuleInfo.{ModuleInfo}
 use Rattle.pdb_types.specs.Outcomes.{and_then}
 use Rattle.pdb_types.specs.declared.error.Error.{Error}
-use Rattle.pdb_types.specs.declared.error.Error.TheVariants.{ExtendedModuleInfoUnsuccessful, ProcedureLinesUnsuccessful, ProcedureInlineRangesUnsuccessful}
+use Rattle.pdb_types.specs.declared.error.Error.TheVariants.{ExtendedModuleInfoUnsuccessful}
+use Rattle.pdb_types.specs.declared.error.Error.TheVariants.{ProcedureLinesUnsuccessful}
+use Rattle.pdb_types.specs.declared.error.Error.TheVariants.{ProcedureInlineRangesUnsuccessful}
 use Rattle.pdb_functions.specs.Lookup.{FoundFunction}
 use Rattle.pdb_frames.specs.ExtendedInfo.{extended_info}
 use Rattle.pdb_frames.specs.Lines.{function_rows}

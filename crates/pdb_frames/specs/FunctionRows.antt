@@ -1,5 +1,6 @@
 -- The line rows of a function, as they are kept to be searched.
-use Rattle.std.specs.Prelude.{◌<◌, ◌==◌, ⊤, ℕ, Bool, false, List, [], ◌∷◌, Option, Some, None, Result, Ok, if◌then◌else◌}
+use Rattle.std.specs.Prelude.{◌<◌, ◌==◌, ⊤, ℕ, Bool, false, List, [], ◌∷◌}
+use Rattle.std.specs.Prelude.{Option, Some, None, Result, Ok, if◌then◌else◌}
 use Rattle.std.specs.List.{AllByRecursion}
 use Rattle.std.specs.Ordering.{nat_cmp, is_lt}
 use Rattle.pdb_records.specs.Readings.{Read}

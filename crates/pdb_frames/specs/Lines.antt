@@ -1,5 +1,6 @@
 -- The source line of an offset, and the name of its file.
-use Rattle.std.specs.Prelude.{ℕ, List, [], Option, Some, None, Result, Ok, slice_get, nat_le, option_map, option_and_then}
+use Rattle.std.specs.Prelude.{ℕ, List, [], Option, Some, None, Result, Ok}
+use Rattle.std.specs.Prelude.{slice_get, nat_le, option_map, option_and_then}
 use Rattle.pdb_records.specs.LinePrograms.{Lines}
 use Rattle.pdb_records.specs.Lines.{lines_at}
 use Rattle.pdb_records.specs.Names.{lossy}

@@ -1,5 +1,6 @@
 -- Which module each part of the program came from.
-use Rattle.std.specs.Prelude.{◌+◌, ◌^◌, Bool, List, [], ◌∷◌, ◌++◌, ◌&&◌, ◌==◌, nat_lt, Option, Some, None, Result, Ok, option_map, map, filter, if◌then◌else◌}
+use Rattle.std.specs.Prelude.{◌+◌, ◌^◌, Bool, List, [], ◌∷◌, ◌++◌, ◌&&◌, ◌==◌, nat_lt, Option}
+use Rattle.std.specs.Prelude.{Some, None, Result, Ok, option_map, map, filter, if◌then◌else◌}
 use Rattle.std.specs.Ordering.{nat_cmp, ordering_then, is_lt}
 use Rattle.std.specs.declared.cmp.Ordering.{Ordering}
 use Rattle.pdb_records.specs.declared.error.Error.TheVariants.{Stream}
@@ -8,7 +9,9 @@ use Rattle.pdb_records.specs.declared.addresses.PdbInternalSectionOffset.{PdbInt
 use Rattle.pdb_records.specs.declared.debug_information.SectionContribution.{SectionContribution}
 use Rattle.pdb_records.specs.declared.debug_information.DebugInformation.{DebugInformation}
 use Rattle.pdb_types.specs.declared.error.Error.{Error}
-use Rattle.pdb_types.specs.declared.error.Error.TheVariants.{PdbError, SectionContributionEndTooLarge, UnorderedSectionContributions, OverlappingSectionContributions}
+use Rattle.pdb_types.specs.declared.error.Error.TheVariants.{PdbError, SectionContributionEndTooLarge}
+use Rattle.pdb_types.specs.declared.error.Error.TheVariants.{UnorderedSectionContributions}
+use Rattle.pdb_types.specs.declared.error.Error.TheVariants.{OverlappingSectionContributions}
 use Rattle.pdb_functions.specs.declared.contributions.ModuleSectionContribution.{ModuleSectionContribution}
 use Rattle.pdb_ranges.specs.InOrder.{in_order}
 use Rattle.pdb_types.specs.Outcomes.{first_refusal, unless}

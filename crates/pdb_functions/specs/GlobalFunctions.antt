@@ -8,7 +8,8 @@ use Rattle.pdb_records.specs.declared.addresses.PdbInternalSectionOffset.{PdbInt
 use Rattle.pdb_records.specs.declared.debug_information.DebugInformation.{DebugInformation}
 use Rattle.pdb_records.specs.declared.symbols.Symbol.{Symbol}
 use Rattle.pdb_records.specs.declared.symbols.SymbolData.{SymbolData}
-use Rattle.pdb_records.specs.declared.symbols.SymbolData.TheVariants.{Public, Procedure, SeparatedCode, Thunk, InlineSite, Other}
+use Rattle.pdb_records.specs.declared.symbols.SymbolData.TheVariants.{Public, Procedure, SeparatedCode}
+use Rattle.pdb_records.specs.declared.symbols.SymbolData.TheVariants.{Thunk, InlineSite, Other}
 use Rattle.pdb_functions.specs.declared.global_functions.PublicSymbolFunctionOrPlaceholder.{PublicSymbolFunctionOrPlaceholder}
 use Rattle.pdb_functions.specs.Sections.{is_executable, section_ends}
 use Rattle.pdb_functions.specs.Contributions.{contribution_starts}

@@ -1,5 +1,6 @@
 -- The function over a place of the program.
-use Rattle.std.specs.Prelude.{ℕ, List, [], Option, Some, None, Result, slice_get, find, nat_le, nat_lt, ◌==◌, ◌&&◌, option_and_then, if◌then◌else◌}
+use Rattle.std.specs.Prelude.{ℕ, List, [], Option, Some, None, Result, slice_get, find}
+use Rattle.std.specs.Prelude.{nat_le, nat_lt, ◌==◌, ◌&&◌, option_and_then, if◌then◌else◌}
 use Rattle.pdb_records.specs.Addresses.{is_same_place}
 use Rattle.pdb_records.specs.declared.addresses.PdbInternalSectionOffset.{PdbInternalSectionOffset}
 use Rattle.pdb_records.specs.declared.debug_information.Module.{Module}

@@ -1,5 +1,6 @@
 -- The records of modules that can be read, and what is kept of them.
-use Rattle.std.specs.Prelude.{◌≡◌, ℕ, List, Option, Some, None, is_none, slice_get, option_map, option_and_then, if◌then◌else◌}
+use Rattle.std.specs.Prelude.{◌≡◌, ℕ, List, Option, Some, None, is_none, slice_get}
+use Rattle.std.specs.Prelude.{option_map, option_and_then, if◌then◌else◌}
 use Rattle.std.specs.Result.{result_unwrap_or}
 use Rattle.pdb_records.specs.declared.debug_information.Module.{Module}
 use Rattle.pdb_records.specs.declared.modules.ModuleInfo.{ModuleInfo}

@@ -1,5 +1,6 @@
 -- The procedures of a module.
-use Rattle.std.specs.Prelude.{ℕ, ◌+◌, List, [], ◌∷◌, ◌++◌, Option, Some, None, Result, Ok, Err, nat_lt, option_and_then, option_to_list, if◌then◌else◌}
+use Rattle.std.specs.Prelude.{ℕ, ◌+◌, List, [], ◌∷◌, ◌++◌, Option, Some, None, Result, Ok}
+use Rattle.std.specs.Prelude.{Err, nat_lt, option_and_then, option_to_list, if◌then◌else◌}
 use Rattle.pdb_records.specs.Addresses.{is_same_place}
 use Rattle.pdb_records.specs.SymbolKinds.{is_code_kind}
 use Rattle.pdb_records.specs.declared.addresses.PdbInternalSectionOffset.{PdbInternalSectionOffset}
@@ -7,7 +8,8 @@ use Rattle.pdb_records.specs.declared.error.StreamError.{StreamError}
 use Rattle.pdb_records.specs.declared.symbols.Symbol.{Symbol}
 use Rattle.pdb_records.specs.declared.symbols.SymbolIndex.{SymbolIndex}
 use Rattle.pdb_records.specs.declared.symbols.SymbolData.{SymbolData}
-use Rattle.pdb_records.specs.declared.symbols.SymbolData.TheVariants.{Public, Procedure, SeparatedCode, Thunk, InlineSite, Other}
+use Rattle.pdb_records.specs.declared.symbols.SymbolData.TheVariants.{Public, Procedure, SeparatedCode}
+use Rattle.pdb_records.specs.declared.symbols.SymbolData.TheVariants.{Thunk, InlineSite, Other}
 use Rattle.pdb_records.specs.declared.types.TypeIndex.{TypeIndex}
 use Rattle.pdb_records.specs.declared.modules.ModuleInfo.{ModuleInfo}
 use Rattle.pdb_functions.specs.declared.procedures.ProcedureSymbolFunction.{ProcedureSymbolFunction}

@@ -2,7 +2,11 @@ ghost use Rattle.std.specs.Prelude.{◌≡◌, ◌≢◌, ◌++◌, None, Some, 
 ghost use Rattle.pdb_types.specs.declared.error.Error.TheVariants.{OutOfMemory};
 ghost use Rattle.pdb_ranges.specs.InOrder.{in_order};
 ghost use Rattle.pdb_types.specs.Outcomes.{Gives, Refuses};
-ghost use Rattle.pdb_functions.specs.Contributions.{is_kept, claimed, claims, is_same_run, run_with, run_ended, runs_after, refused_end, refused_order, refusal_after, reading_refusal, contribution_before, ordered_runs, refused_overlap, overlap_after, merged_contributions, contribution_starts};
+ghost use Rattle.pdb_functions.specs.Contributions.{is_kept, claimed, claims, is_same_run, run_with};
+ghost use Rattle.pdb_functions.specs.Contributions.{run_ended, runs_after, refused_end, refused_order};
+ghost use Rattle.pdb_functions.specs.Contributions.{refusal_after, reading_refusal, contribution_before};
+ghost use Rattle.pdb_functions.specs.Contributions.{ordered_runs, refused_overlap, overlap_after};
+ghost use Rattle.pdb_functions.specs.Contributions.{merged_contributions, contribution_starts};
 
 use crate::sections::is_executable_section;
 use pdb_records::{

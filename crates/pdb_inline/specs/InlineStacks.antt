@@ -1,5 +1,6 @@
 -- The inlined bodies over a number.
-use Rattle.std.specs.Prelude.{◌≡◌, IsTrue, Contains, slice_get, ◌++◌, ℕ, zero, suc, ◌+◌, ◌==◌, ◌&&◌, Bool, List, [], ◌∷◌, Option, Some, None, length, max, nat_le, if◌then◌else◌}
+use Rattle.std.specs.Prelude.{◌≡◌, IsTrue, Contains, slice_get, ◌++◌, ℕ, zero, suc, ◌+◌, ◌==◌, ◌&&◌, Bool}
+use Rattle.std.specs.Prelude.{List, [], ◌∷◌, Option, Some, None, length, max, nat_le, if◌then◌else◌}
 use Rattle.std.specs.List.{list_any}
 use Rattle.pdb_ranges.specs.RangeSet.{is_within, has}
 use Rattle.pdb_records.specs.declared.ids.IdIndex.{IdIndex}

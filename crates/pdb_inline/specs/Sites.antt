@@ -1,11 +1,13 @@
 -- The places in a procedure where a call was replaced by the callee's body.
-use Rattle.std.specs.Prelude.{ℕ, ◌+◌, List, [], ◌∷◌, ◌++◌, length, map, drop, nat_lt, nat_le, Option, Some, None, Result, Ok, option_map, option_to_list, if◌then◌else◌}
+use Rattle.std.specs.Prelude.{ℕ, ◌+◌, List, [], ◌∷◌, ◌++◌, length, map, drop, nat_lt, nat_le, Option}
+use Rattle.std.specs.Prelude.{Some, None, Result, Ok, option_map, option_to_list, if◌then◌else◌}
 use Rattle.pdb_records.specs.SymbolKinds.{is_site_kind}
 use Rattle.pdb_records.specs.declared.error.Error.TheVariants.{Stream}
 use Rattle.pdb_records.specs.declared.error.StreamError.{StreamError}
 use Rattle.pdb_records.specs.declared.symbols.Symbol.{Symbol}
 use Rattle.pdb_records.specs.declared.symbols.SymbolData.{SymbolData}
-use Rattle.pdb_records.specs.declared.symbols.SymbolData.TheVariants.{Public, Procedure, SeparatedCode, Thunk, InlineSite, Other}
+use Rattle.pdb_records.specs.declared.symbols.SymbolData.TheVariants.{Public, Procedure, SeparatedCode}
+use Rattle.pdb_records.specs.declared.symbols.SymbolData.TheVariants.{Thunk, InlineSite, Other}
 use Rattle.pdb_records.specs.declared.symbols.InlineSiteSymbol.{InlineSiteSymbol}
 use Rattle.pdb_types.specs.declared.error.Error.{Error}
 use Rattle.pdb_types.specs.declared.error.Error.TheVariants.{PdbError}

@@ -1,5 +1,6 @@
 -- Tables of stacks of inlined bodies.
-use Rattle.std.specs.Prelude.{◌≡◌, ⊤, ℕ, ◌*◌, ◌≤◌, ◌++◌, List, [], ◌∷◌, Option, Some, None, map, length, slice_get, slice_range}
+use Rattle.std.specs.Prelude.{◌≡◌, ⊤, ℕ, ◌*◌, ◌≤◌, ◌++◌, List, [], ◌∷◌, Option}
+use Rattle.std.specs.Prelude.{Some, None, map, length, slice_get, slice_range}
 use Rattle.std.specs.Option.{option_to_list}
 use Rattle.pdb_ranges.specs.declared.segment.Segment.{Segment}
 use Rattle.pdb_ranges.specs.Segments.{value_at}
@@ -32,7 +33,8 @@ or_empty (Some stack) = stack
 abbrev pub stack_over : List (Segment (List ℕ)) → ℕ → List ℕ
 stack_over table x = or_empty (value_at table x)
 
--- for each number a table has the positions at which a list of ranges has the inlined bodies over it, the outermost first
+-- for each number a table has the positions at which a list of ranges has the inlined bodies over it, the outermost
+-- first
 abbrev pub HasStacks : List InlineRange → List (Segment (List ℕ)) → Type 0
 HasStacks ranges table = (x : ℕ) → map (slice_get ranges) (stack_over table x) ≡ map Some (inline_stack ranges x)
 

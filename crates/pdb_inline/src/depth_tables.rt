@@ -1,6 +1,7 @@
 // For each depth a table of which range is picked there, by its position in the list.
 
-ghost use Rattle.std.specs.Prelude.{◌≡◌, ◌==◌, ◌<◌, ◌≤◌, ◌++◌, ◌∷◌, [], ℕ, map, length, None, IfOk, OnOk, if◌then◌else◌};
+ghost use Rattle.std.specs.Prelude.{◌≡◌, ◌==◌, ◌<◌, ◌≤◌, ◌++◌, ◌∷◌, [], ℕ, map};
+ghost use Rattle.std.specs.Prelude.{length, None, IfOk, OnOk, if◌then◌else◌};
 ghost use Rattle.pdb_ranges.specs.Segments.{value_at, painted_in_turn};
 ghost use Rattle.pdb_inline.specs.ListedRanges.{last_position};
 ghost use Rattle.pdb_inline.specs.DepthTables.{segments_at, picked_positions, positions_in};

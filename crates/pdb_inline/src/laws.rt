@@ -1,7 +1,8 @@
 //! Laws of inline ranges, for every list of symbols, badly nested ones too. They do nothing when they
 //! are called.
 
-ghost use Rattle.std.specs.Prelude.{◌≡◌, ℕ, ◌+◌, ◌≤◌, ◌<◌, ◌↔◌, ◌&&◌, not, true, false, IsTrue, Contains, List, Option, Some, length, slice_get};
+ghost use Rattle.std.specs.Prelude.{◌≡◌, ℕ, ◌+◌, ◌≤◌, ◌<◌, ◌↔◌, ◌&&◌, not, true, false};
+ghost use Rattle.std.specs.Prelude.{IsTrue, Contains, List, Option, Some, length, slice_get};
 ghost use Rattle.pdb_records.specs.declared.error.StreamError.{StreamError};
 ghost use Rattle.pdb_records.specs.declared.ids.IdIndex.{IdIndex};
 ghost use Rattle.pdb_records.specs.declared.symbols.Symbol.{Symbol};
@@ -10,7 +11,8 @@ ghost use Rattle.pdb_ranges.specs.RangeSet.{has, IsRunsFrom};
 ghost use Rattle.pdb_inline.specs.InlineRows.{row_ranges};
 ghost use Rattle.pdb_inline.specs.Sites.{Site, depth, walk};
 ghost use Rattle.pdb_inline.specs.InlineRanges.{is_inside, inline_ranges, inner_ranges, missing};
-ghost use Rattle.pdb_inline.specs.InlineStacks.{lies_over, has_range_over, is_covered, levels, inline_stack, site_ranges, IsSoleOver, IsDirectlyInside};
+ghost use Rattle.pdb_inline.specs.InlineStacks.{lies_over, has_range_over, is_covered, levels};
+ghost use Rattle.pdb_inline.specs.InlineStacks.{inline_stack, site_ranges, IsSoleOver, IsDirectlyInside};
 ghost use Rattle.pdb_inline.specs.WellNested.{AreWellNested};
 
 /// The ranges of a depth together cover exactly what the rows of sites at least that deep cover.

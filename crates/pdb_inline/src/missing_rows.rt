@@ -1,4 +1,5 @@
-ghost use Rattle.std.specs.Prelude.{◌≡◌, ◌≤◌, ◌<◌, ℕ, ◌||◌, ◌&&◌, ◌++◌, List, not, false, nat_lt, map, reverse, option_map, slice_get, IfOk, OnOk};
+ghost use Rattle.std.specs.Prelude.{◌≡◌, ◌≤◌, ◌<◌, ℕ, ◌||◌, ◌&&◌, ◌++◌, List, not, false};
+ghost use Rattle.std.specs.Prelude.{nat_lt, map, reverse, option_map, slice_get, IfOk, OnOk};
 ghost use Rattle.pdb_ranges.specs.RangeSet.{has};
 ghost use Rattle.pdb_inline.specs.CoveredRuns.{is_on_stack, added_by_depth};
 ghost use Rattle.pdb_inline.specs.InlineRanges.{added_range, added_ranges};

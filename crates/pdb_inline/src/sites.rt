@@ -1,7 +1,9 @@
-ghost use Rattle.std.specs.Prelude.{◌≡◌, ◌+◌, ◌-◌, ◌^◌, ◌++◌, drop, length, min, nat_lt, map, reverse, option_map, option_to_list, Option, Some, None, OnOk};
+ghost use Rattle.std.specs.Prelude.{◌≡◌, ◌+◌, ◌-◌, ◌^◌, ◌++◌, drop, length, min, nat_lt, map};
+ghost use Rattle.std.specs.Prelude.{reverse, option_map, option_to_list, Option, Some, None, OnOk};
 ghost use Rattle.std.specs.Option.{option_copied};
 ghost use Rattle.pdb_types.specs.Outcomes.{Gives};
-ghost use Rattle.pdb_inline.specs.Sites.{site_of, nested_end, innermost_end, through_after, open_after, opened_at, walk, unless_met, at_depth, kept_site, open_site};
+ghost use Rattle.pdb_inline.specs.Sites.{site_of, nested_end, innermost_end, through_after, open_after};
+ghost use Rattle.pdb_inline.specs.Sites.{opened_at, walk, unless_met, at_depth, kept_site, open_site};
 
 use pdb_records::{InlineSiteSymbol, StreamError, Symbol, SymbolData, SymbolIndex, is_site_kind};
 use pdb_types::{Error, Result};

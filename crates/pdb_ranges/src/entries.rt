@@ -1,4 +1,5 @@
-ghost use Rattle.std.specs.Prelude.{◌≡◌, ℕ, ◌+◌, ◌*◌, ◌<◌, ◌≤◌, [], length, slice_get, Some, None, IfOk, IsOk, OnOk, OnErr};
+ghost use Rattle.std.specs.Prelude.{◌≡◌, ℕ, ◌+◌, ◌*◌, ◌<◌, ◌≤◌, [], length};
+ghost use Rattle.std.specs.Prelude.{slice_get, Some, None, IfOk, IsOk, OnOk, OnErr};
 ghost use Rattle.pdb_ranges.specs.Probes.{one_more};
 ghost use Rattle.pdb_ranges.specs.Segments.{painted, painted_in_turn, value_at, IsOrderedFrom};
 
@@ -8,8 +9,8 @@ use crate::segment::Segment;
 use std::alloc::{AllocError, Global};
 use std::marker::Model;
 
-// The segments of a table in order. Outside of this module an entry is read by `look` alone, which counts it; so there is
-// no `Debug` either.
+// The segments of a table in order. Outside of this module an entry is read by `look` alone, which counts it; so there
+// is no `Debug` either.
 #[derive(Drop)]
 pub(crate) struct Entries<T: Copy> {
     segments: Vec<Segment<T>>,

@@ -1,8 +1,8 @@
 //! Sets of numbers that keep only their runs.
 //!
-//! A [`RangeSet`] holds the numbers of any ranges that are put into it, such as the bytes that a piece of code takes, and
-//! tells them back as the fewest ranges that hold the same numbers, in ascending order. A range is a pair `(lo, hi)`, with
-//! `lo` in it and `hi` out of it.
+//! A [`RangeSet`] holds the numbers of any ranges that are put into it, such as the bytes that a piece of code takes,
+//! and tells them back as the fewest ranges that hold the same numbers, in ascending order. A range is a pair
+//! `(lo, hi)`, with `lo` in it and `hi` out of it.
 #![tactic(auto)]
 
 mod entries;

@@ -37,8 +37,8 @@ impl<T: Copy> Segments<T> {
         }
     }
 
-    /// The table after the segments were painted one after the other, in the order of the list, so that the last one over
-    /// a number gives its value. They may overlap, and be empty.
+    /// The table after the segments were painted one after the other, in the order of the list, so that the last one
+    /// over a number gives its value. They may overlap, and be empty.
     ///
     /// Its time grows with n log n for n segments, whatever they are. The error is that memory ran out.
     pub fn of_painted(alloc: Global, segments: &[Segment<T>]) -> Result<Self, AllocError>
@@ -60,8 +60,8 @@ impl<T: Copy> Segments<T> {
     /// Gives the numbers from `lo` up to the one before `hi` a value, whatever they had, and leaves all others as they
     /// were. Nothing changes where `hi` is not above `lo`.
     ///
-    /// A range that begins where the last segment ends, or later, costs constant time on average, and any other range the
-    /// time to copy the segments. The error is that memory ran out.
+    /// A range that begins where the last segment ends, or later, costs constant time on average, and any other range
+    /// the time to copy the segments. The error is that memory ran out.
     pub fn paint(&mut self, lo: u64, hi: u64, value: T) -> Result<(), AllocError>
         ensures ok { OnOk result
             ((x : ℕ) → value_at self.new x ≡ painted lo hi value (value_at self.old x) x) }

@@ -1,5 +1,6 @@
 -- Addresses, and places in sections.
-use Rattle.std.specs.Prelude.{ℕ, ◌+◌, ◌-◌, ◌^◌, ◌&&◌, ◌==◌, Bool, List, [], ◌∷◌, Option, Some, None, nat_le, nat_lt, option_and_then, slice_get, if◌then◌else◌}
+use Rattle.std.specs.Prelude.{ℕ, ◌+◌, ◌-◌, ◌^◌, ◌&&◌, ◌==◌, Bool, List, [], ◌∷◌, Option, Some}
+use Rattle.std.specs.Prelude.{None, nat_le, nat_lt, option_and_then, slice_get, if◌then◌else◌}
 use Rattle.pdb_records.specs.declared.addresses.Rva.{Rva}
 use Rattle.pdb_records.specs.declared.addresses.AddressRange.{AddressRange}
 use Rattle.pdb_records.specs.declared.addresses.PdbInternalSectionOffset.{PdbInternalSectionOffset}
@@ -10,7 +11,8 @@ is_same_place a b = (a.section == b.section) && (a.offset == b.offset)
 
 -- the section holds the address: it starts at or below it and ends above it
 abbrev pub holds : ℕ → AddressRange → Bool
-holds address range = nat_le range.virtual_address address && nat_lt address (range.virtual_address + range.virtual_size)
+holds address range =
+    nat_le range.virtual_address address && nat_lt address (range.virtual_address + range.virtual_size)
 
 -- the place in the section of this number, where the number is at most 65535
 abbrev pub numbered : ℕ → ℕ → Option PdbInternalSectionOffset

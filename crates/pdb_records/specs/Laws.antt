@@ -3,7 +3,8 @@ use Rattle.std.specs.Prelude.{◌≡◌, ◌↔◌, ℕ, Bool, true, List}
 use Rattle.std.specs.declared.cmp.Ordering.{Ordering}
 use Rattle.std.specs.declared.cmp.Ordering.TheVariants.{Equal}
 
--- order and equality agree: what is equal is one value, and neither of two stands before the other exactly where they are equal
+-- order and equality agree: what is equal is one value, and neither of two stands before the other exactly where they
+-- are equal
 pub record OrderAgrees {T : Type 0} (cmp : T → T → Ordering) (eq : T → T → Bool) : Type 0 where
   pub same : (a b : T) → (eq a b ≡ true) ↔ (a ≡ b)
   pub tied : (a b : T) → (cmp a b ≡ Equal) ↔ (eq a b ≡ true)

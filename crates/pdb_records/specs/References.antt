@@ -1,5 +1,6 @@
 -- References across modules.
-use Rattle.std.specs.Prelude.{ℕ, ◌/◌, ◌%◌, ◌^◌, ◌==◌, List, Option, Some, None, Result, Ok, Err, option_map, option_and_then, find, slice_get}
+use Rattle.std.specs.Prelude.{ℕ, ◌/◌, ◌%◌, ◌^◌, ◌==◌, List, Option, Some, None, Result}
+use Rattle.std.specs.Prelude.{Ok, Err, option_map, option_and_then, find, slice_get}
 use Rattle.pdb_records.specs.Imports.{Imported}
 use Rattle.pdb_records.specs.declared.error.Error.{Error}
 use Rattle.pdb_records.specs.declared.error.Error.TheVariants.{CrossModuleRefNotFound}

@@ -1,8 +1,11 @@
 -- The kinds of symbols that are looked at.
 use Rattle.std.specs.Prelude.{ℕ, ◌==◌, ◌||◌, Bool}
-use Rattle.pdb_records.specs.declared.symbol_kinds.TheConstants.{S_PUB32, S_PUB32_ST, S_LPROC32_ST, S_GPROC32_ST, S_LPROC32, S_GPROC32}
-use Rattle.pdb_records.specs.declared.symbol_kinds.TheConstants.{S_LPROC32_ID, S_GPROC32_ID, S_LPROC32_DPC, S_LPROC32_DPC_ID}
-use Rattle.pdb_records.specs.declared.symbol_kinds.TheConstants.{S_THUNK32_ST, S_THUNK32, S_SEPCODE, S_INLINESITE, S_INLINESITE2}
+use Rattle.pdb_records.specs.declared.symbol_kinds.TheConstants.{S_PUB32, S_PUB32_ST, S_LPROC32_ST}
+use Rattle.pdb_records.specs.declared.symbol_kinds.TheConstants.{S_GPROC32_ST, S_LPROC32, S_GPROC32}
+use Rattle.pdb_records.specs.declared.symbol_kinds.TheConstants.{S_LPROC32_ID, S_GPROC32_ID}
+use Rattle.pdb_records.specs.declared.symbol_kinds.TheConstants.{S_LPROC32_DPC, S_LPROC32_DPC_ID}
+use Rattle.pdb_records.specs.declared.symbol_kinds.TheConstants.{S_THUNK32_ST, S_THUNK32, S_SEPCODE}
+use Rattle.pdb_records.specs.declared.symbol_kinds.TheConstants.{S_INLINESITE, S_INLINESITE2}
 
 -- the two kinds of public symbols
 abbrev pub is_public_kind : ℕ → Bool
@@ -14,7 +17,8 @@ is_procedure_kind kind =
     (kind == S_LPROC32) || (kind == S_LPROC32_ST) || (kind == S_GPROC32) || (kind == S_GPROC32_ST)
     || (kind == S_LPROC32_ID) || (kind == S_GPROC32_ID) || (kind == S_LPROC32_DPC) || (kind == S_LPROC32_DPC_ID)
 
--- the eleven kinds that tell of code with a size: procedures, short pieces that lead to one, and code apart from its body
+-- the eleven kinds that tell of code with a size: procedures, short pieces that lead to one, and code apart from its
+-- body
 abbrev pub is_code_kind : ℕ → Bool
 is_code_kind kind = is_procedure_kind kind || (kind == S_THUNK32) || (kind == S_THUNK32_ST) || (kind == S_SEPCODE)
 

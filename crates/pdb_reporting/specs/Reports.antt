@@ -1,5 +1,6 @@
 -- What a report writes, and why it ends early.
-use Rattle.std.specs.Prelude.{◌≡◌, ◌≢◌, ◌≤◌, ℕ, true, List, [], ◌∷◌, ◌++◌, Some, Result, Ok, Err, length, take, slice_get}
+use Rattle.std.specs.Prelude.{◌≡◌, ◌≢◌, ◌≤◌, ℕ, true, List, [], ◌∷◌, ◌++◌}
+use Rattle.std.specs.Prelude.{Some, Result, Ok, Err, length, take, slice_get}
 use Rattle.pdb_types.specs.declared.error.Error.{Error}
 use Rattle.pdb_types.specs.declared.error.Error.TheVariants.{OutOfMemory}
 use Rattle.pdb_types.specs.Outcomes.{and_then}
@@ -37,8 +38,8 @@ addresses_text text_of (address ∷ addresses) =
     and_then (addresses_text text_of addresses) (λ texts.
     Ok (text ++ texts)))
 
--- the text of a report, as a command wants it, where these parts of the records of code failed before: a list tells of all
--- functions, whatever the addresses are
+-- the text of a report, as a command wants it, where these parts of the records of code failed before: a list tells of
+-- all functions, whatever the addresses are
 abbrev pub report_text : {P : Type 0} → (P → Infos) → Sources P → CodeParts → Command → List ℕ
     → Result (List ℕ) Error
 report_text info sources failed Names addresses = addresses_text (function_text info sources) addresses

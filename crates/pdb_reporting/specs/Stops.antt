@@ -29,7 +29,8 @@ stop_of Write = CannotWrite
 abbrev pub StopsOver : Command → List ℕ → Records → SinkState → SinkState → Stop → Type 0
 StopsOver command addresses records before after (Refused error) =
     EndsOver command addresses (opened records) before after (Lookup error)
-StopsOver command addresses records before after CannotWrite = EndsOver command addresses (opened records) before after Write
+StopsOver command addresses records before after CannotWrite =
+    EndsOver command addresses (opened records) before after Write
 StopsOver command addresses records before after (stop.Records path fault) = ⊥
 StopsOver command addresses records before after Usage = ⊥
 StopsOver command addresses records before after (CannotRead path) = ⊥
@@ -45,7 +46,8 @@ StopsUnread path fault before after (CannotRead told) = ⊥
 -- how a run ends over what was read of the file at a path: the records, or the fault in the file
 abbrev pub Ends : {A : Type 0} → List ℕ → Command → List ℕ → Result Records RecordFault
     → SinkState → SinkState → Result A Stop → Type 0
-Ends path command addresses (Ok records) before after (Ok done) = TakesTexts command addresses (opened records) before after
+Ends path command addresses (Ok records) before after (Ok done) =
+    TakesTexts command addresses (opened records) before after
 Ends path command addresses (Ok records) before after (Err why) = StopsOver command addresses records before after why
 Ends path command addresses (Err fault) before after (Ok done) = ⊥
 Ends path command addresses (Err fault) before after (Err why) = StopsUnread path fault before after why

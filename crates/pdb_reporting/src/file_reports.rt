@@ -19,10 +19,10 @@ fn report_records<W: Sink>(
     records: PDB,
     sink: &mut W,
 ) -> Result<(), ReportFault>
-    ensures lines { OnOk result
-        (TakesTexts request.now.command request.now.addresses.items (opened records) (W.state sink.old) (W.state sink.new)) }
-    ensures fault { IfErr result
-        (EndsOver request.now.command request.now.addresses.items (opened records) (W.state sink.old) (W.state sink.new)) }
+    ensures lines { OnOk result (TakesTexts
+        request.now.command request.now.addresses.items (opened records) (W.state sink.old) (W.state sink.new)) }
+    ensures fault { IfErr result (EndsOver
+        request.now.command request.now.addresses.items (opened records) (W.state sink.old) (W.state sink.new)) }
 {
     let data = ContextPdbData::try_from_pdb(alloc, records)?;
     let mut context = data.make_context()?;
@@ -40,8 +40,8 @@ fn report_records<W: Sink>(
 /// # Errors
 ///
 /// [`Stop::Records`] with the path and the fault where the file holds no records, [`Stop::Refused`] where the
-/// records or an address are refused or memory ran out, and [`Stop::CannotWrite`] where the sink refused a text. The sink
-/// holds nothing of it then but the texts of the addresses before one that had an error, or for which there was
+/// records or an address are refused or memory ran out, and [`Stop::CannotWrite`] where the sink refused a text. The
+/// sink holds nothing of it then but the texts of the addresses before one that had an error, or for which there was
 /// no memory.
 pub fn report_read<'w, W: Sink>(
     alloc: Global,
@@ -72,8 +72,8 @@ pub fn report_file<'w, W: Sink>(
     bytes: &[u8],
     sink: &mut W,
 ) -> Result<(), Stop<'w>>
-    ensures { EndsOverFile request.now.records.now request.now.command request.now.addresses.items (records_of_file bytes.now)
-        (W.state sink.old) (W.state sink.new) result }
+    ensures { EndsOverFile request.now.records.now request.now.command request.now.addresses.items
+        (records_of_file bytes.now) (W.state sink.old) (W.state sink.new) result }
 {
     let read = read_records(alloc, bytes);
     report_read(alloc, request, read, sink)

@@ -1,7 +1,8 @@
 ghost use Rattle.std.specs.Prelude.{◌≡◌, ◌++◌, length, string_bytes, IfOk, OnOk};
 ghost use Rattle.std.specs.Prelude.{option_map};
 ghost use Rattle.std.specs.Cow.{cow_str_bytes};
-ghost use Rattle.pdb_reporting.specs.PrintedFrames.{file_text, line_text, frame_line, frame_lines, frames_heading, frames_text};
+ghost use Rattle.pdb_reporting.specs.PrintedFrames.{file_text, line_text, frame_line};
+ghost use Rattle.pdb_reporting.specs.PrintedFrames.{frame_lines, frames_heading, frames_text};
 
 use crate::printed_lines::{UNKNOWN, name_of};
 use pdb_addr2line::{Frame, FunctionFrames};

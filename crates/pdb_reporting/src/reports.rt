@@ -3,7 +3,8 @@ ghost use Rattle.pdb_types.specs.declared.error.Error.TheVariants.{OutOfMemory};
 ghost use Rattle.pdb_reporting.specs.declared.reports.ReportFault.TheVariants.{Lookup, Write};
 ghost use Rattle.pdb_addr2line.specs.Functions.{functions_at, functions_of};
 ghost use Rattle.pdb_reporting.specs.PrintedLines.{list_text};
-ghost use Rattle.pdb_reporting.specs.Reports.{function_text, stack_text, addresses_text, report_text, TakesText, EndsAtOnce, EndsAmidTexts, EndsListEarly, EndsEarly};
+ghost use Rattle.pdb_reporting.specs.Reports.{function_text, stack_text, addresses_text, report_text};
+ghost use Rattle.pdb_reporting.specs.Reports.{TakesText, EndsAtOnce, EndsAmidTexts, EndsListEarly, EndsEarly};
 
 use crate::printed_frames::frames_text;
 use crate::printed_lines::{line_of, list_line};
@@ -126,8 +127,8 @@ fn report_names<P: ModuleProvider, W: Sink>(
     sink: &mut W,
 ) -> Result<(), ReportFault>
     ensures sources { context.new.sources ≡ context.old.sources }
-    ensures text { OnOk result (TakesText
-        (addresses_text (function_text P.info context.old.sources) addresses.now) (W.state sink.old) (W.state sink.new)) }
+    ensures text { OnOk result (TakesText (addresses_text (function_text P.info context.old.sources) addresses.now)
+        (W.state sink.old) (W.state sink.new)) }
     ensures fault { IfErr result (EndsAmidTexts
         (function_text P.info context.old.sources) addresses.now (W.state sink.old) (W.state sink.new)) }
 {

@@ -10,7 +10,8 @@ use Rattle.pdb_documents.specs.Attributes.{attributes_text}
 use Rattle.pdb_documents.specs.Documents.{Document, Run, run, then_by, caught_by}
 use Rattle.pdb_signatures.specs.Troubles.{IsTrouble}
 use Rattle.pdb_documents.specs.Worlds.{World}
-use Rattle.pdb_documents.specs.Plans.{Task, Plan, Done, Later, Seq, Buffered, Catch, is_among, on_read, opening, refusal, note_or_refusal}
+use Rattle.pdb_documents.specs.Plans.{Task, Plan, Done, Later, Seq, Buffered, Catch}
+use Rattle.pdb_documents.specs.Plans.{is_among, on_read, opening, refusal, note_or_refusal}
 use Rattle.pdb_documents.specs.Rules.{rule}
 use Rattle.pdb_documents.specs.Unfolding.{Unfolds, Runs}
 use Rattle.pdb_documents.specs.Progress.{Stage, with_step, open_in, OpensAlone, task_plan, released_by, stage_run}
@@ -45,7 +46,8 @@ frames w (step ∷ rest) = frame w (open_in rest) step ∷ frames w rest
 -- from a run so far, what is still to be done comes to this run in the end, whatever documents the plans unfold to
 abbrev pub Ends : World → List Frame → Run → Run → Type 0
 Ends w [] so_far end = so_far ≡ end
-Ends w (Then p ∷ rest) so_far end = (d : Document) → Unfolds w p d → Ends w rest (then_by so_far.fault so_far (run d)) end
+Ends w (Then p ∷ rest) so_far end =
+    (d : Document) → Unfolds w p d → Ends w rest (then_by so_far.fault so_far (run d)) end
 Ends w (Closing ∷ rest) so_far end = Ends w rest so_far end
 Ends w (Caught ∷ rest) so_far end = Ends w rest (caught_by so_far.fault so_far) end
 Ends w (Kept mark after_sigil after_other ∷ rest) so_far end =
@@ -56,7 +58,8 @@ pub record Counts (w : World) (cost : Plan → ℕ) : Type 0 where
   pub done : (d : Document) → cost (Done d) ≡ 1
   pub later : (inside : List ℕ) (task : Task) → cost (Later inside task) ≡ cost (rule w inside task) + 2
   pub seq : (p q : Plan) → cost (Seq p q) ≡ suc (cost p + cost q)
-  pub buffered : (p : Plan) (after_sigil after_other : List ℕ) → cost (Buffered p after_sigil after_other) ≡ suc (cost p)
+  pub buffered : (p : Plan) (after_sigil after_other : List ℕ) →
+      cost (Buffered p after_sigil after_other) ≡ suc (cost p)
   pub catch : (p : Plan) → cost (Catch p) ≡ suc (cost p)
 
 -- how many steps are left
@@ -67,8 +70,10 @@ steps_left cost (Closing ∷ rest) = suc (steps_left cost rest)
 steps_left cost (Caught ∷ rest) = suc (steps_left cost rest)
 steps_left cost (Kept mark after_sigil after_other ∷ rest) = suc (steps_left cost rest)
 
--- what was to be done became this, with this run so far: it comes to the same, and at least so many steps fewer are left
-pub record Goes (w : World) (fewer : ℕ) (old : List Frame) (before : Run) (new : List Frame) (after : Run) : Type 0 where
+-- what was to be done became this, with this run so far: it comes to the same, and at least so many steps fewer are
+-- left
+pub record Goes (w : World) (fewer : ℕ) (old : List Frame) (before : Run) (new : List Frame) (after : Run)
+    : Type 0 where
   pub ends : (end : Run) → Ends w new after end → Ends w old before end
   pub falls : (cost : Plan → ℕ) → Counts w cost → steps_left cost new + fewer ≤ steps_left cost old
 
@@ -77,15 +82,15 @@ abbrev pub Advances : World → Plan → ℕ → Stage → Parts → Stage → P
 Advances w p fewer old failed new failed_then =
     Goes w fewer (Then p ∷ frames w old.steps) (stage_run old failed) (frames w new.steps) (stage_run new failed_then)
 
--- a plan that was to be printed first is settled as far as a stage has come then, in which one step more may be left for
--- what closes behind it
+-- a plan that was to be printed first is settled as far as a stage has come then, in which one step more may be left
+-- for what closes behind it
 abbrev pub AdvancesClosing : World → Plan → Stage → Parts → Stage → Parts → Type 0
 AdvancesClosing w p old failed new failed_then =
     Goes w 0 (Then p ∷ Closing ∷ frames w old.steps) (stage_run old failed) (frames w new.steps)
     (stage_run new failed_then)
 
--- a plan that is to be printed first stands among the steps of a stage now, in at least so many steps fewer, and nothing
--- else changed
+-- a plan that is to be printed first stands among the steps of a stage now, in at least so many steps fewer, and
+-- nothing else changed
 pub record Stands (w : World) (fewer : ℕ) (p : Plan) (old new : Stage) : Type 0 where
   pub goes : (before : Run) → Goes w fewer (Then p ∷ frames w old.steps) before (frames w new.steps) before
   pub opened : open_in new.steps ≡ open_in old.steps

@@ -2,7 +2,8 @@ ghost use Rattle.std.specs.Prelude.{◌≡◌, ◌∷◌, false, OnOk, reverse};
 ghost use Rattle.pdb_documents.specs.Attributes.{attribute_of};
 ghost use Rattle.pdb_documents.specs.Plans.{Chain, Later};
 ghost use Rattle.pdb_documents.specs.Progress.{open_in};
-ghost use Rattle.pdb_documents.specs.Rules.{pointers_to_method, pointers_to_function, chain_end, behind_modifier, behind_pointer};
+ghost use Rattle.pdb_documents.specs.Rules.{pointers_to_method, pointers_to_function};
+ghost use Rattle.pdb_documents.specs.Rules.{chain_end, behind_modifier, behind_pointer};
 ghost use Rattle.pdb_documents.specs.Worlds.{World};
 ghost use Rattle.pdb_signatures.specs.Frames.{Stands, StandsHere};
 

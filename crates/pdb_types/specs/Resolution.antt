@@ -12,7 +12,9 @@ use Rattle.pdb_records.specs.declared.strings.StringRef.{StringRef}
 use Rattle.pdb_records.specs.declared.debug_information.Module.{Module}
 use Rattle.pdb_records.specs.declared.modules.ModuleInfo.{ModuleInfo}
 use Rattle.pdb_types.specs.declared.error.Error.{Error}
-use Rattle.pdb_types.specs.declared.error.Error.TheVariants.{PdbError, OutOfRangeModuleIndex, ModuleInfoNotFound, CantResolveCrossModuleRefWithoutStringTable, LocalIndexNotInExports}
+use Rattle.pdb_types.specs.declared.error.Error.TheVariants.{PdbError, OutOfRangeModuleIndex, ModuleInfoNotFound}
+use Rattle.pdb_types.specs.declared.error.Error.TheVariants.{CantResolveCrossModuleRefWithoutStringTable}
+use Rattle.pdb_types.specs.declared.error.Error.TheVariants.{LocalIndexNotInExports}
 use Rattle.pdb_types.specs.declared.unread.Part.{Part}
 use Rattle.pdb_types.specs.declared.unread.Part.TheVariants.{Imports, Exports}
 use Rattle.pdb_types.specs.Errors.{Plain, NoModuleNamed}

@@ -2,7 +2,8 @@ ghost use Rattle.std.specs.Prelude.{◌≡◌, Some};
 ghost use Rattle.pdb_types.specs.Outcomes.{lent};
 ghost use Rattle.pdb_types.specs.Unread.{Tells};
 ghost use Rattle.pdb_types.specs.Standing.{linked};
-ghost use Rattle.pdb_types.specs.Resolution.{streamed, module_info, imports, exports, module_named, module_under, found_export, export_of, import_target, across, resolved};
+ghost use Rattle.pdb_types.specs.Resolution.{streamed, module_info, imports, exports, module_named, module_under};
+ghost use Rattle.pdb_types.specs.Resolution.{found_export, export_of, import_target, across, resolved};
 ghost use Rattle.pdb_types.specs.Findings.{Fits, Keeps};
 
 use crate::error::{Error, Result};
