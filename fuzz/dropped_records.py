@@ -14,7 +14,7 @@ import sys
 import tempfile
 
 ROOT = pathlib.Path(__file__).resolve().parent.parent
-BORROWING = "    measure_passes(rt, &data, shape.addresses(count))\n"
+BORROWING = "    measure_passes(rt, &data, addresses)\n"
 DROPPED = """    let frames = {
         let data = data;
         let mut context = data.make_context()?;
@@ -29,7 +29,7 @@ def main():
     with tempfile.TemporaryDirectory() as folder:
         copy = pathlib.Path(folder) / "copy"
         shutil.copytree(ROOT, copy, ignore=shutil.ignore_patterns("out", ".git"))
-        source = copy / "crates" / "pdb_bench" / "src" / "hostile.rt"
+        source = copy / "crates" / "pdb_bench" / "src" / "passes.rt"
         text = source.read_text()
         if text.count(BORROWING) != 1:
             sys.exit(f"{source.name} has changed: mend this script")

@@ -3,7 +3,7 @@ use anyhow::Result;
 use pdb_addr2line::pdb::{
     CrossModuleExports, CrossModuleImports, ImportedModule, Item, ItemInformation, ModifierType,
     Module, ModuleInfo, PDB, PrimitiveKind, PrimitiveType, RawString, StreamError, StringRef,
-    StringTable, TypeData, TypeIndex, TypeInformation,
+    TypeData, TypeIndex, TypeInformation,
 };
 use pdb_addr2line::{ContextPdbData, ModuleProvider, TypeFormatter};
 use std::alloc::{AllocError, Global};
@@ -95,14 +95,20 @@ fn sum_of_sizes<P: ModuleProvider>(
 /// Records of two modules, of which the first imports each type of the chain from the second.
 fn records(alloc: Global, chain: Chain) -> Result<PDB, AllocError> {
     let mut records = records_of(alloc, types(alloc, chain)?);
+    fill(alloc, &mut records, chain)?;
+    Ok(records)
+}
+
+/// Puts the two modules in place of what the records have but for types.
+fn fill(alloc: Global, records: &mut PDB, chain: Chain) -> Result<(), AllocError> {
     if let Ok(debug) = &mut records.debug_information {
         debug.modules.items = modules(alloc, chain)?;
     }
-    records.string_table = Ok(StringTable {
-        strings: texts(alloc, chain)?,
-    });
+    if let Ok(table) = &mut records.string_table {
+        table.strings = texts(alloc, chain)?;
+    }
     records.module_infos = infos(alloc, chain)?;
-    Ok(records)
+    Ok(())
 }
 
 /// The types, each of them a modifier of the next but for the last.

@@ -14,8 +14,8 @@ const SYMBOLS_IN_CONTRIBUTION: u32 = 16;
 pub(crate) fn records_text(alloc: Global, symbols: u32) -> Result<String, AllocError> {
     let mut text = String::from_str(
         alloc,
-        r#"{"sections":[{"virtual_address":0,"virtual_size":4294967295,"execute":true}],
-"address_map":[{"virtual_address":0,"virtual_size":4294967295}],"type_information":[],
+        r#"{"sections":[{"virtual_address":4096,"virtual_size":4294963199,"execute":true}],
+"address_map":[{"virtual_address":4096,"virtual_size":4294963199}],"type_information":[],
 "id_information":[],"string_table":[],"global_symbols":["#,
     )?;
     add_public_symbols(&mut text, symbols)?;

@@ -1,9 +1,8 @@
 use crate::inline_sites::{INLINEE, Shape, module_info_of, sites_of};
 use crate::nested_procedures::nested_procedures;
-use crate::passes::{Addresses, measure_passes};
+use crate::passes::{Addresses, measure_passes_over};
 use crate::types::{empty_reading, records_of};
 use anyhow::Result;
-use pdb_addr2line::ContextPdbData;
 use pdb_addr2line::pdb::{
     AddressMap, AddressRange, DebugInformation, IdData, IdInformation, ImageSectionHeader, Inlinee,
     Item, ItemInformation, LineProgram, MachineType, Module, ModuleInfo, PDB,
@@ -69,8 +68,8 @@ pub(crate) fn measure_hostile<R: Clock + Print + Eprint + AllocGlobal>(
     let name = shape.name();
     println!(rt; "{count} {name}:")?;
     eprintln!(rt; "{count} {name}:")?;
-    let data = ContextPdbData::try_from_pdb(rt.alloc(), records(rt.alloc(), shape, count)?)?;
-    measure_passes(rt, &data, shape.addresses(count))
+    let records = records(rt.alloc(), shape, count)?;
+    measure_passes_over(rt, records, shape.addresses(count))
 }
 
 /// A program of one module.

@@ -28,8 +28,8 @@ use generate::{ADDRESS_STEP, records_text};
 use hostile::{Hostile, measure_hostile};
 use inline_sites::{Shape, count_ranges};
 use nested_procedures::count_ranges_of_nested;
+use passes::{Addresses, measure_passes_over};
 use pdb_addr2line::pdb::PDB;
-use pdb_addr2line::{Context, ContextPdbData, ModuleProvider};
 use pdb_json::read_records;
 use program::{Size, measure_program};
 use scopes::measure_scopes;
@@ -40,7 +40,7 @@ use std::rt::Clock;
 use std::time::Instant;
 use types::measure_types;
 
-/// How many addresses are looked up.
+/// How many addresses are asked for all over the symbols.
 const LOOK_UPS: u32 = 1000;
 
 fn main(rt: HostRuntime) -> Result<()> {
@@ -134,14 +134,28 @@ fn measure_asked<R: Clock + Print + Eprint + AllocGlobal>(rt: &R, numbers: &[u32
     measure_program(rt, size, *addresses)
 }
 
-/// Reads records with so many public symbols, and measures a context over them.
+/// Reads records with so many public symbols, and asks for addresses all over them.
 fn measure<R: Clock + Print + Eprint + AllocGlobal>(rt: &R, symbols: u32) -> Result<()> {
+    println!(rt; "{symbols} symbols:")?;
     let text = records_text(rt.alloc(), symbols)?;
-    let size = text.len();
+    let records = read_timed(rt, text.as_bytes())?;
+    let span = symbols.saturating_mul(ADDRESS_STEP);
+    measure_passes_over(
+        rt,
+        records,
+        Addresses {
+            span,
+            count: LOOK_UPS,
+        },
+    )
+}
+
+/// Reads records, and prints how long that took.
+fn read_timed<R: Clock + Eprint + AllocGlobal>(rt: &R, text: &[u8]) -> Result<PDB> {
     let start = Instant::now(rt)?;
-    let records = read_records(rt.alloc(), text.as_bytes())?;
-    tell_reading(rt, start, size)?;
-    measure_records(rt, records, symbols)
+    let records = read_records(rt.alloc(), text)?;
+    tell_reading(rt, start, text.len())?;
+    Ok(records)
 }
 
 /// Prints how long it took to read so many bytes.
@@ -149,57 +163,6 @@ fn tell_reading<R: Clock + Eprint>(rt: &R, start: Instant, size: usize) -> Resul
     let reading = start.elapsed(rt)?.as_millis();
     eprintln!(rt; "{size} bytes read in {reading}")?;
     Ok(())
-}
-
-/// Keeps records, and measures a context over them.
-fn measure_records<R: Clock + Print + Eprint + AllocGlobal>(
-    rt: &R,
-    records: PDB,
-    symbols: u32,
-) -> Result<()> {
-    let data = ContextPdbData::try_from_pdb(rt.alloc(), records)?;
-    measure_context(rt, &data, symbols)
-}
-
-/// Makes a context, and measures it.
-fn measure_context<R: Clock + Print + Eprint>(
-    rt: &R,
-    data: &ContextPdbData<'_>,
-    symbols: u32,
-) -> Result<()> {
-    let start = Instant::now(rt)?;
-    let mut context = data.make_context()?;
-    measure_look_ups(rt, &mut context, start, symbols)
-}
-
-/// Looks up addresses all over the symbols. The context was begun at this time.
-fn measure_look_ups<R: Clock + Print + Eprint, P: ModuleProvider>(
-    rt: &R,
-    context: &mut Context<'_, P>,
-    begun: Instant,
-    symbols: u32,
-) -> Result<()> {
-    let making = begun.elapsed(rt)?.as_millis();
-    let start = Instant::now(rt)?;
-    let found = count_found(context, symbols)?;
-    let looking = start.elapsed(rt)?.as_millis();
-    let functions = context.function_count();
-    println!(rt; "{symbols} symbols, {functions} functions, {found} of {LOOK_UPS} found")?;
-    eprintln!(rt; "context made in {making}, looked up in {looking}")?;
-    Ok(())
-}
-
-/// How many of some addresses all over the symbols lie in a function.
-fn count_found<P: ModuleProvider>(context: &mut Context<'_, P>, symbols: u32) -> Result<u32> {
-    let mut found = 0u32;
-    for number in 0..LOOK_UPS {
-        let place = u64::from(symbols) * u64::from(number) / u64::from(LOOK_UPS);
-        let address = (place & 0x0fff_ffff) as u32 * ADDRESS_STEP;
-        if context.find_function(address)?.is_some() {
-            found = found.saturating_add(1);
-        }
-    }
-    Ok(found)
 }
 
 /// Finds the inline ranges of a procedure with so many sites.

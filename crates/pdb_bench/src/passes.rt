@@ -1,5 +1,6 @@
 use crate::hostile::SECTION_START;
 use anyhow::Result;
+use pdb_addr2line::pdb::PDB;
 use pdb_addr2line::{Context, ContextPdbData, ModuleProvider};
 use std::rt::Clock;
 use std::time::Instant;
@@ -40,9 +41,19 @@ impl Addresses {
     }
 }
 
+/// Keeps records, and asks for addresses over them.
+pub(crate) fn measure_passes_over<R: Clock + Print + Eprint + AllocGlobal>(
+    rt: &R,
+    records: PDB,
+    addresses: Addresses,
+) -> Result<()> {
+    let data = ContextPdbData::try_from_pdb(rt.alloc(), records)?;
+    measure_passes(rt, &data, addresses)
+}
+
 /// Asks for the functions and for the frames of addresses, several times over. Each of the two has a context
 /// of its own.
-pub(crate) fn measure_passes<R: Clock + Print + Eprint>(
+fn measure_passes<R: Clock + Print + Eprint>(
     rt: &R,
     data: &ContextPdbData<'_>,
     addresses: Addresses,

@@ -1,11 +1,10 @@
 use crate::hostile::{address_map, sections};
 use crate::inline_sites::other;
-use crate::passes::{Addresses, measure_passes};
+use crate::passes::{Addresses, measure_passes_over};
 use crate::scopes::function;
 use crate::signatures::{Shape, types};
 use crate::types::{empty_reading, records_of};
 use anyhow::Result;
-use pdb_addr2line::ContextPdbData;
 use pdb_addr2line::pdb::{
     DebugInformation, FileIndex, FileInfo, IdIndex, IdInformation, InlineRow, InlineSiteSymbol,
     Inlinee, ItemInformation, LineInfo, LineProgram, MachineType, Module, ModuleInfo, PDB,
@@ -74,8 +73,8 @@ pub(crate) fn measure_program<R: Clock + Print + Eprint + AllocGlobal>(
     let (procedures, sites) = (size.procedures, size.sites);
     println!(rt; "{procedures} procedures of {sites} sites each:")?;
     eprintln!(rt; "{procedures} procedures of {sites} sites each:")?;
-    let data = ContextPdbData::try_from_pdb(rt.alloc(), program(rt.alloc(), size)?)?;
-    measure_passes(rt, &data, size.addresses(addresses))
+    let program = program(rt.alloc(), size)?;
+    measure_passes_over(rt, program, size.addresses(addresses))
 }
 
 /// A program of this size.

@@ -88,15 +88,14 @@ fn calls_of(alloc: Global, list: CallList<'_>) -> Result<Vec<Call<'_>>, AllocErr
     Ok(calls)
 }
 
-/// The answers of a new context to a list of calls.
+/// The answers of a new context to calls.
 fn answers_of<'d>(
     alloc: Global,
     data: &'d ContextPdbData<'_>,
-    list: CallList<'_>,
+    calls: &[Call<'_>],
 ) -> Result<Vec<Answer<'d>>, Error> {
-    let calls = calls_of(alloc, list)?;
     let mut context = data.make_context()?;
-    answers_to(alloc, &mut context, &calls)
+    answers_to(alloc, &mut context, calls)
 }
 
 /// The answers of a context to calls.
@@ -112,7 +111,20 @@ fn answers_to<'d>(
 
 /// Whether the answers to a list of calls are other ones than are wanted.
 pub(crate) fn answers_differ(alloc: Global, data: &ContextPdbData<'_>, list: CallList<'_>) -> bool {
-    match answers_of(alloc, data, list) {
+    match calls_of(alloc, list) {
+        Ok(calls) => call_answers_differ(alloc, data, list, &calls),
+        Err(_) => true,
+    }
+}
+
+/// Whether the answers to these calls are other ones than their list wants.
+fn call_answers_differ(
+    alloc: Global,
+    data: &ContextPdbData<'_>,
+    list: CallList<'_>,
+    calls: &[Call<'_>],
+) -> bool {
+    match answers_of(alloc, data, calls) {
         Ok(answers) => !are_wanted(alloc, list, &answers),
         Err(_) => true,
     }

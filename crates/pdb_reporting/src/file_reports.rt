@@ -1,4 +1,5 @@
 ghost use Rattle.std.specs.Prelude.{OnOk, IfErr};
+ghost use Rattle.pdb_addr2line.specs.ContextData.{default_flags, context_of};
 ghost use Rattle.pdb_json.specs.RecordsFile.{records_of_file};
 ghost use Rattle.pdb_reporting.specs.FileReports.{opened, TakesTexts, EndsOver};
 ghost use Rattle.pdb_reporting.specs.Stops.{Ends, EndsOverFile};
@@ -11,6 +12,28 @@ use pdb_addr2line::ContextPdbData;
 use pdb_addr2line::pdb::PDB;
 use pdb_json::{RecordFault, read_records};
 use std::alloc::Global;
+
+/// Writes what a request asks for, over records whose streams were read.
+fn report_data<W: Sink>(
+    alloc: Global,
+    request: &Request<'_>,
+    context_data: &ContextPdbData<'_>,
+    sink: &mut W,
+) -> Result<(), ReportFault>
+    ensures lines { OnOk result (TakesTexts request.now.command request.now.addresses.items
+        (context_of default_flags context_data.now) (W.state sink.old) (W.state sink.new)) }
+    ensures fault { IfErr result (EndsOver request.now.command request.now.addresses.items
+        (context_of default_flags context_data.now) (W.state sink.old) (W.state sink.new)) }
+{
+    let mut context = context_data.make_context()?;
+    report(
+        alloc,
+        &mut context,
+        request.command,
+        &request.addresses,
+        sink,
+    )
+}
 
 /// Writes what a request asks for, over records.
 fn report_records<W: Sink>(
@@ -25,14 +48,7 @@ fn report_records<W: Sink>(
         request.now.command request.now.addresses.items (opened records) (W.state sink.old) (W.state sink.new)) }
 {
     let data = ContextPdbData::try_from_pdb(alloc, records)?;
-    let mut context = data.make_context()?;
-    report(
-        alloc,
-        &mut context,
-        request.command,
-        &request.addresses,
-        sink,
-    )
+    report_data(alloc, request, &data, sink)
 }
 
 /// Writes what a request asks for, over what was read of its records file.
