@@ -112,6 +112,38 @@ none_picked ranges x depth none =
       by_pick None is = refl
       by_pick (Some r) is = absurd cc
 
+-- where ranges lie over a number at each depth ahead of one, and nothing is picked there unless there are no more ranges, a stack ends there
+pub stack_is_over : (ranges : List InlineRange) (x depth : ℕ) → ((d : ℕ) → d < depth → has_range_over ranges d x ≡ true)
+    → (depth < length ranges → pick (lies_over depth x) (λ r. r.start_offset) ranges ≡ None)
+    → stack_from (depths ranges - depth) ranges x depth ≡ []
+stack_is_over ranges x depth outer none =
+    elim (cases_lt depth (length ranges)) [
+      | inl within ↦ stack_ends (depths ranges - depth) x depth ranges (none within)
+      | inr past ↦ stack_ends (depths ranges - depth) x depth ranges (none_picked ranges x depth (none_past past))
+    ]
+  where
+    none_past : length ranges ≤ depth → has_range_over ranges depth x ≡ false
+    none_past past = elim (cases_Bool (has_range_over ranges depth x)) [
+      | inl there ↦
+          let more = depths_fit (depth + 1) x ranges (λ d less. elim (cases_lt d depth) [
+            | inl above ↦ outer d above
+            | inr here ↦ let same : depth ≡ d = omega arith in rw same at there
+          ]) in absurd (omega (arith, more, past))
+      | inr none_there ↦ none_there
+    ]
+
+-- with a range that is picked at a depth, ranges lie over a number at each depth up to that one
+pub one_more_over : (ranges : List InlineRange) (x depth : ℕ) (range : InlineRange) → ((d : ℕ) → d < depth → has_range_over ranges d x ≡ true)
+    → pick (lies_over depth x) (λ r. r.start_offset) ranges ≡ Some range
+    → (d : ℕ) → d < depth + 1 → has_range_over ranges d x ≡ true
+one_more_over ranges x depth range outer picked d less =
+    let there : has_range_over ranges depth x ≡ true =
+    sym (is_some-pick (lies_over depth x) (λ (r : InlineRange). r.start_offset) ranges) ∙ ap is_some picked in
+    elim (cases_lt d depth) [
+      | inl above ↦ outer d above
+      | inr here ↦ let same : depth ≡ d = omega arith in rw same at there
+    ]
+
 -- the positions that are picked from a depth on are those of the stack from there, if there are as many depths as ranges
 positions_of_stack : (ranges : List InlineRange) (x count depth : ℕ) → depth + count ≡ length ranges
     → ((d : ℕ) → d < depth → has_range_over ranges d x ≡ true)

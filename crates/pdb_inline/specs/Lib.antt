@@ -2,6 +2,7 @@ pub mod Sites
 pub mod InlineRows
 pub mod InlineRanges
 pub mod InlineStacks
+pub mod PickedPlaces
 pub mod WellNested
 pub mod CoveredRuns
 pub mod ListedRanges

@@ -1,13 +1,11 @@
-ghost use Rattle.std.specs.Prelude.{◌≡◌, ◌==◌, ℕ, Some, None, IfOk, OnOk, if◌then◌else◌};
-ghost use Rattle.std.specs.BTreeMap.{get};
-ghost use Rattle.std.specs.Ordering.{nat_cmp};
+ghost use Rattle.std.specs.Prelude.{◌≡◌, ◌==◌, ◌<◌, ◌≤◌, ℕ, length, Some, None, IfOk, OnOk, if◌then◌else◌};
 ghost use Rattle.pdb_ranges.specs.Pick.{pick, later_start};
 ghost use Rattle.pdb_ranges.specs.RangeSet.{is_within};
 ghost use Rattle.pdb_inline.specs.InlineStacks.{lies_over, inline_stack};
+ghost use Rattle.pdb_inline.specs.PickedPlaces.{picked_at};
 
 use crate::inline_ranges::InlineRange;
 use std::alloc::{AllocError, Global};
-use std::collections::BTreeMap;
 
 /// Of two ranges the one that starts later; of equal starts the first.
 fn later(picked: Option<InlineRange>, range: InlineRange) -> InlineRange
@@ -19,21 +17,30 @@ fn later(picked: Option<InlineRange>, range: InlineRange) -> InlineRange
     }
 }
 
+/// Makes a place for what is picked at a depth.
+fn make_place(picked: &mut Vec<Option<InlineRange>>, depth: usize) -> Result<(), AllocError>
+    ensures same { (other : ℕ) → picked_at picked.new.items other ≡ picked_at picked.old.items other }
+    ensures place { OnOk result (depth < length picked.new.items) }
+{
+    while picked.len() <= depth {
+        picked.push(None)?;
+    }
+    Ok(())
+}
+
 /// Picks a range at its depth, unless the one that is picked there starts as late.
 fn pick_at_depth(
-    picked: &mut BTreeMap<usize, InlineRange>,
+    picked: &mut Vec<Option<InlineRange>>,
     range: InlineRange,
 ) -> Result<(), AllocError>
-    ensures { OnOk result ((depth : ℕ) → get nat_cmp picked.new depth
-        ≡ later_start (λ r. r.start_offset) (get nat_cmp picked.old depth)
+    ensures { OnOk result ((depth : ℕ) → picked_at picked.new.items depth
+        ≡ later_start (λ r. r.start_offset) (picked_at picked.old.items depth)
         (if range.call_depth == depth then Some range else None)) }
 {
     let depth = range.call_depth;
-    let range = later(picked.get(&depth).copied(), range);
-    match picked.insert(depth, range) {
-        Ok(_) => Ok(()),
-        Err(_) => Err(AllocError),
-    }
+    make_place(picked, depth)?;
+    picked[depth] = Some(later(picked[depth], range));
+    Ok(())
 }
 
 /// Whether a range lies over an offset.
@@ -43,22 +50,35 @@ fn covers(range: &InlineRange, offset: u64) -> bool
     range.start_offset <= offset && offset < range.end_offset
 }
 
-/// Of the ranges of each depth over an offset the one that starts last; of equal starts the first.
+/// Of the ranges of each depth over an offset the one that starts last; of equal starts the first. No stack reaches
+/// the depth that is as great as the number of ranges, so from there on nothing is picked.
 fn picked_by_depth(
     alloc: Global,
     ranges: &[InlineRange],
     offset: u64,
-) -> Result<BTreeMap<usize, InlineRange>, AllocError>
-    ensures { IfOk result (λ picked. (depth : ℕ) → get nat_cmp picked depth
-        ≡ pick (lies_over depth offset) (λ r. r.start_offset) ranges.now) }
+) -> Result<Vec<Option<InlineRange>>, AllocError>
+    ensures picked { IfOk result (λ picked. (depth : ℕ) → depth < length ranges.now
+        → picked_at picked.items depth ≡ pick (lies_over depth offset) (λ r. r.start_offset) ranges.now) }
+    ensures none { IfOk result (λ picked. (depth : ℕ) → length ranges.now ≤ depth
+        → picked_at picked.items depth ≡ None) }
 {
-    let mut picked = BTreeMap::new(alloc);
+    let mut picked = Vec::new(alloc);
     for range in ranges {
-        if covers(range, offset) {
+        if range.call_depth < ranges.len() && covers(range, offset) {
             pick_at_depth(&mut picked, *range)?;
         }
     }
     Ok(picked)
+}
+
+/// The range that is picked at a depth.
+fn range_at(picked: &[Option<InlineRange>], depth: usize) -> Option<InlineRange>
+    ensures { result ≡ picked_at picked.now depth }
+{
+    match picked.get(depth) {
+        Some(place) => *place,
+        None => None,
+    }
 }
 
 /// The inlined bodies over an offset in a procedure's section, the outermost first, by these ranges of the
@@ -78,9 +98,9 @@ pub fn inline_stack(
     ensures { IfOk result (λ v. v.items ≡ inline_stack ranges.now offset) }
 {
     let picked = picked_by_depth(alloc, ranges, offset)?;
-    let mut stack = Vec::new(alloc);
-    while let Some(range) = picked.get(&stack.len()) {
-        stack.push(*range)?;
+    let mut stack = Vec::with_capacity(alloc, picked.len())?;
+    while let Some(range) = range_at(&picked, stack.len()) {
+        stack.push(range)?;
     }
     Ok(stack)
 }

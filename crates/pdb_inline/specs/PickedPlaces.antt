@@ -1,0 +1,7 @@
+-- What is picked at each depth, as it is kept: a place for each depth, in order.
+use Rattle.std.specs.Prelude.{ℕ, List, Option, slice_get, option_and_then}
+use Rattle.pdb_inline.specs.declared.inline_ranges.InlineRange.{InlineRange}
+
+-- what is picked at a depth: what its place has, if there is one
+abbrev pub picked_at : List (Option InlineRange) → ℕ → Option InlineRange
+picked_at places depth = option_and_then (λ (place : Option InlineRange). place) (slice_get places depth)
