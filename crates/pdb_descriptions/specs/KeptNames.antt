@@ -38,7 +38,8 @@ SignatureFits info records f kept = (name : List ℕ)
     → IsPrinted (signature_printing info f kept.key name) f.failed (option_map string_bytes kept.text)
 
 -- what is kept of each procedure is its signature
-unfoldable pub FitsSignatures : {P : Type 0} → (P → Infos) → Infos → Formatter P → List (KeptText SignatureKey) → Type 0
+unfoldable pub FitsSignatures : {P : Type 0} → (P → Infos) → Infos → Formatter P → List (KeptText SignatureKey)
+    → Type 0
 FitsSignatures info records f kept = All (SignatureFits info records f) kept
 
 -- what is kept of an id is its text

@@ -112,6 +112,24 @@ none_picked ranges x depth none =
       by_pick None is = refl
       by_pick (Some r) is = absurd cc
 
+-- where ranges lie over a number at each depth ahead of one, and there, they do at each depth ahead of the next
+over_one_more : (ranges : List InlineRange) (x depth : ℕ) → ((d : ℕ) → d < depth → has_range_over ranges d x ≡ true)
+    → has_range_over ranges depth x ≡ true → (d : ℕ) → d < depth + 1 → has_range_over ranges d x ≡ true
+over_one_more ranges x depth outer there d less =
+    elim (cases_lt d depth) [
+      | inl above ↦ outer d above
+      | inr here ↦ let same : depth ≡ d = omega arith in rw same at there
+    ]
+
+-- so no range lies over the number at a depth that is not less than how many ranges there are
+none_past : (ranges : List InlineRange) (x depth : ℕ) → ((d : ℕ) → d < depth → has_range_over ranges d x ≡ true)
+    → length ranges ≤ depth → has_range_over ranges depth x ≡ false
+none_past ranges x depth outer past =
+    elim (cases_Bool (has_range_over ranges depth x)) [
+      | inl there ↦ let more = depths_fit (depth + 1) x ranges (over_one_more ranges x depth outer there) in absurd (omega (arith, more, past))
+      | inr none ↦ none
+    ]
+
 -- where ranges lie over a number at each depth ahead of one, and nothing is picked there unless there are no more ranges, a stack ends there
 pub stack_is_over : (ranges : List InlineRange) (x depth : ℕ) → ((d : ℕ) → d < depth → has_range_over ranges d x ≡ true)
     → (depth < length ranges → pick (lies_over depth x) (λ r. r.start_offset) ranges ≡ None)
@@ -119,44 +137,24 @@ pub stack_is_over : (ranges : List InlineRange) (x depth : ℕ) → ((d : ℕ) �
 stack_is_over ranges x depth outer none =
     elim (cases_lt depth (length ranges)) [
       | inl within ↦ stack_ends (depths ranges - depth) x depth ranges (none within)
-      | inr past ↦ stack_ends (depths ranges - depth) x depth ranges (none_picked ranges x depth (none_past past))
-    ]
-  where
-    none_past : length ranges ≤ depth → has_range_over ranges depth x ≡ false
-    none_past past = elim (cases_Bool (has_range_over ranges depth x)) [
-      | inl there ↦
-          let more = depths_fit (depth + 1) x ranges (λ d less. elim (cases_lt d depth) [
-            | inl above ↦ outer d above
-            | inr here ↦ let same : depth ≡ d = omega arith in rw same at there
-          ]) in absurd (omega (arith, more, past))
-      | inr none_there ↦ none_there
+      | inr past ↦ stack_ends (depths ranges - depth) x depth ranges (none_picked ranges x depth (none_past ranges x depth outer past))
     ]
 
 -- with a range that is picked at a depth, ranges lie over a number at each depth up to that one
 pub one_more_over : (ranges : List InlineRange) (x depth : ℕ) (range : InlineRange) → ((d : ℕ) → d < depth → has_range_over ranges d x ≡ true)
     → pick (lies_over depth x) (λ r. r.start_offset) ranges ≡ Some range
     → (d : ℕ) → d < depth + 1 → has_range_over ranges d x ≡ true
-one_more_over ranges x depth range outer picked d less =
-    let there : has_range_over ranges depth x ≡ true =
-    sym (is_some-pick (lies_over depth x) (λ (r : InlineRange). r.start_offset) ranges) ∙ ap is_some picked in
-    elim (cases_lt d depth) [
-      | inl above ↦ outer d above
-      | inr here ↦ let same : depth ≡ d = omega arith in rw same at there
-    ]
+one_more_over ranges x depth range outer picked =
+    over_one_more ranges x depth outer
+    (sym (is_some-pick (lies_over depth x) (λ (r : InlineRange). r.start_offset) ranges) ∙ ap is_some picked)
 
 -- the positions that are picked from a depth on are those of the stack from there, if there are as many depths as ranges
 positions_of_stack : (ranges : List InlineRange) (x count depth : ℕ) → depth + count ≡ length ranges
     → ((d : ℕ) → d < depth → has_range_over ranges d x ≡ true)
     → map (slice_get ranges) (up_to_gap (picked_positions ranges x count depth)) ≡ map Some (stack_from (depths ranges - depth) ranges x depth)
 positions_of_stack ranges x zero depth all outer =
-    elim (cases_Bool (has_range_over ranges depth x)) [
-      | inl there ↦
-          let more = depths_fit (depth + 1) x ranges (λ d less. elim (cases_lt d depth) [
-            | inl above ↦ outer d above
-            | inr here ↦ let same : depth ≡ d = omega arith in rw same at there
-          ]) in absurd (omega (arith, more))
-      | inr none ↦ rw (stack_ends (depths ranges - depth) x depth ranges (none_picked ranges x depth none)) refl
-    ]
+    let past : length ranges ≤ depth = omega (arith, all) in
+    rw (stack_is_over ranges x depth outer (λ within. absurd (omega (arith, past, within)))) refl
 positions_of_stack ranges x (suc count) depth all outer =
     by_picked (picked_listed ranges x depth) refl (pick_of_all (λ l. slice_get ranges l.position ≡ Some l.range) (listed_over depth x) (λ l. l.range.start_offset) (listed 0 ranges) (listed_found [] ranges))
     (positions_of_stack ranges x count (depth + 1) (omega (arith, all)))
@@ -173,12 +171,7 @@ positions_of_stack ranges x (suc count) depth all outer =
     by_picked (Some l) is found later =
         let picked : pick (lies_over depth x) (λ r. r.start_offset) ranges ≡ Some l.range =
         sym (picked_range ranges x depth) ∙ ap (λ o. option_map (λ (l : ListedRange). l.range) o) is in
-        let there : has_range_over ranges depth x ≡ true =
-        sym (is_some-pick (lies_over depth x) (λ (r : InlineRange). r.start_offset) ranges) ∙ ap is_some picked in
-        let rest = later (λ d less. elim (cases_lt d depth) [
-          | inl above ↦ outer d above
-          | inr here ↦ let same : depth ≡ d = omega arith in rw same at there
-        ]) in
+        let rest = later (one_more_over ranges x depth l.range outer picked) in
         rw (stack_more ranges depth x l.range picked, found, rest) refl
 
 -- the positions that tables of what is picked at each depth have for a number are those of the inlined bodies over it

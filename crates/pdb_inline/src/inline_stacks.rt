@@ -1,4 +1,5 @@
 ghost use Rattle.std.specs.Prelude.{◌≡◌, ◌==◌, ◌<◌, ◌≤◌, ℕ, length, Some, None, IfOk, OnOk, if◌then◌else◌};
+ghost use Rattle.std.specs.Option.{option_copied};
 ghost use Rattle.pdb_ranges.specs.Pick.{pick, later_start};
 ghost use Rattle.pdb_ranges.specs.RangeSet.{is_within};
 ghost use Rattle.pdb_inline.specs.InlineStacks.{lies_over, inline_stack};
@@ -8,8 +9,8 @@ use crate::inline_ranges::InlineRange;
 use std::alloc::{AllocError, Global};
 
 /// Of two ranges the one that starts later; of equal starts the first.
-fn later(picked: Option<InlineRange>, range: InlineRange) -> InlineRange
-    ensures { Some result ≡ later_start (λ r. r.start_offset) picked (Some range) }
+fn later<'r>(picked: Option<&'r InlineRange>, range: &'r InlineRange) -> &'r InlineRange
+    ensures { Some result.now ≡ later_start (λ r. r.start_offset) (option_copied picked.entry) (Some range.now) }
 {
     match picked {
         Some(other) if other.start_offset >= range.start_offset => other,
@@ -18,7 +19,7 @@ fn later(picked: Option<InlineRange>, range: InlineRange) -> InlineRange
 }
 
 /// Makes a place for what is picked at a depth.
-fn make_place(picked: &mut Vec<Option<InlineRange>>, depth: usize) -> Result<(), AllocError>
+fn make_place(picked: &mut Vec<Option<&InlineRange>>, depth: usize) -> Result<(), AllocError>
     ensures same { (other : ℕ) → picked_at picked.new.items other ≡ picked_at picked.old.items other }
     ensures place { OnOk result (depth < length picked.new.items) }
 {
@@ -29,13 +30,13 @@ fn make_place(picked: &mut Vec<Option<InlineRange>>, depth: usize) -> Result<(),
 }
 
 /// Picks a range at its depth, unless the one that is picked there starts as late.
-fn pick_at_depth(
-    picked: &mut Vec<Option<InlineRange>>,
-    range: InlineRange,
+fn pick_at_depth<'r>(
+    picked: &mut Vec<Option<&'r InlineRange>>,
+    range: &'r InlineRange,
 ) -> Result<(), AllocError>
     ensures { OnOk result ((depth : ℕ) → picked_at picked.new.items depth
         ≡ later_start (λ r. r.start_offset) (picked_at picked.old.items depth)
-        (if range.call_depth == depth then Some range else None)) }
+        (if range.now.call_depth == depth then Some range.now else None)) }
 {
     let depth = range.call_depth;
     make_place(picked, depth)?;
@@ -56,7 +57,7 @@ fn picked_by_depth(
     alloc: Global,
     ranges: &[InlineRange],
     offset: u64,
-) -> Result<Vec<Option<InlineRange>>, AllocError>
+) -> Result<Vec<Option<&InlineRange>>, AllocError>
     ensures picked { IfOk result (λ picked. (depth : ℕ) → depth < length ranges.now
         → picked_at picked.items depth ≡ pick (lies_over depth offset) (λ r. r.start_offset) ranges.now) }
     ensures none { IfOk result (λ picked. (depth : ℕ) → length ranges.now ≤ depth
@@ -65,19 +66,19 @@ fn picked_by_depth(
     let mut picked = Vec::new(alloc);
     for range in ranges {
         if range.call_depth < ranges.len() && covers(range, offset) {
-            pick_at_depth(&mut picked, *range)?;
+            pick_at_depth(&mut picked, range)?;
         }
     }
     Ok(picked)
 }
 
 /// The range that is picked at a depth.
-fn range_at(picked: &[Option<InlineRange>], depth: usize) -> Option<InlineRange>
+fn range_at(picked: &[Option<&InlineRange>], depth: usize) -> Option<InlineRange>
     ensures { result ≡ picked_at picked.now depth }
 {
     match picked.get(depth) {
-        Some(place) => *place,
-        None => None,
+        Some(Some(range)) => Some(**range),
+        _ => None,
     }
 }
 

@@ -1,3 +1,1 @@
-pub mod ElementLemmas
-pub mod FaultLemmas
 pub mod JsonLemmas

@@ -1,20 +1,13 @@
 ghost use Rattle.serde_json.specs.View.{view};
-ghost use Rattle.pdb_records.specs.Sections.{listed};
-ghost use Rattle.pdb_json.specs.Faults.{Agrees, AgreesBy};
-ghost use Rattle.pdb_json.specs.RecordsFile.{version_of, file_version_of, sections_of, module_infos_of};
-ghost use Rattle.pdb_json.specs.RecordsFile.{records_in_version, records_of, records_of_file};
+ghost use Rattle.pdb_json_values.specs.Faults.{Agrees};
+ghost use Rattle.pdb_json.specs.RecordsFile.{version_of, file_version_of, records_of, records_of_file};
 
-use crate::faults::{RecordFault, inside, wanted};
-use crate::members::{Elements, FromJson, member};
-use crate::reader::{FIRST_VERSION, Reader};
-use crate::values::object;
-use pdb_records::{ImageSectionHeader, ModuleInfo, PDB, StreamError};
+use pdb_json_records::{FromJson, file_records, member};
+use pdb_json_values::{FIRST_VERSION, Reader, RecordFault, object, wanted};
+use pdb_records::PDB;
 use serde_json::Value;
 use std::alloc::Global;
 use std::marker::Model;
-
-/// The headers of the sections, where the file has any.
-type Sections = Result<Option<Vec<ImageSectionHeader>>, StreamError>;
 
 /// The version of the format that a file names.
 #[derive(Drop)]
@@ -60,65 +53,6 @@ fn file_version(reader: Reader, file: &Value) -> Result<u8, RecordFault>
         Some(version) => Ok(version.number),
         None => Ok(FIRST_VERSION),
     }
-}
-
-/// Reads the headers of the sections. The member may be null, and may not be absent.
-#[tactic(auto, unfolding(crate::specs::RecordsFile::sections_of))]
-fn sections(reader: Reader, file: &Value) -> Result<Sections, RecordFault>
-    ensures { AgreesBy listed result (sections_of (view file.now)) }
-{
-    if file.get("sections").is_none() {
-        return inside(reader.alloc, "sections", wanted(reader.alloc, "array"));
-    }
-    let sections: Result<Option<Elements<ImageSectionHeader>>, StreamError> = member(
-        reader, file, "sections",
-    )?;
-    Ok(match sections {
-        Ok(Some(listed)) => Ok(Some(listed.items)),
-        Ok(None) => Ok(None),
-        Err(fault) => Err(fault),
-    })
-}
-
-/// Reads what is known of each module.
-#[tactic(auto, unfolding(crate::specs::RecordsFile::module_infos_of))]
-fn module_infos(
-    reader: Reader,
-    file: &Value,
-) -> Result<Vec<Result<Option<ModuleInfo>, StreamError>>, RecordFault>
-    ensures { AgreesBy (λ infos. infos.items) result (module_infos_of reader.version (view file.now)) }
-{
-    let infos: Elements<Result<Option<ModuleInfo>, StreamError>> = member(
-        reader,
-        file,
-        "module_infos",
-    )?;
-    Ok(infos.items)
-}
-
-/// Reads all records from a file of the reader's version.
-#[tactic(auto, unfolding(crate::specs::RecordsFile::records_in_version))]
-fn file_records(reader: Reader, file: &Value) -> Result<PDB, RecordFault>
-    ensures { Agrees result (records_in_version reader.version (view file.now)) }
-{
-    let sections = sections(reader, file)?;
-    let address_map = member(reader, file, "address_map")?;
-    let global_symbols = member(reader, file, "global_symbols")?;
-    let debug_information = member(reader, file, "debug_information")?;
-    let type_information = member(reader, file, "type_information")?;
-    let id_information = member(reader, file, "id_information")?;
-    let string_table = member(reader, file, "string_table")?;
-    let module_infos = module_infos(reader, file)?;
-    Ok(PDB {
-        sections,
-        address_map,
-        global_symbols,
-        debug_information,
-        type_information,
-        id_information,
-        string_table,
-        module_infos,
-    })
 }
 
 /// Reads all records from a file's value.

@@ -1,8 +1,8 @@
 -- How a run of the program ends.
 use Rattle.std.specs.Prelude.{◌≡◌, ℕ, List, Result, Ok, Err}
 use Rattle.pdb_records.specs.Records.{Records}
-use Rattle.pdb_json.specs.declared.faults.RecordFault.{RecordFault}
-use Rattle.pdb_json.specs.Faults.{Fault, Agrees}
+use Rattle.pdb_json_values.specs.declared.faults.RecordFault.{RecordFault}
+use Rattle.pdb_json_values.specs.Faults.{Fault, Agrees}
 use Rattle.pdb_reporting.specs.declared.reports.Command.{Command}
 use Rattle.pdb_reporting.specs.declared.reports.ReportFault.{ReportFault}
 use Rattle.pdb_reporting.specs.declared.reports.ReportFault.TheVariants.{Lookup, Write}

@@ -5,8 +5,6 @@
 #![tactic(auto)]
 
 mod runs;
-#[cfg(test)]
-mod tests;
 
 use pdb_reporting::{Out, run};
 use runs::{Run, next_run};

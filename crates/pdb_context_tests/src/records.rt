@@ -1,0 +1,302 @@
+use crate::contexts::{
+    MadeContext, holds_over_context, holds_over_data, holds_over_made, holds_over_records, is_named,
+};
+use pdb_addr2line::parts::BasicModuleInfo;
+use pdb_addr2line::pdb::{
+    AddressMap, AddressRange, CrossModuleExports, CrossModuleImports, Error, FileIndex, FileInfo,
+    ImportedModule, LineInfo, LineProgram, Module, ModuleInfo, PDB, PdbInternalSectionOffset,
+    RawString, Reading, Rva, StringRef, StringTable, SymbolLines,
+};
+use pdb_addr2line::{ContextPdbData, Function, ModuleProvider};
+use std::alloc::{AllocError, Global};
+
+/// A program with one section, one module and one procedure at 0x10 whose name is to be replaced.
+const PROGRAM: &[u8] = br#"{"sections":[{"virtual_address":4096,"virtual_size":256,"execute":true}],
+"address_map":[{"virtual_address":4096,"virtual_size":256}],"global_symbols":[],
+"debug_information":{"machine_type":"Amd64","modules":[{"name":"a.obj"}],
+"section_contributions":[{"section":1,"offset":0,"size":128,"module":0}]},
+"type_information":[],"id_information":[],"string_table":[],"module_infos":[{"symbols":
+[{"raw_kind":4368,"data":{"kind":"Procedure","section":1,"offset":16,"len":64,"name":"f",
+"end":0,"type_index":0}}],"line_program":{"entries":[],"files":[]},"inlinees":[],"imports":[],
+"exports":[]}]}"#;
+
+/// A program with a public symbol behind the start of its contribution.
+const PUBLIC_SYMBOL: &[u8] = br#"{"sections":[{"virtual_address":4096,"virtual_size":256,
+"execute":true}],"address_map":[{"virtual_address":4096,"virtual_size":256}],"global_symbols":
+[{"raw_kind":4366,"data":{"kind":"Public","section":1,"offset":16,"name":"?f"}}],
+"debug_information":{"machine_type":"Amd64","modules":[{"name":"a.obj"}],
+"section_contributions":[{"section":1,"offset":0,"size":64,"module":0}]},
+"type_information":[],"id_information":[],"string_table":[],"module_infos":[null]}"#;
+
+/// A program with nothing in it.
+const NOTHING: &[u8] = br#"{"sections":[],"address_map":[],"global_symbols":[],
+"debug_information":{"machine_type":"Amd64","modules":[],"section_contributions":[]},
+"type_information":[],"id_information":[],"string_table":[],"module_infos":[]}"#;
+
+/// Whether the context over a program has this many starts of functions.
+fn has_starts(alloc: Global, text: &[u8], count: usize) -> bool {
+    holds_over_context(alloc, text, |context| context.function_count() == count)
+}
+
+#[test]
+fn starts_and_section_ends_are_counted(rt: HostRuntime) {
+    assert!(rt; has_starts(rt.alloc(), PUBLIC_SYMBOL, 3));
+    assert!(rt; has_starts(rt.alloc(), NOTHING, 0));
+}
+
+/// Whether a function is the procedure.
+fn is_the_procedure(function: &Function) -> bool {
+    function.start_rva == 0x1010 && function.end_rva == Some(0x1050) && is_named(function, "f")
+}
+
+/// Whether a context finds the procedure, and has two starts of functions.
+fn finds_the_procedure(context: &mut MadeContext<'_, '_>) -> bool {
+    match context.find_function(0x1020) {
+        Ok(Some(function)) => is_the_procedure(&function) && context.function_count() == 2,
+        _ => false,
+    }
+}
+
+/// Whether a context over lent records tells of the procedure.
+fn tells_the_procedure_when_lent(alloc: Global, records: &mut PDB) -> bool {
+    match ContextPdbData::try_from_pdb_ref(alloc, records) {
+        Ok(data) => holds_over_made(&data, finds_the_procedure),
+        Err(_) => false,
+    }
+}
+
+#[test]
+fn contexts_of_owned_and_lent_records(rt: HostRuntime) {
+    let alloc = rt.alloc();
+    assert!(rt;
+        holds_over_records(
+            alloc,
+            PROGRAM,
+            |records| tells_the_procedure_when_lent(alloc, records)
+        )
+    );
+}
+
+/// Whether the records of a module have one procedure.
+fn has_one_procedure(alloc: Global, info: &ModuleInfo) -> bool {
+    match BasicModuleInfo::try_from_module_info(alloc, info) {
+        Ok(basic) => {
+            basic.procedures().len() == 1 && basic.module_info().symbols.items.len() == 1
+        }
+        Err(_) => false,
+    }
+}
+
+/// Whether a program has the records of one module, which has one procedure.
+fn has_one_module(alloc: Global, data: &ContextPdbData<'_>) -> bool {
+    let module = Module {
+        name: RawString(Vec::new(alloc)),
+    };
+    match (
+        data.get_module_info(0, &module),
+        data.get_module_info(1, &module),
+    ) {
+        (Ok(Some(info)), Ok(None)) => has_one_procedure(alloc, info),
+        _ => false,
+    }
+}
+
+#[test]
+fn module_infos_and_procedures(rt: HostRuntime) {
+    let alloc = rt.alloc();
+    assert!(rt; holds_over_data(alloc, PROGRAM, |data| has_one_module(alloc, data)));
+}
+
+/// Whether a name is told with a sign in place of the byte that is no text.
+fn is_told_with_a_sign(alloc: Global, name: &RawString) -> Result<bool, AllocError> {
+    let text = name.to_string_lossy(alloc)?.into_owned(alloc)?;
+    Ok(text.as_bytes() == [0x66, 0xef, 0xbf, 0xbd].as_slice())
+}
+
+#[test]
+fn name_that_is_no_text(rt: HostRuntime) -> Result<(), AllocError> {
+    let name = RawString([0x66, 0xff].to_vec(rt.alloc())?);
+    assert!(rt; is_told_with_a_sign(rt.alloc(), &name)?);
+    Ok(())
+}
+
+/// A place in a section.
+fn place(section: u16, offset: u32) -> PdbInternalSectionOffset {
+    PdbInternalSectionOffset { section, offset }
+}
+
+/// Whether a place is that of an address, and the address that of the place.
+fn lies_at(map: &AddressMap, address: Rva, place: PdbInternalSectionOffset) -> bool {
+    address.to_internal_offset(map) == Some(place) && place.to_rva(map) == Some(address)
+}
+
+/// Whether addresses of two sections are told.
+fn tells_places(map: &AddressMap) -> bool {
+    lies_at(map, Rva(0x1000), place(1, 0))
+        && lies_at(map, Rva(0x100f), place(1, 15))
+        && lies_at(map, Rva(0xffff_ffff), place(2, 255))
+}
+
+/// Whether nothing is told of what isn't in the sections.
+fn tells_nothing_else(map: &AddressMap) -> bool {
+    Rva(0x1010).to_internal_offset(map) == None
+        && place(0, 0).to_rva(map) == None
+        && place(3, 0).to_rva(map) == None
+        && place(2, 256).to_rva(map) == None
+}
+
+/// Where two sections lie. The second would end past the greatest address.
+const SECTIONS: [AddressRange; 2] = [
+    AddressRange {
+        virtual_address: 0x1000,
+        virtual_size: 0x10,
+    },
+    AddressRange {
+        virtual_address: 0xffff_ff00,
+        virtual_size: 0xffff_ffff,
+    },
+];
+
+#[test]
+fn places_of_addresses(rt: HostRuntime) -> Result<(), AllocError> {
+    let map = AddressMap {
+        sections: SECTIONS.to_vec(rt.alloc())?,
+    };
+    assert!(rt; tells_places(&map) && tells_nothing_else(&map));
+    Ok(())
+}
+
+/// Where the entries of a line program start.
+const PLACE: PdbInternalSectionOffset = PdbInternalSectionOffset {
+    section: 1,
+    offset: 16,
+};
+
+/// A row of a line program.
+const ROW: LineInfo = LineInfo {
+    offset: 16,
+    file_index: FileIndex(0),
+    line_start: 3,
+};
+
+/// An entry of a line program with these rows.
+fn entry(alloc: Global, rows: &[LineInfo]) -> Result<SymbolLines, AllocError> {
+    let items = rows.to_vec(alloc)?;
+    Ok(SymbolLines {
+        offset: PLACE,
+        lines: Reading { items, fault: None },
+    })
+}
+
+/// A line program with two entries for one place, of which the first has a row, and a file.
+fn line_program(alloc: Global) -> Result<LineProgram, AllocError> {
+    let mut entries = Vec::new(alloc);
+    for rows in [[ROW].as_slice(), &[]] {
+        entries.push(entry(alloc, rows)?)?;
+    }
+    let files = [FileInfo { name: StringRef(5) }].to_vec(alloc)?;
+    Ok(LineProgram { entries, files })
+}
+
+/// Whether the first entry for a place counts.
+fn takes_the_first_entry(program: &LineProgram) -> bool {
+    match program.lines_for_symbol(PLACE) {
+        Some(rows) => rows.items.len() == 1,
+        None => false,
+    }
+}
+
+/// Whether the file is told, and no other.
+fn tells_the_file(program: &LineProgram) -> bool {
+    match program.get_file_info(FileIndex(0)) {
+        Some(file) => file.name == StringRef(5) && program.get_file_info(FileIndex(1)).is_none(),
+        None => false,
+    }
+}
+
+#[test]
+fn lines_and_files(rt: HostRuntime) -> Result<(), AllocError> {
+    let program = line_program(rt.alloc())?;
+    assert!(rt; takes_the_first_entry(&program) && tells_the_file(&program));
+    Ok(())
+}
+
+/// A string table with two texts for one reference.
+fn string_table(alloc: Global) -> Result<StringTable, AllocError> {
+    let mut strings = Vec::new(alloc);
+    for text in ["first", "second"] {
+        let bytes = text.as_bytes().to_vec(alloc)?;
+        strings.push((StringRef(5), RawString(bytes)))?;
+    }
+    Ok(StringTable { strings })
+}
+
+/// Whether the first text for a reference is told, and none for another reference.
+fn tells_the_first_text(table: &StringTable) -> bool {
+    match table.get(StringRef(5)) {
+        Some(text) => {
+            text.0.as_slice() == b"first".as_slice() && table.get(StringRef(4)).is_none()
+        }
+        None => false,
+    }
+}
+
+#[test]
+fn strings_by_their_references(rt: HostRuntime) -> Result<(), AllocError> {
+    let table = string_table(rt.alloc())?;
+    assert!(rt; tells_the_first_text(&table));
+    Ok(())
+}
+
+/// What a module takes from two others: two indices each.
+fn imports(alloc: Global) -> Result<CrossModuleImports, AllocError> {
+    let mut modules = Vec::new(alloc);
+    for key in [8u32, 9] {
+        modules.push(ImportedModule {
+            module: StringRef(key),
+            locals: [70u32, 71].to_vec(alloc)?,
+        })?;
+    }
+    Ok(CrossModuleImports { modules })
+}
+
+/// Whether an index is that of an index in another module.
+fn is_imported(imports: &CrossModuleImports, index: u32, module: StringRef, local: u32) -> bool {
+    match imports.resolve_import(index) {
+        Ok((told_module, told_local)) => told_module == module && told_local == local,
+        Err(_) => false,
+    }
+}
+
+/// Whether an index is refused as that of no import.
+fn is_not_imported(imports: &CrossModuleImports, index: u32) -> bool {
+    match imports.resolve_import(index) {
+        Err(Error::CrossModuleRefNotFound(told)) => told == index,
+        _ => false,
+    }
+}
+
+/// Whether the imports are told, and others are refused.
+fn tells_the_imports(imports: &CrossModuleImports) -> bool {
+    is_imported(imports, 0x8010_0001, StringRef(9), 71)
+        && is_imported(imports, 0x8000_0000, StringRef(8), 70)
+        && is_not_imported(imports, 0x8000_0002)
+        && is_not_imported(imports, 0x8020_0000)
+        && is_not_imported(imports, 0x8008_0000)
+}
+
+#[test]
+fn imports_by_their_indices(rt: HostRuntime) -> Result<(), AllocError> {
+    let imports = imports(rt.alloc())?;
+    assert!(rt; tells_the_imports(&imports));
+    Ok(())
+}
+
+#[test]
+fn exports_by_their_indices(rt: HostRuntime) -> Result<(), AllocError> {
+    let exports = CrossModuleExports {
+        exports: [(7u32, 0x1003u32), (7, 0x1004)].to_vec(rt.alloc())?,
+    };
+    assert!(rt; exports.resolve_import(7) == Some(0x1003) && exports.resolve_import(8) == None);
+    Ok(())
+}

@@ -1,0 +1,45 @@
+-- The source lines of a module's code.
+use Rattle.std.specs.Prelude.{Result, Ok, codes}
+use Rattle.serde_json.specs.Data.{Data}
+use Rattle.pdb_records.specs.LinePrograms.{Lines}
+use Rattle.pdb_records.specs.declared.lines.LineInfo.{LineInfo}
+use Rattle.pdb_records.specs.declared.lines.SymbolLines.{SymbolLines}
+use Rattle.pdb_records.specs.declared.lines.FileInfo.{FileInfo}
+use Rattle.pdb_json_values.specs.Faults.{Fault, ◌>>=◌}
+use Rattle.pdb_json_values.specs.Values.{object_of}
+use Rattle.pdb_json_values.specs.Numbers.{u32_of}
+use Rattle.pdb_json_records.specs.Members.{member_of, list_of, reading_of}
+use Rattle.pdb_json_records.specs.Sections.{place_of}
+use Rattle.pdb_json_records.specs.Symbols.{file_index_of}
+use Rattle.pdb_json_records.specs.Strings.{string_ref_of}
+
+-- the code from an offset on comes from a line
+unfoldable pub line_of : Data → Result LineInfo Fault
+line_of d = do
+  line ← object_of d
+  offset ← member_of (codes "offset") u32_of line
+  file_index ← member_of (codes "file_index") file_index_of line
+  line_start ← member_of (codes "line_start") u32_of line
+  Ok (record { offset = offset; file_index = file_index; line_start = line_start })
+
+-- the line rows of the function that starts at a place
+unfoldable pub entry_of : Data → Result SymbolLines Fault
+entry_of d = do
+  entry ← object_of d
+  offset ← place_of (codes "section") (codes "offset") entry
+  lines ← member_of (codes "lines") (reading_of line_of) entry
+  Ok (record { offset = offset; lines = lines })
+
+-- a source file, as the reference to its name
+unfoldable pub file_of : Data → Result FileInfo Fault
+file_of d = do
+  name ← string_ref_of d
+  Ok (record { name = name })
+
+-- the line rows, function by function, and the files that they name
+unfoldable pub lines_of : Data → Result Lines Fault
+lines_of d = do
+  program ← object_of d
+  entries ← member_of (codes "entries") (list_of entry_of) program
+  files ← member_of (codes "files") (list_of file_of) program
+  Ok (record { entries = entries; files = files })

@@ -1,0 +1,23 @@
+//! Readers of what a records file is made of: lists, symbols, lines, types, ids, and all of them together.
+//!
+//! Each object of the format has a definition in `specs/` and a reader here, in a file of its subject: an
+//! `impl` of [`FromJson`] for the record that it becomes. They stand in one crate, since a trait is
+//! implemented for another crate's type only where the trait is.
+#![tactic(auto)]
+
+mod all_records;
+mod debug_information;
+mod ids;
+mod items;
+mod lines;
+mod members;
+mod modules;
+mod names;
+mod numbers;
+mod sections;
+mod strings;
+mod symbols;
+mod types;
+
+pub use all_records::file_records;
+pub use members::{FromJson, member};

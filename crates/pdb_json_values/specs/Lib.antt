@@ -1,0 +1,4 @@
+pub use Rattle.serde_json.specs.Data
+pub mod Faults
+pub mod Values
+pub mod Numbers

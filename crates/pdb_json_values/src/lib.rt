@@ -1,0 +1,16 @@
+//! Values of a records file by their sorts, and the paths of faults.
+//!
+//! A [`Reader`] is what each reader of the records file is handed. [`RecordFault`] tells where a file is
+//! broken: each reader answers a fault by its path from the value that it reads, and [`inside`] puts the
+//! name of a member in front of it, [`inside_element`] the number of an element.
+#![tactic(auto)]
+
+mod faults;
+mod numbers;
+mod reader;
+mod values;
+
+pub use faults::{RecordFault, inside, inside_element, out_of_range, wanted};
+pub use numbers::{signed, unsigned};
+pub use reader::{FIRST_VERSION, Reader};
+pub use values::{array, boolean, object, text};
