@@ -1,9 +1,11 @@
 -- What follows from the definitions, in words of its own.
-use Rattle.std.specs.Prelude.{◌≡◌, ◌<◌, ◌≤◌, Bool, true, List, [], ◌∷◌, ⊤, ◌&&◌, nat_le}
+use Rattle.std.specs.Prelude.{◌≡◌, ◌≢◌, ◌<◌, ◌≤◌, ℕ, Bool, true, false, List, [], ◌∷◌, ⊤, ◌&&◌, ◌==◌, nat_le, nat_lt}
 use Rattle.std.specs.List.{AllByRecursion, list_any}
 use Rattle.std.specs.Prelude.{◌⊎◌}
+use Rattle.pdb_types.specs.declared.error.Error.{Error}
+use Rattle.pdb_types.specs.declared.error.Error.TheVariants.{OverlappingSectionContributions}
 use Rattle.pdb_functions.specs.declared.contributions.ModuleSectionContribution.{ModuleSectionContribution}
-use Rattle.pdb_functions.specs.Contributions.{is_same_run}
+use Rattle.pdb_functions.specs.Contributions.{is_same_module}
 
 -- it has a byte
 abbrev pub IsFilled : ModuleSectionContribution → Type 0
@@ -19,10 +21,48 @@ abbrev pub AreApart : List ModuleSectionContribution → Type 0
 AreApart [] = ⊤
 AreApart (m ∷ ms) = IsFilled m × AllByRecursion (LiesBefore m) ms × AreApart ms
 
--- a claim is of the module and section of a run, and ends no later
-abbrev pub ends_in : ModuleSectionContribution → ModuleSectionContribution → Bool
-ends_in claim run = is_same_run claim run && nat_le claim.end_offset run.end_offset
+-- a claim lies in an interval: it is of its module and section, begins no earlier and ends no later
+abbrev pub lies_in : ModuleSectionContribution → ModuleSectionContribution → Bool
+lies_in claim interval =
+    is_same_module claim interval
+    && nat_le interval.start_offset claim.start_offset && nat_le claim.end_offset interval.end_offset
 
--- one of the runs is of the module and section of a claim, and ends no earlier
-abbrev pub EndsInOneOf : List ModuleSectionContribution → ModuleSectionContribution → Type 0
-EndsInOneOf runs claim = list_any (ends_in claim) runs ≡ true
+-- a claim lies in one of the intervals
+abbrev pub LiesInOneOf : List ModuleSectionContribution → ModuleSectionContribution → Type 0
+LiesInOneOf intervals claim = list_any (lies_in claim) intervals ≡ true
+
+-- an interval begins where one of the claims of its module and section begins
+abbrev pub BeginsWithOneOf : List ModuleSectionContribution → ModuleSectionContribution → Type 0
+BeginsWithOneOf claims interval =
+    list_any (λ claim. is_same_module claim interval && (claim.start_offset == interval.start_offset)) claims ≡ true
+
+-- an interval ends where one of the claims of its module and section ends
+abbrev pub EndsWithOneOf : List ModuleSectionContribution → ModuleSectionContribution → Type 0
+EndsWithOneOf claims interval =
+    list_any (λ claim. is_same_module claim interval && (claim.end_offset == interval.end_offset)) claims ≡ true
+
+-- an interval shares no byte with a claim of another module
+abbrev pub IsApartFrom : ModuleSectionContribution → ModuleSectionContribution → Type 0
+IsApartFrom interval claim =
+    interval.section_index ≡ claim.section_index → interval.module_index ≢ claim.module_index
+    → (claim.end_offset ≤ interval.start_offset) ⊎ (interval.end_offset ≤ claim.start_offset)
+
+-- two neighbours are never of one module and section: between two such stands one of another module
+abbrev pub NeighboursDiffer : List ModuleSectionContribution → Type 0
+NeighboursDiffer [] = ⊤
+NeighboursDiffer (interval ∷ []) = ⊤
+NeighboursDiffer (interval ∷ next ∷ intervals) =
+    (is_same_module interval next ≡ false) × NeighboursDiffer (next ∷ intervals)
+
+-- one of the claims is of this section and module, and has this byte
+abbrev pub HasByteOf : List ModuleSectionContribution → ℕ → ℕ → ℕ → Type 0
+HasByteOf claims section module_index offset =
+    list_any (λ claim. (claim.section_index == section) && (claim.module_index == module_index)
+    && nat_le claim.start_offset offset && nat_lt offset claim.end_offset) claims ≡ true
+
+-- an error tells of a byte that contributions of two modules claim
+abbrev pub TellsOverlap : List ModuleSectionContribution → Error → Type 0
+TellsOverlap claims (OverlappingSectionContributions section before module_index) =
+    (before ≢ module_index)
+    × ((offset : ℕ) × (HasByteOf claims section before offset × HasByteOf claims section module_index offset))
+TellsOverlap claims other = ⊥

@@ -1,5 +1,6 @@
 pub mod Sections
 pub mod Contributions
+pub mod ContributionRuns
 pub mod Starts
 pub mod GlobalFunctions
 pub mod Procedures

@@ -1,11 +1,10 @@
-ghost use Rattle.std.specs.Prelude.{◌≡◌, ◌≢◌, ◌++◌, None, Some, map, IfOk, OnOk, MatchResult};
+ghost use Rattle.std.specs.Prelude.{◌≡◌, ◌≢◌, None, Some, IfOk, OnOk, MatchResult};
 ghost use Rattle.pdb_types.specs.declared.error.Error.TheVariants.{OutOfMemory};
 ghost use Rattle.pdb_ranges.specs.InOrder.{in_order};
 ghost use Rattle.pdb_types.specs.Outcomes.{Gives, Refuses};
-ghost use Rattle.pdb_functions.specs.Contributions.{is_kept, claimed, claims, is_same_run, run_with};
-ghost use Rattle.pdb_functions.specs.Contributions.{run_ended, runs_after, refused_end, refused_order};
-ghost use Rattle.pdb_functions.specs.Contributions.{refusal_after, reading_refusal, contribution_before};
-ghost use Rattle.pdb_functions.specs.Contributions.{ordered_runs, refused_overlap, overlap_after};
+ghost use Rattle.pdb_functions.specs.Contributions.{is_kept, claimed, claims, is_same_module};
+ghost use Rattle.pdb_functions.specs.Contributions.{refused_end, refused_ends, contribution_before};
+ghost use Rattle.pdb_functions.specs.Contributions.{intervals_of, overlap_after};
 ghost use Rattle.pdb_functions.specs.Contributions.{merged_contributions, contribution_starts};
 
 use crate::sections::is_executable_section;
@@ -52,104 +51,88 @@ fn claim_of(contribution: &SectionContribution) -> Result<ModuleSectionContribut
     })
 }
 
-/// Whether two belong to one module and section.
-fn is_one_run(run: ModuleSectionContribution, claim: ModuleSectionContribution) -> bool
-    ensures { result ≡ is_same_run run claim }
-{
-    run.section_index == claim.section_index && run.module_index == claim.module_index
-}
-
-/// Refuses a claim that ends below the end of the run that it goes on with.
-fn check_order(
-    run: Option<ModuleSectionContribution>,
-    claim: ModuleSectionContribution,
-) -> Result<()>
-    ensures { Refuses result (refused_order run claim) }
-{
-    if let Some(run) = run {
-        if is_one_run(run, claim) && claim.end_offset < run.end_offset {
-            return Err(Error::UnorderedSectionContributions(
-                claim.module_index,
-                claim.section_index,
-            ));
-        }
-    }
-    Ok(())
-}
-
-/// The run that a claim stands in. A run that ends before it goes to the others.
-fn go_on(
-    runs: &mut Vec<ModuleSectionContribution>,
-    run: Option<ModuleSectionContribution>,
-    claim: ModuleSectionContribution,
-) -> Result<ModuleSectionContribution, AllocError>
-    ensures run { IfOk result (λ next. next ≡ run_with run claim) }
-    ensures ended { OnOk result (runs.new.items ≡ runs.old.items ++ run_ended run claim) }
-{
-    match run {
-        None => Ok(claim),
-        Some(run) if is_one_run(run, claim) => Ok(ModuleSectionContribution {
-            end_offset: claim.end_offset,
-            ..run
-        }),
-        Some(run) => {
-            runs.push(run)?;
-            Ok(claim)
-        }
-    }
-}
-
-/// The runs of neighbours of one module and section, in reading order.
-fn merge(
+/// What the contributions that count claim, in reading order.
+fn claims(
     alloc: Global,
     sections: &[ImageSectionHeader],
     contributions: &[SectionContribution],
 ) -> Result<Vec<ModuleSectionContribution>>
-    ensures runs { IfOk result (λ v. v.items ≡ runs_after None (claims sections.now contributions.now)) }
+    ensures claims { IfOk result (λ v. v.items ≡ claims sections.now contributions.now) }
     ensures refused { MatchResult result
-        (λ _. refusal_after None (claims sections.now contributions.now) ≡ None)
-        (λ e. e ≢ OutOfMemory → refusal_after None (claims sections.now contributions.now) ≡ Some e) }
+        (λ _. refused_ends (claims sections.now contributions.now) ≡ None)
+        (λ e. e ≢ OutOfMemory → refused_ends (claims sections.now contributions.now) ≡ Some e) }
 {
-    let mut runs = Vec::new(alloc);
-    let mut run = None;
+    let mut claims = Vec::new(alloc);
     for contribution in contributions {
         if counts(sections, contribution) {
-            let claim = claim_of(contribution)?;
-            check_order(run, claim)?;
-            run = Some(go_on(&mut runs, run, claim)?);
+            claims.push(claim_of(contribution)?)?;
         }
     }
-    if let Some(last) = run {
-        runs.push(last)?;
-    }
-    Ok(runs)
+    Ok(claims)
 }
 
-/// Refuses runs of which one begins before the one in front of it ends.
-fn check_overlap(runs: &[ModuleSectionContribution]) -> Result<()>
-    ensures { Refuses result (overlap_after None runs.now) }
+/// Puts claims in order.
+fn sort(claims: &mut Vec<ModuleSectionContribution>) -> Result<(), AllocError>
+    ensures { OnOk result (claims.new.items ≡ in_order contribution_before claims.old.items) }
 {
-    let mut before: Option<ModuleSectionContribution> = None;
-    for run in runs {
-        if let Some(before) = before {
-            if before.section_index == run.section_index && run.start_offset < before.end_offset {
-                return Err(Error::OverlappingSectionContributions(
-                    run.section_index,
-                    before.module_index,
-                    run.module_index,
-                ));
-            }
-        }
-        before = Some(*run);
-    }
+    claims.sort()?;
     Ok(())
 }
 
-/// Puts the runs in order.
-fn sort(runs: &mut Vec<ModuleSectionContribution>) -> Result<(), AllocError>
-    ensures { OnOk result (runs.new.items ≡ in_order contribution_before runs.old.items) }
+/// Whether two belong to one module and section.
+fn is_same_module(a: ModuleSectionContribution, b: ModuleSectionContribution) -> bool
+    ensures { result ≡ is_same_module a b }
 {
-    runs.sort()?;
+    a.section_index == b.section_index && a.module_index == b.module_index
+}
+
+/// The intervals of claims in order: neighbours of one module and section are joined.
+fn intervals(
+    alloc: Global,
+    claims: &[ModuleSectionContribution],
+) -> Result<Vec<ModuleSectionContribution>, AllocError>
+    ensures { IfOk result (λ v. v.items ≡ intervals_of claims.now) }
+{
+    let mut intervals = Vec::new(alloc);
+    let mut open: Option<ModuleSectionContribution> = None;
+    for claim in claims {
+        open = Some(match open {
+            None => *claim,
+            Some(interval) if is_same_module(interval, *claim) => ModuleSectionContribution {
+                end_offset: interval.end_offset.max(claim.end_offset),
+                ..interval
+            },
+            Some(interval) => {
+                intervals.push(interval)?;
+                *claim
+            }
+        });
+    }
+    if let Some(last) = open {
+        intervals.push(last)?;
+    }
+    Ok(intervals)
+}
+
+/// Refuses intervals of which one begins before the one in front of it ends.
+fn check_overlap(intervals: &[ModuleSectionContribution]) -> Result<()>
+    ensures { Refuses result (overlap_after None intervals.now) }
+{
+    let mut before: Option<ModuleSectionContribution> = None;
+    for interval in intervals {
+        if let Some(before) = before {
+            if before.section_index == interval.section_index
+                && interval.start_offset < before.end_offset
+            {
+                return Err(Error::OverlappingSectionContributions(
+                    interval.section_index,
+                    before.module_index,
+                    interval.module_index,
+                ));
+            }
+        }
+        before = Some(*interval);
+    }
     Ok(())
 }
 
@@ -171,18 +154,18 @@ fn starts(
 }
 
 /// Which module each part of the program came from, by section and start; and where the contributions
-/// that count start, in reading order, before neighbours of one module are joined.
+/// that count start, in reading order, before any are joined.
 ///
-/// A contribution of no bytes, or in a section that holds no code, does not count. Neighbours in
-/// reading order of one module and section are joined, gaps included: the first start stays, and the
-/// end is that of the last.
+/// A contribution of no bytes, or in a section that holds no code, does not count. Those that count are
+/// put in order by section, start, end and module. Neighbours of one module and section are then joined,
+/// gaps included, up to the greater end; so the parts of two modules may take turns in a section.
 ///
 /// # Errors
 ///
-/// The first of these in reading order: [`Error::SectionContributionEndTooLarge`],
-/// [`Error::UnorderedSectionContributions`] where an end lies below the one before it in its run, and
-/// [`Error::PdbError`] for the fault behind the list. Else [`Error::OverlappingSectionContributions`]
-/// for the first two neighbours, in order, that claim the same bytes.
+/// [`Error::SectionContributionEndTooLarge`] for the first that counts, in reading order, whose end
+/// doesn't fit 32 bits; else [`Error::PdbError`] for the fault behind the list; else
+/// [`Error::OverlappingSectionContributions`] for the first two neighbours, in order, that claim the
+/// same bytes.
 pub fn compute_section_contributions(
     alloc: Global,
     debug_information: &DebugInformation,
@@ -198,11 +181,12 @@ pub fn compute_section_contributions(
         ≡ contribution_starts sections.now debug_information.now.section_contributions.items) }
 {
     let contributions = &debug_information.section_contributions;
-    let mut merged = merge(alloc, sections, &contributions.items)?;
+    let mut claims = claims(alloc, sections, &contributions.items)?;
     if let Some(fault) = contributions.fault {
         return Err(Error::from(pdb_records::Error::Stream(fault)));
     }
-    sort(&mut merged)?;
+    sort(&mut claims)?;
+    let merged = intervals(alloc, &claims)?;
     check_overlap(&merged)?;
     let starts = starts(alloc, sections, &contributions.items)?;
     Ok((merged, starts))

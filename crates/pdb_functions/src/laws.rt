@@ -2,13 +2,17 @@
 //!
 //! Each function here does nothing. Its contract is a law, for all records, and the check proves it.
 
-ghost use Rattle.std.specs.Prelude.{◌≡◌, List, Ok, Option, Some};
+ghost use Rattle.std.specs.Prelude.{◌≡◌, ◌^◌, List, Ok, Err, Option, Some, None, find, nat_le};
 ghost use Rattle.std.specs.List.{AllByRecursion};
 ghost use Rattle.pdb_records.specs.declared.addresses.ImageSectionHeader.{ImageSectionHeader};
 ghost use Rattle.pdb_records.specs.declared.addresses.PdbInternalSectionOffset.{PdbInternalSectionOffset};
 ghost use Rattle.pdb_records.specs.declared.debug_information.DebugInformation.{DebugInformation};
+ghost use Rattle.pdb_records.specs.declared.error.Error.TheVariants.{Stream};
+ghost use Rattle.pdb_records.specs.declared.error.StreamError.{StreamError};
 ghost use Rattle.pdb_records.specs.declared.symbols.Symbol.{Symbol};
 ghost use Rattle.pdb_records.specs.Laws.{OrderAgrees};
+ghost use Rattle.pdb_types.specs.declared.error.Error.{Error};
+ghost use Rattle.pdb_types.specs.declared.error.Error.TheVariants.{PdbError, SectionContributionEndTooLarge};
 ghost use Rattle.pdb_functions.specs.declared.contributions.ModuleSectionContribution.{ModuleSectionContribution};
 ghost use Rattle.pdb_functions.specs.Contributions.{claims, merged_contributions};
 ghost use Rattle.pdb_functions.specs.GlobalFunctions.{told_functions, global_functions};
@@ -16,7 +20,9 @@ ghost use Rattle.pdb_functions.specs.Procedures.{ModuleProcedure};
 ghost use Rattle.pdb_functions.specs.Lookup.{global_at};
 ghost use Rattle.pdb_ranges.specs.Pick.{pick, IsPicked};
 ghost use Rattle.pdb_functions.specs.Spans.{procedure_covers};
-ghost use Rattle.pdb_functions.specs.Laws.{AreApart, EndsInOneOf};
+ghost use Rattle.pdb_functions.specs.ContributionRuns.{runs_after, merged_by_runs, AreOnly, StartsNeverFall};
+ghost use Rattle.pdb_functions.specs.Laws.{AreApart, LiesInOneOf, BeginsWithOneOf, EndsWithOneOf};
+ghost use Rattle.pdb_functions.specs.Laws.{IsApartFrom, NeighboursDiffer, TellsOverlap};
 ghost use Rattle.pdb_functions.specs.Starts.{StartsAscend};
 
 use crate::contributions::ModuleSectionContribution;
@@ -32,14 +38,62 @@ pub fn merged_contributions_are_apart()
         → merged_contributions sections debug ≡ Ok table → AreApart table }
 {}
 
-/// Each contribution that counts belongs to a merged one of its module and section that ends no
-/// earlier. So what of it isn't below the start of that one lies in it.
-///
-/// A contribution that starts below the first one of its run isn't covered whole: the first start stays.
+/// Each contribution that counts lies in a merged one of its module and section; and each merged one
+/// begins where one of those begins, and ends where one of those ends.
 pub fn merged_contributions_hold_all()
+    ensures all { (sections : List ImageSectionHeader) (debug : DebugInformation)
+        (table : List ModuleSectionContribution) → merged_contributions sections debug ≡ Ok table
+        → AllByRecursion (LiesInOneOf table) (claims sections debug.section_contributions.items) }
+    ensures begin { (sections : List ImageSectionHeader) (debug : DebugInformation)
+        (table : List ModuleSectionContribution) → merged_contributions sections debug ≡ Ok table
+        → AllByRecursion (BeginsWithOneOf (claims sections debug.section_contributions.items)) table }
+    ensures end { (sections : List ImageSectionHeader) (debug : DebugInformation)
+        (table : List ModuleSectionContribution) → merged_contributions sections debug ≡ Ok table
+        → AllByRecursion (EndsWithOneOf (claims sections debug.section_contributions.items)) table }
+{}
+
+/// No byte of a merged contribution belongs to a contribution of another module, gaps included; and
+/// between two merged ones of one module and section there stands one of another.
+pub fn merged_contributions_hold_no_other_module()
+    ensures apart { (sections : List ImageSectionHeader) (debug : DebugInformation)
+        (table : List ModuleSectionContribution) → merged_contributions sections debug ≡ Ok table
+        → AllByRecursion (λ interval.
+        AllByRecursion (IsApartFrom interval) (claims sections debug.section_contributions.items)) table }
+    ensures differ { (sections : List ImageSectionHeader) (debug : DebugInformation)
+        (table : List ModuleSectionContribution) → merged_contributions sections debug ≡ Ok table
+        → NeighboursDiffer table }
+{}
+
+/// Which refusal comes first: that of the first end past 32 bits in reading order, then that of the
+/// fault behind the contributions. Where neither is there, contributions are refused only for a byte
+/// that two modules claim.
+pub fn contributions_are_refused_for()
+    ensures end { (sections : List ImageSectionHeader) (debug : DebugInformation) (claim : ModuleSectionContribution)
+        → find (λ c. nat_le (2 ^ 32) c.end_offset) (claims sections debug.section_contributions.items) ≡ Some claim
+        → merged_contributions sections debug
+        ≡ Err (SectionContributionEndTooLarge claim.module_index claim.section_index) }
+    ensures fault { (sections : List ImageSectionHeader) (debug : DebugInformation) (fault : StreamError)
+        → find (λ c. nat_le (2 ^ 32) c.end_offset) (claims sections debug.section_contributions.items) ≡ None
+        → debug.section_contributions.fault ≡ Some fault
+        → merged_contributions sections debug ≡ Err (PdbError (Stream fault)) }
+    ensures overlap { (sections : List ImageSectionHeader) (debug : DebugInformation) (error : Error)
+        → find (λ c. nat_le (2 ^ 32) c.end_offset) (claims sections debug.section_contributions.items) ≡ None
+        → debug.section_contributions.fault ≡ None → merged_contributions sections debug ≡ Err error
+        → TellsOverlap (claims sections debug.section_contributions.items) error }
+{}
+
+/// Contributions that can be joined in reading order keep their intervals: where no module comes back
+/// in a section, and in each of its runs neither starts nor ends fall, joining the runs of neighbours
+/// in reading order gives just the merged ones.
+///
+/// Of a module that comes back nothing is said: contributions 0..0x10 of a module, then one of another
+/// section, then 0x30..0x40 of that module are two runs in reading order, and one merged contribution.
+pub fn contributions_in_reading_order_stay()
     ensures { (sections : List ImageSectionHeader) (debug : DebugInformation) (table : List ModuleSectionContribution)
-        → merged_contributions sections debug ≡ Ok table
-        → AllByRecursion (EndsInOneOf table) (claims sections debug.section_contributions.items) }
+        → merged_by_runs sections debug ≡ Ok table
+        → AreOnly (runs_after None (claims sections debug.section_contributions.items))
+        → StartsNeverFall (claims sections debug.section_contributions.items)
+        → merged_contributions sections debug ≡ Ok table }
 {}
 
 /// Global functions stand by section and start, each start once. At each start the first that is told

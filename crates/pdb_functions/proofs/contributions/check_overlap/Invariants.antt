@@ -4,5 +4,5 @@ use Rattle.pdb_functions.specs.Contributions.{overlap_after}
 use Rattle.pdb_functions.proofs.contributions.check_overlap.Given as goal
 
 -- what overlaps in what is left is what overlaps in all
-abbrev pub invariant-loop-run : goal.invariant-loop-run
-invariant-loop-run l = overlap_after l.before (drop l.run-index l.runs) ≡ overlap_after None l.runs
+abbrev pub invariant-loop-interval : goal.invariant-loop-interval
+invariant-loop-interval l = overlap_after l.before (drop l.interval-index l.intervals) ≡ overlap_after None l.intervals
