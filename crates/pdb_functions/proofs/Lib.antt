@@ -6,8 +6,12 @@ pub mod PositionLemmas
 pub mod NeighbourLemmas
 pub mod TableLemmas
 pub mod StartLemmas
+pub mod OrderLemmas
+pub mod IntervalLemmas
+pub mod MergedLemmas
 pub mod RunLemmas
-pub mod GlobalFunctionLemmas
+pub mod FirstLemmas
+pub mod ProcedureLemmas
 pub mod ModuleInfoLemmas
 pub mod SymbolLemmas
 pub mod SectionLemmas

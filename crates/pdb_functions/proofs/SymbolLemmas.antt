@@ -22,7 +22,7 @@ use Rattle.pdb_functions.specs.Procedures.{ModuleProcedure, unless_empty, proced
 use Rattle.pdb_functions.specs.Spans.{contribution_covers, procedure_covers, global_function_covers}
 use Rattle.pdb_functions.specs.Starts.{is_at, starts_before, firsts_after}
 use Rattle.pdb_functions.specs.SymbolNames.{name_by_symbol, GoesBySymbol}
-use Rattle.pdb_functions.proofs.RunLemmas.{all_in_order}
+use Rattle.pdb_functions.proofs.OrderLemmas.{all_in_order}
 
 -- ---- what one symbol tells of
 

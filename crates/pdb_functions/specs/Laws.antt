@@ -1,11 +1,14 @@
 -- What follows from the definitions, in words of its own.
 use Rattle.std.specs.Prelude.{◌≡◌, ◌≢◌, ◌<◌, ◌≤◌, ℕ, Bool, true, false, List, [], ◌∷◌, ⊤, ◌&&◌, ◌==◌, nat_le, nat_lt}
+use Rattle.std.specs.Prelude.{◌⊎◌, Option, Some, None, find}
 use Rattle.std.specs.List.{AllByRecursion, list_any}
-use Rattle.std.specs.Prelude.{◌⊎◌}
+use Rattle.pdb_records.specs.Addresses.{is_same_place}
+use Rattle.pdb_records.specs.declared.addresses.PdbInternalSectionOffset.{PdbInternalSectionOffset}
 use Rattle.pdb_types.specs.declared.error.Error.{Error}
 use Rattle.pdb_types.specs.declared.error.Error.TheVariants.{OverlappingSectionContributions}
 use Rattle.pdb_functions.specs.declared.contributions.ModuleSectionContribution.{ModuleSectionContribution}
 use Rattle.pdb_functions.specs.Contributions.{is_same_module}
+use Rattle.pdb_functions.specs.Procedures.{ModuleProcedure}
 
 -- it has a byte
 abbrev pub IsFilled : ModuleSectionContribution → Type 0
@@ -66,3 +69,13 @@ TellsOverlap claims (OverlappingSectionContributions section before module_index
     (before ≢ module_index)
     × ((offset : ℕ) × (HasByteOf claims section before offset × HasByteOf claims section module_index offset))
 TellsOverlap claims other = ⊥
+
+-- the first procedure of a list that starts at a place
+abbrev pub procedure_starting_at : PdbInternalSectionOffset → List ModuleProcedure → Option ModuleProcedure
+procedure_starting_at place procedures = find (λ p. is_same_place p.offset place) procedures
+
+-- the last procedure of a list
+abbrev pub last_procedure : List ModuleProcedure → Option ModuleProcedure
+last_procedure [] = None
+last_procedure (p ∷ []) = Some p
+last_procedure (p ∷ q ∷ ps) = last_procedure (q ∷ ps)

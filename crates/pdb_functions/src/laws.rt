@@ -2,13 +2,15 @@
 //!
 //! Each function here does nothing. Its contract is a law, for all records, and the check proves it.
 
-ghost use Rattle.std.specs.Prelude.{◌≡◌, ◌^◌, List, Ok, Err, Option, Some, None, find, nat_le};
+ghost use Rattle.std.specs.Prelude.{◌≡◌, ◌^◌, List, [], ◌∷◌, ◌++◌, Ok, Err, Option, Some, None, find, nat_le};
+ghost use Rattle.std.specs.Prelude.{length, option_to_list};
 ghost use Rattle.std.specs.List.{AllByRecursion};
 ghost use Rattle.pdb_records.specs.declared.addresses.ImageSectionHeader.{ImageSectionHeader};
 ghost use Rattle.pdb_records.specs.declared.addresses.PdbInternalSectionOffset.{PdbInternalSectionOffset};
 ghost use Rattle.pdb_records.specs.declared.debug_information.DebugInformation.{DebugInformation};
 ghost use Rattle.pdb_records.specs.declared.error.Error.TheVariants.{Stream};
 ghost use Rattle.pdb_records.specs.declared.error.StreamError.{StreamError};
+ghost use Rattle.pdb_records.specs.declared.modules.ModuleInfo.{ModuleInfo};
 ghost use Rattle.pdb_records.specs.declared.symbols.Symbol.{Symbol};
 ghost use Rattle.pdb_records.specs.Laws.{OrderAgrees};
 ghost use Rattle.pdb_types.specs.declared.error.Error.{Error};
@@ -16,13 +18,15 @@ ghost use Rattle.pdb_types.specs.declared.error.Error.TheVariants.{PdbError, Sec
 ghost use Rattle.pdb_functions.specs.declared.contributions.ModuleSectionContribution.{ModuleSectionContribution};
 ghost use Rattle.pdb_functions.specs.Contributions.{claims, merged_contributions};
 ghost use Rattle.pdb_functions.specs.GlobalFunctions.{told_functions, global_functions};
-ghost use Rattle.pdb_functions.specs.Procedures.{ModuleProcedure};
+ghost use Rattle.pdb_functions.specs.Procedures.{ModuleProcedure, procedure_at, procedures_from};
+ghost use Rattle.pdb_functions.specs.Procedures.{symbol_procedures, info_procedures};
 ghost use Rattle.pdb_functions.specs.Lookup.{global_at};
 ghost use Rattle.pdb_ranges.specs.Pick.{pick, IsPicked};
 ghost use Rattle.pdb_functions.specs.Spans.{procedure_covers};
 ghost use Rattle.pdb_functions.specs.ContributionRuns.{runs_after, merged_by_runs, AreOnly, StartsNeverFall};
 ghost use Rattle.pdb_functions.specs.Laws.{AreApart, LiesInOneOf, BeginsWithOneOf, EndsWithOneOf};
 ghost use Rattle.pdb_functions.specs.Laws.{IsApartFrom, NeighboursDiffer, TellsOverlap};
+ghost use Rattle.pdb_functions.specs.Laws.{procedure_starting_at, last_procedure};
 ghost use Rattle.pdb_functions.specs.Starts.{StartsAscend};
 
 use crate::contributions::ModuleSectionContribution;
@@ -106,6 +110,23 @@ pub fn first_global_function_of_each_start_is_kept()
         (place : PdbInternalSectionOffset)
         → global_at place (global_functions sections symbols debug)
         ≡ global_at place (told_functions sections symbols debug) }
+{}
+
+/// Procedures of a module stand by section and start, each start once. At each start the first that
+/// symbols tell of, in reading order, is kept. A symbol looks at the last procedure that those before it
+/// tell of, whose name and type code apart from its body takes, whether or not that one is kept. A fault
+/// behind the symbols leaves none.
+pub fn first_procedure_of_each_start_is_kept()
+    ensures ascend { (symbols : List Symbol) → StartsAscend (λ p. p.offset) (symbol_procedures symbols) }
+    ensures first { (symbols : List Symbol) (place : PdbInternalSectionOffset)
+        → procedure_starting_at place (symbol_procedures symbols)
+        ≡ procedure_starting_at place (procedures_from 0 None symbols) }
+    ensures behind { (symbols : List Symbol) (symbol : Symbol)
+        → procedures_from 0 None (symbols ++ symbol ∷ [])
+        ≡ procedures_from 0 None symbols ++ option_to_list
+            (procedure_at (length symbols) (last_procedure (procedures_from 0 None symbols)) symbol) }
+    ensures fault { (info : ModuleInfo) (fault : StreamError)
+        → info.symbols.fault ≡ Some fault → info_procedures info ≡ [] }
 {}
 
 /// The procedure that is picked for a place covers it. No other over the place has a greater start, and

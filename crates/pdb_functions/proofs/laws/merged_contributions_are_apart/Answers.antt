@@ -1,4 +1,4 @@
-use Rattle.pdb_functions.proofs.RunLemmas.{merged_apart}
+use Rattle.pdb_functions.proofs.MergedLemmas.{merged_apart}
 use Rattle.pdb_functions.proofs.laws.merged_contributions_are_apart.Goals as goal
 
 pub returns : goal.returns

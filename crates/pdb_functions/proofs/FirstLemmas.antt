@@ -1,4 +1,4 @@
--- Of each start one global function is kept, the first one told.
+-- Of each start one entry is kept, the first one.
 use Rattle.std.proofs.Common.{◌≡◌, ◌∙◌, ◌<◌, Bool, true, false, cond, List, [], ◌∷◌, Option, Some, None, refl, sym, ap, arith}
 use Rattle.std.specs.Prelude.{filter, find}
 use Rattle.std.specs.Ordering.{nat_cmp, MatchOrdering}
@@ -10,13 +10,7 @@ use Rattle.pdb_records.specs.Addresses.{is_same_place}
 use Rattle.pdb_records.specs.declared.addresses.PdbInternalSectionOffset.{PdbInternalSectionOffset}
 use Rattle.pdb_ranges.specs.InOrder.{in_order}
 use Rattle.pdb_functions.specs.Starts.{starts_before, is_at, firsts_after, first_of_each_start}
-use Rattle.pdb_functions.specs.GlobalFunctions.{GlobalFunction}
-use Rattle.pdb_functions.specs.Lookup.{global_at}
 use Rattle.pdb_ranges.proofs.SortLemmas.{Apart, filter_in_order}
-
--- the start of a global function
-abbrev pub start_of : GlobalFunction → PdbInternalSectionOffset
-start_of f = f.start
 
 -- the first element that passes is the first of those that pass
 pub find_from_filter : {T : Type 0} (p : T → Bool) (xs ys : List T) → filter p xs ≡ filter p ys → find p xs ≡ find p ys
@@ -49,34 +43,34 @@ not_before_at place a b at_a at_b before =
     by_order Equal is Equal was fact other sections offsets = let e = rw (is, was) at before in cc
 
 -- of what starts at a place, nothing is passed on the way into order
-pub at_apart : (place : PdbInternalSectionOffset) → Apart (starts_before start_of) (λ f. is_same_place f.start place)
-at_apart place f g before at_f at_g = not_before_at place f.start g.start at_f at_g before
+pub at_apart : {T : Type 0} (start : T → PdbInternalSectionOffset) (place : PdbInternalSectionOffset) → Apart (starts_before start) (λ x. is_same_place (start x) place)
+at_apart start place x y before at_x at_y = not_before_at place (start x) (start y) at_x at_y before
 
--- the first function at a place is first in order too
-pub global_at_in_order : (place : PdbInternalSectionOffset) (fs : List GlobalFunction) → global_at place (in_order (starts_before start_of) fs) ≡ global_at place fs
-global_at_in_order place fs = find_from_filter (λ f. is_same_place f.start place) (in_order (starts_before start_of) fs) fs (filter_in_order (λ f. is_same_place f.start place) (at_apart place) fs)
+-- the first one at a place is first in order too
+pub first_at_in_order : {T : Type 0} (start : T → PdbInternalSectionOffset) (place : PdbInternalSectionOffset) (xs : List T) → find (λ x. is_same_place (start x) place) (in_order (starts_before start) xs) ≡ find (λ x. is_same_place (start x) place) xs
+first_at_in_order start place xs = find_from_filter (λ x. is_same_place (start x) place) (in_order (starts_before start) xs) xs (filter_in_order (λ x. is_same_place (start x) place) (at_apart start place) xs)
 
 -- of two places that are one, neither is a third that the other isn't
 pub not_at_either : (a b place : PdbInternalSectionOffset) → is_same_place a b ≡ true → is_same_place a place ≡ false → is_same_place b place ≡ false
 not_at_either a b place one other = grind (arith, nat_tests)
 
--- neighbours with one start hide no first function at a place, where what stands in front is not at it
-pub global_at_behind : (place : PdbInternalSectionOffset) (before : Option PdbInternalSectionOffset) (fs : List GlobalFunction) → is_at before place ≡ false → global_at place (firsts_after start_of before fs) ≡ global_at place fs
-global_at_behind place before [] other = refl
-global_at_behind place before (f ∷ fs) other = by_test (is_at before f.start) refl (is_same_place f.start place) refl (global_at_behind place before fs other) (global_at_behind place (Some f.start) fs) where
-  hidden : (b : Option PdbInternalSectionOffset) → is_at b f.start ≡ true → is_at b place ≡ false → is_same_place f.start place ≡ false
+-- neighbours with one start hide no first one at a place, where what stands in front is not at it
+pub first_at_behind : {T : Type 0} (start : T → PdbInternalSectionOffset) (place : PdbInternalSectionOffset) (before : Option PdbInternalSectionOffset) (xs : List T) → is_at before place ≡ false → find (λ x. is_same_place (start x) place) (firsts_after start before xs) ≡ find (λ x. is_same_place (start x) place) xs
+first_at_behind start place before [] other = refl
+first_at_behind {T = T} start place before (x ∷ xs) other = by_test (is_at before (start x)) refl (is_same_place (start x) place) refl (first_at_behind start place before xs other) (first_at_behind start place (Some (start x)) xs) where
+  hidden : (b : Option PdbInternalSectionOffset) → is_at b (start x) ≡ true → is_at b place ≡ false → is_same_place (start x) place ≡ false
   hidden None here away = absurd (cc)
-  hidden (Some b) here away = not_at_either b f.start place here away
+  hidden (Some b) here away = not_at_either b (start x) place here away
 
-  by_test : (t : Bool) → is_at before f.start ≡ t → (u : Bool) → is_same_place f.start place ≡ u
-      → global_at place (firsts_after start_of before fs) ≡ global_at place fs
-      → (is_at (Some f.start) place ≡ false → global_at place (firsts_after start_of (Some f.start) fs) ≡ global_at place fs)
-      → global_at place (cond t (firsts_after start_of before fs) (f ∷ firsts_after start_of (Some f.start) fs)) ≡ cond u (Some f) (global_at place fs)
-  by_test true here true at_f same next = let e = hidden before here other in absurd (cc)
+  by_test : (t : Bool) → is_at before (start x) ≡ t → (u : Bool) → is_same_place (start x) place ≡ u
+      → find (λ y. is_same_place (start y) place) (firsts_after start before xs) ≡ find (λ y. is_same_place (start y) place) xs
+      → (is_at (Some (start x)) place ≡ false → find (λ y. is_same_place (start y) place) (firsts_after start (Some (start x)) xs) ≡ find (λ y. is_same_place (start y) place) xs)
+      → find (λ y. is_same_place (start y) place) (cond t (firsts_after start before xs) (x ∷ firsts_after start (Some (start x)) xs)) ≡ cond u (Some x) (find (λ y. is_same_place (start y) place) xs)
+  by_test true here true at_x same next = let e = hidden before here other in absurd (cc)
   by_test true here false away same next = same
-  by_test false apart true at_f same next = rw at_f refl
+  by_test false apart true at_x same next = rw at_x refl
   by_test false apart false away same next = rw away (next away)
 
--- of each start the first that is told is kept
-pub global_at_kept : (place : PdbInternalSectionOffset) (fs : List GlobalFunction) → global_at place (first_of_each_start start_of fs) ≡ global_at place fs
-global_at_kept place fs = global_at_behind place None (in_order (starts_before start_of) fs) refl ∙ global_at_in_order place fs
+-- of each start the first one is kept
+pub first_at_kept : {T : Type 0} (start : T → PdbInternalSectionOffset) (place : PdbInternalSectionOffset) (xs : List T) → find (λ x. is_same_place (start x) place) (first_of_each_start start xs) ≡ find (λ x. is_same_place (start x) place) xs
+first_at_kept start place xs = first_at_behind start place None (in_order (starts_before start) xs) refl ∙ first_at_in_order start place xs
