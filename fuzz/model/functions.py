@@ -55,50 +55,45 @@ def pick(intervals, offset):
 # ------------------------------------------------------------ contributions
 
 
-def add_to_runs(runs, contribution):
-    """Neighbours of one module and section make one run, from the first start to the last end."""
-    module, section = contribution.module, contribution.section
-    end = contribution.offset + contribution.size
-    if end > GREATEST:
-        raise Error("SectionContributionEndTooLarge",
-                    f"The end of a section contribution of module {module} in section {section} does not "
-                    f"fit 32 bits")
-    last = runs[-1] if runs else None
-    if not last or (last.module, last.section) != (module, section):
-        runs.append(Record(section=section, start=contribution.offset, end=end, module=module))
-        return
-    if end < last.end:
-        raise Error("UnorderedSectionContributions",
-                    f"There are consecutive section contributions for module {module} and section {section} "
-                    f"which are not ordered by offset")
-    last.end = end
-    note("contribution merged")
-
-
-def contribution_runs(reading, sections):
-    """The runs in reading order, and where each contribution that counts starts.
+def claims_and_starts(reading, sections):
+    """The bytes of the contributions that count, in reading order, and where each of them starts.
 
     A contribution counts where it isn't empty and its section holds code.
     """
-    runs, starts = [], []
+    claims, starts = [], []
     for contribution in reading.items:
         if contribution.size == 0 or not is_executable(sections, contribution.section):
             note("contribution dropped")
             continue
-        add_to_runs(runs, contribution)
-        starts.append((contribution.section, contribution.offset))
+        module, section = contribution.module, contribution.section
+        end = contribution.offset + contribution.size
+        if end > GREATEST:
+            raise Error("SectionContributionEndTooLarge",
+                        f"The end of a section contribution of module {module} in section {section} does not "
+                        f"fit 32 bits")
+        claims.append(Record(section=section, start=contribution.offset, end=end, module=module))
+        starts.append((section, contribution.offset))
     refuse_fault(reading)
-    return runs, starts
+    return claims, starts
 
 
-def merged_contributions(runs):
-    """The runs by section, start, end and module; two neighbours that overlap are refused."""
-    merged = sorted(runs, key=lambda run: (run.section, run.start, run.end, run.module))
-    for first, second in zip(merged, merged[1:]):
-        if first.section == second.section and second.start < first.end:
+def merged_contributions(claims):
+    """The claims by section, start, end and module, of which one joins the interval before it where that is of
+    its module and section, up to the greater end. Any other that starts below that end is refused."""
+    merged = []
+    for claim in sorted(claims, key=lambda c: (c.section, c.start, c.end, c.module)):
+        before = merged[-1] if merged and merged[-1].section == claim.section else None
+        if before and before.module == claim.module:
+            note("contribution merged")
+            before.end = max(before.end, claim.end)
+            continue
+        if before and claim.start < before.end:
             raise Error("OverlappingSectionContributions",
-                        f"Overlapping section contributions in section {first.section} from modules "
-                        f"{first.module} and {second.module}")
+                        f"Overlapping section contributions in section {claim.section} from modules "
+                        f"{before.module} and {claim.module}")
+        if any(other.section == claim.section and other.module == claim.module for other in merged):
+            note("module comes back in a section")
+        merged.append(Record(section=claim.section, start=claim.start, end=claim.end, module=claim.module))
     return merged
 
 
@@ -179,8 +174,8 @@ class Program:
         refuse_failed(debug.machine_type, pdb.sections)
         refuse_fault(pdb.global_symbols)
         sections = pdb.sections or []
-        runs, starts = contribution_runs(debug.section_contributions, sections)
-        self.contributions = merged_contributions(runs)
+        claims, starts = claims_and_starts(debug.section_contributions, sections)
+        self.contributions = merged_contributions(claims)
         self.globals = global_functions(pdb.global_symbols.items, sections, starts)
         self.address_map = pdb.address_map
         self.types, self.ids = pdb.type_information, pdb.id_information

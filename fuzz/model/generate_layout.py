@@ -116,7 +116,7 @@ class Layout(Choices):
                 found.append((number, 0, 0x100, self.any_module()))
             else:
                 found += self.cut_section(number)
-        if self.broken(0.1):
+        if self.chance(0.3):  # modules take turns in a section, and come in any order
             self.random.shuffle(found)
         if self.broken(0.25) and found:
             neighbour = self.choose(found)
