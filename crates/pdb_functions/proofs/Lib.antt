@@ -7,6 +7,7 @@ pub mod NeighbourLemmas
 pub mod TableLemmas
 pub mod StartLemmas
 pub mod RunLemmas
+pub mod RunLawLemmas
 pub mod GlobalFunctionLemmas
 pub mod ModuleInfoLemmas
 pub mod SymbolLemmas

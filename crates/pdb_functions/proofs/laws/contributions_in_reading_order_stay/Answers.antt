@@ -1,4 +1,4 @@
-use Rattle.pdb_functions.proofs.RunLemmas.{same_parts}
+use Rattle.pdb_functions.proofs.RunLawLemmas.{each}
 use Rattle.pdb_functions.proofs.laws.contributions_in_reading_order_stay.Goals as goal
 
 pub returns : goal.returns
