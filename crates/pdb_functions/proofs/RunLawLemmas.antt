@@ -113,20 +113,33 @@ clear_back a b (inr lies) = inl lies
 abbrev pub joined : ModuleSectionContribution → ModuleSectionContribution → ModuleSectionContribution
 joined a b = record a { end_offset = max a.end_offset b.end_offset }
 
+-- of two that are joined the first lies before what both do
+first_lies : (a b x : ModuleSectionContribution) → LiesBefore (joined a b) x → LiesBefore a x
+first_lies a b x (inl section) = inl section
+first_lies a b x (inr one) = let end : max a.end_offset b.end_offset ≤ x.start_offset = one.1 in inr (one.0, omega arith)
+
+-- and so does the second
+second_lies : (a b x : ModuleSectionContribution) → a.section_index ≡ b.section_index → LiesBefore (joined a b) x → LiesBefore b x
+second_lies a b x same (inl section) = let h : a.section_index < x.section_index = section in inl (omega arith)
+second_lies a b x same (inr one) =
+    let section : a.section_index ≡ x.section_index = one.0 in
+    let end : max a.end_offset b.end_offset ≤ x.start_offset = one.1 in
+    inr (omega arith, omega arith)
+
+-- what lies before the first lies before the second, where that starts no earlier
+lies_before_second : (a b x : ModuleSectionContribution) → a.section_index ≡ b.section_index → a.start_offset ≤ b.start_offset → LiesBefore x a → LiesBefore x b
+lies_before_second a b x same up (inl section) = inl (omega arith)
+lies_before_second a b x same up (inr one) = inr (omega (arith, one.0), omega (arith, one.1))
+
 -- what lies before or behind two that are joined lies so of the first
 clear_of_first : (a b x : ModuleSectionContribution) → IsClear (joined a b) x → IsClear a x
-clear_of_first a b x (inl (inl section)) = inl (inl section)
-clear_of_first a b x (inl (inr one)) = inl (inr (one.0, let e : max a.end_offset b.end_offset ≤ x.start_offset = one.1 in omega arith))
+clear_of_first a b x (inl lies) = inl (first_lies a b x lies)
 clear_of_first a b x (inr lies) = inr lies
 
 -- and of the second, where that starts no earlier
 clear_of_second : (a b x : ModuleSectionContribution) → is_same_module a b ≡ true → a.start_offset ≤ b.start_offset → IsClear (joined a b) x → IsClear b x
-clear_of_second a b x same up clear = by_side (same_parts a b same).0 clear where
-  by_side : a.section_index ≡ b.section_index → IsClear (joined a b) x → IsClear b x
-  by_side one (inl (inl section)) = let h : a.section_index < x.section_index = section in inl (inl (omega arith))
-  by_side one (inl (inr here)) = inl (inr (sym one ∙ here.0, let e : max a.end_offset b.end_offset ≤ x.start_offset = here.1 in omega arith))
-  by_side one (inr (inl section)) = let h : x.section_index < a.section_index = section in inr (inl (omega arith))
-  by_side one (inr (inr here)) = inr (inr (here.0 ∙ one, let e : x.end_offset ≤ a.start_offset = here.1 in omega arith))
+clear_of_second a b x same up (inl lies) = inl (second_lies a b x (same_parts a b same).0 lies)
+clear_of_second a b x same up (inr lies) = inr (lies_before_second a b x (same_parts a b same).0 up lies)
 
 -- two that are joined have a byte where the first has one
 joined_filled : (a b : ModuleSectionContribution) → IsFilled a → IsFilled (joined a b)
@@ -194,3 +207,120 @@ intervals_behind c (m ∷ ms) up = behind_with (intervals_of ms) (intervals_behi
     by_test : (t : Bool) → AllByRecursion (StartsBehind c) (cond t (joined m x ∷ xs) (m ∷ x ∷ xs))
     by_test true = (up.0, rest.1)
     by_test false = (up.0, rest)
+
+-- what holds of one put in and of the others holds of each
+all_of_put : (P : ModuleSectionContribution → Type 0) (x : ModuleSectionContribution) (ys : List ModuleSectionContribution) → AllByRecursion P (put contribution_before x ys) → P x × AllByRecursion P ys
+all_of_put P x [] all = (all.0, tt)
+all_of_put P x (y ∷ ys) all = by_test (contribution_before y x) (all_of_put P x ys) all where
+  by_test : (t : Bool) → (AllByRecursion P (put contribution_before x ys) → P x × AllByRecursion P ys) → AllByRecursion P (cond t (y ∷ put contribution_before x ys) (x ∷ y ∷ ys)) → P x × (P y × AllByRecursion P ys)
+  by_test true rest here = let parts = rest here.1 in (parts.0, (here.0, parts.1))
+  by_test false rest here = here
+
+-- what holds of each in order holds of each
+all_of_order : (P : ModuleSectionContribution → Type 0) (xs : List ModuleSectionContribution) → AllByRecursion P (in_order contribution_before xs) → AllByRecursion P xs
+all_of_order P [] all = tt
+all_of_order P (x ∷ xs) all = let parts = all_of_put P x (in_order contribution_before xs) all in (parts.0, all_of_order P xs parts.1)
+
+-- runs that are apart lie each before or behind the others
+clear_of_apart : (ms : List ModuleSectionContribution) → AreApart ms → AreClear ms
+clear_of_apart [] apart = tt
+clear_of_apart (m ∷ ms) apart = (each (LiesBefore m) (IsClear m) ms (λ x lies. inl lies) apart.1, clear_of_apart ms apart.2)
+
+-- and so does one put in
+clear_of_put : (x : ModuleSectionContribution) (ys : List ModuleSectionContribution) → AreClear (put contribution_before x ys) → AllByRecursion (IsClear x) ys × AreClear ys
+clear_of_put x [] clear = (tt, tt)
+clear_of_put x (y ∷ ys) clear = by_test (contribution_before y x) (clear_of_put x ys) clear where
+  by_test : (t : Bool) → (AreClear (put contribution_before x ys) → AllByRecursion (IsClear x) ys × AreClear ys) → AreClear (cond t (y ∷ put contribution_before x ys) (x ∷ y ∷ ys)) → AllByRecursion (IsClear x) (y ∷ ys) × AreClear (y ∷ ys)
+  by_test true rest here =
+      let parts = all_of_put (IsClear y) x ys here.0 in
+      let behind = rest here.1 in
+      ((clear_back y x parts.0, behind.0), (parts.1, behind.1))
+  by_test false rest here = here
+
+-- what lies each before or behind the others in order does so in any order
+clear_of_order : (xs : List ModuleSectionContribution) → AreClear (in_order contribution_before xs) → AreClear xs
+clear_of_order [] clear = tt
+clear_of_order (x ∷ xs) clear =
+    let parts = clear_of_put x (in_order contribution_before xs) clear in
+    (all_of_order (IsClear x) xs parts.0, clear_of_order xs parts.1)
+
+-- intervals behind a claim are clear where those with it are
+clear_behind : (c : ModuleSectionContribution) (xs : List ModuleSectionContribution) → AllByRecursion (StartsBehind c) xs → AreClear (intervals_with c xs) → AreClear xs
+clear_behind c [] up clear = tt
+clear_behind c (x ∷ xs) up clear = by_test (is_same_module c x) refl clear where
+  by_test : (t : Bool) → is_same_module c x ≡ t → AreClear (cond t (joined c x ∷ xs) (c ∷ x ∷ xs)) → AreClear (x ∷ xs)
+  by_test true same here = (each (IsClear (joined c x)) (IsClear x) xs (λ y. clear_of_second c x y same (up.0 same)) here.0, here.1)
+  by_test false other here = here.1
+
+-- and a claim is clear of the others then
+clear_of_others : (c : ModuleSectionContribution) (xs : List ModuleSectionContribution) → AreClear (intervals_with c xs) → AllByRecursion (IsClearOfOther c) xs
+clear_of_others c [] clear = tt
+clear_of_others c (x ∷ xs) clear = by_test (is_same_module c x) refl clear where
+  by_test : (t : Bool) → is_same_module c x ≡ t → AreClear (cond t (joined c x ∷ xs) (c ∷ x ∷ xs)) → AllByRecursion (IsClearOfOther c) (x ∷ xs)
+  by_test true same here = (λ other. absurd (cc), each (IsClear (joined c x)) (IsClearOfOther c) xs (λ y clear_y other. clear_of_first c x y clear_y) here.0)
+  by_test false other here = each (IsClear c) (IsClearOfOther c) (x ∷ xs) (λ y clear_y other. clear_y) here.0
+
+-- what is clear of the others with a claim is so of those behind it, where none of them starts earlier
+clear_of_others_behind : (c s : ModuleSectionContribution) (xs : List ModuleSectionContribution) → AllByRecursion (StartsBehind s) xs → AllByRecursion (IsClearOfOther c) (intervals_with s xs) → AllByRecursion (IsClearOfOther c) xs
+clear_of_others_behind c s [] up clear = tt
+clear_of_others_behind c s (x ∷ xs) up clear = by_test (is_same_module s x) refl clear where
+  by_test : (t : Bool) → is_same_module s x ≡ t → AllByRecursion (IsClearOfOther c) (cond t (joined s x ∷ xs) (s ∷ x ∷ xs)) → AllByRecursion (IsClearOfOther c) (x ∷ xs)
+  by_test true same here =
+      (λ other. clear_back x c (clear_of_second s x c same (up.0 same) (clear_back c (joined s x) (here.0 (same_of_alike s x c same ∙ other)))), here.1)
+  by_test false other here = here.1
+
+-- intervals in order with a claim: joined with the first one of its module and section, or else put in its place
+abbrev pub with_claim : ModuleSectionContribution → List ModuleSectionContribution → List ModuleSectionContribution
+with_claim c [] = c ∷ []
+with_claim c (x ∷ xs) =
+    if is_same_module c x then joined c x ∷ xs
+    else if contribution_before x c then x ∷ with_claim c xs
+    else c ∷ x ∷ xs
+
+-- where it joins none, it is put in its place
+put_is_with : (c : ModuleSectionContribution) (xs : List ModuleSectionContribution) → AllByRecursion (IsOther c) xs → put contribution_before c xs ≡ with_claim c xs
+put_is_with c [] others = refl
+put_is_with c (x ∷ xs) others = by_test (contribution_before x c) refl (put_is_with c xs others.1) where
+  by_test : (t : Bool) → contribution_before x c ≡ t → put contribution_before c xs ≡ with_claim c xs → put contribution_before c (x ∷ xs) ≡ with_claim c (x ∷ xs)
+  by_test true is rest = rw (others.0, is, rest) refl
+  by_test false is rest = rw (others.0, is) refl
+
+-- where it joins one, the joined one has the place of that
+put_joined : (c r : ModuleSectionContribution) (xs : List ModuleSectionContribution) → is_same_module c r ≡ true → c.start_offset ≤ r.start_offset → IsFilled c → IsFilled r → AllByRecursion IsFilled xs → AllByRecursion (IsOther c) xs → AllByRecursion (IsClear (joined c r)) xs → put contribution_before (joined c r) xs ≡ with_claim c (put contribution_before r xs)
+put_joined c r [] same up filled filled_r filled_xs others clear = rw same refl
+put_joined c r (x ∷ xs) same up filled filled_r filled_xs others clear =
+    by_side clear.0 (put_joined c r xs same up filled filled_r filled_xs.1 others.1 clear.1)
+  where
+    section : c.section_index ≡ r.section_index
+    section = (same_parts c r same).0
+
+    by_side : IsClear (joined c r) x → put contribution_before (joined c r) xs ≡ with_claim c (put contribution_before r xs) → put contribution_before (joined c r) (x ∷ xs) ≡ with_claim c (put contribution_before r (x ∷ xs))
+    by_side (inl lies) rest =
+        let one = behind_when_lies (joined c r) x (joined_filled c r filled) lies in
+        let other = behind_when_lies r x filled_r (second_lies c r x section lies) in
+        rw (one, other, same) refl
+    by_side (inr lies) rest =
+        let one = before_when_lies x (joined c r) filled_xs.0 lies in
+        let first = before_when_lies x c filled_xs.0 lies in
+        let second = before_when_lies x r filled_xs.0 (lies_before_second c r x section up lies) in
+        rw (one, second, others.0, first, rest) refl
+
+-- the intervals with one more claim, in order, are those in order with that claim
+pub in_order_with : (c : ModuleSectionContribution) (xs : List ModuleSectionContribution) → IsFilled c → AllByRecursion IsFilled xs → AllByRecursion (StartsBehind c) xs → AreOnly (intervals_with c xs) → AreClear (intervals_with c xs) → in_order contribution_before (intervals_with c xs) ≡ with_claim c (in_order contribution_before xs)
+in_order_with c [] filled filled_xs up only clear = refl
+in_order_with c (x ∷ xs) filled filled_xs up only clear = by_test (is_same_module c x) refl only clear where
+  by_test : (t : Bool) → is_same_module c x ≡ t → AreOnly (cond t (joined c x ∷ xs) (c ∷ x ∷ xs)) → AreClear (cond t (joined c x ∷ xs) (c ∷ x ∷ xs)) → in_order contribution_before (cond t (joined c x ∷ xs) (c ∷ x ∷ xs)) ≡ with_claim c (in_order contribution_before (x ∷ xs))
+  by_test true same only_here clear_here =
+      put_joined c x (in_order contribution_before xs) same (up.0 same) filled filled_xs.0 (
+      all_in_order contribution_before IsFilled xs filled_xs.1) (
+      all_in_order contribution_before (IsOther c) xs only_here.0) (
+      all_in_order contribution_before (IsClear (joined c x)) xs clear_here.0)
+  by_test false other only_here clear_here =
+      put_is_with c (in_order contribution_before (x ∷ xs)) (all_in_order contribution_before (IsOther c) (x ∷ xs) only_here.0)
+
+-- a claim that comes before no other of its section joins the first interval, or stands before it
+pub in_front : (c x : ModuleSectionContribution) (xs : List ModuleSectionContribution) → IsFilled x → contribution_before x c ≡ false → intervals_with c (x ∷ xs) ≡ with_claim c (x ∷ xs)
+in_front c x xs filled behind = by_test (is_same_module c x) refl where
+  by_test : (t : Bool) → is_same_module c x ≡ t → intervals_with c (x ∷ xs) ≡ with_claim c (x ∷ xs)
+  by_test true same = rw same refl
+  by_test false other = rw (other, behind) refl
