@@ -1,6 +1,6 @@
 -- The intervals of claims in order are the intervals in order, where joining in reading order loses nothing.
 use Rattle.std.proofs.Common.{◌≡◌, ◌∙◌, ◌<◌, ◌≤◌, ℕ, Bool, true, false, cond, List, [], ◌∷◌, Option, Some, None, Ok, Result, refl, sym, ap, inl, inr, arith}
-use Rattle.std.specs.Prelude.{◌⊎◌, ⊤, nat_lt, max, if◌then◌else◌}
+use Rattle.std.specs.Prelude.{◌⊎◌, ⊤, nat_lt, max, option_map, if◌then◌else◌}
 use Rattle.std.specs.List.{AllByRecursion}
 use Rattle.std.specs.Ordering.{nat_cmp, ordering_then, is_lt, MatchOrdering}
 use Rattle.std.specs.declared.cmp.Ordering.{Ordering}
@@ -8,15 +8,19 @@ use Rattle.std.specs.declared.cmp.Ordering.TheVariants.{Less, Equal, Greater}
 use Rattle.std.proofs.lemmas.Cmp.{ranked}
 use Rattle.pdb_records.specs.declared.addresses.ImageSectionHeader.{ImageSectionHeader}
 use Rattle.pdb_records.specs.declared.debug_information.DebugInformation.{DebugInformation}
+use Rattle.pdb_records.specs.declared.error.Error.TheVariants.{Stream}
+use Rattle.pdb_types.specs.declared.error.Error.{Error}
+use Rattle.pdb_types.specs.declared.error.Error.TheVariants.{PdbError}
+use Rattle.pdb_types.specs.Outcomes.{first_refusal, unless}
 use Rattle.pdb_functions.specs.declared.contributions.ModuleSectionContribution.{ModuleSectionContribution}
 use Rattle.pdb_ranges.specs.InOrder.{put, in_order}
-use Rattle.pdb_functions.specs.Contributions.{is_same_module, contribution_before, intervals_with, intervals_of}
-use Rattle.pdb_functions.specs.ContributionRuns.{AreOnly}
+use Rattle.pdb_functions.specs.Contributions.{claims, is_same_module, refused_ends, contribution_before, intervals_with, intervals_of, overlap_after, merged_contributions}
+use Rattle.pdb_functions.specs.ContributionRuns.{AreOnly, StartsNeverFall, runs_after, refusal_after, run_refusal, merged_by_runs}
 use Rattle.pdb_functions.specs.Laws.{IsFilled, LiesBefore, AreApart}
 use Rattle.pdb_ranges.proofs.SortLemmas.{Rises, rises_in_order}
 use Rattle.pdb_ranges.proofs.NumberLemmas.{cases_lt}
-use Rattle.pdb_functions.proofs.ContributionLemmas.{contributions_rank}
-use Rattle.pdb_functions.proofs.RunLemmas.{same_parts, same_alike, same_of_alike, same_itself, same_back, all_in_order, joins_other, IsNoEarlier, NeighboursNeverFall}
+use Rattle.pdb_functions.proofs.ContributionLemmas.{contributions_rank, both_accepted, apart_from_order}
+use Rattle.pdb_functions.proofs.RunLemmas.{same_parts, same_alike, same_of_alike, same_back, all_in_order, claims_filled, unless_accepted, joins_other, all_runs_are_intervals, neither_refused, ends_accepted, IsNoEarlier, NeighboursNeverFall, never_fall}
 
 -- what follows of each element holds of each
 pub each : {T : Type 0} (P Q : T → Type 0) (xs : List T) → ((x : T) → P x → Q x) → AllByRecursion P xs → AllByRecursion Q xs
@@ -108,6 +112,13 @@ NoneFalls (m ∷ ms) = AllByRecursion (IsNoEarlier m) ms × NoneFalls ms
 clear_back : (a b : ModuleSectionContribution) → IsClear a b → IsClear b a
 clear_back a b (inl lies) = inr lies
 clear_back a b (inr lies) = inl lies
+
+-- what is of another module or section than one, that is so of the other
+other_back : (a b : ModuleSectionContribution) → is_same_module a b ≡ false → is_same_module b a ≡ false
+other_back a b other = by_test (is_same_module b a) refl where
+  by_test : (t : Bool) → is_same_module b a ≡ t → is_same_module b a ≡ false
+  by_test true same = let e = same_back b a same in absurd (cc)
+  by_test false apart = apart
 
 -- one that joins another, up to the greater end
 abbrev pub joined : ModuleSectionContribution → ModuleSectionContribution → ModuleSectionContribution
@@ -318,9 +329,122 @@ in_order_with c (x ∷ xs) filled filled_xs up only clear = by_test (is_same_mod
   by_test false other only_here clear_here =
       put_is_with c (in_order contribution_before (x ∷ xs)) (all_in_order contribution_before (IsOther c) (x ∷ xs) only_here.0)
 
--- a claim that comes before no other of its section joins the first interval, or stands before it
-pub in_front : (c x : ModuleSectionContribution) (xs : List ModuleSectionContribution) → IsFilled x → contribution_before x c ≡ false → intervals_with c (x ∷ xs) ≡ with_claim c (x ∷ xs)
-in_front c x xs filled behind = by_test (is_same_module c x) refl where
-  by_test : (t : Bool) → is_same_module c x ≡ t → intervals_with c (x ∷ xs) ≡ with_claim c (x ∷ xs)
-  by_test true same = rw same refl
-  by_test false other = rw (other, behind) refl
+-- where a claim comes no later than another, it joins the first interval with that, or stands in front of all
+in_front : (c s : ModuleSectionContribution) (xs : List ModuleSectionContribution) → IsFilled c → IsFilled s → contribution_before s c ≡ false → AllByRecursion (IsClearOfOther c) (intervals_with s xs) → intervals_with c (intervals_with s xs) ≡ with_claim c (intervals_with s xs)
+in_front c s xs filled filled_s behind clear = by_list xs clear where
+  -- what lies before the claim starts before it
+  lies_after : (q : ModuleSectionContribution) → IsFilled q → q.section_index ≡ s.section_index → q.start_offset ≡ s.start_offset → LiesBefore q c → contribution_before s c ≡ true
+  lies_after q filled_q one start (inl section) = starts_before s c (inl (omega arith))
+  lies_after q filled_q one start (inr here) = starts_before s c (inr (omega (arith, here.0), omega (arith, here.1)))
+
+  head_behind : (q : ModuleSectionContribution) → IsFilled q → q.section_index ≡ s.section_index → q.start_offset ≡ s.start_offset → IsClear c q → contribution_before q c ≡ false
+  head_behind q filled_q one start (inl lies) = behind_when_lies c q filled lies
+  head_behind q filled_q one start (inr lies) = let e = lies_after q filled_q one start lies in absurd (cc)
+
+  at_head : (q : ModuleSectionContribution) (qs : List ModuleSectionContribution) → IsFilled q → q.section_index ≡ s.section_index → q.start_offset ≡ s.start_offset → IsClearOfOther c q → intervals_with c (q ∷ qs) ≡ with_claim c (q ∷ qs)
+  at_head q qs filled_q one start clear_q = by_test (is_same_module c q) refl where
+    by_test : (t : Bool) → is_same_module c q ≡ t → intervals_with c (q ∷ qs) ≡ with_claim c (q ∷ qs)
+    by_test true same = rw same refl
+    by_test false other = let e = head_behind q filled_q one start (clear_q other) in rw (other, e) refl
+
+  by_list : (ys : List ModuleSectionContribution) → AllByRecursion (IsClearOfOther c) (intervals_with s ys) → intervals_with c (intervals_with s ys) ≡ with_claim c (intervals_with s ys)
+  by_list [] clear_here = at_head s [] filled_s refl refl clear_here.0
+  by_list (y ∷ ys) clear_here = by_test (is_same_module s y) clear_here where
+    by_test : (t : Bool) → AllByRecursion (IsClearOfOther c) (cond t (joined s y ∷ ys) (s ∷ y ∷ ys)) → intervals_with c (cond t (joined s y ∷ ys) (s ∷ y ∷ ys)) ≡ with_claim c (cond t (joined s y ∷ ys) (s ∷ y ∷ ys))
+    by_test true clear_first = at_head (joined s y) ys (joined_filled s y filled_s) refl refl clear_first.0
+    by_test false clear_first = at_head s (y ∷ ys) filled_s refl refl clear_first.0
+
+-- it does not matter which of two claims comes to the intervals first, where they are not of one module and section
+further_back : (c s : ModuleSectionContribution) (xs : List ModuleSectionContribution) → IsFilled c → IsFilled s → AllByRecursion IsFilled xs → contribution_before s c ≡ true → is_same_module c s ≡ false → AllByRecursion (IsClearOfOther c) (intervals_with s xs) → intervals_with s (with_claim c xs) ≡ with_claim c (intervals_with s xs)
+further_back c s [] filled filled_s filled_xs ahead other clear = let back = other_back c s other in rw (back, other, ahead) refl
+further_back c s (x ∷ xs) filled filled_s filled_xs ahead other clear = by_test (is_same_module s x) refl clear where
+  back : is_same_module s c ≡ false
+  back = other_back c s other
+
+  -- the joined interval lies before the claim
+  lies_first : IsClear c (joined s x) → LiesBefore (joined s x) c
+  lies_first (inr lies) = lies
+  lies_first (inl lies) = let e : contribution_before s c ≡ false = behind_when_lies c s filled lies in absurd (cc)
+
+  by_tests : (one ahead_x : Bool) → is_same_module s x ≡ false → intervals_with s (cond one (joined c x ∷ xs) (cond ahead_x (x ∷ with_claim c xs) (c ∷ x ∷ xs))) ≡ s ∷ cond one (joined c x ∷ xs) (cond ahead_x (x ∷ with_claim c xs) (c ∷ x ∷ xs))
+  by_tests true ahead_x apart = rw back refl
+  by_tests false true apart = rw apart refl
+  by_tests false false apart = rw back refl
+
+  by_test : (t : Bool) → is_same_module s x ≡ t → AllByRecursion (IsClearOfOther c) (cond t (joined s x ∷ xs) (s ∷ x ∷ xs)) → intervals_with s (with_claim c (x ∷ xs)) ≡ with_claim c (intervals_with s (x ∷ xs))
+  by_test true same clear_here =
+      let lies = lies_first (clear_here.0 other) in
+      let other_x : is_same_module c x ≡ false = sym (same_of_alike s x c same) ∙ other in
+      let first = before_when_lies (joined s x) c (joined_filled s x filled_s) lies in
+      let second = before_when_lies x c filled_xs.0 (second_lies s x c (same_parts s x same).0 lies) in
+      rw (same, other_x, second, same, other, first) refl
+  by_test false apart clear_here = rw (apart, other, ahead) (by_tests (is_same_module c x) (contribution_before x c) apart)
+
+-- the intervals of claims in order with one more are theirs with that claim
+pub intervals_of_put : (c : ModuleSectionContribution) (ss : List ModuleSectionContribution) → IsFilled c → AllByRecursion IsFilled ss → Rises contribution_before ss → AllByRecursion (IsNoEarlier c) ss → AllByRecursion (IsClearOfOther c) (intervals_of ss) → intervals_of (put contribution_before c ss) ≡ with_claim c (intervals_of ss)
+intervals_of_put c [] filled filled_ss rises up clear = refl
+intervals_of_put c (s ∷ ss) filled filled_ss rises up clear =
+    by_test (contribution_before s c) refl (λ (h : AllByRecursion (IsClearOfOther c) (intervals_of ss)). intervals_of_put c ss filled filled_ss.1 rises.1 up.1 h)
+  where
+    is_other : (t : Bool) → is_same_module c s ≡ t → contribution_before s c ≡ true → is_same_module c s ≡ false
+    is_other true same ahead = let e = not_before c s same (up.0 same).0 (up.0 same).1 in absurd (cc)
+    is_other false other ahead = other
+
+    behind_s : AllByRecursion (StartsBehind s) (intervals_of ss)
+    behind_s = intervals_behind s ss (each (λ x. contribution_before x s ≡ false) (StartsBehind s) ss (λ x. starts_behind s x) rises.0)
+
+    by_test : (t : Bool) → contribution_before s c ≡ t → (AllByRecursion (IsClearOfOther c) (intervals_of ss) → intervals_of (put contribution_before c ss) ≡ with_claim c (intervals_of ss)) → intervals_of (cond t (s ∷ put contribution_before c ss) (c ∷ s ∷ ss)) ≡ with_claim c (intervals_of (s ∷ ss))
+    by_test true ahead rest =
+        ap (intervals_with s) (rest (clear_of_others_behind c s (intervals_of ss) behind_s clear))
+        ∙ further_back c s (intervals_of ss) filled filled_ss.0 (intervals_filled ss filled_ss.1) ahead (is_other (is_same_module c s) refl ahead) clear
+    by_test false behind rest = in_front c s (intervals_of ss) filled filled_ss.0 behind clear
+
+-- the intervals of claims in order are their intervals in order, where each is the only one of its module and section,
+-- none falls, and none overlaps another
+pub intervals_in_order : (ms : List ModuleSectionContribution) → AllByRecursion IsFilled ms → NoneFalls ms → AreOnly (intervals_of ms) → AreClear (intervals_of ms) → intervals_of (in_order contribution_before ms) ≡ in_order contribution_before (intervals_of ms)
+intervals_in_order [] filled up only clear = refl
+intervals_in_order (m ∷ ms) filled up only clear =
+    from_rest (intervals_in_order ms filled.1 up.1 (only_behind m (intervals_of ms) only) (clear_behind m (intervals_of ms) behind clear))
+  where
+    behind : AllByRecursion (StartsBehind m) (intervals_of ms)
+    behind = intervals_behind m ms (each (IsNoEarlier m) (StartsBehind m) ms (λ x later same. (later same).0) up.0)
+
+    clear_rest : AllByRecursion (IsClearOfOther m) (in_order contribution_before (intervals_of ms))
+    clear_rest = all_in_order contribution_before (IsClearOfOther m) (intervals_of ms) (clear_of_others m (intervals_of ms) clear)
+
+    from_rest : intervals_of (in_order contribution_before ms) ≡ in_order contribution_before (intervals_of ms) → intervals_of (in_order contribution_before (m ∷ ms)) ≡ in_order contribution_before (intervals_of (m ∷ ms))
+    from_rest rest =
+        intervals_of_put m (in_order contribution_before ms) filled.0 (all_in_order contribution_before IsFilled ms filled.1) (
+        rises_in_order contributions_rank ms) (all_in_order contribution_before (IsNoEarlier m) ms up.0) (rw rest clear_rest)
+        ∙ (ap (with_claim m) rest
+        ∙ sym (in_order_with m (intervals_of ms) filled.0 (intervals_filled ms filled.1) behind only clear))
+
+-- runs in order of which none overlaps the next lie each before or behind the others
+pub clear_of_accepted : (ms : List ModuleSectionContribution) → AllByRecursion IsFilled ms → overlap_after None (in_order contribution_before ms) ≡ None → AreClear ms
+clear_of_accepted ms filled accepted = clear_of_order ms (of_order (in_order contribution_before ms) (all_in_order contribution_before IsFilled ms filled) (rises_in_order contributions_rank ms) accepted) where
+  of_order : (xs : List ModuleSectionContribution) → AllByRecursion IsFilled xs → Rises contribution_before xs → overlap_after None xs ≡ None → AreClear xs
+  of_order [] full rises apart = tt
+  of_order (x ∷ xs) full rises apart = clear_of_apart (x ∷ xs) (apart_from_order x xs full.0 full.1 rises apart)
+
+-- an answer is another's where nothing is refused and the lists are the same
+same_answer : (refusal : Option Error) (xs ys table : List ModuleSectionContribution) → refusal ≡ None → xs ≡ ys → unless (overlap_after None ys) (Ok ys) ≡ Ok table → unless refusal (unless (overlap_after None xs) (Ok xs)) ≡ Ok table
+same_answer refusal xs ys table none same is = rw (none, same) is
+
+-- where joining in reading order refuses nothing, no module comes back in a section and starts never fall, the merged
+-- contributions are the same
+pub in_reading_order_stay : (sections : List ImageSectionHeader) (debug : DebugInformation) (table : List ModuleSectionContribution) → merged_by_runs sections debug ≡ Ok table → AreOnly (runs_after None (claims sections debug.section_contributions.items)) → StartsNeverFall (claims sections debug.section_contributions.items) → merged_contributions sections debug ≡ Ok table
+in_reading_order_stay sections debug table is only starts =
+    let cs = claims sections debug.section_contributions.items in
+    let runs = in_order contribution_before (runs_after None cs) in
+    let fault : Option Error = option_map (λ fault. PdbError (Stream fault)) debug.section_contributions.fault in
+    let reading = unless_accepted (run_refusal sections debug) (unless (overlap_after None runs) (Ok runs)) table is in
+    let overlap = unless_accepted (overlap_after None runs) (Ok runs) table reading.1 in
+    let parts = both_accepted (refusal_after None cs) fault reading.0 in
+    let are : runs_after None cs ≡ intervals_of cs = all_runs_are_intervals cs parts.0 in
+    let filled = claims_filled sections debug.section_contributions.items in
+    let only_intervals : AreOnly (intervals_of cs) = rw (← are) only in
+    let falls = none_falls cs only_intervals (never_fall cs parts.0 starts) in
+    let clear = clear_of_accepted (intervals_of cs) (intervals_filled cs filled) (rw (← are) overlap.0) in
+    same_answer (first_refusal (refused_ends cs) fault) (intervals_of (in_order contribution_before cs)) runs table (
+    neither_refused (refused_ends cs) fault (ends_accepted cs parts.0) parts.1) (
+    intervals_in_order cs filled falls only_intervals clear ∙ ap (in_order contribution_before) (sym are)) reading.1
