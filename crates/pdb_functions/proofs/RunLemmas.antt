@@ -1,42 +1,49 @@
 -- Claims joined in reading order, and the same claims joined as the intervals of a list.
-use Rattle.std.proofs.Common.{◌≡◌, ◌∙◌, ◌+◌, ◌<◌, ◌≤◌, ℕ, Bool, true, false, cond, List, [], ◌∷◌, ◌++◌, map, Option, Some, None, Ok, Result, refl, sym, ap, inl, inr, arith}
-use Rattle.std.specs.Prelude.{◌⊎◌, ⊤, nat_lt, filter, max, ◌==◌, ◌&&◌}
+use Rattle.std.proofs.Common.{◌≡◌, ◌∙◌, ◌+◌, ◌<◌, ◌≤◌, ℕ, Bool, true, false, cond, List, [], ◌∷◌, ◌++◌, map, Option}
+use Rattle.std.proofs.Common.{Some, None, Ok, Result, refl, sym, ap, inl, inr, arith}
+use Rattle.std.specs.Prelude.{◌⊎◌, ⊤, nat_lt, filter, max}
 use Rattle.std.specs.List.{AllByRecursion}
 use Rattle.std.proofs.lemmas.Bool.Decides.{nat_tests}
 use Rattle.pdb_records.specs.declared.addresses.ImageSectionHeader.{ImageSectionHeader}
 use Rattle.pdb_records.specs.declared.debug_information.SectionContribution.{SectionContribution}
 use Rattle.pdb_types.specs.declared.error.Error.{Error}
 use Rattle.pdb_functions.specs.declared.contributions.ModuleSectionContribution.{ModuleSectionContribution}
-use Rattle.pdb_ranges.specs.InOrder.{put, in_order}
+use Rattle.pdb_ranges.specs.InOrder.{in_order}
 use Rattle.pdb_types.specs.Outcomes.{first_refusal, unless}
-use Rattle.pdb_functions.specs.Contributions.{is_kept, claimed, claims, is_same_module, refused_end, refused_ends, intervals_with, intervals_of}
-use Rattle.pdb_functions.specs.ContributionRuns.{run_with, run_ended, runs_after, refused_order, refusal_after, AreOnly, StartsNeverFall}
+use Rattle.pdb_functions.specs.Contributions.{is_kept, claimed, claims, is_same_module, refused_end, refused_ends}
+use Rattle.pdb_functions.specs.Contributions.{intervals_with, intervals_of}
+use Rattle.pdb_functions.specs.ContributionRuns.{run_with, runs_after, refused_order, refusal_after, StartsNeverFall}
 use Rattle.pdb_functions.specs.Laws.{IsFilled}
 use Rattle.pdb_ranges.proofs.NumberLemmas.{cases_lt, eqb_same}
 use Rattle.pdb_ranges.proofs.SortLemmas.{all_put}
 use Rattle.pdb_functions.proofs.ContributionLemmas.{both_accepted}
 
 -- what holds of each element holds of each in order
-pub all_in_order : {T : Type 0} (before : T → T → Bool) (P : T → Type 0) (xs : List T) → AllByRecursion P xs → AllByRecursion P (in_order before xs)
+pub all_in_order : {T : Type 0} (before : T → T → Bool) (P : T → Type 0) (xs : List T) → AllByRecursion P xs
+    → AllByRecursion P (in_order before xs)
 all_in_order before P [] all = tt
 all_in_order before P (x ∷ xs) all = all_put before P x (in_order before xs) all.0 (all_in_order before P xs all.1)
 
 -- a contribution that counts claims a byte
-pub claims_filled : (sections : List ImageSectionHeader) (cs : List SectionContribution) → AllByRecursion IsFilled (claims sections cs)
+pub claims_filled : (sections : List ImageSectionHeader) (cs : List SectionContribution)
+    → AllByRecursion IsFilled (claims sections cs)
 claims_filled sections [] = tt
 claims_filled sections (c ∷ cs) = by_test (is_kept sections c) refl (claims_filled sections cs) where
   by_size : (is_kept sections c) ≡ true → c.offset.offset < c.offset.offset + c.size
   by_size kept = by_number (cases_lt 0 c.size) where
-    by_number : ((nat_lt 0 c.size ≡ true) × (0 < c.size)) ⊎ ((nat_lt 0 c.size ≡ false) × (c.size ≤ 0)) → c.offset.offset < c.offset.offset + c.size
+    by_number : ((nat_lt 0 c.size ≡ true) × (0 < c.size)) ⊎ ((nat_lt 0 c.size ≡ false) × (c.size ≤ 0))
+        → c.offset.offset < c.offset.offset + c.size
     by_number (inl some) = let h : 0 < c.size = some.1 in omega arith
     by_number (inr none) = let e = rw none.0 at kept in absurd (cc)
 
-  by_test : (t : Bool) → is_kept sections c ≡ t → AllByRecursion IsFilled (claims sections cs) → AllByRecursion IsFilled (map claimed (cond t (c ∷ filter (is_kept sections) cs) (filter (is_kept sections) cs)))
+  by_test : (t : Bool) → is_kept sections c ≡ t → AllByRecursion IsFilled (claims sections cs)
+      → AllByRecursion IsFilled (map claimed (cond t (c ∷ filter (is_kept sections) cs) (filter (is_kept sections) cs)))
   by_test true kept rest = (by_size kept, rest)
   by_test false dropped rest = rest
 
 -- an answer that is no refusal comes after none
-pub unless_accepted : {A : Type 0} (refusal : Option Error) (answer : Result A Error) (value : A) → unless refusal answer ≡ Ok value → (refusal ≡ None) × (answer ≡ Ok value)
+pub unless_accepted : {A : Type 0} (refusal : Option Error) (answer : Result A Error) (value : A)
+    → unless refusal answer ≡ Ok value → (refusal ≡ None) × (answer ≡ Ok value)
 unless_accepted None answer value is = (refl, is)
 unless_accepted (Some e) answer value is = absurd (cc)
 
@@ -45,15 +52,18 @@ pub same_value : {A : Type 0} (x y : A) → (let answer : Result A Error = Ok x 
 same_value x y is = cc
 
 -- two of one module and section have one section and one module
-pub same_parts : (a b : ModuleSectionContribution) → is_same_module a b ≡ true → (a.section_index ≡ b.section_index) × (a.module_index ≡ b.module_index)
+pub same_parts : (a b : ModuleSectionContribution) → is_same_module a b ≡ true
+    → (a.section_index ≡ b.section_index) × (a.module_index ≡ b.module_index)
 same_parts a b same = (grind (arith, nat_tests), grind (arith, nat_tests))
 
 -- two of one module and section are so of the same others
-pub same_alike : (a b c : ModuleSectionContribution) → is_same_module a b ≡ true → is_same_module a c ≡ is_same_module b c
+pub same_alike : (a b c : ModuleSectionContribution) → is_same_module a b ≡ true
+    → is_same_module a c ≡ is_same_module b c
 same_alike a b c same = let parts = same_parts a b same in rw (parts.0, parts.1) refl
 
 -- and others are of theirs
-pub same_of_alike : (a b c : ModuleSectionContribution) → is_same_module a b ≡ true → is_same_module c a ≡ is_same_module c b
+pub same_of_alike : (a b c : ModuleSectionContribution) → is_same_module a b ≡ true
+    → is_same_module c a ≡ is_same_module c b
 same_of_alike a b c same = let parts = same_parts a b same in rw (parts.0, parts.1) refl
 
 -- each is of its own module and section
@@ -69,25 +79,34 @@ max_over : (a b c : ℕ) → max (max a b) c ≡ max a (max b c)
 max_over a b c = grind arith
 
 -- where the second of two is of the first one's module and section, both join to one up to the greater end
-pub joins_same : (run m : ModuleSectionContribution) (xs : List ModuleSectionContribution) → is_same_module run m ≡ true → intervals_with run (intervals_with m xs) ≡ intervals_with (record run { end_offset = max run.end_offset m.end_offset }) xs
+pub joins_same : (run m : ModuleSectionContribution) (xs : List ModuleSectionContribution) → is_same_module run m ≡ true
+    → intervals_with run (intervals_with m xs)
+    ≡ intervals_with (record run { end_offset = max run.end_offset m.end_offset }) xs
 joins_same run m [] same = rw same refl
 joins_same run m (x ∷ xs) same = by_test (is_same_module m x) refl where
-  by_test : (t : Bool) → is_same_module m x ≡ t → intervals_with run (intervals_with m (x ∷ xs)) ≡ intervals_with (record run { end_offset = max run.end_offset m.end_offset }) (x ∷ xs)
+  by_test : (t : Bool) → is_same_module m x ≡ t
+      → intervals_with run (intervals_with m (x ∷ xs))
+      ≡ intervals_with (record run { end_offset = max run.end_offset m.end_offset }) (x ∷ xs)
   by_test true one = rw (one, same_alike run m x same, one, same, max_over run.end_offset m.end_offset x.end_offset) refl
   by_test false other = rw (other, same_alike run m x same, other, same) refl
 
 -- where it isn't, the first is an interval of its own
-pub joins_other : (run m : ModuleSectionContribution) (xs : List ModuleSectionContribution) → is_same_module run m ≡ false → intervals_with run (intervals_with m xs) ≡ run ∷ intervals_with m xs
+pub joins_other : (run m : ModuleSectionContribution) (xs : List ModuleSectionContribution)
+    → is_same_module run m ≡ false → intervals_with run (intervals_with m xs) ≡ run ∷ intervals_with m xs
 joins_other run m [] other = rw other refl
 joins_other run m (x ∷ xs) other = by_test (is_same_module m x) refl where
-  by_test : (t : Bool) → is_same_module m x ≡ t → intervals_with run (intervals_with m (x ∷ xs)) ≡ run ∷ intervals_with m (x ∷ xs)
+  by_test : (t : Bool) → is_same_module m x ≡ t
+      → intervals_with run (intervals_with m (x ∷ xs)) ≡ run ∷ intervals_with m (x ∷ xs)
   by_test true one = rw (one, other) refl
   by_test false apart = rw (apart, other) refl
 
 -- a claim that goes on with a run, and is not refused, ends no earlier
-pub ends_no_earlier : (run claim : ModuleSectionContribution) → is_same_module run claim ≡ true → refused_order (Some run) claim ≡ None → run.end_offset ≤ claim.end_offset
+pub ends_no_earlier : (run claim : ModuleSectionContribution) → is_same_module run claim ≡ true
+    → refused_order (Some run) claim ≡ None → run.end_offset ≤ claim.end_offset
 ends_no_earlier run claim same accepted = by_test (cases_lt claim.end_offset run.end_offset) where
-  by_test : ((nat_lt claim.end_offset run.end_offset ≡ true) × (claim.end_offset < run.end_offset)) ⊎ ((nat_lt claim.end_offset run.end_offset ≡ false) × (run.end_offset ≤ claim.end_offset)) → run.end_offset ≤ claim.end_offset
+  by_test : ((nat_lt claim.end_offset run.end_offset ≡ true) × (claim.end_offset < run.end_offset))
+      ⊎ ((nat_lt claim.end_offset run.end_offset ≡ false) × (run.end_offset ≤ claim.end_offset))
+      → run.end_offset ≤ claim.end_offset
   by_test (inl less) = let e = rw (same, less.0) at accepted in absurd (cc)
   by_test (inr more) = more.1
 
@@ -102,14 +121,16 @@ pub record IsAccepted (run claim : ModuleSectionContribution) (claims : List Mod
   pub behind : refusal_after (Some (run_with (Some run) claim)) claims ≡ None
 
 -- no refusal of several claims is none of the first and none behind it
-pub is_accepted : (run claim : ModuleSectionContribution) (claims : List ModuleSectionContribution) → refusal_after (Some run) (claim ∷ claims) ≡ None → IsAccepted run claim claims
+pub is_accepted : (run claim : ModuleSectionContribution) (claims : List ModuleSectionContribution)
+    → refusal_after (Some run) (claim ∷ claims) ≡ None → IsAccepted run claim claims
 is_accepted run claim claims accepted =
     let ends = both_accepted (refused_end claim) (first_refusal (refused_order (Some run) claim) (refusal_after (Some (run_with (Some run) claim)) claims)) accepted in
     let orders = both_accepted (refused_order (Some run) claim) (refusal_after (Some (run_with (Some run) claim)) claims) ends.1 in
     record { end = ends.0; order = orders.0; behind = orders.1 }
 
 -- where nothing is refused, the runs behind an open one are the intervals of it and what follows
-pub runs_are_intervals : (run : ModuleSectionContribution) (ms : List ModuleSectionContribution) → refusal_after (Some run) ms ≡ None → runs_after (Some run) ms ≡ intervals_of (run ∷ ms)
+pub runs_are_intervals : (run : ModuleSectionContribution) (ms : List ModuleSectionContribution)
+    → refusal_after (Some run) ms ≡ None → runs_after (Some run) ms ≡ intervals_of (run ∷ ms)
 runs_are_intervals run [] accepted = refl
 runs_are_intervals run (m ∷ ms) accepted =
     let a = is_accepted run m ms accepted in
@@ -124,7 +145,8 @@ runs_are_intervals run (m ∷ ms) accepted =
     by_test false other order rest = ap (λ (xs : List ModuleSectionContribution). run ∷ xs) rest ∙ sym (joins_other run m (intervals_of ms) other)
 
 -- where nothing is refused, the runs of claims are their intervals
-pub all_runs_are_intervals : (ms : List ModuleSectionContribution) → refusal_after None ms ≡ None → runs_after None ms ≡ intervals_of ms
+pub all_runs_are_intervals : (ms : List ModuleSectionContribution) → refusal_after None ms ≡ None
+    → runs_after None ms ≡ intervals_of ms
 all_runs_are_intervals [] accepted = refl
 all_runs_are_intervals (m ∷ ms) accepted = runs_are_intervals m ms (both_accepted (refused_end m) (refusal_after (Some m) ms) accepted).1
 
@@ -134,7 +156,8 @@ neither_refused None b none is = is
 neither_refused (Some e) b none is = none
 
 -- where nothing is refused, no end is
-pub ends_accepted_behind : (run : ModuleSectionContribution) (ms : List ModuleSectionContribution) → refusal_after (Some run) ms ≡ None → refused_ends ms ≡ None
+pub ends_accepted_behind : (run : ModuleSectionContribution) (ms : List ModuleSectionContribution)
+    → refusal_after (Some run) ms ≡ None → refused_ends ms ≡ None
 ends_accepted_behind run [] accepted = refl
 ends_accepted_behind run (m ∷ ms) accepted =
     let a = is_accepted run m ms accepted in
@@ -158,14 +181,18 @@ NeighboursNeverFall (claim ∷ []) = ⊤
 NeighboursNeverFall (claim ∷ next ∷ claims) = IsNoEarlier claim next × NeighboursNeverFall (next ∷ claims)
 
 -- a run goes on with a claim as the claim's, up to its end
-pub goes_on : (run m : ModuleSectionContribution) → (is_same_module (run_with (Some run) m) m ≡ true) × ((run_with (Some run) m).end_offset ≡ m.end_offset)
+pub goes_on : (run m : ModuleSectionContribution)
+    → (is_same_module (run_with (Some run) m) m ≡ true) × ((run_with (Some run) m).end_offset ≡ m.end_offset)
 goes_on run m = by_test (is_same_module run m) refl where
-  by_test : (t : Bool) → is_same_module run m ≡ t → (is_same_module (cond t (record run { end_offset = m.end_offset }) m) m ≡ true) × ((cond t (record run { end_offset = m.end_offset }) m).end_offset ≡ m.end_offset)
+  by_test : (t : Bool) → is_same_module run m ≡ t
+      → (is_same_module (cond t (record run { end_offset = m.end_offset }) m) m ≡ true) × ((cond t (record run { end_offset = m.end_offset }) m).end_offset ≡ m.end_offset)
   by_test true same = (same, refl)
   by_test false other = (same_itself m, refl)
 
 -- where nothing is refused and starts never fall, neighbours never fall behind an open run
-pub never_fall_behind : (run before : ModuleSectionContribution) (ms : List ModuleSectionContribution) → is_same_module run before ≡ true → run.end_offset ≡ before.end_offset → refusal_after (Some run) ms ≡ None → StartsNeverFall (before ∷ ms) → NeighboursNeverFall (before ∷ ms)
+pub never_fall_behind : (run before : ModuleSectionContribution) (ms : List ModuleSectionContribution)
+    → is_same_module run before ≡ true → run.end_offset ≡ before.end_offset → refusal_after (Some run) ms ≡ None
+    → StartsNeverFall (before ∷ ms) → NeighboursNeverFall (before ∷ ms)
 never_fall_behind run before [] one end accepted starts = tt
 never_fall_behind run before (m ∷ ms) one end accepted starts =
     let a = is_accepted run m ms accepted in
@@ -178,6 +205,7 @@ never_fall_behind run before (m ∷ ms) one end accepted starts =
         omega (arith, end)
 
 -- where nothing is refused and starts never fall, neighbours never fall
-pub never_fall : (ms : List ModuleSectionContribution) → refusal_after None ms ≡ None → StartsNeverFall ms → NeighboursNeverFall ms
+pub never_fall : (ms : List ModuleSectionContribution) → refusal_after None ms ≡ None → StartsNeverFall ms
+    → NeighboursNeverFall ms
 never_fall [] accepted starts = tt
 never_fall (m ∷ ms) accepted starts = never_fall_behind m m ms (same_itself m) refl (both_accepted (refused_end m) (refusal_after (Some m) ms) accepted).1 starts
