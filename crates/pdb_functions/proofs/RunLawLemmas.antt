@@ -4,6 +4,7 @@ use Rattle.std.proofs.Common.{sym, ap, inl, inr, arith}
 use Rattle.std.specs.Prelude.{◌⊎◌, ⊤, nat_lt, max, option_map, if◌then◌else◌}
 use Rattle.std.specs.List.{AllByRecursion}
 use Rattle.std.specs.Ordering.{nat_cmp, ordering_then, is_lt, MatchOrdering}
+use Rattle.std.specs.Cmp.{nat_cmp_is}
 use Rattle.std.specs.declared.cmp.Ordering.{Ordering}
 use Rattle.std.specs.declared.cmp.Ordering.TheVariants.{Less, Equal, Greater}
 use Rattle.std.proofs.lemmas.Cmp.{ranked}
@@ -33,29 +34,6 @@ pub each : {T : Type 0} (P Q : T → Type 0) (xs : List T) → ((x : T) → P x 
 each P Q [] so all = tt
 each P Q (x ∷ xs) so all = (so x all.0, each P Q xs so all.1)
 
--- what starts before another, or stands in a section before, comes before it
-pub starts_before : (a b : ModuleSectionContribution)
-    → (a.section_index < b.section_index) ⊎ ((a.section_index ≡ b.section_index) × (a.start_offset < b.start_offset))
-    → contribution_before a b ≡ true
-starts_before a b starts = by_section (nat_cmp a.section_index b.section_index) refl (ranked a.section_index b.section_index (nat_cmp a.section_index b.section_index) refl) starts where
-  by_start : (o : Ordering) → nat_cmp a.start_offset b.start_offset ≡ o
-      → nat_cmp a.section_index b.section_index ≡ Equal
-      → MatchOrdering o (a.start_offset < b.start_offset) (a.start_offset ≡ b.start_offset) (b.start_offset < a.start_offset)
-      → a.start_offset < b.start_offset → contribution_before a b ≡ true
-  by_start Less is one fact less = rw (one, is) refl
-  by_start Equal is one fact less = absurd (omega (arith, fact))
-  by_start Greater is one fact less = absurd (omega (arith, fact))
-
-  by_section : (o : Ordering) → nat_cmp a.section_index b.section_index ≡ o
-      → MatchOrdering o (a.section_index < b.section_index) (a.section_index ≡ b.section_index) (b.section_index < a.section_index)
-      → (a.section_index < b.section_index) ⊎ ((a.section_index ≡ b.section_index) × (a.start_offset < b.start_offset))
-      → contribution_before a b ≡ true
-  by_section Less is fact starts = rw is refl
-  by_section Equal is fact (inl less) = absurd (omega (arith, fact))
-  by_section Equal is fact (inr start) = by_start (nat_cmp a.start_offset b.start_offset) refl is (ranked a.start_offset b.start_offset (nat_cmp a.start_offset b.start_offset) refl) start.1
-  by_section Greater is fact (inl less) = absurd (omega (arith, fact))
-  by_section Greater is fact (inr start) = absurd (omega (arith, fact, start.0))
-
 -- a number is not below one that is no greater
 not_below : (x y : ℕ) → y ≤ x → is_lt (nat_cmp x y) ≡ false
 not_below x y up = by_order (nat_cmp x y) refl (ranked x y (nat_cmp x y) refl) where
@@ -63,6 +41,16 @@ not_below x y up = by_order (nat_cmp x y) refl (ranked x y (nat_cmp x y) refl) w
   by_order Less is fact = absurd (omega (arith, fact))
   by_order Equal is fact = rw is refl
   by_order Greater is fact = rw is refl
+
+-- what starts before another, or stands in a section before, comes before it
+pub starts_before : (a b : ModuleSectionContribution)
+    → (a.section_index < b.section_index) ⊎ ((a.section_index ≡ b.section_index) × (a.start_offset < b.start_offset))
+    → contribution_before a b ≡ true
+starts_before a b (inl section) = rw (← nat_cmp_is a.section_index b.section_index Less section) refl
+starts_before a b (inr start) =
+    let section = nat_cmp_is a.section_index b.section_index Equal start.0 in
+    let offset = nat_cmp_is a.start_offset b.start_offset Less start.1 in
+    rw (← section, ← offset) refl
 
 -- what isn't less at first nor behind it isn't less
 then_not_less : (o p : Ordering) → is_lt o ≡ false → is_lt p ≡ false → is_lt (ordering_then o p) ≡ false
@@ -79,12 +67,13 @@ not_before a b same start end =
     let module_index : a.module_index ≤ b.module_index = omega (arith, parts.1) in
     then_not_less (nat_cmp b.section_index a.section_index) _ (not_below b.section_index a.section_index section) (
     then_not_less (nat_cmp b.start_offset a.start_offset) _ (not_below b.start_offset a.start_offset start) (
-    then_not_less (nat_cmp b.end_offset a.end_offset) _ (not_below b.end_offset a.end_offset end) (not_below b.module_index a.module_index module_index)))
+    then_not_less (nat_cmp b.end_offset a.end_offset) _ (not_below b.end_offset a.end_offset end) (
+    not_below b.module_index a.module_index module_index)))
 
 -- what lies before another comes before it
 pub before_when_lies : (a b : ModuleSectionContribution) → IsFilled a → LiesBefore a b → contribution_before a b ≡ true
 before_when_lies a b filled (inl section) = starts_before a b (inl section)
-before_when_lies a b filled (inr one) = let end : a.end_offset ≤ b.start_offset = one.1 in starts_before a b (inr (one.0, omega arith))
+before_when_lies a b filled (inr one) = starts_before a b (inr (one.0, omega (arith, one.1)))
 
 -- and that does not come before it
 pub behind_when_lies : (a b : ModuleSectionContribution) → IsFilled a → LiesBefore a b → contribution_before b a ≡ false
@@ -145,7 +134,7 @@ joined a b = record a { end_offset = max a.end_offset b.end_offset }
 -- of two that are joined the first lies before what both do
 first_lies : (a b x : ModuleSectionContribution) → LiesBefore (joined a b) x → LiesBefore a x
 first_lies a b x (inl section) = inl section
-first_lies a b x (inr one) = let end : max a.end_offset b.end_offset ≤ x.start_offset = one.1 in inr (one.0, omega arith)
+first_lies a b x (inr one) = inr (one.0, omega (arith, one.1))
 
 -- and so does the second
 second_lies : (a b x : ModuleSectionContribution) → a.section_index ≡ b.section_index → LiesBefore (joined a b) x
@@ -204,7 +193,9 @@ other_with c m (x ∷ xs) others = by_test (is_same_module m x) refl others wher
 pub other_of_claims : (c : ModuleSectionContribution) (ms : List ModuleSectionContribution)
     → AllByRecursion (IsOther c) (intervals_of ms) → AllByRecursion (IsOther c) ms
 other_of_claims c [] others = tt
-other_of_claims c (m ∷ ms) others = let parts = other_with c m (intervals_of ms) others in (parts.0, other_of_claims c ms parts.1)
+other_of_claims c (m ∷ ms) others =
+    let parts = other_with c m (intervals_of ms) others in
+    (parts.0, other_of_claims c ms parts.1)
 
 -- where each interval is the only one of its module and section, so is each behind the first claim
 pub only_behind : (m : ModuleSectionContribution) (xs : List ModuleSectionContribution) → AreOnly (intervals_with m xs)
@@ -212,7 +203,8 @@ pub only_behind : (m : ModuleSectionContribution) (xs : List ModuleSectionContri
 only_behind m [] only = tt
 only_behind m (x ∷ xs) only = by_test (is_same_module m x) refl only where
   by_test : (t : Bool) → is_same_module m x ≡ t → AreOnly (cond t (joined m x ∷ xs) (m ∷ x ∷ xs)) → AreOnly (x ∷ xs)
-  by_test true same here = (each (IsOther m) (IsOther x) xs (λ y other. sym (same_alike m x y same) ∙ other) here.0, here.1)
+  by_test true same here =
+      (each (IsOther m) (IsOther x) xs (λ y other. sym (same_alike m x y same) ∙ other) here.0, here.1)
   by_test false other here = here.1
 
 -- where neighbours never fall and each interval is the only one of its module and section, no claim falls
@@ -234,8 +226,8 @@ none_falls (m ∷ n ∷ ns) only up =
         → AllByRecursion (IsNoEarlier m) (n ∷ ns)
     by_test true one above = (up.0, each (IsNoEarlier n) (IsNoEarlier m) ns (further one) above)
     by_test false other above =
-        let others : AllByRecursion (IsOther m) (n ∷ ns) = other_of_claims m (n ∷ ns) (rw (joins_other m n (intervals_of ns) other) at only).0 in
-        each (IsOther m) (IsNoEarlier m) (n ∷ ns) (λ x apart same. absurd (cc)) others
+        let others = (rw (joins_other m n (intervals_of ns) other) at only).0 in
+        each (IsOther m) (IsNoEarlier m) (n ∷ ns) (λ x apart same. absurd (cc)) (other_of_claims m (n ∷ ns) others)
 
 -- where claims of a module and section start no earlier, their intervals don't
 pub intervals_behind : (c : ModuleSectionContribution) (ms : List ModuleSectionContribution)
@@ -251,8 +243,8 @@ intervals_behind c (m ∷ ms) up = behind_with (intervals_of ms) (intervals_behi
     by_test false = (up.0, rest)
 
 -- what holds of one put in and of the others holds of each
-all_of_put : (P : ModuleSectionContribution → Type 0) (x : ModuleSectionContribution) (ys : List ModuleSectionContribution)
-    → AllByRecursion P (put contribution_before x ys) → P x × AllByRecursion P ys
+all_of_put : (P : ModuleSectionContribution → Type 0) (x : ModuleSectionContribution)
+    (ys : List ModuleSectionContribution) → AllByRecursion P (put contribution_before x ys) → P x × AllByRecursion P ys
 all_of_put P x [] all = (all.0, tt)
 all_of_put P x (y ∷ ys) all = by_test (contribution_before y x) (all_of_put P x ys) all where
   by_test : (t : Bool) → (AllByRecursion P (put contribution_before x ys) → P x × AllByRecursion P ys)
@@ -264,12 +256,15 @@ all_of_put P x (y ∷ ys) all = by_test (contribution_before y x) (all_of_put P 
 all_of_order : (P : ModuleSectionContribution → Type 0) (xs : List ModuleSectionContribution)
     → AllByRecursion P (in_order contribution_before xs) → AllByRecursion P xs
 all_of_order P [] all = tt
-all_of_order P (x ∷ xs) all = let parts = all_of_put P x (in_order contribution_before xs) all in (parts.0, all_of_order P xs parts.1)
+all_of_order P (x ∷ xs) all =
+    let parts = all_of_put P x (in_order contribution_before xs) all in
+    (parts.0, all_of_order P xs parts.1)
 
 -- runs that are apart lie each before or behind the others
 clear_of_apart : (ms : List ModuleSectionContribution) → AreApart ms → AreClear ms
 clear_of_apart [] apart = tt
-clear_of_apart (m ∷ ms) apart = (each (LiesBefore m) (IsClear m) ms (λ x lies. inl lies) apart.1, clear_of_apart ms apart.2)
+clear_of_apart (m ∷ ms) apart =
+    (each (LiesBefore m) (IsClear m) ms (λ x lies. inl lies) apart.1, clear_of_apart ms apart.2)
 
 -- and so does one put in
 clear_of_put : (x : ModuleSectionContribution) (ys : List ModuleSectionContribution)
@@ -298,7 +293,8 @@ clear_behind : (c : ModuleSectionContribution) (xs : List ModuleSectionContribut
 clear_behind c [] up clear = tt
 clear_behind c (x ∷ xs) up clear = by_test (is_same_module c x) refl clear where
   by_test : (t : Bool) → is_same_module c x ≡ t → AreClear (cond t (joined c x ∷ xs) (c ∷ x ∷ xs)) → AreClear (x ∷ xs)
-  by_test true same here = (each (IsClear (joined c x)) (IsClear x) xs (λ y. clear_of_second c x y same (up.0 same)) here.0, here.1)
+  by_test true same here =
+      (each (IsClear (joined c x)) (IsClear x) xs (λ y. clear_of_second c x y same (up.0 same)) here.0, here.1)
   by_test false other here = here.1
 
 -- and a claim is clear of the others then
@@ -308,7 +304,10 @@ clear_of_others c [] clear = tt
 clear_of_others c (x ∷ xs) clear = by_test (is_same_module c x) refl clear where
   by_test : (t : Bool) → is_same_module c x ≡ t → AreClear (cond t (joined c x ∷ xs) (c ∷ x ∷ xs))
       → AllByRecursion (IsClearOfOther c) (x ∷ xs)
-  by_test true same here = (λ other. absurd (cc), each (IsClear (joined c x)) (IsClearOfOther c) xs (λ y clear_y other. clear_of_first c x y clear_y) here.0)
+  by_test true same here =
+      let so = λ (y : ModuleSectionContribution) (clear_y : IsClear (joined c x) y) (other : is_same_module c y ≡ false).
+      clear_of_first c x y clear_y in
+      (λ other. absurd (cc), each (IsClear (joined c x)) (IsClearOfOther c) xs so here.0)
   by_test false other here = each (IsClear c) (IsClearOfOther c) (x ∷ xs) (λ y clear_y other. clear_y) here.0
 
 -- what is clear of the others with a claim is so of those behind it, where none of them starts earlier
@@ -320,8 +319,11 @@ clear_of_others_behind c s (x ∷ xs) up clear = by_test (is_same_module s x) re
   by_test : (t : Bool) → is_same_module s x ≡ t
       → AllByRecursion (IsClearOfOther c) (cond t (joined s x ∷ xs) (s ∷ x ∷ xs))
       → AllByRecursion (IsClearOfOther c) (x ∷ xs)
-  by_test true same here =
-      (λ other. clear_back x c (clear_of_second s x c same (up.0 same) (clear_back c (joined s x) (here.0 (same_of_alike s x c same ∙ other)))), here.1)
+  by_test true same here = (of_second, here.1) where
+    of_second : IsClearOfOther c x
+    of_second other =
+        let clear_first = here.0 (same_of_alike s x c same ∙ other) in
+        clear_back x c (clear_of_second s x c same (up.0 same) (clear_back c (joined s x) clear_first))
   by_test false other here = here.1
 
 -- intervals in order with a claim: joined with the first one of its module and section, or else put in its place
@@ -384,7 +386,8 @@ in_order_with c (x ∷ xs) filled filled_xs up only clear = by_test (is_same_mod
       all_in_order contribution_before (IsOther c) xs only_here.0) (
       all_in_order contribution_before (IsClear (joined c x)) xs clear_here.0)
   by_test false other only_here clear_here =
-      put_is_with c (in_order contribution_before (x ∷ xs)) (all_in_order contribution_before (IsOther c) (x ∷ xs) only_here.0)
+      put_is_with c (in_order contribution_before (x ∷ xs)) (
+      all_in_order contribution_before (IsOther c) (x ∷ xs) only_here.0)
 
 -- where a claim comes no later than another, it joins the first interval with that, or stands in front of all
 in_front : (c s : ModuleSectionContribution) (xs : List ModuleSectionContribution) → IsFilled c → IsFilled s
@@ -425,7 +428,7 @@ further_back : (c s : ModuleSectionContribution) (xs : List ModuleSectionContrib
     → AllByRecursion IsFilled xs → contribution_before s c ≡ true → is_same_module c s ≡ false
     → AllByRecursion (IsClearOfOther c) (intervals_with s xs)
     → intervals_with s (with_claim c xs) ≡ with_claim c (intervals_with s xs)
-further_back c s [] filled filled_s filled_xs ahead other clear = let back = other_back c s other in rw (back, other, ahead) refl
+further_back c s [] filled filled_s filled_xs ahead other clear = rw (other_back c s other, other, ahead) refl
 further_back c s (x ∷ xs) filled filled_s filled_xs ahead other clear = by_test (is_same_module s x) refl clear where
   back : is_same_module s c ≡ false
   back = other_back c s other
@@ -451,7 +454,8 @@ further_back c s (x ∷ xs) filled filled_s filled_xs ahead other clear = by_tes
       let first = before_when_lies (joined s x) c (joined_filled s x filled_s) lies in
       let second = before_when_lies x c filled_xs.0 (second_lies s x c (same_parts s x same).0 lies) in
       rw (same, other_x, second, same, other, first) refl
-  by_test false apart clear_here = rw (apart, other, ahead) (by_tests (is_same_module c x) (contribution_before x c) apart)
+  by_test false apart clear_here =
+      rw (apart, other, ahead) (by_tests (is_same_module c x) (contribution_before x c) apart)
 
 -- the intervals of claims in order with one more are theirs with that claim
 pub intervals_of_put : (c : ModuleSectionContribution) (ss : List ModuleSectionContribution) → IsFilled c
@@ -460,21 +464,25 @@ pub intervals_of_put : (c : ModuleSectionContribution) (ss : List ModuleSectionC
     → intervals_of (put contribution_before c ss) ≡ with_claim c (intervals_of ss)
 intervals_of_put c [] filled filled_ss rises up clear = refl
 intervals_of_put c (s ∷ ss) filled filled_ss rises up clear =
-    by_test (contribution_before s c) refl (λ (h : AllByRecursion (IsClearOfOther c) (intervals_of ss)). intervals_of_put c ss filled filled_ss.1 rises.1 up.1 h)
+    by_test (contribution_before s c) refl (intervals_of_put c ss filled filled_ss.1 rises.1 up.1)
   where
     is_other : (t : Bool) → is_same_module c s ≡ t → contribution_before s c ≡ true → is_same_module c s ≡ false
     is_other true same ahead = let e = not_before c s same (up.0 same).0 (up.0 same).1 in absurd (cc)
     is_other false other ahead = other
 
     behind_s : AllByRecursion (StartsBehind s) (intervals_of ss)
-    behind_s = intervals_behind s ss (each (λ x. contribution_before x s ≡ false) (StartsBehind s) ss (λ x. starts_behind s x) rises.0)
+    behind_s =
+        intervals_behind s ss (
+        each (λ x. contribution_before x s ≡ false) (StartsBehind s) ss (starts_behind s) rises.0)
 
     by_test : (t : Bool) → contribution_before s c ≡ t
-        → (AllByRecursion (IsClearOfOther c) (intervals_of ss) → intervals_of (put contribution_before c ss) ≡ with_claim c (intervals_of ss))
+        → (AllByRecursion (IsClearOfOther c) (intervals_of ss)
+        → intervals_of (put contribution_before c ss) ≡ with_claim c (intervals_of ss))
         → intervals_of (cond t (s ∷ put contribution_before c ss) (c ∷ s ∷ ss)) ≡ with_claim c (intervals_of (s ∷ ss))
     by_test true ahead rest =
+        let other = is_other (is_same_module c s) refl ahead in
         ap (intervals_with s) (rest (clear_of_others_behind c s (intervals_of ss) behind_s clear))
-        ∙ further_back c s (intervals_of ss) filled filled_ss.0 (intervals_filled ss filled_ss.1) ahead (is_other (is_same_module c s) refl ahead) clear
+        ∙ further_back c s (intervals_of ss) filled filled_ss.0 (intervals_filled ss filled_ss.1) ahead other clear
     by_test false behind rest = in_front c s (intervals_of ss) filled filled_ss.0 behind clear
 
 -- the intervals of claims in order are their intervals in order, where each is the only one of its module and section,
@@ -484,30 +492,39 @@ pub intervals_in_order : (ms : List ModuleSectionContribution) → AllByRecursio
     → intervals_of (in_order contribution_before ms) ≡ in_order contribution_before (intervals_of ms)
 intervals_in_order [] filled up only clear = refl
 intervals_in_order (m ∷ ms) filled up only clear =
-    from_rest (intervals_in_order ms filled.1 up.1 (only_behind m (intervals_of ms) only) (clear_behind m (intervals_of ms) behind clear))
+    let only_rest = only_behind m (intervals_of ms) only in
+    from_rest (intervals_in_order ms filled.1 up.1 only_rest (clear_behind m (intervals_of ms) behind clear))
   where
     behind : AllByRecursion (StartsBehind m) (intervals_of ms)
     behind = intervals_behind m ms (each (IsNoEarlier m) (StartsBehind m) ms (λ x later same. (later same).0) up.0)
 
     clear_rest : AllByRecursion (IsClearOfOther m) (in_order contribution_before (intervals_of ms))
-    clear_rest = all_in_order contribution_before (IsClearOfOther m) (intervals_of ms) (clear_of_others m (intervals_of ms) clear)
+    clear_rest =
+        all_in_order contribution_before (IsClearOfOther m) (intervals_of ms) (
+        clear_of_others m (intervals_of ms) clear)
 
     from_rest : intervals_of (in_order contribution_before ms) ≡ in_order contribution_before (intervals_of ms)
         → intervals_of (in_order contribution_before (m ∷ ms)) ≡ in_order contribution_before (intervals_of (m ∷ ms))
     from_rest rest =
-        intervals_of_put m (in_order contribution_before ms) filled.0 (all_in_order contribution_before IsFilled ms filled.1) (
-        rises_in_order contributions_rank ms) (all_in_order contribution_before (IsNoEarlier m) ms up.0) (rw rest clear_rest)
+        let filled_rest = all_in_order contribution_before IsFilled ms filled.1 in
+        let later = all_in_order contribution_before (IsNoEarlier m) ms up.0 in
+        intervals_of_put m (in_order contribution_before ms) filled.0 filled_rest (
+        rises_in_order contributions_rank ms) later (rw rest clear_rest)
         ∙ (ap (with_claim m) rest
         ∙ sym (in_order_with m (intervals_of ms) filled.0 (intervals_filled ms filled.1) behind only clear))
 
 -- runs in order of which none overlaps the next lie each before or behind the others
 pub clear_of_accepted : (ms : List ModuleSectionContribution) → AllByRecursion IsFilled ms
     → overlap_after None (in_order contribution_before ms) ≡ None → AreClear ms
-clear_of_accepted ms filled accepted = clear_of_order ms (of_order (in_order contribution_before ms) (all_in_order contribution_before IsFilled ms filled) (rises_in_order contributions_rank ms) accepted) where
-  of_order : (xs : List ModuleSectionContribution) → AllByRecursion IsFilled xs → Rises contribution_before xs
-      → overlap_after None xs ≡ None → AreClear xs
-  of_order [] full rises apart = tt
-  of_order (x ∷ xs) full rises apart = clear_of_apart (x ∷ xs) (apart_from_order x xs full.0 full.1 rises apart)
+clear_of_accepted ms filled accepted =
+    let filled_order = all_in_order contribution_before IsFilled ms filled in
+    let rises_order = rises_in_order contributions_rank ms in
+    clear_of_order ms (of_order (in_order contribution_before ms) filled_order rises_order accepted)
+  where
+    of_order : (xs : List ModuleSectionContribution) → AllByRecursion IsFilled xs → Rises contribution_before xs
+        → overlap_after None xs ≡ None → AreClear xs
+    of_order [] full rises apart = tt
+    of_order (x ∷ xs) full rises apart = clear_of_apart (x ∷ xs) (apart_from_order x xs full.0 full.1 rises apart)
 
 -- an answer is another's where nothing is refused and the lists are the same
 same_answer : (refusal : Option Error) (xs ys table : List ModuleSectionContribution) → refusal ≡ None → xs ≡ ys
@@ -517,8 +534,8 @@ same_answer refusal xs ys table none same is = rw (none, same) is
 
 -- where joining in reading order refuses nothing, no module comes back in a section and starts never fall, the merged
 -- contributions are the same
-pub in_reading_order_stay : (sections : List ImageSectionHeader) (debug : DebugInformation) (table : List ModuleSectionContribution)
-    → merged_by_runs sections debug ≡ Ok table
+pub in_reading_order_stay : (sections : List ImageSectionHeader) (debug : DebugInformation)
+    (table : List ModuleSectionContribution) → merged_by_runs sections debug ≡ Ok table
     → AreOnly (runs_after None (claims sections debug.section_contributions.items))
     → StartsNeverFall (claims sections debug.section_contributions.items)
     → merged_contributions sections debug ≡ Ok table

@@ -87,7 +87,8 @@ joins_same run m (x ∷ xs) same = by_test (is_same_module m x) refl where
   by_test : (t : Bool) → is_same_module m x ≡ t
       → intervals_with run (intervals_with m (x ∷ xs))
       ≡ intervals_with (record run { end_offset = max run.end_offset m.end_offset }) (x ∷ xs)
-  by_test true one = rw (one, same_alike run m x same, one, same, max_over run.end_offset m.end_offset x.end_offset) refl
+  by_test true one =
+      rw (one, same_alike run m x same, one, same, max_over run.end_offset m.end_offset x.end_offset) refl
   by_test false other = rw (other, same_alike run m x same, other, same) refl
 
 -- where it isn't, the first is an interval of its own
@@ -124,9 +125,15 @@ pub record IsAccepted (run claim : ModuleSectionContribution) (claims : List Mod
 pub is_accepted : (run claim : ModuleSectionContribution) (claims : List ModuleSectionContribution)
     → refusal_after (Some run) (claim ∷ claims) ≡ None → IsAccepted run claim claims
 is_accepted run claim claims accepted =
-    let ends = both_accepted (refused_end claim) (first_refusal (refused_order (Some run) claim) (refusal_after (Some (run_with (Some run) claim)) claims)) accepted in
-    let orders = both_accepted (refused_order (Some run) claim) (refusal_after (Some (run_with (Some run) claim)) claims) ends.1 in
+    let order = refused_order (Some run) claim in
+    let behind = refusal_after (Some (run_with (Some run) claim)) claims in
+    let ends = both_accepted (refused_end claim) (first_refusal order behind) accepted in
+    let orders = both_accepted order behind ends.1 in
     record { end = ends.0; order = orders.0; behind = orders.1 }
+
+-- a run that goes on to the end of a claim
+abbrev pub going_on : ModuleSectionContribution → ModuleSectionContribution → ModuleSectionContribution
+going_on run m = record run { end_offset = m.end_offset }
 
 -- where nothing is refused, the runs behind an open one are the intervals of it and what follows
 pub runs_are_intervals : (run : ModuleSectionContribution) (ms : List ModuleSectionContribution)
@@ -137,18 +144,22 @@ runs_are_intervals run (m ∷ ms) accepted =
     by_test (is_same_module run m) refl a.order (runs_are_intervals (run_with (Some run) m) ms a.behind)
   where
     by_test : (t : Bool) → is_same_module run m ≡ t → refused_order (Some run) m ≡ None
-        → runs_after (Some (cond t (record run { end_offset = m.end_offset }) m)) ms ≡ intervals_of (cond t (record run { end_offset = m.end_offset }) m ∷ ms)
-        → cond t [] (run ∷ []) ++ runs_after (Some (cond t (record run { end_offset = m.end_offset }) m)) ms ≡ intervals_of (run ∷ m ∷ ms)
+        → runs_after (Some (cond t (going_on run m) m)) ms ≡ intervals_of (cond t (going_on run m) m ∷ ms)
+        → cond t [] (run ∷ []) ++ runs_after (Some (cond t (going_on run m) m)) ms ≡ intervals_of (run ∷ m ∷ ms)
     by_test true same order rest =
-        let e : max run.end_offset m.end_offset ≡ m.end_offset = max_second run.end_offset m.end_offset (ends_no_earlier run m same order) in
+        let longer = ends_no_earlier run m same order in
+        let e : max run.end_offset m.end_offset ≡ m.end_offset = max_second run.end_offset m.end_offset longer in
         rest ∙ sym (rw e at (joins_same run m (intervals_of ms) same))
-    by_test false other order rest = ap (λ (xs : List ModuleSectionContribution). run ∷ xs) rest ∙ sym (joins_other run m (intervals_of ms) other)
+    by_test false other order rest =
+        ap (λ (xs : List ModuleSectionContribution). run ∷ xs) rest
+        ∙ sym (joins_other run m (intervals_of ms) other)
 
 -- where nothing is refused, the runs of claims are their intervals
 pub all_runs_are_intervals : (ms : List ModuleSectionContribution) → refusal_after None ms ≡ None
     → runs_after None ms ≡ intervals_of ms
 all_runs_are_intervals [] accepted = refl
-all_runs_are_intervals (m ∷ ms) accepted = runs_are_intervals m ms (both_accepted (refused_end m) (refusal_after (Some m) ms) accepted).1
+all_runs_are_intervals (m ∷ ms) accepted =
+    runs_are_intervals m ms (both_accepted (refused_end m) (refusal_after (Some m) ms) accepted).1
 
 -- where neither of two is a refusal there is none
 pub neither_refused : (a b : Option Error) → a ≡ None → b ≡ None → first_refusal a b ≡ None
@@ -185,7 +196,8 @@ pub goes_on : (run m : ModuleSectionContribution)
     → (is_same_module (run_with (Some run) m) m ≡ true) × ((run_with (Some run) m).end_offset ≡ m.end_offset)
 goes_on run m = by_test (is_same_module run m) refl where
   by_test : (t : Bool) → is_same_module run m ≡ t
-      → (is_same_module (cond t (record run { end_offset = m.end_offset }) m) m ≡ true) × ((cond t (record run { end_offset = m.end_offset }) m).end_offset ≡ m.end_offset)
+      → (is_same_module (cond t (going_on run m) m) m ≡ true)
+      × ((cond t (going_on run m) m).end_offset ≡ m.end_offset)
   by_test true same = (same, refl)
   by_test false other = (same_itself m, refl)
 
@@ -197,7 +209,8 @@ never_fall_behind run before [] one end accepted starts = tt
 never_fall_behind run before (m ∷ ms) one end accepted starts =
     let a = is_accepted run m ms accepted in
     let next = goes_on run m in
-    (λ same. (starts.0 same, ends_rise same a.order), never_fall_behind (run_with (Some run) m) m ms next.0 next.1 a.behind starts.1)
+    let rest = never_fall_behind (run_with (Some run) m) m ms next.0 next.1 a.behind starts.1 in
+    (λ same. (starts.0 same, ends_rise same a.order), rest)
   where
     ends_rise : is_same_module before m ≡ true → refused_order (Some run) m ≡ None → before.end_offset ≤ m.end_offset
     ends_rise same order =
@@ -208,4 +221,6 @@ never_fall_behind run before (m ∷ ms) one end accepted starts =
 pub never_fall : (ms : List ModuleSectionContribution) → refusal_after None ms ≡ None → StartsNeverFall ms
     → NeighboursNeverFall ms
 never_fall [] accepted starts = tt
-never_fall (m ∷ ms) accepted starts = never_fall_behind m m ms (same_itself m) refl (both_accepted (refused_end m) (refusal_after (Some m) ms) accepted).1 starts
+never_fall (m ∷ ms) accepted starts =
+    let behind = (both_accepted (refused_end m) (refusal_after (Some m) ms) accepted).1 in
+    never_fall_behind m m ms (same_itself m) refl behind starts
