@@ -47,10 +47,6 @@ pub unless_accepted : {A : Type 0} (refusal : Option Error) (answer : Result A E
 unless_accepted None answer value is = (refl, is)
 unless_accepted (Some e) answer value is = absurd (cc)
 
--- two equal answers have one value
-pub same_value : {A : Type 0} (x y : A) → (let answer : Result A Error = Ok x in answer) ≡ Ok y → x ≡ y
-same_value x y is = cc
-
 -- two of one module and section have one section and one module
 pub same_parts : (a b : ModuleSectionContribution) → is_same_module a b ≡ true
     → (a.section_index ≡ b.section_index) × (a.module_index ≡ b.module_index)
