@@ -10,6 +10,7 @@ pub mod OrderLemmas
 pub mod IntervalLemmas
 pub mod MergedLemmas
 pub mod RunLemmas
+pub mod RunLawLemmas
 pub mod FirstLemmas
 pub mod ProcedureLemmas
 pub mod ModuleInfoLemmas

@@ -1,0 +1,556 @@
+-- The intervals of claims in order are the intervals in order, where joining in reading order loses nothing.
+use Rattle.std.proofs.Common.{◌≡◌, ◌∙◌, ◌<◌, ◌≤◌, ℕ, Bool, true, false, cond, List, [], ◌∷◌, Option, None, Ok, refl}
+use Rattle.std.proofs.Common.{sym, ap, inl, inr, arith}
+use Rattle.std.specs.Prelude.{◌⊎◌, ⊤, nat_lt, max, option_map, if◌then◌else◌}
+use Rattle.std.specs.List.{AllByRecursion}
+use Rattle.std.specs.Ordering.{nat_cmp, ordering_then, is_lt, MatchOrdering}
+use Rattle.std.specs.Cmp.{nat_cmp_is}
+use Rattle.std.specs.declared.cmp.Ordering.{Ordering}
+use Rattle.std.specs.declared.cmp.Ordering.TheVariants.{Less, Equal, Greater}
+use Rattle.std.proofs.lemmas.Cmp.{ranked}
+use Rattle.pdb_records.specs.declared.addresses.ImageSectionHeader.{ImageSectionHeader}
+use Rattle.pdb_records.specs.declared.debug_information.DebugInformation.{DebugInformation}
+use Rattle.pdb_records.specs.declared.error.Error.TheVariants.{Stream}
+use Rattle.pdb_types.specs.declared.error.Error.{Error}
+use Rattle.pdb_types.specs.declared.error.Error.TheVariants.{PdbError}
+use Rattle.pdb_types.specs.Outcomes.{first_refusal, unless}
+use Rattle.pdb_functions.specs.declared.contributions.ModuleSectionContribution.{ModuleSectionContribution}
+use Rattle.pdb_ranges.specs.InOrder.{put, in_order}
+use Rattle.pdb_functions.specs.Contributions.{claims, is_same_module, refused_ends, contribution_before, intervals_with}
+use Rattle.pdb_functions.specs.Contributions.{intervals_of, overlap_after, merged_contributions}
+use Rattle.pdb_functions.specs.ContributionRuns.{AreOnly, StartsNeverFall, runs_after, refusal_after, run_refusal}
+use Rattle.pdb_functions.specs.ContributionRuns.{merged_by_runs}
+use Rattle.pdb_functions.specs.Laws.{IsFilled, LiesBefore, AreApart}
+use Rattle.pdb_ranges.proofs.SortLemmas.{Rises, rises_in_order}
+use Rattle.pdb_ranges.proofs.NumberLemmas.{cases_lt}
+use Rattle.pdb_functions.proofs.ContributionLemmas.{contributions_rank, both_accepted, apart_from_order}
+use Rattle.pdb_functions.proofs.RunLemmas.{same_parts, same_alike, same_of_alike, same_back, all_in_order}
+use Rattle.pdb_functions.proofs.RunLemmas.{claims_filled, unless_accepted, joins_other, all_runs_are_intervals}
+use Rattle.pdb_functions.proofs.RunLemmas.{neither_refused, ends_accepted, IsNoEarlier, NeighboursNeverFall, never_fall}
+
+-- what follows of each element holds of each
+pub each : {T : Type 0} (P Q : T → Type 0) (xs : List T) → ((x : T) → P x → Q x) → AllByRecursion P xs
+    → AllByRecursion Q xs
+each P Q [] so all = tt
+each P Q (x ∷ xs) so all = (so x all.0, each P Q xs so all.1)
+
+-- a number is not below one that is no greater
+not_below : (x y : ℕ) → y ≤ x → is_lt (nat_cmp x y) ≡ false
+not_below x y up = by_order (nat_cmp x y) refl (ranked x y (nat_cmp x y) refl) where
+  by_order : (o : Ordering) → nat_cmp x y ≡ o → MatchOrdering o (x < y) (x ≡ y) (y < x) → is_lt (nat_cmp x y) ≡ false
+  by_order Less is fact = absurd (omega (arith, fact))
+  by_order Equal is fact = rw is refl
+  by_order Greater is fact = rw is refl
+
+-- what starts before another, or stands in a section before, comes before it
+pub starts_before : (a b : ModuleSectionContribution)
+    → (a.section_index < b.section_index) ⊎ ((a.section_index ≡ b.section_index) × (a.start_offset < b.start_offset))
+    → contribution_before a b ≡ true
+starts_before a b (inl section) = rw (← nat_cmp_is a.section_index b.section_index Less section) refl
+starts_before a b (inr start) =
+    let section = nat_cmp_is a.section_index b.section_index Equal start.0 in
+    let offset = nat_cmp_is a.start_offset b.start_offset Less start.1 in
+    rw (← section, ← offset) refl
+
+-- what isn't less at first nor behind it isn't less
+then_not_less : (o p : Ordering) → is_lt o ≡ false → is_lt p ≡ false → is_lt (ordering_then o p) ≡ false
+then_not_less Less p first second = first
+then_not_less Equal p first second = second
+then_not_less Greater p first second = refl
+
+-- what starts and ends no earlier than one of its module and section does not come before it
+pub not_before : (a b : ModuleSectionContribution) → is_same_module a b ≡ true → a.start_offset ≤ b.start_offset
+    → a.end_offset ≤ b.end_offset → contribution_before b a ≡ false
+not_before a b same start end =
+    let parts = same_parts a b same in
+    let section : a.section_index ≤ b.section_index = omega (arith, parts.0) in
+    let module_index : a.module_index ≤ b.module_index = omega (arith, parts.1) in
+    then_not_less (nat_cmp b.section_index a.section_index) _ (not_below b.section_index a.section_index section) (
+    then_not_less (nat_cmp b.start_offset a.start_offset) _ (not_below b.start_offset a.start_offset start) (
+    then_not_less (nat_cmp b.end_offset a.end_offset) _ (not_below b.end_offset a.end_offset end) (
+    not_below b.module_index a.module_index module_index)))
+
+-- what lies before another comes before it
+pub before_when_lies : (a b : ModuleSectionContribution) → IsFilled a → LiesBefore a b → contribution_before a b ≡ true
+before_when_lies a b filled (inl section) = starts_before a b (inl section)
+before_when_lies a b filled (inr one) = starts_before a b (inr (one.0, omega (arith, one.1)))
+
+-- and that does not come before it
+pub behind_when_lies : (a b : ModuleSectionContribution) → IsFilled a → LiesBefore a b → contribution_before b a ≡ false
+behind_when_lies a b filled lies = contributions_rank.one_way a b (before_when_lies a b filled lies)
+
+-- what comes behind one of its module and section starts no earlier
+pub starts_behind : (a b : ModuleSectionContribution) → contribution_before b a ≡ false → is_same_module a b ≡ true
+    → a.start_offset ≤ b.start_offset
+starts_behind a b behind same = by_test (cases_lt b.start_offset a.start_offset) where
+  by_test : ((nat_lt b.start_offset a.start_offset ≡ true) × (b.start_offset < a.start_offset))
+      ⊎ ((nat_lt b.start_offset a.start_offset ≡ false) × (a.start_offset ≤ b.start_offset))
+      → a.start_offset ≤ b.start_offset
+  by_test (inl less) = let e = starts_before b a (inr (sym (same_parts a b same).0, less.1)) in absurd (cc)
+  by_test (inr more) = more.1
+
+-- it is of another module or section
+abbrev pub IsOther : ModuleSectionContribution → ModuleSectionContribution → Type 0
+IsOther a b = is_same_module a b ≡ false
+
+-- it starts no earlier, where it is of the module and section
+abbrev pub StartsBehind : ModuleSectionContribution → ModuleSectionContribution → Type 0
+StartsBehind a b = is_same_module a b ≡ true → a.start_offset ≤ b.start_offset
+
+-- one lies before the other
+abbrev pub IsClear : ModuleSectionContribution → ModuleSectionContribution → Type 0
+IsClear a b = LiesBefore a b ⊎ LiesBefore b a
+
+-- one lies before the other, where they are not of one module and section
+abbrev pub IsClearOfOther : ModuleSectionContribution → ModuleSectionContribution → Type 0
+IsClearOfOther a b = is_same_module a b ≡ false → IsClear a b
+
+-- each lies before or behind each that follows
+abbrev pub AreClear : List ModuleSectionContribution → Type 0
+AreClear [] = ⊤
+AreClear (m ∷ ms) = AllByRecursion (IsClear m) ms × AreClear ms
+
+-- none that follows is of one's module and section and starts or ends earlier
+abbrev pub NoneFalls : List ModuleSectionContribution → Type 0
+NoneFalls [] = ⊤
+NoneFalls (m ∷ ms) = AllByRecursion (IsNoEarlier m) ms × NoneFalls ms
+
+-- what lies before and behind is not changed by which is first
+clear_back : (a b : ModuleSectionContribution) → IsClear a b → IsClear b a
+clear_back a b (inl lies) = inr lies
+clear_back a b (inr lies) = inl lies
+
+-- what is of another module or section than one, that is so of the other
+other_back : (a b : ModuleSectionContribution) → is_same_module a b ≡ false → is_same_module b a ≡ false
+other_back a b other = by_test (is_same_module b a) refl where
+  by_test : (t : Bool) → is_same_module b a ≡ t → is_same_module b a ≡ false
+  by_test true same = let e = same_back b a same in absurd (cc)
+  by_test false apart = apart
+
+-- one that joins another, up to the greater end
+abbrev pub joined : ModuleSectionContribution → ModuleSectionContribution → ModuleSectionContribution
+joined a b = record a { end_offset = max a.end_offset b.end_offset }
+
+-- of two that are joined the first lies before what both do
+first_lies : (a b x : ModuleSectionContribution) → LiesBefore (joined a b) x → LiesBefore a x
+first_lies a b x (inl section) = inl section
+first_lies a b x (inr one) = inr (one.0, omega (arith, one.1))
+
+-- and so does the second
+second_lies : (a b x : ModuleSectionContribution) → a.section_index ≡ b.section_index → LiesBefore (joined a b) x
+    → LiesBefore b x
+second_lies a b x same (inl section) = let h : a.section_index < x.section_index = section in inl (omega arith)
+second_lies a b x same (inr one) =
+    let section : a.section_index ≡ x.section_index = one.0 in
+    let end : max a.end_offset b.end_offset ≤ x.start_offset = one.1 in
+    inr (omega arith, omega arith)
+
+-- what lies before the first lies before the second, where that starts no earlier
+lies_before_second : (a b x : ModuleSectionContribution) → a.section_index ≡ b.section_index
+    → a.start_offset ≤ b.start_offset → LiesBefore x a → LiesBefore x b
+lies_before_second a b x same up (inl section) = inl (omega arith)
+lies_before_second a b x same up (inr one) = inr (omega (arith, one.0), omega (arith, one.1))
+
+-- what lies before or behind two that are joined lies so of the first
+clear_of_first : (a b x : ModuleSectionContribution) → IsClear (joined a b) x → IsClear a x
+clear_of_first a b x (inl lies) = inl (first_lies a b x lies)
+clear_of_first a b x (inr lies) = inr lies
+
+-- and of the second, where that starts no earlier
+clear_of_second : (a b x : ModuleSectionContribution) → is_same_module a b ≡ true → a.start_offset ≤ b.start_offset
+    → IsClear (joined a b) x → IsClear b x
+clear_of_second a b x same up (inl lies) = inl (second_lies a b x (same_parts a b same).0 lies)
+clear_of_second a b x same up (inr lies) = inr (lies_before_second a b x (same_parts a b same).0 up lies)
+
+-- two that are joined have a byte where the first has one
+joined_filled : (a b : ModuleSectionContribution) → IsFilled a → IsFilled (joined a b)
+joined_filled a b filled = omega arith
+
+-- intervals of claims with bytes have bytes
+pub intervals_filled : (ms : List ModuleSectionContribution) → AllByRecursion IsFilled ms
+    → AllByRecursion IsFilled (intervals_of ms)
+intervals_filled [] filled = tt
+intervals_filled (m ∷ ms) filled = filled_with (intervals_of ms) (intervals_filled ms filled.1) where
+  filled_with : (xs : List ModuleSectionContribution) → AllByRecursion IsFilled xs
+      → AllByRecursion IsFilled (intervals_with m xs)
+  filled_with [] rest = (filled.0, tt)
+  filled_with (x ∷ xs) rest = by_test (is_same_module m x) where
+    by_test : (t : Bool) → AllByRecursion IsFilled (cond t (joined m x ∷ xs) (m ∷ x ∷ xs))
+    by_test true = (joined_filled m x filled.0, rest.1)
+    by_test false = (filled.0, rest)
+
+-- claims of other modules or sections than all intervals, one for one
+other_with : (c m : ModuleSectionContribution) (xs : List ModuleSectionContribution)
+    → AllByRecursion (IsOther c) (intervals_with m xs) → IsOther c m × AllByRecursion (IsOther c) xs
+other_with c m [] others = (others.0, tt)
+other_with c m (x ∷ xs) others = by_test (is_same_module m x) refl others where
+  by_test : (t : Bool) → is_same_module m x ≡ t → AllByRecursion (IsOther c) (cond t (joined m x ∷ xs) (m ∷ x ∷ xs))
+      → IsOther c m × (IsOther c x × AllByRecursion (IsOther c) xs)
+  by_test true same apart = (apart.0, (sym (same_of_alike m x c same) ∙ apart.0, apart.1))
+  by_test false other apart = apart
+
+-- what is of another module or section than all intervals is so of all claims
+pub other_of_claims : (c : ModuleSectionContribution) (ms : List ModuleSectionContribution)
+    → AllByRecursion (IsOther c) (intervals_of ms) → AllByRecursion (IsOther c) ms
+other_of_claims c [] others = tt
+other_of_claims c (m ∷ ms) others =
+    let parts = other_with c m (intervals_of ms) others in
+    (parts.0, other_of_claims c ms parts.1)
+
+-- where each interval is the only one of its module and section, so is each behind the first claim
+pub only_behind : (m : ModuleSectionContribution) (xs : List ModuleSectionContribution) → AreOnly (intervals_with m xs)
+    → AreOnly xs
+only_behind m [] only = tt
+only_behind m (x ∷ xs) only = by_test (is_same_module m x) refl only where
+  by_test : (t : Bool) → is_same_module m x ≡ t → AreOnly (cond t (joined m x ∷ xs) (m ∷ x ∷ xs)) → AreOnly (x ∷ xs)
+  by_test true same here =
+      (each (IsOther m) (IsOther x) xs (λ y other. sym (same_alike m x y same) ∙ other) here.0, here.1)
+  by_test false other here = here.1
+
+-- where neighbours never fall and each interval is the only one of its module and section, no claim falls
+pub none_falls : (ms : List ModuleSectionContribution) → AreOnly (intervals_of ms) → NeighboursNeverFall ms
+    → NoneFalls ms
+none_falls [] only up = tt
+none_falls (m ∷ []) only up = (tt, tt)
+none_falls (m ∷ n ∷ ns) only up =
+    let rest = none_falls (n ∷ ns) (only_behind m (intervals_of (n ∷ ns)) only) up.1 in
+    (by_test (is_same_module m n) refl rest.0, rest)
+  where
+    further : is_same_module m n ≡ true → (x : ModuleSectionContribution) → IsNoEarlier n x → IsNoEarlier m x
+    further one x above same =
+        let first = up.0 one in
+        let second = above (sym (same_alike m n x one) ∙ same) in
+        (omega (arith, first.0, second.0), omega (arith, first.1, second.1))
+
+    by_test : (t : Bool) → is_same_module m n ≡ t → AllByRecursion (IsNoEarlier n) ns
+        → AllByRecursion (IsNoEarlier m) (n ∷ ns)
+    by_test true one above = (up.0, each (IsNoEarlier n) (IsNoEarlier m) ns (further one) above)
+    by_test false other above =
+        let others = (rw (joins_other m n (intervals_of ns) other) at only).0 in
+        each (IsOther m) (IsNoEarlier m) (n ∷ ns) (λ x apart same. absurd (cc)) (other_of_claims m (n ∷ ns) others)
+
+-- where claims of a module and section start no earlier, their intervals don't
+pub intervals_behind : (c : ModuleSectionContribution) (ms : List ModuleSectionContribution)
+    → AllByRecursion (StartsBehind c) ms → AllByRecursion (StartsBehind c) (intervals_of ms)
+intervals_behind c [] up = tt
+intervals_behind c (m ∷ ms) up = behind_with (intervals_of ms) (intervals_behind c ms up.1) where
+  behind_with : (xs : List ModuleSectionContribution) → AllByRecursion (StartsBehind c) xs
+      → AllByRecursion (StartsBehind c) (intervals_with m xs)
+  behind_with [] rest = (up.0, tt)
+  behind_with (x ∷ xs) rest = by_test (is_same_module m x) where
+    by_test : (t : Bool) → AllByRecursion (StartsBehind c) (cond t (joined m x ∷ xs) (m ∷ x ∷ xs))
+    by_test true = (up.0, rest.1)
+    by_test false = (up.0, rest)
+
+-- what holds of one put in and of the others holds of each
+all_of_put : (P : ModuleSectionContribution → Type 0) (x : ModuleSectionContribution)
+    (ys : List ModuleSectionContribution) → AllByRecursion P (put contribution_before x ys) → P x × AllByRecursion P ys
+all_of_put P x [] all = (all.0, tt)
+all_of_put P x (y ∷ ys) all = by_test (contribution_before y x) (all_of_put P x ys) all where
+  by_test : (t : Bool) → (AllByRecursion P (put contribution_before x ys) → P x × AllByRecursion P ys)
+      → AllByRecursion P (cond t (y ∷ put contribution_before x ys) (x ∷ y ∷ ys)) → P x × (P y × AllByRecursion P ys)
+  by_test true rest here = let parts = rest here.1 in (parts.0, (here.0, parts.1))
+  by_test false rest here = here
+
+-- what holds of each in order holds of each
+all_of_order : (P : ModuleSectionContribution → Type 0) (xs : List ModuleSectionContribution)
+    → AllByRecursion P (in_order contribution_before xs) → AllByRecursion P xs
+all_of_order P [] all = tt
+all_of_order P (x ∷ xs) all =
+    let parts = all_of_put P x (in_order contribution_before xs) all in
+    (parts.0, all_of_order P xs parts.1)
+
+-- runs that are apart lie each before or behind the others
+clear_of_apart : (ms : List ModuleSectionContribution) → AreApart ms → AreClear ms
+clear_of_apart [] apart = tt
+clear_of_apart (m ∷ ms) apart =
+    (each (LiesBefore m) (IsClear m) ms (λ x lies. inl lies) apart.1, clear_of_apart ms apart.2)
+
+-- and so does one put in
+clear_of_put : (x : ModuleSectionContribution) (ys : List ModuleSectionContribution)
+    → AreClear (put contribution_before x ys) → AllByRecursion (IsClear x) ys × AreClear ys
+clear_of_put x [] clear = (tt, tt)
+clear_of_put x (y ∷ ys) clear = by_test (contribution_before y x) (clear_of_put x ys) clear where
+  by_test : (t : Bool) → (AreClear (put contribution_before x ys) → AllByRecursion (IsClear x) ys × AreClear ys)
+      → AreClear (cond t (y ∷ put contribution_before x ys) (x ∷ y ∷ ys))
+      → AllByRecursion (IsClear x) (y ∷ ys) × AreClear (y ∷ ys)
+  by_test true rest here =
+      let parts = all_of_put (IsClear y) x ys here.0 in
+      let behind = rest here.1 in
+      ((clear_back y x parts.0, behind.0), (parts.1, behind.1))
+  by_test false rest here = here
+
+-- what lies each before or behind the others in order does so in any order
+clear_of_order : (xs : List ModuleSectionContribution) → AreClear (in_order contribution_before xs) → AreClear xs
+clear_of_order [] clear = tt
+clear_of_order (x ∷ xs) clear =
+    let parts = clear_of_put x (in_order contribution_before xs) clear in
+    (all_of_order (IsClear x) xs parts.0, clear_of_order xs parts.1)
+
+-- intervals behind a claim are clear where those with it are
+clear_behind : (c : ModuleSectionContribution) (xs : List ModuleSectionContribution)
+    → AllByRecursion (StartsBehind c) xs → AreClear (intervals_with c xs) → AreClear xs
+clear_behind c [] up clear = tt
+clear_behind c (x ∷ xs) up clear = by_test (is_same_module c x) refl clear where
+  by_test : (t : Bool) → is_same_module c x ≡ t → AreClear (cond t (joined c x ∷ xs) (c ∷ x ∷ xs)) → AreClear (x ∷ xs)
+  by_test true same here =
+      (each (IsClear (joined c x)) (IsClear x) xs (λ y. clear_of_second c x y same (up.0 same)) here.0, here.1)
+  by_test false other here = here.1
+
+-- and a claim is clear of the others then
+clear_of_others : (c : ModuleSectionContribution) (xs : List ModuleSectionContribution) → AreClear (intervals_with c xs)
+    → AllByRecursion (IsClearOfOther c) xs
+clear_of_others c [] clear = tt
+clear_of_others c (x ∷ xs) clear = by_test (is_same_module c x) refl clear where
+  by_test : (t : Bool) → is_same_module c x ≡ t → AreClear (cond t (joined c x ∷ xs) (c ∷ x ∷ xs))
+      → AllByRecursion (IsClearOfOther c) (x ∷ xs)
+  by_test true same here =
+      let so = λ (y : ModuleSectionContribution) (clear_y : IsClear (joined c x) y) (other : is_same_module c y ≡ false).
+      clear_of_first c x y clear_y in
+      (λ other. absurd (cc), each (IsClear (joined c x)) (IsClearOfOther c) xs so here.0)
+  by_test false other here = each (IsClear c) (IsClearOfOther c) (x ∷ xs) (λ y clear_y other. clear_y) here.0
+
+-- what is clear of the others with a claim is so of those behind it, where none of them starts earlier
+clear_of_others_behind : (c s : ModuleSectionContribution) (xs : List ModuleSectionContribution)
+    → AllByRecursion (StartsBehind s) xs → AllByRecursion (IsClearOfOther c) (intervals_with s xs)
+    → AllByRecursion (IsClearOfOther c) xs
+clear_of_others_behind c s [] up clear = tt
+clear_of_others_behind c s (x ∷ xs) up clear = by_test (is_same_module s x) refl clear where
+  by_test : (t : Bool) → is_same_module s x ≡ t
+      → AllByRecursion (IsClearOfOther c) (cond t (joined s x ∷ xs) (s ∷ x ∷ xs))
+      → AllByRecursion (IsClearOfOther c) (x ∷ xs)
+  by_test true same here = (of_second, here.1) where
+    of_second : IsClearOfOther c x
+    of_second other =
+        let clear_first = here.0 (same_of_alike s x c same ∙ other) in
+        clear_back x c (clear_of_second s x c same (up.0 same) (clear_back c (joined s x) clear_first))
+  by_test false other here = here.1
+
+-- intervals in order with a claim: joined with the first one of its module and section, or else put in its place
+abbrev pub with_claim : ModuleSectionContribution → List ModuleSectionContribution → List ModuleSectionContribution
+with_claim c [] = c ∷ []
+with_claim c (x ∷ xs) =
+    if is_same_module c x then joined c x ∷ xs
+    else if contribution_before x c then x ∷ with_claim c xs
+    else c ∷ x ∷ xs
+
+-- where it joins none, it is put in its place
+put_is_with : (c : ModuleSectionContribution) (xs : List ModuleSectionContribution) → AllByRecursion (IsOther c) xs
+    → put contribution_before c xs ≡ with_claim c xs
+put_is_with c [] others = refl
+put_is_with c (x ∷ xs) others = by_test (contribution_before x c) refl (put_is_with c xs others.1) where
+  by_test : (t : Bool) → contribution_before x c ≡ t → put contribution_before c xs ≡ with_claim c xs
+      → put contribution_before c (x ∷ xs) ≡ with_claim c (x ∷ xs)
+  by_test true is rest = rw (others.0, is, rest) refl
+  by_test false is rest = rw (others.0, is) refl
+
+-- where it joins one, the joined one has the place of that
+put_joined : (c r : ModuleSectionContribution) (xs : List ModuleSectionContribution) → is_same_module c r ≡ true
+    → c.start_offset ≤ r.start_offset → IsFilled c → IsFilled r → AllByRecursion IsFilled xs
+    → AllByRecursion (IsOther c) xs → AllByRecursion (IsClear (joined c r)) xs
+    → put contribution_before (joined c r) xs ≡ with_claim c (put contribution_before r xs)
+put_joined c r [] same up filled filled_r filled_xs others clear = rw same refl
+put_joined c r (x ∷ xs) same up filled filled_r filled_xs others clear =
+    by_side clear.0 (put_joined c r xs same up filled filled_r filled_xs.1 others.1 clear.1)
+  where
+    section : c.section_index ≡ r.section_index
+    section = (same_parts c r same).0
+
+    by_side : IsClear (joined c r) x
+        → put contribution_before (joined c r) xs ≡ with_claim c (put contribution_before r xs)
+        → put contribution_before (joined c r) (x ∷ xs) ≡ with_claim c (put contribution_before r (x ∷ xs))
+    by_side (inl lies) rest =
+        let one = behind_when_lies (joined c r) x (joined_filled c r filled) lies in
+        let other = behind_when_lies r x filled_r (second_lies c r x section lies) in
+        rw (one, other, same) refl
+    by_side (inr lies) rest =
+        let one = before_when_lies x (joined c r) filled_xs.0 lies in
+        let first = before_when_lies x c filled_xs.0 lies in
+        let second = before_when_lies x r filled_xs.0 (lies_before_second c r x section up lies) in
+        rw (one, second, others.0, first, rest) refl
+
+-- the intervals with one more claim, in order, are those in order with that claim
+pub in_order_with : (c : ModuleSectionContribution) (xs : List ModuleSectionContribution) → IsFilled c
+    → AllByRecursion IsFilled xs → AllByRecursion (StartsBehind c) xs → AreOnly (intervals_with c xs)
+    → AreClear (intervals_with c xs)
+    → in_order contribution_before (intervals_with c xs) ≡ with_claim c (in_order contribution_before xs)
+in_order_with c [] filled filled_xs up only clear = refl
+in_order_with c (x ∷ xs) filled filled_xs up only clear = by_test (is_same_module c x) refl only clear where
+  by_test : (t : Bool) → is_same_module c x ≡ t → AreOnly (cond t (joined c x ∷ xs) (c ∷ x ∷ xs))
+      → AreClear (cond t (joined c x ∷ xs) (c ∷ x ∷ xs))
+      → in_order contribution_before (cond t (joined c x ∷ xs) (c ∷ x ∷ xs))
+      ≡ with_claim c (in_order contribution_before (x ∷ xs))
+  by_test true same only_here clear_here =
+      put_joined c x (in_order contribution_before xs) same (up.0 same) filled filled_xs.0 (
+      all_in_order contribution_before IsFilled xs filled_xs.1) (
+      all_in_order contribution_before (IsOther c) xs only_here.0) (
+      all_in_order contribution_before (IsClear (joined c x)) xs clear_here.0)
+  by_test false other only_here clear_here =
+      put_is_with c (in_order contribution_before (x ∷ xs)) (
+      all_in_order contribution_before (IsOther c) (x ∷ xs) only_here.0)
+
+-- where a claim comes no later than another, it joins the first interval with that, or stands in front of all
+in_front : (c s : ModuleSectionContribution) (xs : List ModuleSectionContribution) → IsFilled c → IsFilled s
+    → contribution_before s c ≡ false → AllByRecursion (IsClearOfOther c) (intervals_with s xs)
+    → intervals_with c (intervals_with s xs) ≡ with_claim c (intervals_with s xs)
+in_front c s xs filled filled_s behind clear = by_list xs clear where
+  -- what lies before the claim starts before it
+  lies_after : (q : ModuleSectionContribution) → IsFilled q → q.section_index ≡ s.section_index
+      → q.start_offset ≡ s.start_offset → LiesBefore q c → contribution_before s c ≡ true
+  lies_after q filled_q one start (inl section) = starts_before s c (inl (omega arith))
+  lies_after q filled_q one start (inr here) = starts_before s c (inr (omega (arith, here.0), omega (arith, here.1)))
+
+  head_behind : (q : ModuleSectionContribution) → IsFilled q → q.section_index ≡ s.section_index
+      → q.start_offset ≡ s.start_offset → IsClear c q → contribution_before q c ≡ false
+  head_behind q filled_q one start (inl lies) = behind_when_lies c q filled lies
+  head_behind q filled_q one start (inr lies) = let e = lies_after q filled_q one start lies in absurd (cc)
+
+  at_head : (q : ModuleSectionContribution) (qs : List ModuleSectionContribution) → IsFilled q
+      → q.section_index ≡ s.section_index → q.start_offset ≡ s.start_offset → IsClearOfOther c q
+      → intervals_with c (q ∷ qs) ≡ with_claim c (q ∷ qs)
+  at_head q qs filled_q one start clear_q = by_test (is_same_module c q) refl where
+    by_test : (t : Bool) → is_same_module c q ≡ t → intervals_with c (q ∷ qs) ≡ with_claim c (q ∷ qs)
+    by_test true same = rw same refl
+    by_test false other = let e = head_behind q filled_q one start (clear_q other) in rw (other, e) refl
+
+  by_list : (ys : List ModuleSectionContribution) → AllByRecursion (IsClearOfOther c) (intervals_with s ys)
+      → intervals_with c (intervals_with s ys) ≡ with_claim c (intervals_with s ys)
+  by_list [] clear_here = at_head s [] filled_s refl refl clear_here.0
+  by_list (y ∷ ys) clear_here = by_test (is_same_module s y) clear_here where
+    by_test : (t : Bool) → AllByRecursion (IsClearOfOther c) (cond t (joined s y ∷ ys) (s ∷ y ∷ ys))
+        → intervals_with c (cond t (joined s y ∷ ys) (s ∷ y ∷ ys))
+        ≡ with_claim c (cond t (joined s y ∷ ys) (s ∷ y ∷ ys))
+    by_test true clear_first = at_head (joined s y) ys (joined_filled s y filled_s) refl refl clear_first.0
+    by_test false clear_first = at_head s (y ∷ ys) filled_s refl refl clear_first.0
+
+-- it does not matter which of two claims comes to the intervals first, where they are not of one module and section
+further_back : (c s : ModuleSectionContribution) (xs : List ModuleSectionContribution) → IsFilled c → IsFilled s
+    → AllByRecursion IsFilled xs → contribution_before s c ≡ true → is_same_module c s ≡ false
+    → AllByRecursion (IsClearOfOther c) (intervals_with s xs)
+    → intervals_with s (with_claim c xs) ≡ with_claim c (intervals_with s xs)
+further_back c s [] filled filled_s filled_xs ahead other clear = rw (other_back c s other, other, ahead) refl
+further_back c s (x ∷ xs) filled filled_s filled_xs ahead other clear = by_test (is_same_module s x) refl clear where
+  back : is_same_module s c ≡ false
+  back = other_back c s other
+
+  -- the joined interval lies before the claim
+  lies_first : IsClear c (joined s x) → LiesBefore (joined s x) c
+  lies_first (inr lies) = lies
+  lies_first (inl lies) = let e : contribution_before s c ≡ false = behind_when_lies c s filled lies in absurd (cc)
+
+  by_tests : (one ahead_x : Bool) → is_same_module s x ≡ false
+      → intervals_with s (cond one (joined c x ∷ xs) (cond ahead_x (x ∷ with_claim c xs) (c ∷ x ∷ xs)))
+      ≡ s ∷ cond one (joined c x ∷ xs) (cond ahead_x (x ∷ with_claim c xs) (c ∷ x ∷ xs))
+  by_tests true ahead_x apart = rw back refl
+  by_tests false true apart = rw apart refl
+  by_tests false false apart = rw back refl
+
+  by_test : (t : Bool) → is_same_module s x ≡ t
+      → AllByRecursion (IsClearOfOther c) (cond t (joined s x ∷ xs) (s ∷ x ∷ xs))
+      → intervals_with s (with_claim c (x ∷ xs)) ≡ with_claim c (intervals_with s (x ∷ xs))
+  by_test true same clear_here =
+      let lies = lies_first (clear_here.0 other) in
+      let other_x : is_same_module c x ≡ false = sym (same_of_alike s x c same) ∙ other in
+      let first = before_when_lies (joined s x) c (joined_filled s x filled_s) lies in
+      let second = before_when_lies x c filled_xs.0 (second_lies s x c (same_parts s x same).0 lies) in
+      rw (same, other_x, second, same, other, first) refl
+  by_test false apart clear_here =
+      rw (apart, other, ahead) (by_tests (is_same_module c x) (contribution_before x c) apart)
+
+-- the intervals of claims in order with one more are theirs with that claim
+pub intervals_of_put : (c : ModuleSectionContribution) (ss : List ModuleSectionContribution) → IsFilled c
+    → AllByRecursion IsFilled ss → Rises contribution_before ss → AllByRecursion (IsNoEarlier c) ss
+    → AllByRecursion (IsClearOfOther c) (intervals_of ss)
+    → intervals_of (put contribution_before c ss) ≡ with_claim c (intervals_of ss)
+intervals_of_put c [] filled filled_ss rises up clear = refl
+intervals_of_put c (s ∷ ss) filled filled_ss rises up clear =
+    by_test (contribution_before s c) refl (intervals_of_put c ss filled filled_ss.1 rises.1 up.1)
+  where
+    is_other : (t : Bool) → is_same_module c s ≡ t → contribution_before s c ≡ true → is_same_module c s ≡ false
+    is_other true same ahead = let e = not_before c s same (up.0 same).0 (up.0 same).1 in absurd (cc)
+    is_other false other ahead = other
+
+    behind_s : AllByRecursion (StartsBehind s) (intervals_of ss)
+    behind_s =
+        intervals_behind s ss (
+        each (λ x. contribution_before x s ≡ false) (StartsBehind s) ss (starts_behind s) rises.0)
+
+    by_test : (t : Bool) → contribution_before s c ≡ t
+        → (AllByRecursion (IsClearOfOther c) (intervals_of ss)
+        → intervals_of (put contribution_before c ss) ≡ with_claim c (intervals_of ss))
+        → intervals_of (cond t (s ∷ put contribution_before c ss) (c ∷ s ∷ ss)) ≡ with_claim c (intervals_of (s ∷ ss))
+    by_test true ahead rest =
+        let other = is_other (is_same_module c s) refl ahead in
+        ap (intervals_with s) (rest (clear_of_others_behind c s (intervals_of ss) behind_s clear))
+        ∙ further_back c s (intervals_of ss) filled filled_ss.0 (intervals_filled ss filled_ss.1) ahead other clear
+    by_test false behind rest = in_front c s (intervals_of ss) filled filled_ss.0 behind clear
+
+-- the intervals of claims in order are their intervals in order, where each is the only one of its module and section,
+-- none falls, and none overlaps another
+pub intervals_in_order : (ms : List ModuleSectionContribution) → AllByRecursion IsFilled ms → NoneFalls ms
+    → AreOnly (intervals_of ms) → AreClear (intervals_of ms)
+    → intervals_of (in_order contribution_before ms) ≡ in_order contribution_before (intervals_of ms)
+intervals_in_order [] filled up only clear = refl
+intervals_in_order (m ∷ ms) filled up only clear =
+    let only_rest = only_behind m (intervals_of ms) only in
+    from_rest (intervals_in_order ms filled.1 up.1 only_rest (clear_behind m (intervals_of ms) behind clear))
+  where
+    behind : AllByRecursion (StartsBehind m) (intervals_of ms)
+    behind = intervals_behind m ms (each (IsNoEarlier m) (StartsBehind m) ms (λ x later same. (later same).0) up.0)
+
+    clear_rest : AllByRecursion (IsClearOfOther m) (in_order contribution_before (intervals_of ms))
+    clear_rest =
+        all_in_order contribution_before (IsClearOfOther m) (intervals_of ms) (
+        clear_of_others m (intervals_of ms) clear)
+
+    from_rest : intervals_of (in_order contribution_before ms) ≡ in_order contribution_before (intervals_of ms)
+        → intervals_of (in_order contribution_before (m ∷ ms)) ≡ in_order contribution_before (intervals_of (m ∷ ms))
+    from_rest rest =
+        let filled_rest = all_in_order contribution_before IsFilled ms filled.1 in
+        let later = all_in_order contribution_before (IsNoEarlier m) ms up.0 in
+        intervals_of_put m (in_order contribution_before ms) filled.0 filled_rest (
+        rises_in_order contributions_rank ms) later (rw rest clear_rest)
+        ∙ (ap (with_claim m) rest
+        ∙ sym (in_order_with m (intervals_of ms) filled.0 (intervals_filled ms filled.1) behind only clear))
+
+-- runs in order of which none overlaps the next lie each before or behind the others
+pub clear_of_accepted : (ms : List ModuleSectionContribution) → AllByRecursion IsFilled ms
+    → overlap_after None (in_order contribution_before ms) ≡ None → AreClear ms
+clear_of_accepted ms filled accepted =
+    let filled_order = all_in_order contribution_before IsFilled ms filled in
+    let rises_order = rises_in_order contributions_rank ms in
+    clear_of_order ms (of_order (in_order contribution_before ms) filled_order rises_order accepted)
+  where
+    of_order : (xs : List ModuleSectionContribution) → AllByRecursion IsFilled xs → Rises contribution_before xs
+        → overlap_after None xs ≡ None → AreClear xs
+    of_order [] full rises apart = tt
+    of_order (x ∷ xs) full rises apart = clear_of_apart (x ∷ xs) (apart_from_order x xs full.0 full.1 rises apart)
+
+-- an answer is another's where nothing is refused and the lists are the same
+same_answer : (refusal : Option Error) (xs ys table : List ModuleSectionContribution) → refusal ≡ None → xs ≡ ys
+    → unless (overlap_after None ys) (Ok ys) ≡ Ok table
+    → unless refusal (unless (overlap_after None xs) (Ok xs)) ≡ Ok table
+same_answer refusal xs ys table none same is = rw (none, same) is
+
+-- where joining in reading order refuses nothing, no module comes back in a section and starts never fall, the merged
+-- contributions are the same
+pub in_reading_order_stay : (sections : List ImageSectionHeader) (debug : DebugInformation)
+    (table : List ModuleSectionContribution) → merged_by_runs sections debug ≡ Ok table
+    → AreOnly (runs_after None (claims sections debug.section_contributions.items))
+    → StartsNeverFall (claims sections debug.section_contributions.items)
+    → merged_contributions sections debug ≡ Ok table
+in_reading_order_stay sections debug table is only starts =
+    let cs = claims sections debug.section_contributions.items in
+    let runs = in_order contribution_before (runs_after None cs) in
+    let fault : Option Error = option_map (λ fault. PdbError (Stream fault)) debug.section_contributions.fault in
+    let reading = unless_accepted (run_refusal sections debug) (unless (overlap_after None runs) (Ok runs)) table is in
+    let overlap = unless_accepted (overlap_after None runs) (Ok runs) table reading.1 in
+    let parts = both_accepted (refusal_after None cs) fault reading.0 in
+    let are : runs_after None cs ≡ intervals_of cs = all_runs_are_intervals cs parts.0 in
+    let filled = claims_filled sections debug.section_contributions.items in
+    let only_intervals : AreOnly (intervals_of cs) = rw (← are) only in
+    let falls = none_falls cs only_intervals (never_fall cs parts.0 starts) in
+    let clear = clear_of_accepted (intervals_of cs) (intervals_filled cs filled) (rw (← are) overlap.0) in
+    same_answer (first_refusal (refused_ends cs) fault) (intervals_of (in_order contribution_before cs)) runs table (
+    neither_refused (refused_ends cs) fault (ends_accepted cs parts.0) parts.1) (
+    intervals_in_order cs filled falls only_intervals clear ∙ ap (in_order contribution_before) (sym are)) reading.1
