@@ -71,6 +71,10 @@ all_of_intervals P longer (m ∷ ms) all = with_first (intervals_of ms) (all_of_
     by_test true = (longer m (max m.end_offset i.end_offset) (le-max_left m.end_offset i.end_offset) all.0, rest.1)
     by_test false = (all.0, rest)
 
+-- intervals of claims with bytes have bytes
+pub intervals_filled : (ms : List ModuleSectionContribution) → AllByRecursion IsFilled ms → AllByRecursion IsFilled (intervals_of ms)
+intervals_filled = all_of_intervals IsFilled (λ i e longer filled. omega (arith, filled, longer))
+
 -- intervals of claims that start in order do so too
 pub intervals_rise : (ms : List ModuleSectionContribution) → StartsRise ms → StartsRise (intervals_of ms)
 intervals_rise [] up = tt

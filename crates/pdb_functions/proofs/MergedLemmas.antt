@@ -19,7 +19,7 @@ use Rattle.pdb_ranges.proofs.NumberLemmas.{cases_lt}
 use Rattle.pdb_ranges.proofs.SortLemmas.{Rises, all_put, rises_in_order}
 use Rattle.pdb_functions.proofs.ContributionLemmas.{contributions_rank, both_accepted}
 use Rattle.pdb_functions.proofs.OrderLemmas.{all_in_order, all_of_order, any-in_order, all_weaker, all_pairs}
-use Rattle.pdb_functions.proofs.IntervalLemmas.{StartsRise, starts_rise, all_of_intervals, intervals_rise, apart_from_starts, claims_lie_in_intervals, intervals_begin, intervals_end, intervals_differ, apart_from_others, IsReached, intervals_reached, HasFirstByteOf, first_bytes, overlap_told}
+use Rattle.pdb_functions.proofs.IntervalLemmas.{StartsRise, starts_rise, intervals_filled, intervals_rise, apart_from_starts, claims_lie_in_intervals, intervals_begin, intervals_end, intervals_differ, apart_from_others, IsReached, intervals_reached, HasFirstByteOf, first_bytes, overlap_told}
 
 -- a contribution that counts claims a byte
 pub claims_filled : (sections : List ImageSectionHeader) (cs : List SectionContribution) → AllByRecursion IsFilled (claims sections cs)
@@ -71,7 +71,7 @@ pub merged_apart : (sections : List ImageSectionHeader) (debug : DebugInformatio
 merged_apart sections debug table is =
     let m = merged_is_merged sections debug table is in
     let cs = ordered_claims sections debug.section_contributions.items in
-    rw m.intervals (of_intervals (intervals_of cs) (all_of_intervals IsFilled (λ i e longer filled. omega (arith, filled, longer)) cs (ordered_filled sections debug.section_contributions.items)) (intervals_rise cs (ordered_rise sections debug.section_contributions.items)) m.apart)
+    rw m.intervals (of_intervals (intervals_of cs) (intervals_filled cs (ordered_filled sections debug.section_contributions.items)) (intervals_rise cs (ordered_rise sections debug.section_contributions.items)) m.apart)
   where
     of_intervals : (is : List ModuleSectionContribution) → AllByRecursion IsFilled is → StartsRise is → overlap_after None is ≡ None → AreApart is
     of_intervals [] filled up apart = tt

@@ -23,16 +23,13 @@ use Rattle.pdb_functions.specs.ContributionRuns.{merged_by_runs}
 use Rattle.pdb_functions.specs.Laws.{IsFilled, LiesBefore, AreApart}
 use Rattle.pdb_ranges.proofs.SortLemmas.{Rises, rises_in_order}
 use Rattle.pdb_ranges.proofs.NumberLemmas.{cases_lt}
-use Rattle.pdb_functions.proofs.ContributionLemmas.{contributions_rank, both_accepted, apart_from_order}
-use Rattle.pdb_functions.proofs.RunLemmas.{same_parts, same_alike, same_of_alike, same_back, all_in_order}
-use Rattle.pdb_functions.proofs.RunLemmas.{claims_filled, unless_accepted, joins_other, all_runs_are_intervals}
-use Rattle.pdb_functions.proofs.RunLemmas.{neither_refused, ends_accepted, IsNoEarlier, NeighboursNeverFall, never_fall}
-
--- what follows of each element holds of each
-pub each : {T : Type 0} (P Q : T → Type 0) (xs : List T) → ((x : T) → P x → Q x) → AllByRecursion P xs
-    → AllByRecursion Q xs
-each P Q [] so all = tt
-each P Q (x ∷ xs) so all = (so x all.0, each P Q xs so all.1)
+use Rattle.pdb_functions.proofs.ContributionLemmas.{contributions_rank, both_accepted}
+use Rattle.pdb_functions.proofs.OrderLemmas.{all_weaker, all_in_order, all_taken, all_of_order}
+use Rattle.pdb_functions.proofs.IntervalLemmas.{same_fields, starts_rise, apart_from_starts, intervals_filled}
+use Rattle.pdb_functions.proofs.MergedLemmas.{claims_filled, unless_accepted}
+use Rattle.pdb_functions.proofs.RunLemmas.{same_alike, same_of_alike, same_back, joins_other, all_runs_are_intervals}
+use Rattle.pdb_functions.proofs.RunLemmas.{neither_refused, ends_accepted_by_runs, IsNoEarlier, NeighboursNeverFall}
+use Rattle.pdb_functions.proofs.RunLemmas.{never_fall}
 
 -- a number is not below one that is no greater
 not_below : (x y : ℕ) → y ≤ x → is_lt (nat_cmp x y) ≡ false
@@ -62,7 +59,7 @@ then_not_less Greater p first second = refl
 pub not_before : (a b : ModuleSectionContribution) → is_same_module a b ≡ true → a.start_offset ≤ b.start_offset
     → a.end_offset ≤ b.end_offset → contribution_before b a ≡ false
 not_before a b same start end =
-    let parts = same_parts a b same in
+    let parts = same_fields a b same in
     let section : a.section_index ≤ b.section_index = omega (arith, parts.0) in
     let module_index : a.module_index ≤ b.module_index = omega (arith, parts.1) in
     then_not_less (nat_cmp b.section_index a.section_index) _ (not_below b.section_index a.section_index section) (
@@ -86,7 +83,7 @@ starts_behind a b behind same = by_test (cases_lt b.start_offset a.start_offset)
   by_test : ((nat_lt b.start_offset a.start_offset ≡ true) × (b.start_offset < a.start_offset))
       ⊎ ((nat_lt b.start_offset a.start_offset ≡ false) × (a.start_offset ≤ b.start_offset))
       → a.start_offset ≤ b.start_offset
-  by_test (inl less) = let e = starts_before b a (inr (sym (same_parts a b same).0, less.1)) in absurd (cc)
+  by_test (inl less) = let e = starts_before b a (inr (sym (same_fields a b same).0, less.1)) in absurd (cc)
   by_test (inr more) = more.1
 
 -- it is of another module or section
@@ -159,25 +156,12 @@ clear_of_first a b x (inr lies) = inr lies
 -- and of the second, where that starts no earlier
 clear_of_second : (a b x : ModuleSectionContribution) → is_same_module a b ≡ true → a.start_offset ≤ b.start_offset
     → IsClear (joined a b) x → IsClear b x
-clear_of_second a b x same up (inl lies) = inl (second_lies a b x (same_parts a b same).0 lies)
-clear_of_second a b x same up (inr lies) = inr (lies_before_second a b x (same_parts a b same).0 up lies)
+clear_of_second a b x same up (inl lies) = inl (second_lies a b x (same_fields a b same).0 lies)
+clear_of_second a b x same up (inr lies) = inr (lies_before_second a b x (same_fields a b same).0 up lies)
 
 -- two that are joined have a byte where the first has one
 joined_filled : (a b : ModuleSectionContribution) → IsFilled a → IsFilled (joined a b)
 joined_filled a b filled = omega arith
-
--- intervals of claims with bytes have bytes
-pub intervals_filled : (ms : List ModuleSectionContribution) → AllByRecursion IsFilled ms
-    → AllByRecursion IsFilled (intervals_of ms)
-intervals_filled [] filled = tt
-intervals_filled (m ∷ ms) filled = filled_with (intervals_of ms) (intervals_filled ms filled.1) where
-  filled_with : (xs : List ModuleSectionContribution) → AllByRecursion IsFilled xs
-      → AllByRecursion IsFilled (intervals_with m xs)
-  filled_with [] rest = (filled.0, tt)
-  filled_with (x ∷ xs) rest = by_test (is_same_module m x) where
-    by_test : (t : Bool) → AllByRecursion IsFilled (cond t (joined m x ∷ xs) (m ∷ x ∷ xs))
-    by_test true = (joined_filled m x filled.0, rest.1)
-    by_test false = (filled.0, rest)
 
 -- claims of other modules or sections than all intervals, one for one
 other_with : (c m : ModuleSectionContribution) (xs : List ModuleSectionContribution)
@@ -204,7 +188,7 @@ only_behind m [] only = tt
 only_behind m (x ∷ xs) only = by_test (is_same_module m x) refl only where
   by_test : (t : Bool) → is_same_module m x ≡ t → AreOnly (cond t (joined m x ∷ xs) (m ∷ x ∷ xs)) → AreOnly (x ∷ xs)
   by_test true same here =
-      (each (IsOther m) (IsOther x) xs (λ y other. sym (same_alike m x y same) ∙ other) here.0, here.1)
+      (all_weaker (IsOther m) (IsOther x) (λ y other. sym (same_alike m x y same) ∙ other) xs here.0, here.1)
   by_test false other here = here.1
 
 -- where neighbours never fall and each interval is the only one of its module and section, no claim falls
@@ -224,10 +208,10 @@ none_falls (m ∷ n ∷ ns) only up =
 
     by_test : (t : Bool) → is_same_module m n ≡ t → AllByRecursion (IsNoEarlier n) ns
         → AllByRecursion (IsNoEarlier m) (n ∷ ns)
-    by_test true one above = (up.0, each (IsNoEarlier n) (IsNoEarlier m) ns (further one) above)
+    by_test true one above = (up.0, all_weaker (IsNoEarlier n) (IsNoEarlier m) (further one) ns above)
     by_test false other above =
         let others = (rw (joins_other m n (intervals_of ns) other) at only).0 in
-        each (IsOther m) (IsNoEarlier m) (n ∷ ns) (λ x apart same. absurd (cc)) (other_of_claims m (n ∷ ns) others)
+        all_weaker (IsOther m) (IsNoEarlier m) (λ x apart same. absurd (cc)) (n ∷ ns) (other_of_claims m (n ∷ ns) others)
 
 -- where claims of a module and section start no earlier, their intervals don't
 pub intervals_behind : (c : ModuleSectionContribution) (ms : List ModuleSectionContribution)
@@ -242,29 +226,11 @@ intervals_behind c (m ∷ ms) up = behind_with (intervals_of ms) (intervals_behi
     by_test true = (up.0, rest.1)
     by_test false = (up.0, rest)
 
--- what holds of one put in and of the others holds of each
-all_of_put : (P : ModuleSectionContribution → Type 0) (x : ModuleSectionContribution)
-    (ys : List ModuleSectionContribution) → AllByRecursion P (put contribution_before x ys) → P x × AllByRecursion P ys
-all_of_put P x [] all = (all.0, tt)
-all_of_put P x (y ∷ ys) all = by_test (contribution_before y x) (all_of_put P x ys) all where
-  by_test : (t : Bool) → (AllByRecursion P (put contribution_before x ys) → P x × AllByRecursion P ys)
-      → AllByRecursion P (cond t (y ∷ put contribution_before x ys) (x ∷ y ∷ ys)) → P x × (P y × AllByRecursion P ys)
-  by_test true rest here = let parts = rest here.1 in (parts.0, (here.0, parts.1))
-  by_test false rest here = here
-
--- what holds of each in order holds of each
-all_of_order : (P : ModuleSectionContribution → Type 0) (xs : List ModuleSectionContribution)
-    → AllByRecursion P (in_order contribution_before xs) → AllByRecursion P xs
-all_of_order P [] all = tt
-all_of_order P (x ∷ xs) all =
-    let parts = all_of_put P x (in_order contribution_before xs) all in
-    (parts.0, all_of_order P xs parts.1)
-
 -- runs that are apart lie each before or behind the others
 clear_of_apart : (ms : List ModuleSectionContribution) → AreApart ms → AreClear ms
 clear_of_apart [] apart = tt
 clear_of_apart (m ∷ ms) apart =
-    (each (LiesBefore m) (IsClear m) ms (λ x lies. inl lies) apart.1, clear_of_apart ms apart.2)
+    (all_weaker (LiesBefore m) (IsClear m) (λ x lies. inl lies) ms apart.1, clear_of_apart ms apart.2)
 
 -- and so does one put in
 clear_of_put : (x : ModuleSectionContribution) (ys : List ModuleSectionContribution)
@@ -275,7 +241,7 @@ clear_of_put x (y ∷ ys) clear = by_test (contribution_before y x) (clear_of_pu
       → AreClear (cond t (y ∷ put contribution_before x ys) (x ∷ y ∷ ys))
       → AllByRecursion (IsClear x) (y ∷ ys) × AreClear (y ∷ ys)
   by_test true rest here =
-      let parts = all_of_put (IsClear y) x ys here.0 in
+      let parts = all_taken contribution_before (IsClear y) x ys here.0 in
       let behind = rest here.1 in
       ((clear_back y x parts.0, behind.0), (parts.1, behind.1))
   by_test false rest here = here
@@ -285,7 +251,7 @@ clear_of_order : (xs : List ModuleSectionContribution) → AreClear (in_order co
 clear_of_order [] clear = tt
 clear_of_order (x ∷ xs) clear =
     let parts = clear_of_put x (in_order contribution_before xs) clear in
-    (all_of_order (IsClear x) xs parts.0, clear_of_order xs parts.1)
+    (all_of_order contribution_before (IsClear x) xs parts.0, clear_of_order xs parts.1)
 
 -- intervals behind a claim are clear where those with it are
 clear_behind : (c : ModuleSectionContribution) (xs : List ModuleSectionContribution)
@@ -294,7 +260,7 @@ clear_behind c [] up clear = tt
 clear_behind c (x ∷ xs) up clear = by_test (is_same_module c x) refl clear where
   by_test : (t : Bool) → is_same_module c x ≡ t → AreClear (cond t (joined c x ∷ xs) (c ∷ x ∷ xs)) → AreClear (x ∷ xs)
   by_test true same here =
-      (each (IsClear (joined c x)) (IsClear x) xs (λ y. clear_of_second c x y same (up.0 same)) here.0, here.1)
+      (all_weaker (IsClear (joined c x)) (IsClear x) (λ y. clear_of_second c x y same (up.0 same)) xs here.0, here.1)
   by_test false other here = here.1
 
 -- and a claim is clear of the others then
@@ -307,8 +273,8 @@ clear_of_others c (x ∷ xs) clear = by_test (is_same_module c x) refl clear whe
   by_test true same here =
       let so = λ (y : ModuleSectionContribution) (clear_y : IsClear (joined c x) y) (other : is_same_module c y ≡ false).
       clear_of_first c x y clear_y in
-      (λ other. absurd (cc), each (IsClear (joined c x)) (IsClearOfOther c) xs so here.0)
-  by_test false other here = each (IsClear c) (IsClearOfOther c) (x ∷ xs) (λ y clear_y other. clear_y) here.0
+      (λ other. absurd (cc), all_weaker (IsClear (joined c x)) (IsClearOfOther c) so xs here.0)
+  by_test false other here = all_weaker (IsClear c) (IsClearOfOther c) (λ y clear_y other. clear_y) (x ∷ xs) here.0
 
 -- what is clear of the others with a claim is so of those behind it, where none of them starts earlier
 clear_of_others_behind : (c s : ModuleSectionContribution) (xs : List ModuleSectionContribution)
@@ -354,7 +320,7 @@ put_joined c r (x ∷ xs) same up filled filled_r filled_xs others clear =
     by_side clear.0 (put_joined c r xs same up filled filled_r filled_xs.1 others.1 clear.1)
   where
     section : c.section_index ≡ r.section_index
-    section = (same_parts c r same).0
+    section = (same_fields c r same).0
 
     by_side : IsClear (joined c r) x
         → put contribution_before (joined c r) xs ≡ with_claim c (put contribution_before r xs)
@@ -452,7 +418,7 @@ further_back c s (x ∷ xs) filled filled_s filled_xs ahead other clear = by_tes
       let lies = lies_first (clear_here.0 other) in
       let other_x : is_same_module c x ≡ false = sym (same_of_alike s x c same) ∙ other in
       let first = before_when_lies (joined s x) c (joined_filled s x filled_s) lies in
-      let second = before_when_lies x c filled_xs.0 (second_lies s x c (same_parts s x same).0 lies) in
+      let second = before_when_lies x c filled_xs.0 (second_lies s x c (same_fields s x same).0 lies) in
       rw (same, other_x, second, same, other, first) refl
   by_test false apart clear_here =
       rw (apart, other, ahead) (by_tests (is_same_module c x) (contribution_before x c) apart)
@@ -473,7 +439,7 @@ intervals_of_put c (s ∷ ss) filled filled_ss rises up clear =
     behind_s : AllByRecursion (StartsBehind s) (intervals_of ss)
     behind_s =
         intervals_behind s ss (
-        each (λ x. contribution_before x s ≡ false) (StartsBehind s) ss (starts_behind s) rises.0)
+        all_weaker (λ x. contribution_before x s ≡ false) (StartsBehind s) (starts_behind s) ss rises.0)
 
     by_test : (t : Bool) → contribution_before s c ≡ t
         → (AllByRecursion (IsClearOfOther c) (intervals_of ss)
@@ -496,7 +462,7 @@ intervals_in_order (m ∷ ms) filled up only clear =
     from_rest (intervals_in_order ms filled.1 up.1 only_rest (clear_behind m (intervals_of ms) behind clear))
   where
     behind : AllByRecursion (StartsBehind m) (intervals_of ms)
-    behind = intervals_behind m ms (each (IsNoEarlier m) (StartsBehind m) ms (λ x later same. (later same).0) up.0)
+    behind = intervals_behind m ms (all_weaker (IsNoEarlier m) (StartsBehind m) (λ x later same. (later same).0) ms up.0)
 
     clear_rest : AllByRecursion (IsClearOfOther m) (in_order contribution_before (intervals_of ms))
     clear_rest =
@@ -524,7 +490,7 @@ clear_of_accepted ms filled accepted =
     of_order : (xs : List ModuleSectionContribution) → AllByRecursion IsFilled xs → Rises contribution_before xs
         → overlap_after None xs ≡ None → AreClear xs
     of_order [] full rises apart = tt
-    of_order (x ∷ xs) full rises apart = clear_of_apart (x ∷ xs) (apart_from_order x xs full.0 full.1 rises apart)
+    of_order (x ∷ xs) full rises apart = clear_of_apart (x ∷ xs) (apart_from_starts x xs full.0 full.1 (starts_rise (x ∷ xs) rises) apart)
 
 -- an answer is another's where nothing is refused and the lists are the same
 same_answer : (refusal : Option Error) (xs ys table : List ModuleSectionContribution) → refusal ≡ None → xs ≡ ys
@@ -552,5 +518,5 @@ in_reading_order_stay sections debug table is only starts =
     let falls = none_falls cs only_intervals (never_fall cs parts.0 starts) in
     let clear = clear_of_accepted (intervals_of cs) (intervals_filled cs filled) (rw (← are) overlap.0) in
     same_answer (first_refusal (refused_ends cs) fault) (intervals_of (in_order contribution_before cs)) runs table (
-    neither_refused (refused_ends cs) fault (ends_accepted cs parts.0) parts.1) (
+    neither_refused (refused_ends cs) fault (ends_accepted_by_runs cs parts.0) parts.1) (
     intervals_in_order cs filled falls only_intervals clear ∙ ap (in_order contribution_before) (sym are)) reading.1

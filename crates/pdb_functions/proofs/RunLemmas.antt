@@ -17,50 +17,17 @@ use Rattle.pdb_functions.specs.Laws.{IsFilled}
 use Rattle.pdb_ranges.proofs.NumberLemmas.{cases_lt, eqb_same}
 use Rattle.pdb_ranges.proofs.SortLemmas.{all_put}
 use Rattle.pdb_functions.proofs.ContributionLemmas.{both_accepted}
-
--- what holds of each element holds of each in order
-pub all_in_order : {T : Type 0} (before : T → T → Bool) (P : T → Type 0) (xs : List T) → AllByRecursion P xs
-    → AllByRecursion P (in_order before xs)
-all_in_order before P [] all = tt
-all_in_order before P (x ∷ xs) all = all_put before P x (in_order before xs) all.0 (all_in_order before P xs all.1)
-
--- a contribution that counts claims a byte
-pub claims_filled : (sections : List ImageSectionHeader) (cs : List SectionContribution)
-    → AllByRecursion IsFilled (claims sections cs)
-claims_filled sections [] = tt
-claims_filled sections (c ∷ cs) = by_test (is_kept sections c) refl (claims_filled sections cs) where
-  by_size : (is_kept sections c) ≡ true → c.offset.offset < c.offset.offset + c.size
-  by_size kept = by_number (cases_lt 0 c.size) where
-    by_number : ((nat_lt 0 c.size ≡ true) × (0 < c.size)) ⊎ ((nat_lt 0 c.size ≡ false) × (c.size ≤ 0))
-        → c.offset.offset < c.offset.offset + c.size
-    by_number (inl some) = let h : 0 < c.size = some.1 in omega arith
-    by_number (inr none) = let e = rw none.0 at kept in absurd (cc)
-
-  by_test : (t : Bool) → is_kept sections c ≡ t → AllByRecursion IsFilled (claims sections cs)
-      → AllByRecursion IsFilled (map claimed (cond t (c ∷ filter (is_kept sections) cs) (filter (is_kept sections) cs)))
-  by_test true kept rest = (by_size kept, rest)
-  by_test false dropped rest = rest
-
--- an answer that is no refusal comes after none
-pub unless_accepted : {A : Type 0} (refusal : Option Error) (answer : Result A Error) (value : A)
-    → unless refusal answer ≡ Ok value → (refusal ≡ None) × (answer ≡ Ok value)
-unless_accepted None answer value is = (refl, is)
-unless_accepted (Some e) answer value is = absurd (cc)
-
--- two of one module and section have one section and one module
-pub same_parts : (a b : ModuleSectionContribution) → is_same_module a b ≡ true
-    → (a.section_index ≡ b.section_index) × (a.module_index ≡ b.module_index)
-same_parts a b same = (grind (arith, nat_tests), grind (arith, nat_tests))
+use Rattle.pdb_functions.proofs.IntervalLemmas.{same_fields}
 
 -- two of one module and section are so of the same others
 pub same_alike : (a b c : ModuleSectionContribution) → is_same_module a b ≡ true
     → is_same_module a c ≡ is_same_module b c
-same_alike a b c same = let parts = same_parts a b same in rw (parts.0, parts.1) refl
+same_alike a b c same = let parts = same_fields a b same in rw (parts.0, parts.1) refl
 
 -- and others are of theirs
 pub same_of_alike : (a b c : ModuleSectionContribution) → is_same_module a b ≡ true
     → is_same_module c a ≡ is_same_module c b
-same_of_alike a b c same = let parts = same_parts a b same in rw (parts.0, parts.1) refl
+same_of_alike a b c same = let parts = same_fields a b same in rw (parts.0, parts.1) refl
 
 -- each is of its own module and section
 pub same_itself : (a : ModuleSectionContribution) → is_same_module a a ≡ true
@@ -171,9 +138,9 @@ ends_accepted_behind run (m ∷ ms) accepted =
     neither_refused (refused_end m) (refused_ends ms) a.end (ends_accepted_behind (run_with (Some run) m) ms a.behind)
 
 -- where nothing of all claims is refused, no end is
-pub ends_accepted : (ms : List ModuleSectionContribution) → refusal_after None ms ≡ None → refused_ends ms ≡ None
-ends_accepted [] accepted = refl
-ends_accepted (m ∷ ms) accepted =
+pub ends_accepted_by_runs : (ms : List ModuleSectionContribution) → refusal_after None ms ≡ None → refused_ends ms ≡ None
+ends_accepted_by_runs [] accepted = refl
+ends_accepted_by_runs (m ∷ ms) accepted =
     let ends = both_accepted (refused_end m) (refusal_after (Some m) ms) accepted in
     neither_refused (refused_end m) (refused_ends ms) ends.0 (ends_accepted_behind m ms ends.1)
 
