@@ -19,9 +19,9 @@ Types and ids, of which signatures and names of inlined functions are made:
 
     sizes N             types all over a list, each the base of an array in a signature
     references N        the same of forward references, whose classes stand in the list's second half
-    chain N             types, each a modifier of the next, which stands behind an import of another module
+    chain N             enumerations, each over the next, which stands behind an import of another module
     named-chain N       the same, where the other module's name is as long as the chain
-    circle N            the same, where the last is a modifier of the first
+    circle N            the same, where the last is over the first
     pointers N          pointers to pointers
     callbacks N         procedures that take procedures
     pointed-arrays N    pointers to arrays of pointers
@@ -222,15 +222,25 @@ def modifier(underlying):
     return {"kind": "Modifier", "underlying_type": underlying, "constant": True}
 
 
+def enumeration(underlying):
+    return {"kind": "Enumeration", "name": "E", "underlying_type": underlying}
+
+
 def numbered(types):
     return ({"index": index(position), **type_data} for position, type_data in enumerate(types))
 
 
 def sized_types(count, asked):
-    """The types of a list, and behind them for each position that is asked for a function that takes an array of it."""
+    """The types of a list, and behind them functions that ask for the sizes at these positions."""
     yield from range_of_types(count)
+    yield from functions_of_arrays(count, asked)
+
+
+def functions_of_arrays(first, asked):
+    """From a position on three types for each position that is asked for: a function, its list of arguments, and an
+    array of the type there. So the signature has the type's size in it."""
     for number, position in enumerate(asked):
-        at = count + 3 * number
+        at = first + 3 * number
         yield function_type(at + 1)
         yield argument_list([at + 2])
         yield array(position, 1 << 30)
@@ -280,12 +290,8 @@ def chain(count, name="N", circular=False):
     def types():
         for position in range(count):
             is_number = position + 1 == count and not circular
-            yield NUMBER if is_number else modifier(CROSS_MODULE | position)
-        for number, position in enumerate(asked):
-            at = count + 3 * number
-            yield function_type(at + 1)
-            yield argument_list([at + 2])
-            yield array(position, 1 << 30)
+            yield NUMBER if is_number else enumeration(CROSS_MODULE | position)
+        yield from functions_of_arrays(count, asked)
 
     asked = [count * number // 1000 for number in range(1000)]
     made = functions_with(types(), count, len(asked), imports=[{"module": 0, "locals": range(count)}])
