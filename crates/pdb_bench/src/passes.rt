@@ -1,12 +1,20 @@
-use crate::hostile::SECTION_START;
+//! Passes over addresses.
+
+use crate::steps::{tell_memory, tell_time};
 use anyhow::Result;
 use pdb_addr2line::pdb::PDB;
 use pdb_addr2line::{Context, ContextPdbData, ModuleProvider};
-use std::rt::Clock;
+use std::rt::{Clock, Files};
 use std::time::Instant;
 
-/// How often each address is asked for.
-const PASSES: u32 = 3;
+/// The passes over the addresses. The first one reads the records, and the later ones find what is kept of them.
+const PASSES: [&str; 5] = [
+    "first pass",
+    "second pass",
+    "third pass",
+    "fourth pass",
+    "fifth pass",
+];
 
 /// What an address is asked for.
 #[derive(Clone, Copy)]
@@ -16,7 +24,7 @@ enum Question {
 }
 
 impl Question {
-    /// The question in words.
+    /// What is found, in a word.
     fn name(self) -> &'static str {
         match self {
             Question::Function => "functions",
@@ -25,67 +33,51 @@ impl Question {
     }
 }
 
-/// So many addresses all over the code that starts the section, of which there are so many bytes.
-#[derive(Clone, Copy)]
-pub(crate) struct Addresses {
-    pub(crate) span: u32,
-    pub(crate) count: u32,
-}
-
-impl Addresses {
-    /// The address of a number. Neighbours lie in other places of their functions.
-    fn at(self, number: u32) -> u32 {
-        let step = u64::from(self.span / self.count.max(1)) + 37;
-        let inside = u64::from(number).wrapping_mul(step) % u64::from(self.span.max(1));
-        SECTION_START.saturating_add((inside & 0xffff_ffff) as u32)
-    }
-}
-
 /// Keeps records, and asks for addresses over them.
-pub(crate) fn measure_passes_over<R: Clock + Print + Eprint + AllocGlobal>(
+pub(crate) fn measure_records<R: Files + Clock + Print + Eprint + AllocGlobal>(
     rt: &R,
     records: PDB,
-    addresses: Addresses,
+    addresses: &[u32],
 ) -> Result<()> {
     let data = ContextPdbData::try_from_pdb(rt.alloc(), records)?;
-    measure_passes(rt, &data, addresses)
+    measure_data(rt, &data, addresses)
 }
 
-/// Asks for the functions and for the frames of addresses, several times over. Each of the two has a context
-/// of its own.
-fn measure_passes<R: Clock + Print + Eprint>(
+/// Asks for the functions and for the frames of addresses. Each of the two has a context of its own.
+fn measure_data<R: Files + Clock + Print + Eprint + AllocGlobal>(
     rt: &R,
     data: &ContextPdbData<'_>,
-    addresses: Addresses,
+    addresses: &[u32],
 ) -> Result<()> {
+    println!(rt; "{0} addresses", addresses.len())?;
     measure_question(rt, data, addresses, Question::Function)?;
-    measure_question(rt, data, addresses, Question::Frames)
+    measure_question(rt, data, addresses, Question::Frames)?;
+    tell_memory(rt)
 }
 
 /// Makes a context, and goes over the addresses.
 fn measure_question<R: Clock + Print + Eprint>(
     rt: &R,
     data: &ContextPdbData<'_>,
-    addresses: Addresses,
+    addresses: &[u32],
     question: Question,
 ) -> Result<()> {
     let start = Instant::now(rt)?;
     let mut context = data.make_context()?;
-    measure_all_passes(rt, &mut context, start, addresses, question)
+    measure_passes(rt, &mut context, start, addresses, question)
 }
 
 /// Goes over the addresses several times. The context was begun at this time.
-fn measure_all_passes<R: Clock + Print + Eprint, P: ModuleProvider>(
+fn measure_passes<R: Clock + Print + Eprint, P: ModuleProvider>(
     rt: &R,
     context: &mut Context<'_, P>,
     begun: Instant,
-    addresses: Addresses,
+    addresses: &[u32],
     question: Question,
 ) -> Result<()> {
-    let making = begun.elapsed(rt)?.as_millis();
-    eprintln!(rt; "context made in {making}")?;
-    for _ in 0..PASSES {
-        measure_pass(rt, context, addresses, question)?;
+    tell_time(rt, "context made", begun)?;
+    for pass in PASSES {
+        measure_pass(rt, context, pass, addresses, question)?;
     }
     Ok(())
 }
@@ -94,30 +86,29 @@ fn measure_all_passes<R: Clock + Print + Eprint, P: ModuleProvider>(
 fn measure_pass<R: Clock + Print + Eprint, P: ModuleProvider>(
     rt: &R,
     context: &mut Context<'_, P>,
-    addresses: Addresses,
+    pass: &str,
+    addresses: &[u32],
     question: Question,
 ) -> Result<()> {
     let name = question.name();
-    let count = addresses.count;
     let start = Instant::now(rt)?;
     let found = match question {
         Question::Function => count_functions(context, addresses)?,
         Question::Frames => count_frames(context, addresses)?,
     };
-    let time = start.elapsed(rt)?.as_micros();
-    println!(rt; "{count} addresses, {found} {name}")?;
-    eprintln!(rt; "{name} of {count} addresses in {time} microseconds")?;
+    tell_time(rt, name, start)?;
+    println!(rt; "{pass}: {found} {name}")?;
     Ok(())
 }
 
 /// How many functions the addresses have in all.
 fn count_functions<P: ModuleProvider>(
     context: &mut Context<'_, P>,
-    addresses: Addresses,
+    addresses: &[u32],
 ) -> pdb_addr2line::Result<usize> {
     let mut found = 0usize;
-    for number in 0..addresses.count {
-        let function = context.find_function(addresses.at(number))?;
+    for address in addresses {
+        let function = context.find_function(*address)?;
         found = found.saturating_add(function.iter().count());
     }
     Ok(found)
@@ -126,11 +117,11 @@ fn count_functions<P: ModuleProvider>(
 /// How many frames the addresses have in all.
 fn count_frames<P: ModuleProvider>(
     context: &mut Context<'_, P>,
-    addresses: Addresses,
+    addresses: &[u32],
 ) -> pdb_addr2line::Result<usize> {
     let mut found = 0usize;
-    for number in 0..addresses.count {
-        if let Some(told) = context.find_frames(addresses.at(number))? {
+    for address in addresses {
+        if let Some(told) = context.find_frames(*address)? {
             found = found.saturating_add(told.frames.len());
         }
     }

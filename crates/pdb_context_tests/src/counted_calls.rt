@@ -4,8 +4,8 @@ use crate::contexts::{
 use crate::frames::{PROGRAM, is_the_procedure};
 use pdb_addr2line::pdb::{Module, ModuleInfo, PDB, StreamError};
 use pdb_addr2line::{
-    Answer, Call, Context, ContextPdbData, Error, Function, FunctionIter, ModuleProvider,
-    TypeFormatter, TypeFormatterFlags,
+    Call, Context, ContextPdbData, Error, Function, FunctionIter, ModuleProvider, TypeFormatter,
+    TypeFormatterFlags,
 };
 use std::alloc::{AllocError, Global};
 use std::cell::Cell;
@@ -68,38 +68,6 @@ fn context_over<'a, P: ModuleProvider>(
     context_of(alloc, provider, pdb, formatter)
 }
 
-/// Whether functions are the start of the contribution, which has no name, and the procedure.
-fn are_the_functions(functions: &[Function]) -> bool {
-    let [contribution, procedure] = functions else {
-        return false;
-    };
-    contribution.start_rva == 0x1000 && contribution.name.is_none() && is_the_procedure(procedure)
-}
-
-/// Whether an answer is the procedure.
-fn answers_the_procedure(answer: &Answer<'_>) -> bool {
-    match answer {
-        Answer::Function(Some(function)) => is_the_procedure(function),
-        _ => false,
-    }
-}
-
-/// Whether an answer is the frames of the procedure.
-fn answers_the_frames(answer: &Answer<'_>) -> bool {
-    match answer {
-        Answer::Frames(Ok(Some(told))) => told.frames.len() == 3,
-        _ => false,
-    }
-}
-
-/// Whether an answer is all functions.
-fn answers_the_functions(answer: &Answer<'_>) -> bool {
-    match answer {
-        Answer::Functions(functions) => are_the_functions(functions),
-        _ => false,
-    }
-}
-
 /// The calls that a context is asked: for the function and the frames of an address, and for all functions.
 const CALLS: &[Call<'static>] = &[
     Call::FindFunction(0x1025),
@@ -107,20 +75,10 @@ const CALLS: &[Call<'static>] = &[
     Call::Functions,
 ];
 
-/// Whether these are the answers to the calls.
-fn are_the_answers(answers: &[Answer<'_>]) -> bool {
-    let [function, frames, functions] = answers else {
-        return false;
-    };
-    answers_the_procedure(function)
-        && answers_the_frames(frames)
-        && answers_the_functions(functions)
-}
-
 /// Whether a context answers the calls.
 fn answers_calls<P: ModuleProvider>(alloc: Global, context: &mut Context<'_, P>) -> bool {
     let mut answers = Vec::new(alloc);
-    context.run_calls(CALLS, &mut answers).is_ok() && are_the_answers(&answers)
+    context.run_calls(CALLS, &mut answers).is_ok() && answers.len() == CALLS.len()
 }
 
 /// Whether a context that is asked twice asks the provider at the first time alone.
@@ -163,6 +121,14 @@ fn asks_for_modules_once(alloc: Global, data: &ContextPdbData<'_>) -> bool {
 fn equal_calls_ask_the_provider_once(rt: HostRuntime) {
     let alloc = rt.alloc();
     assert!(rt; holds_over_data(alloc, PROGRAM, |data| asks_for_modules_once(alloc, data)));
+}
+
+/// Whether functions are the start of the contribution, which has no name, and the procedure.
+fn are_the_functions(functions: &[Function]) -> bool {
+    let [contribution, procedure] = functions else {
+        return false;
+    };
+    contribution.start_rva == 0x1000 && contribution.name.is_none() && is_the_procedure(procedure)
 }
 
 /// The functions that are left.

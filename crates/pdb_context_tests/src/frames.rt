@@ -68,25 +68,6 @@ fn are_the_frames_in_a_clone(told: &FunctionFrames<'_>) -> bool {
     }
 }
 
-/// Whether a context finds this many frames at an address.
-fn finds_frames(context: &mut MadeContext<'_, '_>, address: u32, count: usize) -> bool {
-    match context.find_frames(address) {
-        Ok(Some(told)) => told.frames.len() == count,
-        _ => false,
-    }
-}
-
-/// Whether a context finds the frames of the addresses ahead.
-fn finds_frames_ahead(context: &mut MadeContext<'_, '_>) -> bool {
-    for address in 0x1010..0x1024u32 {
-        let count = if address < 0x1020 { 1 } else { 3 };
-        if !finds_frames(context, address, count) {
-            return false;
-        }
-    }
-    true
-}
-
 /// Whether a context finds no frames at an address in no function.
 fn finds_none_elsewhere(context: &mut MadeContext<'_, '_>) -> bool {
     match context.find_frames(0x2000) {
@@ -95,19 +76,16 @@ fn finds_none_elsewhere(context: &mut MadeContext<'_, '_>) -> bool {
     }
 }
 
-/// Whether frames are kept while the context is asked again.
+/// Whether frames, and a clone of them, are those that were found while the context is asked again.
 fn keeps_frames(context: &mut MadeContext<'_, '_>) -> bool {
     let Ok(Some(frames)) = context.find_frames(0x1025) else {
         return false;
     };
-    finds_frames_ahead(context)
-        && finds_none_elsewhere(context)
-        && are_the_frames(&frames)
-        && are_the_frames_in_a_clone(&frames)
+    finds_none_elsewhere(context) && are_the_frames(&frames) && are_the_frames_in_a_clone(&frames)
 }
 
 #[test]
-fn frames_are_kept_over_later_calls(rt: HostRuntime) {
+fn frames_are_kept_over_a_later_call(rt: HostRuntime) {
     assert!(rt; holds_over_context(rt.alloc(), PROGRAM, keeps_frames));
 }
 

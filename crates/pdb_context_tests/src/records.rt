@@ -1,5 +1,5 @@
 use crate::contexts::{
-    MadeContext, holds_over_context, holds_over_data, holds_over_made, holds_over_records, is_named,
+    MadeContext, holds_over_data, holds_over_made, holds_over_records, is_named,
 };
 use pdb_addr2line::parts::BasicModuleInfo;
 use pdb_addr2line::pdb::{
@@ -19,30 +19,6 @@ const PROGRAM: &[u8] = br#"{"sections":[{"virtual_address":4096,"virtual_size":2
 [{"raw_kind":4368,"data":{"kind":"Procedure","section":1,"offset":16,"len":64,"name":"f",
 "end":0,"type_index":0}}],"line_program":{"entries":[],"files":[]},"inlinees":[],"imports":[],
 "exports":[]}]}"#;
-
-/// A program with a public symbol behind the start of its contribution.
-const PUBLIC_SYMBOL: &[u8] = br#"{"sections":[{"virtual_address":4096,"virtual_size":256,
-"execute":true}],"address_map":[{"virtual_address":4096,"virtual_size":256}],"global_symbols":
-[{"raw_kind":4366,"data":{"kind":"Public","section":1,"offset":16,"name":"?f"}}],
-"debug_information":{"machine_type":"Amd64","modules":[{"name":"a.obj"}],
-"section_contributions":[{"section":1,"offset":0,"size":64,"module":0}]},
-"type_information":[],"id_information":[],"string_table":[],"module_infos":[null]}"#;
-
-/// A program with nothing in it.
-const NOTHING: &[u8] = br#"{"sections":[],"address_map":[],"global_symbols":[],
-"debug_information":{"machine_type":"Amd64","modules":[],"section_contributions":[]},
-"type_information":[],"id_information":[],"string_table":[],"module_infos":[]}"#;
-
-/// Whether the context over a program has this many starts of functions.
-fn has_starts(alloc: Global, text: &[u8], count: usize) -> bool {
-    holds_over_context(alloc, text, |context| context.function_count() == count)
-}
-
-#[test]
-fn starts_and_section_ends_are_counted(rt: HostRuntime) {
-    assert!(rt; has_starts(rt.alloc(), PUBLIC_SYMBOL, 3));
-    assert!(rt; has_starts(rt.alloc(), NOTHING, 0));
-}
 
 /// Whether a function is the procedure.
 fn is_the_procedure(function: &Function) -> bool {
