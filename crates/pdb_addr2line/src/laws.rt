@@ -21,8 +21,10 @@ ghost use Rattle.pdb_addr2line.specs.Sources.{Sources, ContextState, global_func
 
 pub use crate::function_laws::{start_addresses_are_all_starts, start_addresses_ascend};
 pub use pdb_functions::laws::{
-    first_global_function_of_each_start_is_kept, merged_contributions_are_apart,
-    merged_contributions_hold_all, order_of_contributions_agrees_with_equality,
+    contributions_are_refused_for, contributions_in_reading_order_stay,
+    first_global_function_of_each_start_is_kept, first_procedure_of_each_start_is_kept,
+    merged_contributions_are_apart, merged_contributions_hold_all,
+    merged_contributions_hold_no_other_module, order_of_contributions_agrees_with_equality,
     pick_covers_with_greatest_start,
 };
 pub use pdb_inline::laws::{

@@ -4,7 +4,7 @@ use pdb_functions::{
 };
 use pdb_records::{
     DebugInformation, ImageSectionHeader, MachineType, PdbInternalSectionOffset, PublicSymbol,
-    RawString, Reading, S_PUB32, SectionContribution, Symbol, SymbolData,
+    RawString, Reading, S_PUB32, SectionContribution, StreamError, Symbol, SymbolData,
 };
 use pdb_types::{Error, Result};
 use std::alloc::{AllocError, Global};
@@ -101,10 +101,21 @@ fn debug_information(alloc: Global, given: &[Given]) -> Result<DebugInformation,
     })
 }
 
+/// What contributions to these sections are merged into, and where those that count start.
+fn merged_in(
+    alloc: Global,
+    sections: &[ImageSectionHeader],
+    given: &[Given],
+    fault: Option<StreamError>,
+) -> Result<Merged> {
+    let mut debug = debug_information(alloc, given)?;
+    debug.section_contributions.fault = fault;
+    compute_section_contributions(alloc, &debug, sections)
+}
+
 /// What these contributions are merged into, and where those that count start.
 fn merged(alloc: Global, given: &[Given]) -> Result<Merged> {
-    let debug = debug_information(alloc, given)?;
-    compute_section_contributions(alloc, &debug, &SECTIONS)
+    merged_in(alloc, &SECTIONS, given, None)
 }
 
 /// Whether [`GIVEN`] is merged into what is kept of it.
@@ -122,7 +133,71 @@ fn contributions_and_where_they_start(rt: HostRuntime) {
     assert!(rt; is_merged(rt.alloc()));
     laws::merged_contributions_are_apart();
     laws::merged_contributions_hold_all();
+    laws::merged_contributions_hold_no_other_module();
     laws::order_of_contributions_agrees_with_equality();
+}
+
+/// Two sections of code.
+static CODE: [ImageSectionHeader; 2] = [
+    ImageSectionHeader {
+        virtual_address: 0x1000,
+        virtual_size: 0x100,
+        execute: true,
+    },
+    ImageSectionHeader {
+        virtual_address: 0x2000,
+        virtual_size: 0x100,
+        execute: true,
+    },
+];
+
+/// Whether contributions to those sections are merged into others, of which the third number is the end.
+fn are_merged_into(alloc: Global, given: &[Given], wanted: &[Given]) -> bool {
+    match merged_in(alloc, &CODE, given, None) {
+        Ok((merged, _)) => are(&merged, wanted),
+        Err(_) => false,
+    }
+}
+
+/// Whether merged contributions are those, of which the third number is the end.
+fn are(merged: &[ModuleSectionContribution], wanted: &[Given]) -> bool {
+    if merged.len() != wanted.len() {
+        return false;
+    }
+    for (at, &(section, start, end, module)) in wanted.iter().enumerate() {
+        if merged[at] != run(section, start, end, module) {
+            return false;
+        }
+    }
+    true
+}
+
+/// Contributions in reading order, and what they are merged into, by section, start, end and module: one
+/// that ends below the one ahead of it, modules that take turns, the same in reverse, one that starts below
+/// the one ahead of it, and a module that comes back in a section where nothing stands between.
+static MERGED: [(&[Given], &[Given]); 5] = [
+    (&[(1, 0, 0x20, 0), (1, 0, 0x10, 0)], &[(1, 0, 0x20, 0)]),
+    (
+        &[(1, 0, 0x20, 0), (1, 0x30, 0x10, 0), (1, 0x20, 0x10, 1)],
+        &[(1, 0, 0x20, 0), (1, 0x20, 0x30, 1), (1, 0x30, 0x40, 0)],
+    ),
+    (
+        &[(1, 0x20, 0x10, 1), (1, 0x30, 0x10, 0), (1, 0, 0x20, 0)],
+        &[(1, 0, 0x20, 0), (1, 0x20, 0x30, 1), (1, 0x30, 0x40, 0)],
+    ),
+    (&[(1, 0x10, 0x10, 0), (1, 0, 0x30, 0)], &[(1, 0, 0x30, 0)]),
+    (
+        &[(1, 0, 0x10, 0), (2, 0, 0x10, 1), (1, 0x30, 0x10, 0)],
+        &[(1, 0, 0x40, 0), (2, 0, 0x10, 1)],
+    ),
+];
+
+#[test]
+fn modules_take_turns(rt: HostRuntime) {
+    laws::contributions_in_reading_order_stay();
+    for (given, wanted) in &MERGED {
+        assert!(rt; are_merged_into(rt.alloc(), given, wanted));
+    }
 }
 
 /// Why these contributions are refused.
@@ -133,12 +208,28 @@ fn refusal(alloc: Global, given: &[Given]) -> Option<Error> {
     }
 }
 
+/// Whether contributions of which two overlap are refused for the fault behind them.
+fn is_fault_first(alloc: Global) -> bool {
+    let given = [(1, 0, 0x20, 0), (1, 0x10, 0x20, 1)];
+    matches!(
+        merged_in(alloc, &CODE, &given, Some(StreamError(9))),
+        Err(Error::PdbError(pdb_records::Error::Stream(StreamError(9))))
+    )
+}
+
 #[test]
 fn refused_contributions(rt: HostRuntime) {
+    laws::contributions_are_refused_for();
+    assert!(rt; is_fault_first(rt.alloc()));
+    let before_overlap = [
+        (1, 0, 0x20, 0),
+        (1, 0x10, 0x20, 1),
+        (1, 0xffff_fff0, 0x20, 3),
+    ];
+    let first = refusal(rt.alloc(), &before_overlap);
+    assert!(rt; matches!(first, Some(Error::SectionContributionEndTooLarge(3, 1))));
     let too_large = refusal(rt.alloc(), &[(1, 0xffff_fff0, 0x20, 0)]);
     assert!(rt; matches!(too_large, Some(Error::SectionContributionEndTooLarge(0, 1))));
-    let unordered = refusal(rt.alloc(), &[(1, 0, 0x20, 0), (1, 0, 0x10, 0)]);
-    assert!(rt; matches!(unordered, Some(Error::UnorderedSectionContributions(0, 1))));
     let overlapping = refusal(rt.alloc(), &[(1, 0, 0x20, 0), (1, 0x10, 0x20, 1)]);
     assert!(rt;
         matches!(
@@ -234,6 +325,7 @@ fn have_thousands(alloc: Global, symbols: &[Symbol]) -> bool {
 fn thousands_of_global_functions(rt: HostRuntime) -> Result<(), AllocError> {
     let symbols = publics(rt.alloc())?;
     laws::first_global_function_of_each_start_is_kept();
+    laws::first_procedure_of_each_start_is_kept();
     assert!(rt; have_thousands(rt.alloc(), &symbols));
     Ok(())
 }

@@ -25,7 +25,7 @@ pub enum Error {
     /// The id of a member function names a type that is no member function's.
     #[error("Id of type MemberFunction doesn't have type of MemberFunction")]
     MemberFunctionIdIsNotMemberFunctionType,
-    /// In the run of a module in a section, a contribution ends before the one ahead of it does.
+    /// No call answers this: contributions of one module may stand in any order in each section.
     #[error("There are consecutive section contributions for module {0} and section {1} which are not ordered by offset")]
     UnorderedSectionContributions(usize, u16),
     /// Two contributions to a section claim the same bytes.
