@@ -124,7 +124,7 @@ pub fn first_procedure_of_each_start_is_kept()
     ensures behind { (symbols : List Symbol) (symbol : Symbol)
         → procedures_from 0 None (symbols ++ symbol ∷ [])
         ≡ procedures_from 0 None symbols ++ option_to_list
-            (procedure_at (length symbols) (last_procedure (procedures_from 0 None symbols)) symbol) }
+        (procedure_at (length symbols) (last_procedure (procedures_from 0 None symbols)) symbol) }
     ensures fault { (info : ModuleInfo) (fault : StreamError)
         → info.symbols.fault ≡ Some fault → info_procedures info ≡ [] }
 {}
