@@ -1,0 +1,63 @@
+//! A signature or an id is refused as circular exactly where an index opens inside itself, an element of
+//! an array repeats among those before it, or a scope repeats among those that it is in, unless another
+//! error stands earlier.
+
+ghost use Rattle.std.specs.Prelude.{◌≡◌, ℕ, List, Some};
+ghost use Rattle.pdb_records.specs.Readings.{Read};
+ghost use Rattle.pdb_records.specs.declared.types.Item.{Item};
+ghost use Rattle.pdb_records.specs.declared.types.TypeIndex.{TypeIndex};
+ghost use Rattle.pdb_records.specs.declared.types.TypeData.{TypeData};
+ghost use Rattle.pdb_records.specs.declared.ids.IdIndex.{IdIndex};
+ghost use Rattle.pdb_records.specs.declared.ids.IdData.{IdData};
+ghost use Rattle.pdb_types.specs.Standing.{Linked};
+ghost use Rattle.pdb_types.specs.declared.flags.TypeFormatterFlags.{TypeFormatterFlags};
+ghost use Rattle.pdb_types.specs.FailedParts.{Parts};
+ghost use Rattle.pdb_documents.specs.Worlds.{World, world_of};
+ghost use Rattle.pdb_documents.specs.Ids.{id_of_index};
+ghost use Rattle.pdb_documents.specs.Signatures.{signature, type_of_index};
+ghost use Rattle.pdb_laws.specs.Circles.{MeetsCircle, IsRefusedAsCircular};
+
+/// Printing the type of an index, while others are open, is refused as circular exactly where it meets a
+/// circle before anything else fails, and it tells the index of that circle.
+pub fn types_are_circular_exactly_where_an_index_repeats()
+    ensures refused { (linked : Linked) (types : Read (Item TypeIndex TypeData)) (ids : Read (Item IdIndex IdData))
+        (pointer : ℕ) (flags : TypeFormatterFlags) (position : ℕ) (inside : List ℕ) (index circle : ℕ)
+        → let w = world_of linked types ids pointer flags position in
+        MeetsCircle w (type_of_index inside index) circle
+        → (failed : Parts) → IsRefusedAsCircular w (type_of_index inside index) failed circle }
+    ensures only { (linked : Linked) (types : Read (Item TypeIndex TypeData)) (ids : Read (Item IdIndex IdData))
+        (pointer : ℕ) (flags : TypeFormatterFlags) (position : ℕ) (inside : List ℕ) (index circle : ℕ)
+        → let w = world_of linked types ids pointer flags position in
+        (failed : Parts) → IsRefusedAsCircular w (type_of_index inside index) failed circle
+        → MeetsCircle w (type_of_index inside index) circle }
+{}
+
+/// The signature of a function is refused as circular exactly where printing it meets a circle before
+/// anything else fails, and it tells the index of that circle.
+pub fn signatures_are_circular_exactly_where_an_index_repeats()
+    ensures refused { (linked : Linked) (types : Read (Item TypeIndex TypeData)) (ids : Read (Item IdIndex IdData))
+        (pointer : ℕ) (flags : TypeFormatterFlags) (position : ℕ) (name : List ℕ) (index circle : ℕ)
+        → let w = world_of linked types ids pointer flags position in
+        MeetsCircle w (signature w name index) circle
+        → (failed : Parts) → IsRefusedAsCircular w (signature w name index) failed circle }
+    ensures only { (linked : Linked) (types : Read (Item TypeIndex TypeData)) (ids : Read (Item IdIndex IdData))
+        (pointer : ℕ) (flags : TypeFormatterFlags) (position : ℕ) (name : List ℕ) (index circle : ℕ)
+        → let w = world_of linked types ids pointer flags position in
+        (failed : Parts) → IsRefusedAsCircular w (signature w name index) failed circle
+        → MeetsCircle w (signature w name index) circle }
+{}
+
+/// An id is refused as circular exactly where printing it meets a circle before anything else fails, and it
+/// tells the index of that circle.
+pub fn ids_are_circular_exactly_where_an_index_repeats()
+    ensures refused { (linked : Linked) (types : Read (Item TypeIndex TypeData)) (ids : Read (Item IdIndex IdData))
+        (pointer : ℕ) (flags : TypeFormatterFlags) (position : ℕ) (index circle : ℕ)
+        → let w = world_of linked types ids pointer flags position in
+        MeetsCircle w (id_of_index index) circle
+        → (failed : Parts) → IsRefusedAsCircular w (id_of_index index) failed circle }
+    ensures only { (linked : Linked) (types : Read (Item TypeIndex TypeData)) (ids : Read (Item IdIndex IdData))
+        (pointer : ℕ) (flags : TypeFormatterFlags) (position : ℕ) (index circle : ℕ)
+        → let w = world_of linked types ids pointer flags position in
+        (failed : Parts) → IsRefusedAsCircular w (id_of_index index) failed circle
+        → MeetsCircle w (id_of_index index) circle }
+{}
