@@ -1,3 +1,4 @@
 pub mod ReadLemmas
 pub mod PlanLemmas
 pub mod CircleLemmas
+pub mod DepthLemmas

@@ -6,3 +6,4 @@
 #![tactic(auto)]
 
 pub mod circles;
+pub mod picks;

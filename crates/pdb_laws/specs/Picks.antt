@@ -1,0 +1,12 @@
+-- What is picked at each depth.
+use Rattle.std.specs.Prelude.{ℕ, ◌+◌, List, [], ◌∷◌, None}
+use Rattle.pdb_ranges.specs.Pick.{IsPick, IsPicked}
+use Rattle.pdb_inline.specs.declared.inline_ranges.InlineRange.{InlineRange}
+use Rattle.pdb_inline.specs.InlineStacks.{lies_over}
+
+-- the first of these is picked at a depth, the next at the depth below it, and so on; and behind the last of them no
+-- range lies over the number at the next depth
+abbrev pub ArePickedByDepth : List InlineRange → ℕ → ℕ → List InlineRange → Type 0
+ArePickedByDepth ranges x depth [] = IsPicked (lies_over depth x) (λ range. range.start_offset) ranges None
+ArePickedByDepth ranges x depth (range ∷ inner) =
+    IsPick (lies_over depth x) (λ r. r.start_offset) ranges range × ArePickedByDepth ranges x (depth + 1) inner
