@@ -1,7 +1,7 @@
 -- Printing is refused as circular exactly where it meets a circle.
 use Rattle.std.proofs.Common.{◌≡◌, ℕ, List, Option, Some, None, refl, subst, ◌∙◌}
 use Rattle.pdb_types.specs.declared.error.Error.TheVariants.{CircularTypeDefinition}
-use Rattle.pdb_types.specs.Errors.{Plain}
+use Rattle.pdb_types.specs.Errors.{ToldError, Plain}
 use Rattle.pdb_types.specs.FailedParts.{Parts}
 use Rattle.pdb_documents.specs.Documents.{Document, Failure, TypeNotFound, Told, Run, then_by, buffered_by, caught_by, run}
 use Rattle.pdb_documents.specs.Documents as document
@@ -13,8 +13,8 @@ use Rattle.pdb_documents.specs.Worlds.{World}
 use Rattle.pdb_documents.proofs.AlikeLemmas.{alike-runs}
 use Rattle.pdb_documents.proofs.UnfoldingLemmas.{unfolds_once}
 use Rattle.pdb_laws.specs.Circles.{Repeats, Succeeds, MeetsCircle, at_task, in_rule, in_first, in_second, in_buffer, in_caught}
-use Rattle.pdb_laws.proofs.ReadLemmas.{ReadsNoCircle}
-use Rattle.pdb_laws.proofs.PlanLemmas.{IsOtherPlan, RuleGives, circle, other, rule_gives, repeats_circular}
+use Rattle.pdb_laws.proofs.ReadLemmas.{IsGoodWorld}
+use Rattle.pdb_laws.proofs.PlanLemmas.{HasPrintErrors, IsGoodPlan, RuleGives, circle, other, rule_gives, repeats_circular}
 
 -- a failure is the refusal of this index as circular
 abbrev pub Circle : ℕ → Option Failure
@@ -33,11 +33,33 @@ circular_document {d = d} w inside task index is u =
     let P : Plan → Type 0 = λ p. Unfolds w p d in
     unfolds_once done (subst P is u)
 
+-- an error isn't told as circular
+abbrev pub IsOther : ToldError → Type 0
+IsOther e = (index : ℕ) → e ≡ Plain (CircularTypeDefinition index) → ⊥
+
+-- errors of printing, but for that of an index that repeats, aren't told as circular
+pub others : HasPrintErrors IsOther
+others = record {
+  reading = record {
+    of_records = λ e index is. cc;
+    no_texts = λ index is. cc;
+    past_list = λ position index is. cc;
+    no_info = λ position index is. cc;
+    no_module = λ name index is. cc;
+    no_export = λ local index is. cc;
+    imports_failed = λ index is. cc;
+    exports_failed = λ index is. cc;
+  };
+  no_list = λ index is. cc;
+  no_method = λ index is. cc;
+  no_procedure = λ index is. cc;
+}
+
 -- printing that is refused as circular met a circle
-pub circle_met : (w : World) → ReadsNoCircle w → {p : Plan} {d : Document} → Unfolds w p d → IsOtherPlan p → (failed : Parts) (index : ℕ) → (run d failed).fault ≡ Circle index → MeetsCircle w p index
-circle_met w reads done plan failed index is = absurd (plan failed index is)
-circle_met w reads (later {inside = inside} {task = task} {d = d} u) plan failed index is = by_rule (rule_gives w reads inside task) (λ rest. circle_met w reads u rest failed index is) where
-  by_rule : RuleGives w inside task → (IsOtherPlan (rule w inside task) → MeetsCircle w (rule w inside task) index) → MeetsCircle w (Later inside task) index
+pub circle_met : (w : World) → IsGoodWorld IsOther w → {p : Plan} {d : Document} → Unfolds w p d → IsGoodPlan IsOther p → (failed : Parts) (index : ℕ) → (run d failed).fault ≡ Circle index → MeetsCircle w p index
+circle_met w reads done plan failed index is = absurd (plan failed (Plain (CircularTypeDefinition index)) is index refl)
+circle_met w reads (later {inside = inside} {task = task} {d = d} u) plan failed index is = by_rule (rule_gives IsOther others w reads inside task) (λ rest. circle_met w reads u rest failed index is) where
+  by_rule : RuleGives IsOther w inside task → (IsGoodPlan IsOther (rule w inside task) → MeetsCircle w (rule w inside task) index) → MeetsCircle w (Later inside task) index
   by_rule (circle again repeats gives) rest =
       let e : document.Fail (Told (Plain (CircularTypeDefinition again))) ≡ d = circular_document w inside task again gives u in
       let same : Circle again ≡ Circle index = rw (← e) at is in

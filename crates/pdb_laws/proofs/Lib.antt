@@ -2,3 +2,4 @@ pub mod ReadLemmas
 pub mod PlanLemmas
 pub mod CircleLemmas
 pub mod DepthLemmas
+pub mod RefusalLemmas

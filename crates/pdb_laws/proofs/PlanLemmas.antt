@@ -1,5 +1,5 @@
--- What one rule gives is refused as circular only where its task repeats an index.
-use Rattle.std.proofs.Common.{◌≡◌, ◌≢◌, ℕ, Bool, true, false, cond, List, [], ◌∷◌, Option, Some, None, Ok, Err, Result, refl, inl, inr}
+-- What one rule gives fails for nothing but some errors, and for an index that its task repeats.
+use Rattle.std.proofs.Common.{◌≡◌, ℕ, Bool, true, false, cond, List, [], ◌∷◌, Option, Some, None, Ok, Err, Result, refl, subst, inl, inr}
 use Rattle.std.specs.Prelude.{⊤, ◌⊎◌, ◌||◌, ◌==◌, codes}
 use Rattle.std.specs.BTreeSet.{insert_key}
 use Rattle.std.specs.Ordering.{nat_cmp}
@@ -12,7 +12,8 @@ use Rattle.pdb_records.specs.declared.types.MemberFunctionType.{MemberFunctionTy
 use Rattle.pdb_records.specs.declared.types.TypeIndex.{TypeIndex}
 use Rattle.pdb_records.specs.declared.types.TypeData.{TypeData}
 use Rattle.pdb_records.specs.declared.types.TypeData.TheVariants.{Primitive, Class, MemberFunction, Procedure, Pointer, Array, Union, Enumeration, Enumerate, Modifier, ArgumentList, Other}
-use Rattle.pdb_types.specs.declared.error.Error.TheVariants.{CircularTypeDefinition}
+use Rattle.pdb_types.specs.declared.error.Error.TheVariants.{PdbError, ArgumentTypeNotArgumentList, MemberFunctionIdIsNotMemberFunctionType, FunctionIdIsNotProcedureType}
+use Rattle.pdb_records.specs.declared.error.Error.TheVariants.{UnimplementedTypeKind}
 use Rattle.pdb_types.specs.declared.unread.Part.{Part}
 use Rattle.pdb_types.specs.declared.unread.Part.TheVariants.{Imports, Exports}
 use Rattle.pdb_types.specs.Errors.{ToldError, Plain}
@@ -33,233 +34,240 @@ use Rattle.pdb_documents.specs.Rules.{chain_end, behind_modifier, behind_pointer
 use Rattle.pdb_documents.specs.Signatures.{signature_by_type, signature}
 use Rattle.pdb_documents.specs.Worlds.{World}
 use Rattle.pdb_laws.specs.Circles.{Repeats}
-use Rattle.pdb_laws.proofs.ReadLemmas.{IsOther, IsOtherTrouble, ReadsOther, ReadsNoCircle, reads_then}
+use Rattle.pdb_laws.proofs.ReadLemmas.{HasReadErrors, IsGoodTrouble, IsGoodReading, IsGoodWorld, reads_then}
 
--- a document isn't refused as circular
-abbrev pub IsOtherDocument : Document → Type 0
-IsOtherDocument d = (failed : Parts) (circle : ℕ) → (run d failed).fault ≢ Some (Told (Plain (CircularTypeDefinition circle)))
+-- besides errors of reading, these of the types of functions are among them
+pub record HasPrintErrors (Good : ToldError → Type 0) : Type 0 where
+  pub reading : HasReadErrors Good
+  pub no_list : Good (Plain ArgumentTypeNotArgumentList)
+  pub no_method : Good (Plain MemberFunctionIdIsNotMemberFunctionType)
+  pub no_procedure : Good (Plain FunctionIdIsNotProcedureType)
 
--- no document that a plan has already is refused as circular
-abbrev pub IsOtherPlan : Plan → Type 0
-IsOtherPlan (Done d) = IsOtherDocument d
-IsOtherPlan (Later inside task) = ⊤
-IsOtherPlan (Seq p q) = IsOtherPlan p × IsOtherPlan q
-IsOtherPlan (Buffered p after_sigil after_other) = IsOtherPlan p
-IsOtherPlan (Catch p) = IsOtherPlan p
+-- a document fails for nothing but these errors, or for a missing type
+abbrev pub IsGoodDocument : (ToldError → Type 0) → Document → Type 0
+IsGoodDocument Good d = (failed : Parts) (e : ToldError) → (run d failed).fault ≡ Some (Told e) → Good e
+
+-- no document that a plan has already fails for another error
+abbrev pub IsGoodPlan : (ToldError → Type 0) → Plan → Type 0
+IsGoodPlan Good (Done d) = IsGoodDocument Good d
+IsGoodPlan Good (Later inside task) = ⊤
+IsGoodPlan Good (Seq p q) = IsGoodPlan Good p × IsGoodPlan Good q
+IsGoodPlan Good (Buffered p after_sigil after_other) = IsGoodPlan Good p
+IsGoodPlan Good (Catch p) = IsGoodPlan Good p
 
 -- a text
-pub other_text : (text : List ℕ) → IsOtherPlan (written text)
-other_text text = λ failed circle is. cc
+pub good_text : (Good : ToldError → Type 0) → HasPrintErrors Good → (text : List ℕ) → IsGoodPlan Good (written text)
+good_text Good has text = λ failed e is. absurd (cc)
 
--- an error that isn't told as circular
-other_error : (e : ToldError) → IsOther e → IsOtherDocument (document.Fail (Told e))
-other_error e other = λ failed circle is. other circle (cc)
+-- an error that is one of these
+good_error : (Good : ToldError → Type 0) → HasPrintErrors Good → (told : ToldError) → Good told → IsGoodDocument Good (document.Fail (Told told))
+good_error Good has told good = λ failed e is. let same : told ≡ e = cc in subst Good same good
 
 -- a part of the records
-other_ask : (part : Part) (e : ToldError) → IsOther e → IsOtherDocument (document.Ask part e)
-other_ask part e other = λ failed circle is. by_test failed circle (has_failed failed part) refl is where
-  before : (p : Part) (circle : ℕ) → unsuccessful p ≢ Plain (CircularTypeDefinition circle)
-  before (Imports position) circle is = cc
-  before (Exports position) circle is = cc
+good_ask : (Good : ToldError → Type 0) → HasPrintErrors Good → (part : Part) (told : ToldError) → Good told → IsGoodDocument Good (document.Ask part told)
+good_ask Good has part told good = λ failed e is. let same : part_error failed part told ≡ e = cc in subst Good same (by_test (has_failed failed part)) where
+  before : (p : Part) → Good (unsuccessful p)
+  before (Imports position) = has.reading.imports_failed
+  before (Exports position) = has.reading.exports_failed
 
-  by_test : (failed : Parts) (circle : ℕ) (t : Bool) → has_failed failed part ≡ t → Some (Told (part_error failed part e)) ≡ Some (Told (Plain (CircularTypeDefinition circle))) → ⊥
-  by_test failed circle true has is = let h : Some (Told (unsuccessful part)) ≡ Some (Told (Plain (CircularTypeDefinition circle))) = rw has at is in before part circle (cc)
-  by_test failed circle false has is = let h : Some (Told e) ≡ Some (Told (Plain (CircularTypeDefinition circle))) = rw has at is in other circle (cc)
+  by_test : (t : Bool) → Good (cond t (unsuccessful part) told)
+  by_test true = before part
+  by_test false = good
 
 -- why something can't be read
-other_refusal : (trouble : Trouble) → IsOtherTrouble trouble → IsOtherDocument (refusal trouble)
-other_refusal (Missing index) other = λ failed circle is. cc
-other_refusal (Unimplemented kind) other = λ failed circle is. cc
-other_refusal (Refused e) other = other_error e other
-other_refusal (Broken part e) other = other_ask part e other
+good_refusal : (Good : ToldError → Type 0) → HasPrintErrors Good → (trouble : Trouble) → IsGoodTrouble Good trouble → IsGoodDocument Good (refusal trouble)
+good_refusal Good has (Missing index) other = λ failed e is. absurd (cc)
+good_refusal Good has (Unimplemented kind) other = good_error Good has (Plain (PdbError (UnimplementedTypeKind kind))) (has.reading.of_records (UnimplementedTypeKind kind))
+good_refusal Good has (Refused e) other = good_error Good has e other
+good_refusal Good has (Broken part e) other = good_ask Good has part e other
 
 -- why what is printed where it stands can't be read
-other_note : (trouble : Trouble) → IsOtherTrouble trouble → IsOtherDocument (note_or_refusal trouble)
-other_note (Missing index) other = λ failed circle is. cc
-other_note (Unimplemented kind) other = λ failed circle is. cc
-other_note (Refused e) other = other_error e other
-other_note (Broken part e) other = other_ask part e other
+good_note : (Good : ToldError → Type 0) → HasPrintErrors Good → (trouble : Trouble) → IsGoodTrouble Good trouble → IsGoodDocument Good (note_or_refusal trouble)
+good_note Good has (Missing index) other = λ failed e is. absurd (cc)
+good_note Good has (Unimplemented kind) other = λ failed e is. absurd (cc)
+good_note Good has (Refused e) other = good_error Good has e other
+good_note Good has (Broken part e) other = good_ask Good has part e other
 
 -- what follows what is needed
-pub other_on_read : {A : Type 0} (r : Result A Trouble) (next : A → Plan) → ReadsOther r → ((answer : A) → IsOtherPlan (next answer)) → IsOtherPlan (on_read r next)
-other_on_read (Ok answer) next reads plans = plans answer
-other_on_read (Err trouble) next reads plans = other_refusal trouble reads
+pub good_on_read : {A : Type 0} (Good : ToldError → Type 0) → HasPrintErrors Good → (r : Result A Trouble) (next : A → Plan) → IsGoodReading Good r → ((answer : A) → IsGoodPlan Good (next answer)) → IsGoodPlan Good (on_read r next)
+good_on_read Good has (Ok answer) next reads plans = plans answer
+good_on_read Good has (Err trouble) next reads plans = good_refusal Good has trouble reads
 
 -- what follows what is printed where it stands
-pub other_on_printed : {A : Type 0} (r : Result A Trouble) (next : A → Plan) → ReadsOther r → ((answer : A) → IsOtherPlan (next answer)) → IsOtherPlan (on_printed r next)
-other_on_printed (Ok answer) next reads plans = plans answer
-other_on_printed (Err trouble) next reads plans = other_note trouble reads
+pub good_on_printed : {A : Type 0} (Good : ToldError → Type 0) → HasPrintErrors Good → (r : Result A Trouble) (next : A → Plan) → IsGoodReading Good r → ((answer : A) → IsGoodPlan Good (next answer)) → IsGoodPlan Good (on_printed r next)
+good_on_printed Good has (Ok answer) next reads plans = plans answer
+good_on_printed Good has (Err trouble) next reads plans = good_note Good has trouble reads
 
 -- what a function returns
-pub other_returned : (inside : List ℕ) (left_out : Bool) (index : Option TypeIndex) → IsOtherPlan (returned inside left_out index)
-other_returned inside left_out None = other_text []
-other_returned inside true (Some index) = other_text []
-other_returned inside false (Some index) = (tt, other_text (codes " "))
+pub good_returned : (Good : ToldError → Type 0) → HasPrintErrors Good → (inside : List ℕ) (left_out : Bool) (index : Option TypeIndex) → IsGoodPlan Good (returned inside left_out index)
+good_returned Good has inside left_out None = good_text Good has []
+good_returned Good has inside true (Some index) = good_text Good has []
+good_returned Good has inside false (Some index) = (tt, good_text Good has (codes " "))
 
 -- further types
-other_further : (separator inside : List ℕ) (list : List TypeIndex) → IsOtherPlan (further_types separator inside list)
-other_further separator inside [] = other_text []
-other_further separator inside (next ∷ rest) = (other_text separator, (tt, other_further separator inside rest))
+good_further : (Good : ToldError → Type 0) → HasPrintErrors Good → (separator inside : List ℕ) (list : List TypeIndex) → IsGoodPlan Good (further_types separator inside list)
+good_further Good has separator inside [] = good_text Good has []
+good_further Good has separator inside (next ∷ rest) = (good_text Good has separator, (tt, good_further Good has separator inside rest))
 
 -- types between separators
-pub other_between : (separator inside : List ℕ) (list : List TypeIndex) → IsOtherPlan (types_between separator inside list)
-other_between separator inside [] = other_text []
-other_between separator inside (next ∷ rest) = (tt, other_further separator inside rest)
+pub good_between : (Good : ToldError → Type 0) → HasPrintErrors Good → (separator inside : List ℕ) (list : List TypeIndex) → IsGoodPlan Good (types_between separator inside list)
+good_between Good has separator inside [] = good_text Good has []
+good_between Good has separator inside (next ∷ rest) = (tt, good_further Good has separator inside rest)
 
 -- a function's arguments
-pub other_arguments : (w : World) (inside : List ℕ) (list : TypeIndex) → IsOtherPlan (function_arguments w inside list)
-other_arguments w inside list = by_test (without_arguments w.flags) where
-  by_test : (t : Bool) → IsOtherPlan (cond t (written []) (written (codes "(") ▸ Later inside (Index list.0) ▸ written (codes ")")))
-  by_test true = other_text []
-  by_test false = (other_text (codes "("), (tt, other_text (codes ")")))
+pub good_arguments : (Good : ToldError → Type 0) → HasPrintErrors Good → (w : World) (inside : List ℕ) (list : TypeIndex) → IsGoodPlan Good (function_arguments w inside list)
+good_arguments Good has w inside list = by_test (without_arguments w.flags) where
+  by_test : (t : Bool) → IsGoodPlan Good (cond t (written []) (written (codes "(") ▸ Later inside (Index list.0) ▸ written (codes ")")))
+  by_test true = good_text Good has []
+  by_test false = (good_text Good has (codes "("), (tt, good_text Good has (codes ")")))
 
 -- the end of a chain of pointers
-other_chain_end : (w : World) (attributes : List Attribute) (inside : List ℕ) (type : TypeData) → IsOtherPlan (chain_end w attributes inside type)
-other_chain_end w attributes inside (MemberFunction m) = (other_returned inside m.is_constructor (Some m.return_type), (other_text (codes "("), (tt, (other_text (attributes_text w.flags false false attributes), (other_text (codes ")"), tt)))))
-other_chain_end w attributes inside (Procedure p) = (other_returned inside p.is_constructor p.return_type, (other_text (codes "("), (other_text (attributes_text w.flags false false attributes), (other_text (codes ")("), (tt, other_text (codes ")"))))))
-other_chain_end w attributes inside other = tt
+good_chain_end : (Good : ToldError → Type 0) → HasPrintErrors Good → (w : World) (attributes : List Attribute) (inside : List ℕ) (type : TypeData) → IsGoodPlan Good (chain_end w attributes inside type)
+good_chain_end Good has w attributes inside (MemberFunction m) = (good_returned Good has inside m.is_constructor (Some m.return_type), (good_text Good has (codes "("), (tt, (good_text Good has (attributes_text w.flags false false attributes), (good_text Good has (codes ")"), tt)))))
+good_chain_end Good has w attributes inside (Procedure p) = (good_returned Good has inside p.is_constructor p.return_type, (good_text Good has (codes "("), (good_text Good has (attributes_text w.flags false false attributes), (good_text Good has (codes ")("), (tt, good_text Good has (codes ")"))))))
+good_chain_end Good has w attributes inside other = tt
 
 -- what follows a modifier in a chain of pointers
-other_behind_modifier : (w : World) (attributes : List Attribute) (inside : List ℕ) (type : TypeData) → IsOtherPlan (behind_modifier w attributes inside type)
-other_behind_modifier w attributes inside (Pointer p) = tt
-other_behind_modifier w attributes inside other = other_chain_end w attributes inside other
+good_behind_modifier : (Good : ToldError → Type 0) → HasPrintErrors Good → (w : World) (attributes : List Attribute) (inside : List ℕ) (type : TypeData) → IsGoodPlan Good (behind_modifier w attributes inside type)
+good_behind_modifier Good has w attributes inside (Pointer p) = tt
+good_behind_modifier Good has w attributes inside other = good_chain_end Good has w attributes inside other
 
 -- what follows a pointer in a chain of pointers
-other_behind_pointer : (w : World) (attributes : List Attribute) (inside : List ℕ) (type : TypeData) → IsOtherPlan (behind_pointer w attributes inside type)
-other_behind_pointer w attributes inside (Pointer p) = tt
-other_behind_pointer w attributes inside (Modifier m) = tt
-other_behind_pointer w attributes inside other = other_chain_end w attributes inside other
+good_behind_pointer : (Good : ToldError → Type 0) → HasPrintErrors Good → (w : World) (attributes : List Attribute) (inside : List ℕ) (type : TypeData) → IsGoodPlan Good (behind_pointer w attributes inside type)
+good_behind_pointer Good has w attributes inside (Pointer p) = tt
+good_behind_pointer Good has w attributes inside (Modifier m) = tt
+good_behind_pointer Good has w attributes inside other = good_chain_end Good has w attributes inside other
 
 -- an element of an array
-other_element : (w : World) (inside elements levels : List ℕ) (index : ℕ) (type : TypeData) → IsOtherPlan (element w inside elements levels index type)
-other_element w inside elements levels index (Array a) = tt
-other_element w inside elements levels index other = by_met (w.size index).met (Later inside (OfType other) ▸ written (dimensions_text levels (w.size index).size)) (tt, other_text []) where
-  by_met : (met : Option Part) (p : Plan) → IsOtherPlan p → IsOtherPlan (met_before met p)
+good_element : (Good : ToldError → Type 0) → HasPrintErrors Good → (w : World) (inside elements levels : List ℕ) (index : ℕ) (type : TypeData) → IsGoodPlan Good (element w inside elements levels index type)
+good_element Good has w inside elements levels index (Array a) = tt
+good_element Good has w inside elements levels index other = by_met (w.size index).met (Later inside (OfType other) ▸ written (dimensions_text levels (w.size index).size)) (tt, good_text Good has []) where
+  by_met : (met : Option Part) (p : Plan) → IsGoodPlan Good p → IsGoodPlan Good (met_before met p)
   by_met None p plan = plan
-  by_met (Some part) p plan = ((λ failed circle is. cc), plan)
+  by_met (Some part) p plan = ((λ failed e is. absurd (cc)), plan)
 
 -- the target of a modifier
-other_modified : (w : World) (constant : Bool) (inside : List ℕ) (type : TypeData) → IsOtherPlan (modified w constant inside type)
-other_modified w constant inside (Pointer p) = tt
-other_modified w constant inside (Primitive p) = other_text []
-other_modified w constant inside other = (other_text [], tt)
+good_modified : (Good : ToldError → Type 0) → HasPrintErrors Good → (w : World) (constant : Bool) (inside : List ℕ) (type : TypeData) → IsGoodPlan Good (modified w constant inside type)
+good_modified Good has w constant inside (Pointer p) = tt
+good_modified Good has w constant inside (Primitive p) = good_text Good has []
+good_modified Good has w constant inside other = (good_text Good has [], tt)
 
 -- a type, by its kind
-other_kind : (w : World) (inside : List ℕ) (type : TypeData) → IsOtherPlan (by_kind w inside type)
-other_kind w inside (Primitive p) = other_text []
-other_kind w inside (Class c) = other_text []
-other_kind w inside (Union u) = other_text []
-other_kind w inside (Enumeration e) = other_text []
-other_kind w inside (Enumerate e) = other_text []
-other_kind w inside (MemberFunction m) = (other_returned inside (m.is_constructor || without_return_type w.flags) (Some m.return_type), (other_text (codes "()"), tt))
-other_kind w inside (Procedure p) = (other_returned inside (p.is_constructor || without_return_type w.flags) p.return_type, (other_text (codes "()("), tt))
-other_kind w inside (ArgumentList list) = other_between (comma w.flags) inside list
-other_kind w inside (Pointer p) = tt
-other_kind w inside (Array a) = tt
-other_kind w inside (Modifier m) = tt
-other_kind w inside (Other kind) = other_text []
+good_kind : (Good : ToldError → Type 0) → HasPrintErrors Good → (w : World) (inside : List ℕ) (type : TypeData) → IsGoodPlan Good (by_kind w inside type)
+good_kind Good has w inside (Primitive p) = good_text Good has []
+good_kind Good has w inside (Class c) = good_text Good has []
+good_kind Good has w inside (Union u) = good_text Good has []
+good_kind Good has w inside (Enumeration e) = good_text Good has []
+good_kind Good has w inside (Enumerate e) = good_text Good has []
+good_kind Good has w inside (MemberFunction m) = (good_returned Good has inside (m.is_constructor || without_return_type w.flags) (Some m.return_type), (good_text Good has (codes "()"), tt))
+good_kind Good has w inside (Procedure p) = (good_returned Good has inside (p.is_constructor || without_return_type w.flags) p.return_type, (good_text Good has (codes "()("), tt))
+good_kind Good has w inside (ArgumentList list) = good_between Good has (comma w.flags) inside list
+good_kind Good has w inside (Pointer p) = tt
+good_kind Good has w inside (Array a) = tt
+good_kind Good has w inside (Modifier m) = tt
+good_kind Good has w inside (Other kind) = good_text Good has []
 
 -- what a method's `this` tells
-other_this : (w : World) → ReadsNoCircle w → (class : TypeIndex) (this : Option TypeIndex) → ReadsOther (this_of w class this)
-other_this w reads class None = tt
-other_this w reads class (Some this) = reads_then (w.read this.0) (this_by_type w class this) (reads.types this.0) by_type where
-  by_target : (p : TypeIndex) (t : Bool) → ReadsOther (cond t (Ok (plain_this false)) (and_then (w.read p.0) (λ target. Ok (this_by_target class this target))))
+good_this : (Good : ToldError → Type 0) → HasPrintErrors Good → (w : World) → IsGoodWorld Good w → (class : TypeIndex) (this : Option TypeIndex) → IsGoodReading Good (this_of w class this)
+good_this Good has w reads class None = tt
+good_this Good has w reads class (Some this) = reads_then Good (w.read this.0) (this_by_type w class this) (reads.types this.0) by_type where
+  by_target : (p : TypeIndex) (t : Bool) → IsGoodReading Good (cond t (Ok (plain_this false)) (and_then (w.read p.0) (λ target. Ok (this_by_target class this target))))
   by_target p true = tt
-  by_target p false = reads_then (w.read p.0) (λ target. Ok (this_by_target class this target)) (reads.types p.0) (λ target. tt)
+  by_target p false = reads_then Good (w.read p.0) (λ target. Ok (this_by_target class this target)) (reads.types p.0) (λ target. tt)
 
-  by_type : (type : TypeData) → ReadsOther (this_by_type w class this type)
+  by_type : (type : TypeData) → IsGoodReading Good (this_by_type w class this type)
   by_type (Pointer p) = by_target p.underlying_type (p.underlying_type.0 == class.0)
   by_type other = tt
 
 -- a method's list of arguments
-other_on_list : (w : World) → ReadsNoCircle w → (m : MemberFunctionType) (may_say_const : Bool) (inside : List ℕ) (type : TypeData) → IsOtherPlan (on_list w m may_say_const inside type)
-other_on_list w reads m may_say_const inside (ArgumentList list) =
-    other_on_read (this_of w m.class_type m.this_pointer_type) (method_list w inside may_say_const list) (other_this w reads m.class_type m.this_pointer_type) (λ this. (other_text (codes "("), (other_between (comma w.flags) inside (arguments_behind this.argument list), other_text [])))
-other_on_list w reads m may_say_const inside other = λ failed circle is. cc
+good_on_list : (Good : ToldError → Type 0) → HasPrintErrors Good → (w : World) → IsGoodWorld Good w → (m : MemberFunctionType) (may_say_const : Bool) (inside : List ℕ) (type : TypeData) → IsGoodPlan Good (on_list w m may_say_const inside type)
+good_on_list Good has w reads m may_say_const inside (ArgumentList list) =
+    good_on_read Good has (this_of w m.class_type m.this_pointer_type) (method_list w inside may_say_const list) (good_this Good has w reads m.class_type m.this_pointer_type) (λ this. (good_text Good has (codes "("), (good_between Good has (comma w.flags) inside (arguments_behind this.argument list), good_text Good has [])))
+good_on_list Good has w reads m may_say_const inside other = good_error Good has (Plain ArgumentTypeNotArgumentList) has.no_list
 
 -- the scope of a function
-other_scope : (met inside : List ℕ) (index : Option IdIndex) → IsOtherPlan (scope met inside index)
-other_scope met inside None = other_text []
-other_scope met inside (Some index) = (tt, other_text (codes "::"))
+good_scope : (Good : ToldError → Type 0) → HasPrintErrors Good → (met inside : List ℕ) (index : Option IdIndex) → IsGoodPlan Good (scope met inside index)
+good_scope Good has met inside None = good_text Good has []
+good_scope Good has met inside (Some index) = (tt, good_text Good has (codes "::"))
 
 -- a function of a class
-other_method_id : (w : World) (method : MemberFunctionId) (inside : List ℕ) (type : TypeData) → IsOtherPlan (method_id w method inside type)
-other_method_id w method inside (MemberFunction m) = (other_text [], (other_returned inside (m.is_constructor || without_return_type w.flags) (Some m.return_type), (tt, (other_text (codes "::"), (other_text [], tt)))))
-other_method_id w method inside other = λ failed circle is. cc
+good_method_id : (Good : ToldError → Type 0) → HasPrintErrors Good → (w : World) (method : MemberFunctionId) (inside : List ℕ) (type : TypeData) → IsGoodPlan Good (method_id w method inside type)
+good_method_id Good has w method inside (MemberFunction m) = (good_text Good has [], (good_returned Good has inside (m.is_constructor || without_return_type w.flags) (Some m.return_type), (tt, (good_text Good has (codes "::"), (good_text Good has [], tt)))))
+good_method_id Good has w method inside other = good_error Good has (Plain MemberFunctionIdIsNotMemberFunctionType) has.no_method
 
 -- a function of no class
-other_function_id : (w : World) (met : List ℕ) (function : FunctionId) (inside : List ℕ) (type : TypeData) → IsOtherPlan (function_id w met function inside type)
-other_function_id w met function inside (Procedure p) = (other_returned inside (p.is_constructor || without_return_type w.flags) p.return_type, (other_scope met inside function.scope, (other_text [], other_arguments w inside p.argument_list)))
-other_function_id w met function inside other = λ failed circle is. cc
+good_function_id : (Good : ToldError → Type 0) → HasPrintErrors Good → (w : World) (met : List ℕ) (function : FunctionId) (inside : List ℕ) (type : TypeData) → IsGoodPlan Good (function_id w met function inside type)
+good_function_id Good has w met function inside (Procedure p) = (good_returned Good has inside (p.is_constructor || without_return_type w.flags) p.return_type, (good_scope Good has met inside function.scope, (good_text Good has [], good_arguments Good has w inside p.argument_list)))
+good_function_id Good has w met function inside other = good_error Good has (Plain FunctionIdIsNotProcedureType) has.no_procedure
 
 -- an id, by its kind
-other_id : (w : World) → ReadsNoCircle w → (met : List ℕ) (entry : IdData) → IsOtherPlan (id_by_kind w met entry)
-other_id w reads met (id.MemberFunction method) = other_on_read (w.read method.function_type.0) (method_id w method (method.function_type.0 ∷ [])) (reads.types method.function_type.0) (other_method_id w method (method.function_type.0 ∷ []))
-other_id w reads met (id.Function function) = other_on_read (w.read function.function_type.0) (function_id w met function (function.function_type.0 ∷ [])) (reads.types function.function_type.0) (other_function_id w met function (function.function_type.0 ∷ []))
-other_id w reads met (id.String string) = other_text []
-other_id w reads met (id.StringList substrings) = (other_text [], (other_between (codes "\" \"") [] substrings, other_text []))
-other_id w reads met (id.Other kind) = other_text []
+good_id : (Good : ToldError → Type 0) → HasPrintErrors Good → (w : World) → IsGoodWorld Good w → (met : List ℕ) (entry : IdData) → IsGoodPlan Good (id_by_kind w met entry)
+good_id Good has w reads met (id.MemberFunction method) = good_on_read Good has (w.read method.function_type.0) (method_id w method (method.function_type.0 ∷ [])) (reads.types method.function_type.0) (good_method_id Good has w method (method.function_type.0 ∷ []))
+good_id Good has w reads met (id.Function function) = good_on_read Good has (w.read function.function_type.0) (function_id w met function (function.function_type.0 ∷ [])) (reads.types function.function_type.0) (good_function_id Good has w met function (function.function_type.0 ∷ []))
+good_id Good has w reads met (id.String string) = good_text Good has []
+good_id Good has w reads met (id.StringList substrings) = (good_text Good has [], (good_between Good has (codes "\" \"") [] substrings, good_text Good has []))
+good_id Good has w reads met (id.Other kind) = good_text Good has []
 
 -- the signature of a function
-pub other_signature : (w : World) → ReadsNoCircle w → (name : List ℕ) (index : ℕ) → IsOtherPlan (signature w name index)
-other_signature w reads name index = by_test (index == 0) where
-  by_type : (inside : List ℕ) (type : TypeData) → IsOtherPlan (signature_by_type w name inside type)
-  by_type inside (MemberFunction m) = (other_text [], (other_returned inside (m.is_constructor || without_return_type w.flags) (Some m.return_type), (other_text [], tt)))
-  by_type inside (Procedure p) = (other_returned inside (p.is_constructor || without_return_type w.flags) p.return_type, (other_text [], other_arguments w inside p.argument_list))
-  by_type inside other = other_text name
+pub good_signature : (Good : ToldError → Type 0) → HasPrintErrors Good → (w : World) → IsGoodWorld Good w → (name : List ℕ) (index : ℕ) → IsGoodPlan Good (signature w name index)
+good_signature Good has w reads name index = by_test (index == 0) where
+  by_type : (inside : List ℕ) (type : TypeData) → IsGoodPlan Good (signature_by_type w name inside type)
+  by_type inside (MemberFunction m) = (good_text Good has [], (good_returned Good has inside (m.is_constructor || without_return_type w.flags) (Some m.return_type), (good_text Good has [], tt)))
+  by_type inside (Procedure p) = (good_returned Good has inside (p.is_constructor || without_return_type w.flags) p.return_type, (good_text Good has [], good_arguments Good has w inside p.argument_list))
+  by_type inside other = good_text Good has name
 
-  by_test : (t : Bool) → IsOtherPlan (cond t (written (function_name name)) (on_read (w.read index) (signature_by_type w name (index ∷ []))))
-  by_test true = other_text []
-  by_test false = other_on_read (w.read index) (signature_by_type w name (index ∷ [])) (reads.types index) (by_type (index ∷ []))
+  by_test : (t : Bool) → IsGoodPlan Good (cond t (written (function_name name)) (on_read (w.read index) (signature_by_type w name (index ∷ []))))
+  by_test true = good_text Good has []
+  by_test false = good_on_read Good has (w.read index) (signature_by_type w name (index ∷ [])) (reads.types index) (by_type (index ∷ []))
 
--- what the rule of a task gives: the refusal of an index that the task repeats, or nothing that is refused as circular
-pub data RuleGives (w : World) (inside : List ℕ) (task : Task) : Type 0 where
-  circle : (index : ℕ) → Repeats w inside task index → rule w inside task ≡ circular index → RuleGives w inside task
-  other : IsOtherPlan (rule w inside task) → RuleGives w inside task
+-- what the rule of a task gives: the refusal of an index that the task repeats, or nothing that fails for another error
+pub data RuleGives (Good : ToldError → Type 0) (w : World) (inside : List ℕ) (task : Task) : Type 0 where
+  circle : (index : ℕ) → Repeats w inside task index → rule w inside task ≡ circular index → RuleGives Good w inside task
+  other : IsGoodPlan Good (rule w inside task) → RuleGives Good w inside task
 
 -- an index that opens
-gives_opening : (w : World) → ReadsNoCircle w → (inside : List ℕ) (index : ℕ) (next : List ℕ → TypeData → Plan) → ((type : TypeData) → IsOtherPlan (next (index ∷ inside) type)) → ((is_among index inside ≡ true) × (opening w inside index next ≡ circular index)) ⊎ IsOtherPlan (opening w inside index next)
-gives_opening w reads inside index next plans = by_test (is_among index inside) refl where
-  by_test : (t : Bool) → is_among index inside ≡ t → ((is_among index inside ≡ true) × (opening w inside index next ≡ circular index)) ⊎ IsOtherPlan (opening w inside index next)
+gives_opening : (Good : ToldError → Type 0) → HasPrintErrors Good → (w : World) → IsGoodWorld Good w → (inside : List ℕ) (index : ℕ) (next : List ℕ → TypeData → Plan) → ((type : TypeData) → IsGoodPlan Good (next (index ∷ inside) type)) → ((is_among index inside ≡ true) × (opening w inside index next ≡ circular index)) ⊎ IsGoodPlan Good (opening w inside index next)
+gives_opening Good has w reads inside index next plans = by_test (is_among index inside) refl where
+  by_test : (t : Bool) → is_among index inside ≡ t → ((is_among index inside ≡ true) × (opening w inside index next ≡ circular index)) ⊎ IsGoodPlan Good (opening w inside index next)
   by_test true open_already = inl (open_already, rw open_already refl)
-  by_test false closed = inr (rw closed (other_on_read (w.read index) (next (index ∷ inside)) (reads.types index) plans))
+  by_test false closed = inr (rw closed (good_on_read Good has (w.read index) (next (index ∷ inside)) (reads.types index) plans))
 
 -- the rule of a task gives one or the other
-pub rule_gives : (w : World) → ReadsNoCircle w → (inside : List ℕ) (task : Task) → RuleGives w inside task
-rule_gives w reads inside (Index index) = by_tests (is_among index inside) refl (w.read index) refl where
-  by_tests : (t : Bool) → is_among index inside ≡ t → (r : Result TypeData Trouble) → w.read index ≡ r → RuleGives w inside (Index index)
+pub rule_gives : (Good : ToldError → Type 0) → HasPrintErrors Good → (w : World) → IsGoodWorld Good w → (inside : List ℕ) (task : Task) → RuleGives Good w inside task
+rule_gives Good has w reads inside (Index index) = by_tests (is_among index inside) refl (w.read index) refl where
+  by_tests : (t : Bool) → is_among index inside ≡ t → (r : Result TypeData Trouble) → w.read index ≡ r → RuleGives Good w inside (Index index)
   by_tests true among (Ok type) is = circle index (refl, among, (type, is)) (rw (is, among) refl)
-  by_tests true among (Err trouble) is = other (rw is (other_note trouble (rw is at (reads.types index))))
-  by_tests false closed r is = other (rw closed (other_on_printed (w.read index) (λ type. Later (index ∷ inside) (OfType type)) (reads.types index) (λ type. tt)))
-rule_gives w reads inside (OfType type) = other (other_kind w inside type)
-rule_gives w reads inside (MethodArguments m may_say_const) = by_flag (without_arguments w.flags) refl where
-  by_opening : without_arguments w.flags ≡ false → ((is_among m.argument_list.0 inside ≡ true) × (opening w inside m.argument_list.0 (on_list w m may_say_const) ≡ circular m.argument_list.0)) ⊎ IsOtherPlan (opening w inside m.argument_list.0 (on_list w m may_say_const)) → RuleGives w inside (MethodArguments m may_say_const)
+  by_tests true among (Err trouble) is = other (rw is (good_note Good has trouble (rw is at (reads.types index))))
+  by_tests false closed r is = other (rw closed (good_on_printed Good has (w.read index) (λ type. Later (index ∷ inside) (OfType type)) (reads.types index) (λ type. tt)))
+rule_gives Good has w reads inside (OfType type) = other (good_kind Good has w inside type)
+rule_gives Good has w reads inside (MethodArguments m may_say_const) = by_flag (without_arguments w.flags) refl where
+  by_opening : without_arguments w.flags ≡ false → ((is_among m.argument_list.0 inside ≡ true) × (opening w inside m.argument_list.0 (on_list w m may_say_const) ≡ circular m.argument_list.0)) ⊎ IsGoodPlan Good (opening w inside m.argument_list.0 (on_list w m may_say_const)) → RuleGives Good w inside (MethodArguments m may_say_const)
   by_opening printed (inl again) = circle m.argument_list.0 (refl, again.0, printed) (rw printed again.1)
   by_opening printed (inr plan) = other (rw printed plan)
 
-  by_flag : (t : Bool) → without_arguments w.flags ≡ t → RuleGives w inside (MethodArguments m may_say_const)
-  by_flag true without = other (rw without (other_text []))
-  by_flag false printed = by_opening printed (gives_opening w reads inside m.argument_list.0 (on_list w m may_say_const) (other_on_list w reads m may_say_const (m.argument_list.0 ∷ inside)))
-rule_gives w reads inside (Chain attributes target) = by_opening (gives_opening w reads inside target (behind_pointer w attributes) (other_behind_pointer w attributes (target ∷ inside))) where
-  by_opening : ((is_among target inside ≡ true) × (opening w inside target (behind_pointer w attributes) ≡ circular target)) ⊎ IsOtherPlan (opening w inside target (behind_pointer w attributes)) → RuleGives w inside (Chain attributes target)
+  by_flag : (t : Bool) → without_arguments w.flags ≡ t → RuleGives Good w inside (MethodArguments m may_say_const)
+  by_flag true without = other (rw without (good_text Good has []))
+  by_flag false printed = by_opening printed (gives_opening Good has w reads inside m.argument_list.0 (on_list w m may_say_const) (good_on_list Good has w reads m may_say_const (m.argument_list.0 ∷ inside)))
+rule_gives Good has w reads inside (Chain attributes target) = by_opening (gives_opening Good has w reads inside target (behind_pointer w attributes) (good_behind_pointer Good has w attributes (target ∷ inside))) where
+  by_opening : ((is_among target inside ≡ true) × (opening w inside target (behind_pointer w attributes) ≡ circular target)) ⊎ IsGoodPlan Good (opening w inside target (behind_pointer w attributes)) → RuleGives Good w inside (Chain attributes target)
   by_opening (inl again) = circle target (refl, again.0) again.1
   by_opening (inr plan) = other plan
-rule_gives w reads inside (BehindModifier attributes target) = by_opening (gives_opening w reads inside target (behind_modifier w attributes) (other_behind_modifier w attributes (target ∷ inside))) where
-  by_opening : ((is_among target inside ≡ true) × (opening w inside target (behind_modifier w attributes) ≡ circular target)) ⊎ IsOtherPlan (opening w inside target (behind_modifier w attributes)) → RuleGives w inside (BehindModifier attributes target)
+rule_gives Good has w reads inside (BehindModifier attributes target) = by_opening (gives_opening Good has w reads inside target (behind_modifier w attributes) (good_behind_modifier Good has w attributes (target ∷ inside))) where
+  by_opening : ((is_among target inside ≡ true) × (opening w inside target (behind_modifier w attributes) ≡ circular target)) ⊎ IsGoodPlan Good (opening w inside target (behind_modifier w attributes)) → RuleGives Good w inside (BehindModifier attributes target)
   by_opening (inl again) = circle target (refl, again.0) again.1
   by_opening (inr plan) = other plan
-rule_gives w reads inside (Modified constant target) = by_opening (gives_opening w reads inside target (modified w constant) (other_modified w constant (target ∷ inside))) where
-  by_opening : ((is_among target inside ≡ true) × (opening w inside target (modified w constant) ≡ circular target)) ⊎ IsOtherPlan (opening w inside target (modified w constant)) → RuleGives w inside (Modified constant target)
+rule_gives Good has w reads inside (Modified constant target) = by_opening (gives_opening Good has w reads inside target (modified w constant) (good_modified Good has w constant (target ∷ inside))) where
+  by_opening : ((is_among target inside ≡ true) × (opening w inside target (modified w constant) ≡ circular target)) ⊎ IsGoodPlan Good (opening w inside target (modified w constant)) → RuleGives Good w inside (Modified constant target)
   by_opening (inl again) = circle target (refl, again.0) again.1
   by_opening (inr plan) = other plan
-rule_gives w reads inside (Elements elements levels next) = by_test (is_among next elements) refl where
-  by_test : (t : Bool) → is_among next elements ≡ t → RuleGives w inside (Elements elements levels next)
+rule_gives Good has w reads inside (Elements elements levels next) = by_test (is_among next elements) refl where
+  by_test : (t : Bool) → is_among next elements ≡ t → RuleGives Good w inside (Elements elements levels next)
   by_test true again = circle next (refl, again) (rw again refl)
-  by_test false first = other (rw first (other_on_read (w.read next) (element w inside elements levels next) (reads.types next) (other_element w inside elements levels next)))
-rule_gives w reads inside (Id met index) = by_test (is_among index met) refl where
-  by_test : (t : Bool) → is_among index met ≡ t → RuleGives w inside (Id met index)
+  by_test false first = other (rw first (good_on_read Good has (w.read next) (element w inside elements levels next) (reads.types next) (good_element Good has w inside elements levels next)))
+rule_gives Good has w reads inside (Id met index) = by_test (is_among index met) refl where
+  by_test : (t : Bool) → is_among index met ≡ t → RuleGives Good w inside (Id met index)
   by_test true again = circle index (refl, again) (rw again refl)
-  by_test false first = other (rw first (other_on_printed (w.read_id index) (id_by_kind w (insert_key nat_cmp met index)) (reads.ids index) (other_id w reads (insert_key nat_cmp met index))))
+  by_test false first = other (rw first (good_on_printed Good has (w.read_id index) (id_by_kind w (insert_key nat_cmp met index)) (reads.ids index) (good_id Good has w reads (insert_key nat_cmp met index))))
 
 -- a task that repeats an index is refused as circular, with that index
 pub repeats_circular : (w : World) (inside : List ℕ) (task : Task) (index : ℕ) → Repeats w inside task index → rule w inside task ≡ circular index

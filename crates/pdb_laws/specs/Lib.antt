@@ -1,2 +1,3 @@
+pub mod PrintErrors
 pub mod Circles
 pub mod Picks

@@ -7,3 +7,4 @@
 
 pub mod circles;
 pub mod picks;
+pub mod refusals;
