@@ -19,9 +19,9 @@ FIRST, LATER = "first pass", "later passes"
 SYMBOLS = [125_000, 250_000, 500_000, 1_000_000]
 PROGRAMS = [(3_000, 50, 40_000), (6_000, 50, 80_000), (12_000, 50, 160_000)]
 SMALL_PROCEDURES = [(12_500, 10, 12_500), (25_000, 10, 25_000), (50_000, 10, 50_000)]
-HOSTILE = [25_000, 50_000, 100_000, 200_000, 400_000]
-MANY = [125_000, 250_000, 500_000, 1_000_000]
-CHAINS = [50_000, 100_000, 200_000, 400_000]
+HOSTILE = [25_000, 50_000, 100_000, 200_000]
+MANY = [125_000, 250_000, 500_000]
+CHAINS = [50_000, 100_000, 200_000]
 
 
 class Run:
@@ -82,6 +82,8 @@ def measured(program, runs, shape, sizes):
 
 def time_text(microseconds):
     """A time in two or three digits."""
+    if microseconds == 0:
+        return "under 1 µs"
     if microseconds < 1_000:
         return f"{microseconds} µs"
     number, unit = (microseconds / 1_000, "ms") if microseconds < 1_000_000 else (microseconds / 1_000_000, "s")
@@ -98,11 +100,11 @@ def size_text(size):
 
 
 def column(figures, value):
-    """Times, each with how many times the one before it is."""
+    """Times, each with how many times the one before it is, where that has two digits."""
     times = [value(figure) for figure in figures]
     texts = [time_text(times[0])]
     for before, time in zip(times, times[1:]):
-        texts.append(f"{time_text(time)} ({time / max(before, 1):.2f})")
+        texts.append(f"{time_text(time)} ({time / before:.2f})" if before >= 10 else time_text(time))
     return texts
 
 
