@@ -3,3 +3,4 @@ pub mod PlanLemmas
 pub mod CircleLemmas
 pub mod DepthLemmas
 pub mod RefusalLemmas
+pub mod BlameLemmas

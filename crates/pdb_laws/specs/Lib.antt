@@ -1,3 +1,4 @@
 pub mod PrintErrors
 pub mod Circles
 pub mod Picks
+pub mod Blame

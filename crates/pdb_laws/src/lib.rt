@@ -5,6 +5,7 @@
 //! that stand beside the code that they are about are in the modules `laws` of the crates below.
 #![tactic(auto)]
 
+pub mod blame;
 pub mod circles;
 pub mod picks;
 pub mod refusals;

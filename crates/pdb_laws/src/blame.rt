@@ -1,0 +1,19 @@
+//! Where it is refused where code comes from, the part of the records that is to blame has that very error.
+
+ghost use Rattle.std.specs.Prelude.{◌≡◌, ℕ, Ok, Err, Some, None};
+ghost use Rattle.pdb_records.specs.declared.modules.ModuleInfo.{ModuleInfo};
+ghost use Rattle.pdb_types.specs.declared.error.Error.{Error};
+ghost use Rattle.pdb_functions.specs.Lookup.{FoundFunction};
+ghost use Rattle.pdb_frames.specs.declared.code_parts.CodePart.{CodePart};
+ghost use Rattle.pdb_frames.specs.CodeParts.{part_to_blame};
+ghost use Rattle.pdb_frames.specs.Origins.{Origin, origin};
+ghost use Rattle.pdb_laws.specs.Blame.{own_error};
+
+/// Where it is refused where the code at an offset of a function comes from, the part that is to blame has
+/// that error by itself. Where it is told, no part has an error.
+pub fn the_part_to_blame_has_the_error()
+    ensures blamed { (info : ModuleInfo) (found : FoundFunction) (offset : ℕ) (error : Error)
+        → origin info found offset ≡ Err error → own_error info found (part_to_blame info found) ≡ Some error }
+    ensures sound { (info : ModuleInfo) (found : FoundFunction) (offset : ℕ) (told : Origin) (part : CodePart)
+        → origin info found offset ≡ Ok told → own_error info found part ≡ None }
+{}
