@@ -12,7 +12,7 @@ import threading
 
 from errors import Error, note
 from frames import Context
-from records import Fault, read_records
+from records import Fault, module_files, read_records
 
 USAGE = "usage: pdb_report RECORDS (frames|names ADDRESS...|list)"
 
@@ -75,7 +75,12 @@ def parse_words(words):
 
 def ended(status, text="", error=None):
     """What a run leaves: standard output, the status, and the one line on standard error."""
-    return text.encode(), status, f"{error}\n".encode() if error else b""
+    return lossy(text), status, lossy(f"{error}\n") if error else b""
+
+
+def lossy(text):
+    """The bytes of a text, with a sign in the place of what is no UTF-8."""
+    return text.encode("utf-8", "surrogateescape").decode("utf-8", "replace").encode()
 
 
 def report(pdb, command, addresses):
@@ -91,6 +96,11 @@ def report(pdb, command, addresses):
     return ended(0, "".join(texts))
 
 
+def module_path(records, name):
+    """The path of a module file: in the folder of the records file, or as it is where it begins with a slash."""
+    return name if name.startswith("/") else records[:records.rfind("/") + 1] + name
+
+
 def run(words, get):
     """Standard output, the status and standard error of a run."""
     parsed = parse_words(words)
@@ -101,7 +111,12 @@ def run(words, get):
     if data is None:
         return ended(2, error=f"pdb_report: cannot read {name}")
     try:
-        pdb = read_records(data)
+        files = []
+        for path in (module_path(name, named) for named in module_files(data)):
+            files.append(get(path))
+            if files[-1] is None:
+                return ended(2, error=f"pdb_report: cannot read {path}")
+        pdb = read_records(data, files)
     except Fault as fault:
         return ended(2, error=f"pdb_report: {name}: {fault}")
     return report(pdb, command, addresses)

@@ -14,6 +14,7 @@ Failed = namedtuple("Failed", "number")
 Reading = namedtuple("Reading", "items fault")
 Unimplemented = namedtuple("Unimplemented", "kind")
 ABSENT = object()
+READING = Record(version=1)  # the version of the file that is read
 DEEPEST = 127  # levels to which a text may nest
 
 
@@ -120,6 +121,13 @@ def text(value, path):
     if type(value) is not str:
         wanted(path, "text")
     return value
+
+
+def name(value, path):
+    """A text, or in the second version its bytes. Bytes that are no UTF-8 stand as half surrogates."""
+    if READING.version == 2 and type(value) is list:
+        return bytes(array(u8)(value, path)).decode("utf-8", "surrogateescape")
+    return text(value, path)
 
 
 def boolean(value, path):
@@ -229,10 +237,10 @@ span = with_members(("virtual_address", u32), ("virtual_size", u32))
 row = with_members(("offset", u32), ("length", optional(u32)), ("file_index", u32), ("line_start", u32))
 PLACE = [("section", u16), ("offset", u32)]
 symbol_data = by_kind({
-    "Public": PLACE + [("name", text)],
-    "Procedure": PLACE + [("len", u32), ("name", text), ("end", u32), ("type_index", u32)],
+    "Public": PLACE + [("name", name)],
+    "Procedure": PLACE + [("len", u32), ("name", name), ("end", u32), ("type_index", u32)],
     "SeparatedCode": PLACE + [("len", u32), ("parent_section", u16), ("parent_offset", u32), ("end", u32)],
-    "Thunk": PLACE + [("len", u16), ("name", text), ("end", u32)],
+    "Thunk": PLACE + [("len", u16), ("name", name), ("end", u32)],
     "InlineSite": [("inlinee", u32), ("end", u32), ("rows", reading(row))],
     "Other": [],
 })
@@ -246,9 +254,9 @@ info = with_members(
     ("symbols", reading(symbol)), ("line_program", stream(line_program)), ("inlinees", reading(u32)),
     ("imports", stream(array(imported))), ("exports", stream(array(exported))))
 contribution = with_members(*PLACE, ("size", u32), ("module", u32))
-debug = with_members(("machine_type", stream(text)), ("modules", reading(with_members(("name", text)))),
+debug = with_members(("machine_type", stream(text)), ("modules", reading(with_members(("name", name)))),
                      ("section_contributions", reading(contribution)))
-string = with_members(("ref", u32), ("text", text))
+string = with_members(("ref", u32), ("text", name))
 
 POINTER_MODES = ["Pointer", "LValueReference", "Member", "MemberFunction", "RValueReference"]
 VALUES = {f"U{bits}": whole(0, 2**bits - 1) for bits in (8, 16, 32, 64)}
@@ -264,38 +272,39 @@ def named_value(value, path):
 
 TYPES = {
     "Primitive": [("primitive", one_of(PRIMITIVES)), ("indirection", boolean)],
-    "Class": [("class_kind", one_of(["Class", "Interface", "Struct"])), ("name", text),
-              ("unique_name", optional(text)), ("size", u64), ("forward_reference", boolean)],
+    "Class": [("class_kind", one_of(["Class", "Interface", "Struct"])), ("name", name),
+              ("unique_name", optional(name)), ("size", u64), ("forward_reference", boolean)],
     "MemberFunction": [("return_type", u32), ("class_type", u32), ("this_pointer_type", optional(u32)),
                        ("is_constructor", boolean), ("argument_list", u32)],
     "Procedure": [("return_type", optional(u32)), ("is_constructor", boolean), ("argument_list", u32)],
     "Pointer": [("underlying_type", u32), ("mode", one_of(POINTER_MODES)), ("is_const", boolean),
                 ("size", u8)],
     "Array": [("element_type", u32), ("first", u32), ("rest", array(u32))],
-    "Union": [("name", text), ("unique_name", optional(text)), ("size", u64), ("forward_reference", boolean)],
-    "Enumeration": [("name", text), ("underlying_type", u32)],
-    "Enumerate": [("name", text), ("value", named_value)],
+    "Union": [("name", name), ("unique_name", optional(name)), ("size", u64), ("forward_reference", boolean)],
+    "Enumeration": [("name", name), ("underlying_type", u32)],
+    "Enumerate": [("name", name), ("value", named_value)],
     "Modifier": [("underlying_type", u32), ("constant", boolean)],
     "ArgumentList": [("arguments", array(u32))],
     "Other": [("kind_name", text)],
 }
 IDS = {
-    "MemberFunction": [("parent", u32), ("function_type", u32), ("name", text)],
-    "Function": [("scope", optional(u32)), ("function_type", u32), ("name", text)],
-    "String": [("name", text)],
+    "MemberFunction": [("parent", u32), ("function_type", u32), ("name", name)],
+    "Function": [("scope", optional(u32)), ("function_type", u32), ("name", name)],
+    "String": [("name", name)],
     "StringList": [("substrings", array(u32))],
     "Other": [("kind_name", text)],
 }
 
 
 def version(value, path):
-    """The file's version: absent, null, or the whole number 1."""
+    """The file's version: absent, null, or one of the whole numbers 1 and 2."""
     if value is ABSENT or value is None:
-        return
+        return 1
     if not isinstance(value, Float) and type(value) is not int:
         wanted(path, "number")
-    if value != 1:
-        wanted(path, "1")
+    if value not in (1, 2):
+        wanted(path, "1 or 2")
+    return value
 
 
 FILE = [
@@ -307,13 +316,50 @@ FILE = [
     ("type_information", stream(reading(item(TYPES)))),
     ("id_information", stream(reading(item(IDS)))),
     ("string_table", stream(array(string))),
-    ("module_infos", array(or_null(stream(info)))),
+    ("module_infos", array(lambda value, path: module_info(value, path))),
 ]
 
 
-def read_records(data):
-    """The records of a file's bytes."""
+def names_file(value):
+    """Whether an element of `module_infos` stands for a module file."""
+    return READING.version == 2 and type(value) is dict and "error" not in value and "file" in value
+
+
+def module_info(value, path):
+    """An element of `module_infos`, or the next module file where it stands for one."""
+    if not names_file(value):
+        return or_null(stream(info))(value, path)
+    try:
+        content = parse(next(READING.files))
+    except Fault as fault:
+        raise Fault(f"{path}/file: {fault}") from None
+    return stream(info)(content, path + "/file")
+
+
+def root(data):
+    """The value of a file's bytes; its version is that of what is read from then on."""
     value = parse(data)
     if type(value) is not dict:
         wanted("", "object")
-    return Record(**members(value, "", FILE))
+    READING.version = version(value.get("version", ABSENT), "/version")
+    return value
+
+
+def module_files(data):
+    """The names of the module files that a file wants."""
+    value = root(data)
+    if READING.version == 1:
+        return []
+    infos = value.get("module_infos", ABSENT)
+    if type(infos) is not list:
+        wanted("/module_infos", "array")
+    return [text(element["file"], f"/module_infos/{n}/file") for n, element in enumerate(infos) if names_file(element)]
+
+
+def read_records(data, files=()):
+    """The records of the bytes of a file and of its module files."""
+    names = module_files(data)
+    if len(names) != len(files):
+        raise Fault(f"{len(names)} module files wanted, {len(files)} given")
+    READING.files = iter(files)
+    return Record(**members(root(data), "", FILE))

@@ -2,4 +2,9 @@ pub use Rattle.serde_json.specs.Data
 pub use Rattle.serde_json.specs.Read
 pub use Rattle.pdb_records.specs.Records
 pub use Rattle.pdb_json_values.specs.Faults
+pub mod Json
+pub mod Versions
+pub mod ModuleFiles
+pub mod ModuleInfos
 pub mod RecordsFile
+pub mod FirstVersion

@@ -1,48 +1,53 @@
--- The records of a file.
-use Rattle.std.specs.Prelude.{ℕ, ◌==◌, List, [], Option, Some, None, Result, Ok, Err, unwrap_or, if◌then◌else◌, codes}
-use Rattle.std.specs.Str.{is_utf8}
+-- The records of a file and of its module files.
+use Rattle.std.specs.Prelude.{ℕ, ◌==◌, List, length, Option, Some, None, Result, Ok, Err, if◌then◌else◌, codes}
 use Rattle.serde_json.specs.Data.{Data}
-use Rattle.serde_json.specs.Find.{as_number, as_u64}
-use Rattle.serde_json.specs.Read.{read}
 use Rattle.pdb_records.specs.Records.{Records}
-use Rattle.pdb_json_values.specs.Faults.{Fault, not_json, shape, ◌>>=◌}
-use Rattle.pdb_json_values.specs.Values.{object_of, wanted}
-use Rattle.pdb_json_records.specs.Members.{member_of, optional_of}
-use Rattle.pdb_json_records.specs.AllRecords.{records_in_version}
+use Rattle.pdb_json_values.specs.Faults.{Fault, not_json, module_files, ◌>>=◌}
+use Rattle.pdb_json_values.specs.Values.{object_of}
+use Rattle.pdb_json_records.specs.Members.{member_of}
+use Rattle.pdb_json_records.specs.AllRecords.{shared_records_of}
+use Rattle.pdb_json.specs.Json.{json_of}
+use Rattle.pdb_json.specs.Versions.{file_version_of}
+use Rattle.pdb_json.specs.ModuleFiles.{file_names_of}
+use Rattle.pdb_json.specs.ModuleInfos.{infos_of}
 
--- the version that a number names: the first, by the whole number 1
-abbrev pub numbered : Option ℕ → Result ℕ Fault
-numbered None = Err (shape [] (codes "1"))
-numbered (Some n) = if n == 1 then Ok 1 else Err (shape [] (codes "1"))
+-- all records of a file of a version and of its module files, or the first fault. What differs between the versions is
+-- what a name may be (`name_of`) and what an element of `module_infos` may be (`stands_for_file`)
+unfoldable pub records_in_version : ℕ → List (List ℕ) → Data → Result Records Fault
+records_in_version version files file = do
+  records ← shared_records_of version file
+  infos ← member_of (codes "module_infos") (infos_of version files) file
+  Ok (record records { module_infos = infos })
 
--- a version of the format
-unfoldable pub version_of : Data → Result ℕ Fault
-version_of d = do
-  number ← wanted (codes "number") (as_number d)
-  numbered (as_u64 number)
+-- what is read with so many module files, where so many are wanted
+abbrev pub counted : {X : Type 0} → (wanted given : ℕ) → Result X Fault → Result X Fault
+counted wanted given read = if wanted == given then read else Err (module_files wanted given)
 
--- the version of a file: the one that it names, or else the first
-unfoldable pub file_version_of : Data → Result ℕ Fault
-file_version_of file = do
-  named ← member_of (codes "version") (optional_of version_of) file
-  Ok (unwrap_or named 1)
-
--- all records of a program, or the first fault
-unfoldable pub records_of : Data → Result Records Fault
-records_of d = do
+-- all records of a program: the names of its module files are read first, and then these are counted
+unfoldable pub records_of : List (List ℕ) → Data → Result Records Fault
+records_of files d = do
   file ← object_of d
   version ← file_version_of file
-  records_in_version version file
-
--- the value that a text is, where it is UTF-8 and a JSON text
-abbrev pub json_of : List ℕ → Option Data
-json_of bytes = if is_utf8 bytes then read bytes else None
+  names ← file_names_of version file
+  counted (length names) (length files) (records_in_version version files file)
 
 -- what is in a value, where there is one
-abbrev pub records_in : Option Data → Result Records Fault
-records_in None = Err not_json
-records_in (Some d) = records_of d
+abbrev pub in_json : {X : Type 0} → (Data → Result X Fault) → Option Data → Result X Fault
+in_json read None = Err not_json
+in_json read (Some d) = read d
 
--- the records that a file holds, or the first fault in it
-unfoldable pub records_of_file : List ℕ → Result Records Fault
-records_of_file bytes = records_in (json_of bytes)
+-- the records that a file and its module files hold, or the first fault in them
+unfoldable pub records_of_files : List ℕ → List (List ℕ) → Result Records Fault
+records_of_files bytes files = in_json (records_of files) (json_of bytes)
+
+-- the names of the module files that an object wants
+unfoldable pub wanted_files_of : Data → Result (List (List ℕ)) Fault
+wanted_files_of d = do
+  file ← object_of d
+  version ← file_version_of file
+  file_names_of version file
+
+-- the names of the module files that a file wants, in the order in which they are read, or the first fault that keeps
+-- them from being told
+unfoldable pub module_files_of : List ℕ → Result (List (List ℕ)) Fault
+module_files_of bytes = in_json wanted_files_of (json_of bytes)

@@ -1,11 +1,18 @@
-//! The records file: all records of a program as one JSON text.
+//! The records file: all records of a program as one JSON text, or as one and a text for each module.
 //!
-//! [`read_records`] reads version 1 of the format. What a text means is a definition,
-//! `records_of_file` in `specs/RecordsFile.antt`: the records, or the first fault with its path. What the
-//! file is made of is read by `pdb_json_records`, and values and faults are those of `pdb_json_values`.
+//! [`read_records`] and [`read_records_with`] read versions 1 and 2 of the format, and [`module_files`] tells
+//! which module files a file names. What texts mean is a definition, `records_of_files` in
+//! `specs/RecordsFile.antt`: the records, or the first fault with its path. What the file is made of is read by
+//! `pdb_json_records`, and values and faults are those of `pdb_json_values`. What follows from the definitions
+//! is in [`laws`].
 #![tactic(auto)]
 
+mod json;
+pub mod laws;
+mod module_infos;
+mod named_files;
 mod records_file;
+mod versions;
 
 pub use pdb_json_values::RecordFault;
-pub use records_file::read_records;
+pub use records_file::{module_files, read_records, read_records_with};

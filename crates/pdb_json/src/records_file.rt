@@ -1,97 +1,164 @@
+ghost use Rattle.std.specs.Prelude.{[], map, string_bytes, length, codes};
+ghost use Rattle.pdb_json_records.specs.Members.{member_of};
+ghost use Rattle.pdb_json.specs.ModuleFiles.{contents};
+ghost use Rattle.pdb_json.specs.ModuleInfos.{infos_of};
 ghost use Rattle.serde_json.specs.View.{view};
-ghost use Rattle.pdb_json_values.specs.Faults.{Agrees};
-ghost use Rattle.pdb_json.specs.RecordsFile.{version_of, file_version_of, records_of, records_of_file};
+ghost use Rattle.pdb_json_values.specs.Faults.{Agrees, AgreesBy};
+ghost use Rattle.pdb_json.specs.RecordsFile.{records_in_version, counted, records_of, records_of_files};
+ghost use Rattle.pdb_json.specs.RecordsFile.{wanted_files_of, module_files_of};
 
-use pdb_json_records::{FromJson, file_records, member};
-use pdb_json_values::{FIRST_VERSION, Reader, RecordFault, object, wanted};
+use crate::json::json;
+use crate::module_infos::{AllKnown, infos};
+use crate::named_files::{FileNames, file_names};
+use crate::versions::file_version;
+use pdb_json_records::shared_records;
+use pdb_json_values::{FIRST_VERSION, Reader, RecordFault, inside, object};
 use pdb_records::PDB;
 use serde_json::Value;
 use std::alloc::Global;
-use std::marker::Model;
 
-/// The version of the format that a file names.
-#[derive(Drop)]
-struct Version {
-    number: u8,
-}
-
-impl Model for Version {
-    ghost use Rattle.std.specs.Prelude.{ℕ};
-
-    ghost Value = { ℕ };
-
-    ghost view = { λ v. v.number };
-}
-
-impl FromJson for Version {
-    ghost read = { λ _. version_of };
-
-    #[tactic(auto, unfolding(crate::specs::RecordsFile::version_of))]
-    fn from_json(reader: Reader, value: Option<&Value>) -> Result<Version, RecordFault> {
-        if let Some(value) = value
-            && let Some(number) = value.as_number()
-        {
-            match number.as_u64() {
-                Some(1) => Ok(Version {
-                    number: FIRST_VERSION,
-                }),
-                _ => wanted(reader.alloc, "1"),
-            }
-        } else {
-            wanted(reader.alloc, "number")
-        }
-    }
-}
-
-/// Reads the version of a file: the one that it names, or else the first.
-#[tactic(auto, unfolding(crate::specs::RecordsFile::file_version_of))]
-fn file_version(reader: Reader, file: &Value) -> Result<u8, RecordFault>
-    ensures { Agrees result (file_version_of (view file.now)) }
-{
-    let named: Option<Version> = member(reader, file, "version")?;
-    match named {
-        Some(version) => Ok(version.number),
-        None => Ok(FIRST_VERSION),
-    }
-}
-
-/// Reads all records from a file's value.
-#[tactic(auto, unfolding(crate::specs::RecordsFile::records_of))]
-fn records(alloc: Global, value: &Value) -> Result<PDB, RecordFault>
-    ensures { Agrees result (records_of (view value.now)) }
-{
-    let reader = Reader {
+/// What a file is read with whose version is not known yet.
+fn first_reader(alloc: Global) -> Reader {
+    Reader {
         alloc,
         version: FIRST_VERSION,
-    };
-    let file = object(reader, Some(value))?;
-    let version = file_version(reader, file)?;
-    file_records(Reader { alloc, version }, file)
+    }
 }
 
-/// Reads all records of a program from a records file, which is a JSON text.
+/// Reads what is known of each module from a file of the reader's version and from its module files.
+#[tactic(auto, unfolding(pdb_json_records::specs::Members::member_of))]
+fn module_infos(reader: Reader, files: &[Vec<u8>], file: &Value) -> Result<AllKnown, RecordFault>
+    ensures { Agrees result
+        (member_of (codes "module_infos") (infos_of reader.version (contents files.now)) (view file.now)) }
+{
+    let read = infos(reader, files, file.get("module_infos"));
+    inside(reader.alloc, "module_infos", read)
+}
+
+/// Reads all records from a file of the reader's version and from its module files.
+#[tactic(auto, unfolding(crate::specs::RecordsFile::records_in_version))]
+fn file_records(reader: Reader, files: &[Vec<u8>], file: &Value) -> Result<PDB, RecordFault>
+    ensures { Agrees result
+        (records_in_version reader.version (contents files.now) (view file.now)) }
+{
+    let mut records = shared_records(reader, file)?;
+    let known = module_infos(reader, files, file)?;
+    records.module_infos = known.infos;
+    Ok(records)
+}
+
+/// Reads all records where so many module files are wanted as are given.
+fn counted_records(
+    reader: Reader,
+    names: &[String],
+    files: &[Vec<u8>],
+    file: &Value,
+) -> Result<PDB, RecordFault>
+    ensures { Agrees result (counted (length names.now) (length files.now)
+        (records_in_version reader.version (contents files.now) (view file.now))) }
+{
+    if names.len() == files.len() {
+        file_records(reader, files, file)
+    } else {
+        Err(RecordFault::ModuleFiles {
+            wanted: names.len(),
+            given: files.len(),
+        })
+    }
+}
+
+/// Reads all records from a file's value and from its module files.
+#[tactic(auto, unfolding(crate::specs::RecordsFile::records_of))]
+fn records(alloc: Global, files: &[Vec<u8>], value: &Value) -> Result<PDB, RecordFault>
+    ensures { Agrees result (records_of (contents files.now) (view value.now)) }
+{
+    let file = object(first_reader(alloc), Some(value))?;
+    let version = file_version(first_reader(alloc), file)?;
+    let reader = Reader { alloc, version };
+    let wanted = file_names(reader, file)?;
+    counted_records(reader, &wanted.names, files, file)
+}
+
+/// Reads all records of a program from a records file, which is a JSON text, and from the module files that
+/// it names, in the order of [`module_files`].
 ///
 /// Members are read in the order of the format and elements in theirs, and the first fault is the
 /// answer: [`RecordFault::NotJson`] where the bytes are no JSON text, [`RecordFault::Shape`] where
 /// a value is absent or of another sort, and [`RecordFault::NumberOutOfRange`] where a number is not
-/// whole or doesn't fit. [`RecordFault::OutOfMemory`] may come at any time. Reading takes time in
-/// proportion to the text.
+/// whole or doesn't fit. But what [`module_files`] refuses comes before all other faults, and then
+/// [`RecordFault::ModuleFiles`] where the file names another number of module files than was given.
+/// [`RecordFault::ModuleNotJson`] has the path of the member `file` that names a file which is no JSON text.
+/// [`RecordFault::OutOfMemory`] may come at any time. Reading takes time in proportion to the texts. The
+/// value of a module file is given back before the next is read.
+///
+/// ```
+/// let text = br#"{"version":2,"sections":null,"address_map":[],"global_symbols":[],
+///     "debug_information":{"error":3},"type_information":[],"id_information":[],
+///     "string_table":[],"module_infos":[{"file":"a.json"}]}"#;
+/// let file = Vec::from_slice(alloc, br#"{"error":5}"#)?;
+/// let records = read_records_with(alloc, text, &[file])?;
+/// // What is known of the first module failed with 5.
+/// assert!(matches!(records.module_infos[0], Err(StreamError(5))));
+/// ```
+#[tactic(auto, unfolding(crate::specs::RecordsFile::records_of_files))]
+pub fn read_records_with(alloc: Global, bytes: &[u8], files: &[Vec<u8>]) -> Result<PDB, RecordFault>
+    ensures { Agrees result (records_of_files bytes.now (contents files.now)) }
+{
+    match json(alloc, bytes)? {
+        Some(value) => records(alloc, files, &value),
+        None => Err(RecordFault::NotJson),
+    }
+}
+
+/// Reads all records of a program from a records file that names no module files: as [`read_records_with`]
+/// does where no files are given.
 ///
 /// ```
 /// let text = br#"{"sections":null,"address_map":[],"global_symbols":[],
 ///     "debug_information":{"error":3},"type_information":[],"id_information":[],
 ///     "string_table":[],"module_infos":[]}"#;
-/// let records = read_records(reader, text)?;
+/// let records = read_records(alloc, text)?;
 /// // The stream of debug information failed with 3.
 /// assert!(matches!(records.debug_information, Err(StreamError(3))));
 /// ```
-#[tactic(auto, unfolding(crate::specs::RecordsFile::records_of_file))]
 pub fn read_records(alloc: Global, bytes: &[u8]) -> Result<PDB, RecordFault>
-    ensures { Agrees result (records_of_file bytes.now) }
+    ensures { Agrees result (records_of_files bytes.now []) }
 {
-    match Value::from_slice(alloc, bytes) {
-        Ok(value) => records(alloc, &value),
-        Err(error) if error.is_memory() => Err(RecordFault::OutOfMemory),
-        Err(_) => Err(RecordFault::NotJson),
+    read_records_with(alloc, bytes, &[])
+}
+
+/// Reads the names of the module files from a file's value.
+#[tactic(auto, unfolding(crate::specs::RecordsFile::wanted_files_of))]
+fn wanted_files(alloc: Global, value: &Value) -> Result<FileNames, RecordFault>
+    ensures { Agrees result (wanted_files_of (view value.now)) }
+{
+    let file = object(first_reader(alloc), Some(value))?;
+    let version = file_version(first_reader(alloc), file)?;
+    file_names(Reader { alloc, version }, file)
+}
+
+/// Reads the names of all module files.
+#[tactic(auto, unfolding(crate::specs::RecordsFile::module_files_of))]
+fn all_names(alloc: Global, bytes: &[u8]) -> Result<FileNames, RecordFault>
+    ensures { Agrees result (module_files_of bytes.now) }
+{
+    match json(alloc, bytes)? {
+        Some(value) => wanted_files(alloc, &value),
+        None => Err(RecordFault::NotJson),
     }
+}
+
+/// The names of the module files that a records file wants, in the order in which
+/// [`read_records_with`] takes them. A name that is named twice is there twice.
+///
+/// # Errors
+///
+/// [`RecordFault::NotJson`], and [`RecordFault::Shape`] for the root, for `version`, for `module_infos` that
+/// are no array, and for a `file` that is no text. Nothing else of the file is looked at, and of a file of the
+/// first version nothing past `version`. [`RecordFault::OutOfMemory`] may come at any time.
+pub fn module_files(alloc: Global, bytes: &[u8]) -> Result<Vec<String>, RecordFault>
+    ensures { AgreesBy (λ names. map string_bytes names.items) result (module_files_of bytes.now) }
+{
+    let all = all_names(alloc, bytes)?;
+    Ok(all.names)
 }

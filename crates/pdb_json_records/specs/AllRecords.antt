@@ -1,10 +1,9 @@
--- All records of a file, in a version of the format.
-use Rattle.std.specs.Prelude.{ℕ, List, Option, Result, Ok, Err, if◌then◌else◌, codes}
+-- The records of a file but for those of modules, in a version of the format.
+use Rattle.std.specs.Prelude.{ℕ, List, [], Option, Result, Ok, Err, if◌then◌else◌, codes}
 use Rattle.serde_json.specs.Data.{Data}
 use Rattle.pdb_records.specs.Records.{Records}
 use Rattle.pdb_records.specs.declared.error.StreamError.{StreamError}
 use Rattle.pdb_records.specs.declared.addresses.ImageSectionHeader.{ImageSectionHeader}
-use Rattle.pdb_records.specs.declared.modules.ModuleInfo.{ModuleInfo}
 use Rattle.pdb_json_values.specs.Faults.{Fault, shape, ◌>>=◌}
 use Rattle.pdb_json_records.specs.Members.{has, member_of, optional_of, list_of, stream_of}
 use Rattle.pdb_json_records.specs.Sections.{section_of, range_of}
@@ -14,7 +13,6 @@ use Rattle.pdb_json_records.specs.Items.{items_of}
 use Rattle.pdb_json_records.specs.Types.{type_of}
 use Rattle.pdb_json_records.specs.Ids.{id_of}
 use Rattle.pdb_json_records.specs.Strings.{string_of}
-use Rattle.pdb_json_records.specs.Modules.{info_of}
 
 -- the headers of the sections: null where there are none, but the member must be there
 unfoldable pub sections_of : Data → Result (Result (Option (List ImageSectionHeader)) StreamError) Fault
@@ -23,14 +21,9 @@ sections_of d =
     then member_of (codes "sections") (stream_of (optional_of (list_of section_of))) d
     else Err (shape (codes "/sections") (codes "array"))
 
--- what is known of each module: a stream, or null where nothing is known
-unfoldable pub module_infos_of : ℕ → Data → Result (List (Result (Option ModuleInfo) StreamError)) Fault
-module_infos_of version d =
-    member_of (codes "module_infos") (list_of (stream_of (optional_of (info_of version)))) d
-
--- all records of a file of a version, or the first fault
-unfoldable pub records_in_version : ℕ → Data → Result Records Fault
-records_in_version version file = do
+-- the records of a file of a version with nothing known of any module, or the first fault
+unfoldable pub shared_records_of : ℕ → Data → Result Records Fault
+shared_records_of version file = do
   sections ← sections_of file
   address_map ← member_of (codes "address_map") (stream_of (list_of range_of)) file
   global_symbols ← member_of (codes "global_symbols") (stream_of (symbol_table_of version)) file
@@ -38,7 +31,6 @@ records_in_version version file = do
   types ← member_of (codes "type_information") (stream_of (items_of type_index_of (type_of version))) file
   ids ← member_of (codes "id_information") (stream_of (items_of id_index_of (id_of version))) file
   strings ← member_of (codes "string_table") (stream_of (list_of (string_of version))) file
-  infos ← module_infos_of version file
   Ok (record {
     sections = sections;
     address_map = address_map;
@@ -47,5 +39,5 @@ records_in_version version file = do
     type_information = types;
     id_information = ids;
     string_table = strings;
-    module_infos = infos;
+    module_infos = [];
   })

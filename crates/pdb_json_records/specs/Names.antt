@@ -1,13 +1,18 @@
--- Names of variants.
-use Rattle.std.specs.Prelude.{ℕ, nat_eq, Bool, List, [], Option, Some, None, Result, Ok, Err, find, option_map, codes}
+-- Names, and names of variants.
+use Rattle.std.specs.Prelude.{ℕ, nat_eq, Bool, ◌&&◌, List, [], Option, Some, None, Result, Ok, Err, is_some, find}
+use Rattle.std.specs.Prelude.{option_map, if◌then◌else◌, codes}
 use Rattle.std.specs.Cmp.Lexicographic.{pointwise}
 use Rattle.serde_json.specs.Data.{Data}
+use Rattle.serde_json.specs.Find.{as_array}
+use Rattle.pdb_json_values.specs.Versions.{has_names_in_bytes}
 use Rattle.pdb_json_values.specs.Faults.{Fault, shape, ◌>>=◌}
 use Rattle.pdb_json_values.specs.Values.{text_of}
+use Rattle.pdb_json_values.specs.Numbers.{u8_of}
+use Rattle.pdb_json_records.specs.Members.{list_of}
 
--- a name: in the first version of the format, a text
+-- a name: a text, or in a version that has names in bytes an array of these
 unfoldable pub name_of : ℕ → Data → Result (List ℕ) Fault
-name_of version d = text_of d
+name_of version d = if is_some (as_array d) && has_names_in_bytes version then list_of u8_of d else text_of d
 
 -- what is wrong with a kind whose name is not known
 abbrev pub unknown_kind : Fault

@@ -1,11 +1,11 @@
 ghost use Rattle.serde_json.specs.View.{view};
 ghost use Rattle.pdb_records.specs.Sections.{listed};
 ghost use Rattle.pdb_json_values.specs.Faults.{Agrees, AgreesBy};
-ghost use Rattle.pdb_json_records.specs.AllRecords.{sections_of, module_infos_of, records_in_version};
+ghost use Rattle.pdb_json_records.specs.AllRecords.{sections_of, shared_records_of};
 
 use crate::members::{Elements, member};
 use pdb_json_values::{Reader, RecordFault, inside, wanted};
-use pdb_records::{ImageSectionHeader, ModuleInfo, PDB, StreamError};
+use pdb_records::{ImageSectionHeader, PDB, StreamError};
 use serde_json::Value;
 
 /// The headers of the sections, where the file has any.
@@ -29,28 +29,13 @@ fn sections(reader: Reader, file: &Value) -> Result<Sections, RecordFault>
     })
 }
 
-/// Reads what is known of each module.
-#[tactic(auto, unfolding(crate::specs::AllRecords::module_infos_of))]
-fn module_infos(
-    reader: Reader,
-    file: &Value,
-) -> Result<Vec<Result<Option<ModuleInfo>, StreamError>>, RecordFault>
-    ensures { AgreesBy (λ infos. infos.items) result (module_infos_of reader.version (view file.now)) }
-{
-    let infos: Elements<Result<Option<ModuleInfo>, StreamError>> = member(
-        reader,
-        file,
-        "module_infos",
-    )?;
-    Ok(infos.items)
-}
-
-/// Reads all records from a file of the reader's version.
+/// Reads the records that stand before those of modules, from a file of the reader's version. Of no module
+/// anything is known in the answer.
 ///
 /// Members are read in the order of the format, and the first fault is the answer.
-#[tactic(auto, unfolding(crate::specs::AllRecords::records_in_version))]
-pub fn file_records(reader: Reader, file: &Value) -> Result<PDB, RecordFault>
-    ensures { Agrees result (records_in_version reader.version (view file.now)) }
+#[tactic(auto, unfolding(crate::specs::AllRecords::shared_records_of))]
+pub fn shared_records(reader: Reader, file: &Value) -> Result<PDB, RecordFault>
+    ensures { Agrees result (shared_records_of reader.version (view file.now)) }
 {
     let sections = sections(reader, file)?;
     let address_map = member(reader, file, "address_map")?;
@@ -59,7 +44,7 @@ pub fn file_records(reader: Reader, file: &Value) -> Result<PDB, RecordFault>
     let type_information = member(reader, file, "type_information")?;
     let id_information = member(reader, file, "id_information")?;
     let string_table = member(reader, file, "string_table")?;
-    let module_infos = module_infos(reader, file)?;
+    let module_infos = Vec::new(reader.alloc);
     Ok(PDB {
         sections,
         address_map,

@@ -1,4 +1,5 @@
-//! Readers of what a records file is made of: lists, symbols, lines, types, ids, and all of them together.
+//! Readers of what a records file is made of: lists, symbols, lines, types, ids, and all of them together, but for
+//! what is known of modules, which may lie in other files.
 //!
 //! Each object of the format has a definition in `specs/` and a reader here, in a file of its subject: an
 //! `impl` of [`FromJson`] for the record that it becomes. They stand in one crate, since a trait is
@@ -19,5 +20,6 @@ mod strings;
 mod symbols;
 mod types;
 
-pub use all_records::file_records;
-pub use members::{FromJson, member};
+pub use all_records::shared_records;
+pub use members::{FromJson, element, member};
+pub use names::Text;

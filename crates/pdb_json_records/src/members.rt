@@ -30,7 +30,7 @@ pub fn member<T: FromJson>(reader: Reader, object: &Value, name: &str) -> Result
 }
 
 /// Reads the element of this number.
-fn element<T: FromJson>(reader: Reader, number: usize, value: &Value) -> Result<T, RecordFault>
+pub fn element<T: FromJson>(reader: Reader, number: usize, value: &Value) -> Result<T, RecordFault>
     ensures { Agrees result (read_inside (decimal number) (T.read reader.version (view value.now))) }
 {
     inside_element(reader.alloc, number, T::from_json(reader, Some(value)))

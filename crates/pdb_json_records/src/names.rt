@@ -5,7 +5,7 @@ ghost use Rattle.pdb_json_values.specs.Values.{found, text_of};
 ghost use Rattle.pdb_json_records.specs.Members.{member_of};
 ghost use Rattle.pdb_json_records.specs.Names.{name_of, variant_named, variant_of, unknown_kind};
 
-use crate::members::FromJson;
+use crate::members::{Elements, FromJson};
 use pdb_json_values::{Reader, RecordFault, inside, text, wanted};
 use pdb_records::RawString;
 use serde_json::Value;
@@ -65,14 +65,22 @@ impl FromJson for RawString {
 
     #[tactic(auto, unfolding(crate::specs::Names::name_of))]
     fn from_json(reader: Reader, value: Option<&Value>) -> Result<RawString, RecordFault> {
-        let name = text(reader, value)?;
-        Ok(RawString(Vec::from_slice(reader.alloc, name.as_bytes())?))
+        match value {
+            Some(value) if value.is_array() && reader.has_names_in_bytes() => {
+                let bytes = Elements::<u8>::from_json(reader, Some(value))?;
+                Ok(RawString(bytes.items))
+            }
+            _ => {
+                let name = text(reader, value)?;
+                Ok(RawString(Vec::from_slice(reader.alloc, name.as_bytes())?))
+            }
+        }
     }
 }
 
 /// A text of its own.
 #[derive(Drop)]
-pub(crate) struct Text {
+pub struct Text {
     pub text: String,
 }
 

@@ -1,4 +1,6 @@
 mod members;
+mod module_files;
+mod names;
 mod tables;
 mod texts;
 mod variants;

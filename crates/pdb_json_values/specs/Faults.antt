@@ -3,11 +3,14 @@ use Rattle.std.specs.Prelude.{◌≡◌, ℕ, List, ◌++◌, Result, Ok, Err, s
 use Rattle.pdb_json_values.specs.declared.faults.RecordFault.{RecordFault}
 use Rattle.pdb_json_values.specs.declared.faults.RecordFault.TheVariants as told
 
--- the text is no JSON; or at a path a value is of another sort than is wanted, or a number is out of range
+-- the text is no JSON; or another number of module files is wanted than was given; or at a path a value is of another
+-- sort than is wanted, a number is out of range, or a module file is no JSON
 pub data Fault : Type 0 where
   not_json : Fault
+  module_files : (wanted given : ℕ) → Fault
   shape : (path wanted : List ℕ) → Fault
   out_of_range : (path : List ℕ) → Fault
+  module_not_json : (path : List ℕ) → Fault
 
 -- a path that leads through a member or an element: its name stands before the rest, after a `/`
 abbrev pub through : List ℕ → List ℕ → List ℕ
@@ -16,8 +19,10 @@ through name path = codes "/" ++ (name ++ path)
 -- a fault inside a member or an element
 abbrev pub inside : List ℕ → Fault → Fault
 inside name not_json = not_json
+inside name (module_files wanted given) = module_files wanted given
 inside name (shape path wanted) = shape (through name path) wanted
 inside name (out_of_range path) = out_of_range (through name path)
+inside name (module_not_json path) = module_not_json (through name path)
 
 -- what is read inside a member or an element
 abbrev pub read_inside : {X : Type 0} → List ℕ → Result X Fault → Result X Fault
@@ -33,8 +38,10 @@ abbrev pub ◌>>=◌ : {X Y : Type 0} → Result X Fault → (X → Result Y Fau
 -- the fault that a program tells is the fault of the definition. Want of memory may come at any time
 abbrev pub IsFaultOf : {X : Type 0} → RecordFault → Result X Fault → Type 0
 IsFaultOf told.NotJson read = read ≡ Err not_json
+IsFaultOf (told.ModuleFiles wanted given) read = read ≡ Err (module_files wanted given)
 IsFaultOf (told.Shape path wanted) read = read ≡ Err (shape (string_bytes path) (string_bytes wanted))
 IsFaultOf (told.NumberOutOfRange path) read = read ≡ Err (out_of_range (string_bytes path))
+IsFaultOf (told.ModuleNotJson path) read = read ≡ Err (module_not_json (string_bytes path))
 IsFaultOf told.OutOfMemory read = Unit {0}
 
 -- a program's answer is what the definition reads, unless memory ran out

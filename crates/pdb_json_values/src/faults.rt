@@ -14,12 +14,18 @@ pub enum RecordFault {
     /// The bytes are no JSON text, or no UTF-8, or values nest deeper than 127.
     #[error("not a JSON text")]
     NotJson,
+    /// The records file names another number of module files than was given.
+    #[error("{wanted} module files wanted, {given} given")]
+    ModuleFiles { wanted: usize, given: usize },
     /// A value is absent, or of another sort than is wanted there.
     #[error("{path}: wanted {wanted}")]
     Shape { path: String, wanted: String },
     /// A number is not whole, or doesn't fit.
     #[error("{path}: number out of range")]
     NumberOutOfRange { path: String },
+    /// The bytes of the module file that a member names are no JSON text, or no UTF-8, or nest too deep.
+    #[error("{path}: not a JSON text")]
+    ModuleNotJson { path: String },
     /// Memory ran out.
     #[error("out of memory")]
     OutOfMemory,
@@ -81,6 +87,9 @@ pub fn inside<T>(
             wanted,
         }),
         Err(RecordFault::NumberOutOfRange { path }) => Err(RecordFault::NumberOutOfRange {
+            path: through(alloc, name, &path)?,
+        }),
+        Err(RecordFault::ModuleNotJson { path }) => Err(RecordFault::ModuleNotJson {
             path: through(alloc, name, &path)?,
         }),
         answer => answer,

@@ -12,5 +12,5 @@ mod values;
 
 pub use faults::{RecordFault, inside, inside_element, out_of_range, wanted};
 pub use numbers::{signed, unsigned};
-pub use reader::{FIRST_VERSION, Reader};
+pub use reader::{FIRST_VERSION, Reader, SECOND_VERSION};
 pub use values::{array, boolean, object, text};

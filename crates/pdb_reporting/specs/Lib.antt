@@ -5,4 +5,5 @@ pub mod Reports
 pub mod Arguments
 pub mod FileReports
 pub mod Stops
+pub mod ModulePaths
 pub mod Runs

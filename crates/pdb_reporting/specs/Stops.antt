@@ -7,7 +7,7 @@ use Rattle.pdb_reporting.specs.declared.reports.Command.{Command}
 use Rattle.pdb_reporting.specs.declared.reports.ReportFault.{ReportFault}
 use Rattle.pdb_reporting.specs.declared.reports.ReportFault.TheVariants.{Lookup, Write}
 use Rattle.pdb_reporting.specs.declared.stops.Stop.{Stop}
-use Rattle.pdb_reporting.specs.declared.stops.Stop.TheVariants.{Refused, Usage, CannotRead, CannotWrite}
+use Rattle.pdb_reporting.specs.declared.stops.Stop.TheVariants.{Refused, Usage, CannotRead, CannotReadModule, CannotWrite}
 use Rattle.pdb_reporting.specs.declared.stops.Stop.TheVariants as stop
 use Rattle.pdb_reporting.specs.Sinks.{SinkState}
 use Rattle.pdb_reporting.specs.FileReports.{opened, TakesTexts, EndsOver}
@@ -17,6 +17,7 @@ abbrev pub status_of : Stop → ℕ
 status_of (Refused error) = 1
 status_of Usage = 2
 status_of (CannotRead path) = 2
+status_of (CannotReadModule path) = 2
 status_of (stop.Records path fault) = 2
 status_of CannotWrite = 2
 
@@ -34,6 +35,7 @@ StopsOver command addresses records before after CannotWrite =
 StopsOver command addresses records before after (stop.Records path fault) = ⊥
 StopsOver command addresses records before after Usage = ⊥
 StopsOver command addresses records before after (CannotRead path) = ⊥
+StopsOver command addresses records before after (CannotReadModule path) = ⊥
 
 -- a run is told that a file holds no records, with the file's path and the fault; the sink is as it was
 abbrev pub StopsUnread : List ℕ → RecordFault → SinkState → SinkState → Stop → Type 0
@@ -42,6 +44,7 @@ StopsUnread path fault before after (Refused error) = ⊥
 StopsUnread path fault before after CannotWrite = ⊥
 StopsUnread path fault before after Usage = ⊥
 StopsUnread path fault before after (CannotRead told) = ⊥
+StopsUnread path fault before after (CannotReadModule told) = ⊥
 
 -- how a run ends over what was read of the file at a path: the records, or the fault in the file
 abbrev pub Ends : {A : Type 0} → List ℕ → Command → List ℕ → Result Records RecordFault
@@ -52,7 +55,7 @@ Ends path command addresses (Ok records) before after (Err why) = StopsOver comm
 Ends path command addresses (Err fault) before after (Ok done) = ⊥
 Ends path command addresses (Err fault) before after (Err why) = StopsUnread path fault before after why
 
--- how a run ends over the bytes of a file: as over what is read of them, which is what they hold unless memory runs out
+-- how a run ends over the bytes of a file and its module files: as over what is read of them, which is what they hold unless memory runs out
 pub record EndsOverFile {A : Type 0} (path : List ℕ) (command : Command) (addresses : List ℕ)
     (held : Result Records Fault) (before after : SinkState) (result : Result A Stop) : Type 0 where
   pub read : Result Records RecordFault

@@ -1,6 +1,7 @@
 ghost use Rattle.std.specs.Prelude.{OnOk, IfErr};
+ghost use Rattle.pdb_json.specs.ModuleFiles.{contents};
 ghost use Rattle.pdb_addr2line.specs.ContextData.{default_flags, context_of};
-ghost use Rattle.pdb_json.specs.RecordsFile.{records_of_file};
+ghost use Rattle.pdb_json.specs.RecordsFile.{records_of_files};
 ghost use Rattle.pdb_reporting.specs.FileReports.{opened, TakesTexts, EndsOver};
 ghost use Rattle.pdb_reporting.specs.Stops.{Ends, EndsOverFile};
 
@@ -10,7 +11,7 @@ use crate::sinks::Sink;
 use crate::stops::Stop;
 use pdb_addr2line::ContextPdbData;
 use pdb_addr2line::pdb::PDB;
-use pdb_json::{RecordFault, read_records};
+use pdb_json::{RecordFault, read_records_with};
 use std::alloc::Global;
 
 /// Writes what a request asks for, over records whose streams were read.
@@ -77,7 +78,7 @@ pub fn report_read<'w, W: Sink>(
     }
 }
 
-/// Writes what a request asks for, over the bytes of its records file.
+/// Writes what a request asks for, over the bytes of its records file and of the module files that this one names.
 ///
 /// # Errors
 ///
@@ -86,11 +87,13 @@ pub fn report_file<'w, W: Sink>(
     alloc: Global,
     request: &Request<'w>,
     bytes: &[u8],
+    files: &[Vec<u8>],
     sink: &mut W,
 ) -> Result<(), Stop<'w>>
     ensures { EndsOverFile request.now.records.now request.now.command request.now.addresses.items
-        (records_of_file bytes.now) (W.state sink.old) (W.state sink.new) result }
+        (records_of_files bytes.now (contents files.now))
+        (W.state sink.old) (W.state sink.new) result }
 {
-    let read = read_records(alloc, bytes);
+    let read = read_records_with(alloc, bytes, files);
     report_read(alloc, request, read, sink)
 }

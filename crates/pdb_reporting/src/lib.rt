@@ -4,6 +4,7 @@
 
 mod arguments;
 mod file_reports;
+mod module_paths;
 mod printed_frames;
 mod printed_lines;
 mod reports;

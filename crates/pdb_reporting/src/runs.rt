@@ -1,17 +1,20 @@
 ghost use Rattle.std.specs.Prelude.{IfErr, map, string_bytes};
 ghost use Rattle.pdb_reporting.specs.Arguments.{asked};
-ghost use Rattle.pdb_reporting.specs.Runs.{EndsRun, IsUnread};
+ghost use Rattle.pdb_reporting.specs.ModulePaths.{module_path};
+ghost use Rattle.pdb_reporting.specs.Runs.{EndsRun, IsUnread, IsModuleUnread, AreModulesUnread};
 
 use crate::arguments::parse;
 use crate::file_reports::report_file;
+use crate::module_paths::module_path;
 use crate::sinks::{Out, Sink};
 use crate::stops::Stop;
 use pdb_addr2line::Error;
+use pdb_json::module_files;
 use std::rt::Files;
 use std::{fs, io};
 
-/// Does what the words of a command line ask for: reads the records file, and writes the report. What the
-/// writer keeps back is handed on at the end.
+/// Does what the words of a command line ask for: reads the records file and then the module files that it names,
+/// and writes the report. What the writer keeps back is handed on at the end.
 ///
 /// # Errors
 ///
@@ -31,7 +34,8 @@ pub fn run<'w, R: Files + AllocGlobal, W: io::Write>(
         return Err(Stop::Usage);
     };
     let bytes = read_file(rt, request.records)?;
-    let ended = report_file(rt.alloc(), &request, &bytes, out);
+    let files = read_module_files(rt, request.records, &bytes)?;
+    let ended = report_file(rt.alloc(), &request, &bytes, &files, out);
     match out.flush() {
         Ok(()) => ended,
         Err(_) => Err(Stop::CannotWrite),
@@ -46,6 +50,46 @@ fn read_file<'w, R: Files + AllocGlobal>(rt: &R, path: &'w str) -> Result<Vec<u8
         Ok(bytes) => Ok(bytes),
         Err(error) if is_want_of_memory(&error) => Err(Stop::Refused(Error::OutOfMemory)),
         Err(_) => Err(Stop::CannotRead(path)),
+    }
+}
+
+/// The bytes of the module files that a records file names, in order.
+fn read_module_files<'w, R: Files + AllocGlobal>(
+    rt: &R,
+    records: &'w str,
+    bytes: &[u8],
+) -> Result<Vec<Vec<u8>>, Stop<'w>>
+    ensures { IfErr result (AreModulesUnread records.now) }
+{
+    let names = match module_files(rt.alloc(), bytes) {
+        Ok(names) => names,
+        Err(fault) => return Err(Stop::Records(records, fault)),
+    };
+    let mut files = Vec::new(rt.alloc());
+    for name in &names {
+        let file = read_module_file(rt, records, name.as_str())?;
+        if files.push(file).is_err() {
+            return Err(Stop::Refused(Error::OutOfMemory));
+        }
+    }
+    Ok(files)
+}
+
+/// The bytes of the module file of this name.
+fn read_module_file<'w, R: Files + AllocGlobal>(
+    rt: &R,
+    records: &str,
+    name: &str,
+) -> Result<Vec<u8>, Stop<'w>>
+    ensures { IfErr result (IsModuleUnread (module_path records.now name.now)) }
+{
+    let Ok(path) = module_path(rt.alloc(), records, name) else {
+        return Err(Stop::Refused(Error::OutOfMemory));
+    };
+    match fs::read(rt, path.as_str()) {
+        Ok(bytes) => Ok(bytes),
+        Err(error) if is_want_of_memory(&error) => Err(Stop::Refused(Error::OutOfMemory)),
+        Err(_) => Err(Stop::CannotReadModule(path)),
     }
 }
 

@@ -17,6 +17,9 @@ pub enum Stop<'w> {
     /// The records file could not be read.
     #[error("pdb_report: cannot read {0}")]
     CannotRead(&'w str),
+    /// The module file at this path could not be read.
+    #[error("pdb_report: cannot read {0}")]
+    CannotReadModule(String),
     /// The records file holds no records.
     #[error("pdb_report: {0}: {1}")]
     Records(&'w str, RecordFault),

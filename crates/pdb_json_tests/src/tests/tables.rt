@@ -225,9 +225,12 @@ info {"error":7} read
 version absent read
 version null read
 version "1" : wanted number
-version 2 : wanted 1
-version 1.0 : wanted 1
-version -1 : wanted 1
+version 2 read
+version 3 : wanted 1 or 2
+version 0 : wanted 1 or 2
+version 1.0 : wanted 1 or 2
+version 2.0 : wanted 1 or 2
+version -1 : wanted 1 or 2
 version 1 read
 sections absent : wanted array
 sections null read

@@ -64,7 +64,8 @@ pub(super) const CHANGES: &str =
 "machine_type":"Amd64", =>  => /debug_information/machine_type: wanted text
 "raw_kind":4366 => "raw_kind":"x" => /global_symbols/0/raw_kind: wanted number
 "Public" => "Publik" => /global_symbols/0/data/kind: wanted kind
-{"sections" => {"version":2,"sections" => /version: wanted 1
+{"sections" => {"version":3,"sections" => /version: wanted 1 or 2
+{"sections" => {"version":2,"sections" => read
 "string_table":[] => "string_table":{"error":7} => read
 "type_information":[] => "type_information":{"error":3} => read
 [{"raw_kind":4366,"data":{"kind":"Public","section":1,"offset":16,"name":"?f"}}] => {"items":[],"fault":9} => read

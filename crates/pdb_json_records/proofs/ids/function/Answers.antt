@@ -1,0 +1,21 @@
+use Rattle.std.proofs.Common.{refl}
+use Rattle.std.proofs.lemmas.Result.{err_from_is_err_and}
+use Rattle.pdb_json_values.proofs.FaultLemmas.{fault_ends}
+use Rattle.pdb_json_records.specs.Ids.{function_id_of}
+use Rattle.pdb_json_records.proofs.ids.function.Goals as goal
+
+pub returns-in_err-member-2 : goal.returns-in_err-member-2
+unfolding function_id_of
+returns-in_err-member-2 c =
+    let p = err_from_is_err_and c.from_residual-in_err-member-2.result c.from_residual-in_err-member-2.ensures.1 in
+    rw (p.1, p.2, c.in_ok-member.ensures) (fault_ends _ _ _ c.in_err-member-2.ensures)
+
+pub returns-in_err-member-3 : goal.returns-in_err-member-3
+unfolding function_id_of
+returns-in_err-member-3 c =
+    let p = err_from_is_err_and c.from_residual-in_err-member-3.result c.from_residual-in_err-member-3.ensures.1 in
+    rw (p.1, p.2, c.in_ok-member.ensures, c.in_ok-member-2.ensures) (fault_ends _ _ _ c.in_err-member-3.ensures)
+
+pub returns : goal.returns
+unfolding function_id_of
+returns c = rw (c.in_ok-member.ensures, c.in_ok-member-2.ensures, c.in_ok-member-3.ensures) refl

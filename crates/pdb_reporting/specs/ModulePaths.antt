@@ -1,0 +1,17 @@
+-- Where module files lie.
+use Rattle.std.specs.Prelude.{ℕ, ◌==◌, List, [], ◌∷◌, ◌++◌, Option, Some, None, slice_index, if◌then◌else◌}
+use Rattle.std.specs.Path.{slash, rsplit_once}
+
+-- the part of a path up to and including its last slash, by what stands before and behind that
+abbrev pub folder_before : Option (List ℕ × List ℕ) → List ℕ
+folder_before None = []
+folder_before (Some split) = split.0 ++ slash ∷ []
+
+-- the part of a path up to and including its last slash
+unfoldable pub folder_of : List ℕ → List ℕ
+folder_of path = folder_before (rsplit_once slash path)
+
+-- the path of the module file that a records file names: a name that begins with a slash is a path by itself, and any
+-- other lies in the folder of the records file
+abbrev pub module_path : List ℕ → List ℕ → List ℕ
+module_path records name = if slice_index name 0 == slash then name else folder_of records ++ name
