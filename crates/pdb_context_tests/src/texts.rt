@@ -17,6 +17,13 @@ fn texts_of_errors_that_no_list_of_calls_meets(rt: HostRuntime) {
     assert!(rt;
         says(
             alloc,
+            &Error::UnorderedSectionContributions(1, 2),
+            "There are consecutive section contributions for module 1 and section 2 which are not ordered by offset"
+        )
+    );
+    assert!(rt;
+        says(
+            alloc,
             &Error::ProcedureInlineRangesUnsuccessful,
             "Getting the procedure inline ranges was unsuccessful"
         )
