@@ -1,3 +1,4 @@
 pub mod ReportLemmas
 pub mod FileReportLemmas
 pub mod ListLemmas
+pub mod PathLemmas
