@@ -72,15 +72,19 @@ def main():
     program, count = sys.argv[1], int(sys.argv[2])
     seed = int(sys.argv[3]) if len(sys.argv) > 3 else 1
     chance = random.Random(seed)
-    texts = [p.read_bytes() for p in sorted(DATA.glob("*.json"))]
+    texts = [p.read_bytes() for p in sorted(DATA.glob("**/*.json"))]
     found = 0
     with tempfile.TemporaryDirectory() as folder:
+        modules = {p.name: p.read_bytes() for p in sorted(DATA.glob("modules/*.json"))}
         path = pathlib.Path(folder) / "mutated.json"
         for number in range(count):
             text = chance.choice(texts)
             for _ in range(chance.choice([1, 1, 2, 5])):
                 text = mutated(text, chance) or b"{"
             path.write_bytes(text)
+            for name, module in modules.items():
+                changed = mutated(module, chance) if chance.random() < 0.1 else module
+                (pathlib.Path(folder) / name).write_bytes(changed)
             wrong = misbehaviour(program, str(path))
             if wrong:
                 found += 1

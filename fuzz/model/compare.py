@@ -38,16 +38,19 @@ def ask(program, words):
 
 
 def compare_seed(program, seed):
-    """The counts and the differences of one seed. The file stands in the current folder meanwhile."""
-    data, runs = generate(seed)
+    """The counts and the differences of one seed. Its files stand in the current folder meanwhile."""
+    data, modules, runs = generate(seed)
     name = f"{seed}.json"
     counts, differences = Counter(seeds=1), []
-    with open(name, "wb") as file:
-        file.write(data)
+    contents = {name: data, **modules}
+    for path, content in contents.items():
+        with open(path, "wb") as file:
+            file.write(content)
+    counts["files with module files"] += bool(modules)
     errors.MET.clear()
     for words in runs:
         words = words[1:] if words[:1] == ["!"] else [name, *words]
-        wanted = run(words, lambda asked: data if asked == name else None)
+        wanted = run(words, contents.get)
         count_run(counts, words, wanted, name)
         if program == MODEL_ALONE:
             continue
@@ -58,7 +61,8 @@ def compare_seed(program, seed):
             differences.append((seed, words, wanted, got))
     for key, count in errors.MET.items():
         counts["met " + re.sub(r"\d\d\d+", "N", key)] += count
-    os.remove(name)
+    for path in contents:
+        os.remove(path)
     return counts, differences
 
 

@@ -1,8 +1,10 @@
-"""A random records file and what to ask about it: generate(seed) gives its bytes and the words of the runs.
+"""A random records file and what to ask about it.
+
+generate(seed) gives its bytes, those of its module files by their names, and the words of the runs.
 
 Usage: generate.py SEED
 
-It writes the file's text to standard output and the words of each run to standard error.
+It writes the file's text to standard output, and each module file and the words of each run to standard error.
 """
 import sys
 
@@ -93,24 +95,90 @@ class Generator(Code, Runs):
         return file
 
 
+NAMES = ("name", "unique_name", "text")
+
+
+def with_bytes(chance, value):
+    """The value with some of its names as their bytes; some of these are no UTF-8, and a few no bytes."""
+    if isinstance(value, list):
+        return [with_bytes(chance, element) for element in value]
+    if not isinstance(value, dict):
+        return value
+    value = {key: with_bytes(chance, element) for key, element in value.items()}
+    for key in NAMES:
+        if isinstance(value.get(key), str) and chance.random() < 0.3:
+            name = list(value[key].encode("utf-8"))
+            if chance.random() < 0.2:
+                name.insert(chance.randrange(len(name) + 1), chance.choice([0x80, 0xC3, 0xE2, 0xF0, 0xFF]))
+            if chance.random() < 0.004:
+                name.append(chance.choice([256, -1, 1.5, "a", None]))
+            value[key] = name
+    return value
+
+
+def with_module_files(chance, file, prefix):
+    """The file with some infos in module files, and these by their names. A few of them are not there, and a few
+    are no JSON or null."""
+    files = {}
+    if not isinstance(file.get("module_infos"), list):
+        return file, files
+    infos = list(file["module_infos"])
+    for n, info in enumerate(infos):
+        if info is None or chance.random() < 0.3:
+            continue
+        name = f"{prefix}.{n}.module"
+        roll = chance.random()
+        infos[n] = {"file": chance.choice([7, None, [97]]) if roll < 0.01 else name}
+        if 0.01 <= roll < 0.02:
+            infos[n]["error"] = 4
+        if roll >= 0.03:
+            files[name] = info
+    if infos and chance.random() < 0.1:
+        infos[chance.randrange(len(infos))] = chance.choice([infos[0], infos[-1]])
+    return dict(file, module_infos=infos), files
+
+
+def in_version_two(generator, seed, file):
+    """The file in the second version, and the values of its module files by their names."""
+    chance = generator.random
+    file = dict(with_bytes(chance, file), version=2)
+    return with_module_files(chance, file, str(seed))
+
+
+def module_bytes(generator, value):
+    """The bytes of a module file; a few are broken."""
+    roll = generator.random.random()
+    if roll < 0.02:
+        return generator.choose([b"", b"{", b"null", b"[]", b'{"error":null}', b"\xff"])
+    if roll < 0.06:
+        value = with_changes(generator, value)
+    return json_text(generator, value, "plain").encode("utf-8")
+
+
 def generate(seed):
-    """The bytes of a file and the words of its runs. About every fourth file has a fault."""
+    """The bytes of a file, its module files, and the words of its runs. About every fourth file has a fault."""
     generator = Generator(seed)
     file = generator.records()
     runs = generator.runs(file)
     roll = generator.random.random()
     style = generator.choose(["plain", "plain", "escaped", "spaced"])
+    modules = {}
+    if generator.chance(0.5):
+        file, modules = in_version_two(generator, seed, file)
     if roll < 0.2:
         file = with_changes(generator, file)
         runs = runs[:2] + generator.choose([[], runs[2:3]])
+    modules = {name: module_bytes(generator, value) for name, value in modules.items()}
     data = json_text(generator, file, style).encode("utf-8")
     if 0.2 <= roll < 0.26:
         data, runs = broken_text(generator, data), runs[:1]
-    return data, runs
+    return data, modules, runs
 
 
 if __name__ == "__main__":
-    data, runs = generate(int(sys.argv[1]))
+    data, modules, runs = generate(int(sys.argv[1]))
     sys.stdout.buffer.write(data + b"\n")
+    for name, content in modules.items():
+        print(name, content, file=sys.stderr)
     for words in runs:
         print(" ".join(words), file=sys.stderr)

@@ -1,4 +1,4 @@
--- Where the last slash of a path is.
+-- Where the last slash of a path is, and what is told of a module file that can't be read.
 use Rattle.std.proofs.Common.{◌≡◌, ℕ, zero, suc, ◌+◌, ◌-◌, ◌≤◌, ◌<◌, List, length, get_or, take, drop, Option, Some, None}
 use Rattle.std.proofs.Common.{MatchOption, sym, ap, ◌∙◌, ⊎_elim, arith, Bor, eq-eqb, ne_eqb, length-drop, get_or-drop, refl}
 use Rattle.std.specs.Prelude.{option_map}
@@ -7,6 +7,11 @@ use Rattle.std.specs.Str.Pattern.{RFindsChar}
 use Rattle.std.proofs.lemmas.Str.Pattern.{NoCharPasses-char}
 use Rattle.std.proofs.lemmas.Bool.{cases_eq, cond-true, cond-false}
 use Rattle.std.proofs.lemmas.Str.{len_utf8_ascii}
+use Rattle.pdb_reporting.specs.declared.stops.Stop.{Stop}
+use Rattle.pdb_reporting.specs.declared.stops.Stop.TheVariants.{Refused, Usage, CannotRead, CannotReadModule, CannotWrite}
+use Rattle.pdb_reporting.specs.declared.stops.Stop.TheVariants as stop
+use Rattle.pdb_reporting.specs.ModulePaths.{module_path}
+use Rattle.pdb_reporting.specs.Runs.{IsModuleUnread, AreModulesUnread}
 
 rfind_below-None : (c : ℕ) (text : List ℕ) (n : ℕ) → ((i : ℕ) → i < n → get_or text i 0 ≡ c → ⊥)
     → rfind_below c text n ≡ None
@@ -45,3 +50,13 @@ split_at_last c text (Some x) h low =
     let found = rfind_below-Some c text i (length text) (omega (arith, h.7)) (h.2.1.byte low) later in
     let second = h.4 ∙ ap (λ n. drop n text) next in
     (λ t. Some (h.3 t, second t)) ∙ sym (ap (option_map (λ k. (take k text, drop (k + 1) text))) found)
+
+-- a module file of some name can't be read
+pub some_module_is_unread : (records name : List ℕ) (why : Stop) → IsModuleUnread (module_path records name) why
+    → AreModulesUnread records why
+some_module_is_unread records name (CannotReadModule told) at_path = (name, at_path)
+some_module_is_unread records name (Refused error) at_path = tt
+some_module_is_unread records name (CannotRead told) at_path = absurd at_path
+some_module_is_unread records name (stop.Records told fault) at_path = absurd at_path
+some_module_is_unread records name Usage at_path = absurd at_path
+some_module_is_unread records name CannotWrite at_path = absurd at_path
