@@ -12,7 +12,7 @@ import threading
 
 from errors import Error, note
 from frames import Context
-from records import Fault, module_files, read_records
+from records import Fault, lossy, module_files, read_records
 
 USAGE = "usage: pdb_report RECORDS (frames|names ADDRESS...|list)"
 
@@ -75,12 +75,7 @@ def parse_words(words):
 
 def ended(status, text="", error=None):
     """What a run leaves: standard output, the status, and the one line on standard error."""
-    return lossy(text), status, lossy(f"{error}\n") if error else b""
-
-
-def lossy(text):
-    """The bytes of a text, with a sign in the place of what is no UTF-8."""
-    return text.encode("utf-8", "surrogateescape").decode("utf-8", "replace").encode()
+    return lossy(text).encode(), status, lossy(f"{error}\n").encode() if error else b""
 
 
 def report(pdb, command, addresses):

@@ -130,6 +130,11 @@ def name(value, path):
     return text(value, path)
 
 
+def lossy(text):
+    """A name as text, with a sign in the place of each piece that is no UTF-8."""
+    return text.encode("utf-8", "surrogateescape").decode("utf-8", "replace")
+
+
 def boolean(value, path):
     if type(value) is not bool:
         wanted(path, "boolean")

@@ -2,15 +2,15 @@
 import errors
 from errors import Error, FailedParts, note
 from primitives import PRIMITIVES
-from records import Failed, Record, Unimplemented
+from records import Failed, Record, Unimplemented, lossy
 
 POINTER_SIZES = {"Amd64": 8, "Arm64": 8, "Ia64": 8, "RiscV64": 8, "RiscV128": 16}
 FIRST_CROSS_MODULE = 2**31  # from here on an index stands for one of another module
 
 
-def lower_ascii(text):
-    """The text with its ASCII letters in lower case, and no others."""
-    return "".join(chr(ord(c) + 32) if "A" <= c <= "Z" else c for c in text)
+def module_key(name):
+    """What the name of a module goes by: its text with the ASCII letters in lower case, and no others."""
+    return "".join(chr(ord(c) + 32) if "A" <= c <= "Z" else c for c in lossy(name))
 
 
 def aggregate_key(aggregate):
@@ -85,8 +85,8 @@ class TypeReader:
         texts = [string.text for string in self.program.strings if string.ref == reference]
         if not texts:
             raise errors.string_not_found(reference)
-        name = lower_ascii(texts[0])
-        named = [n for n, other in enumerate(self.program.modules) if lower_ascii(other) == name]
+        name = module_key(texts[0])
+        named = [n for n, other in enumerate(self.program.modules) if module_key(other) == name]
         if not named:
             raise Error("ModuleNameNotFound", f"Could not find the module with name {name}")
         return named[-1]

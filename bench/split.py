@@ -1,0 +1,25 @@
+#!/usr/bin/env python3
+"""Writes a records file as one of version 2 with a file for each module.
+
+    split.py RECORDS FOLDER      writes FOLDER/records.json and FOLDER/0.json, FOLDER/1.json and so on
+"""
+import json
+import pathlib
+import sys
+
+
+def main():
+    if len(sys.argv) != 3:
+        sys.exit(__doc__)
+    records, folder = json.loads(pathlib.Path(sys.argv[1]).read_bytes()), pathlib.Path(sys.argv[2])
+    folder.mkdir(parents=True, exist_ok=True)
+    infos = records["module_infos"]
+    for number, info in enumerate(infos):
+        if isinstance(info, dict) and "error" not in info:
+            (folder / f"{number}.json").write_text(json.dumps(info, separators=(",", ":")))
+            infos[number] = {"file": f"{number}.json"}
+    (folder / "records.json").write_text(json.dumps({"version": 2, **records}, separators=(",", ":")))
+
+
+if __name__ == "__main__":
+    main()
