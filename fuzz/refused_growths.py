@@ -16,9 +16,10 @@ last, and some between. A case is a run of crates/pdb_tests/data/runs.txt with w
 It may not end with `cannot read` or `cannot write`: the file can be read, the lines can be written, and want of memory
 is told apart from both. Nor by a signal, past ten seconds, with another line, or with a part of an address's text.
 
-CALLS_PROGRAM is a built pdb_call_tests, and is run with some single growths refused. Then one list of calls may
-differ from what is wanted, or two questions to one formatter (a part that is broken may tell its own error once more),
-or the program may end before its end with status 1; all other answers are as wanted.
+CALLS_PROGRAM is a built pdb_call_tests, and is run with some single growths refused. Then the answers to one list of
+calls may differ from what is wanted, or those to two questions: the one whose growth was refused, and the next that
+meets the same broken part, which may tell its own error there. All other answers are as wanted. Or the program ends
+early with status 1, where a growth of its own was refused.
 """
 import concurrent.futures
 import os
@@ -32,6 +33,7 @@ from collections import Counter, namedtuple
 HERE = pathlib.Path(__file__).resolve().parent
 CRATES = HERE.parent / "crates"
 SECONDS = 10
+WORKERS = max(1, (os.cpu_count() or 1) // 2)
 # What a run of runs.txt begins with; the first such run is the case.
 RUNS = [
     "public_symbol.json names 1005",
@@ -68,7 +70,10 @@ AS_WANTED = "as wanted"
 AT_FIRST = "out of memory before any text"
 IN_A_LOOK_UP = "out of memory in a look-up, behind the texts before"
 WHILE_READ = "out of memory while the file's text was read"
-MUST_BE_SEEN = [AS_WANTED, AT_FIRST, IN_A_LOOK_UP, WHILE_READ]
+
+MOST_DIFFER = 2
+A_FEW_DIFFER = "one or two answers of a list of calls differ"
+ENDS_EARLY = "a growth of the list's own program was refused"
 
 Case = namedtuple("Case", "name folder words stdout stderr status")
 Run = namedtuple("Run", "status stdout stderr")
@@ -161,18 +166,57 @@ def trials(program, case, library, folder):
 
 
 def over_cases(program, library, folder, seen):
-    """Tries all cases, counts the outcomes, and gives how many growths were refused and how many runs are wrong."""
-    growths = wrong = 0
-    with concurrent.futures.ThreadPoolExecutor(max(1, (os.cpu_count() or 1) // 2)) as pool:
+    """Tries all cases, counts the outcomes, and gives how many growths were refused."""
+    growths = 0
+    with concurrent.futures.ThreadPoolExecutor(WORKERS) as pool:
         for case in cases():
             arguments = trials(program, case, library, folder)
             for argument, (what, refused, run) in zip(arguments, pool.map(lambda a: trial(*a), arguments)):
                 growths += refused
                 seen[what] += 1
                 if what is None:
-                    wrong += 1
                     print(f"{argument[4]}={argument[5]} pdb_report {case.name}: {run}", flush=True)
-    return growths, wrong
+    return growths
+
+
+def calls_outcome(wanted, run):
+    """What a run of pdb_call_tests with one growth refused came to, or None where it may not end so."""
+    if run == Run(0, wanted, b""):
+        return AS_WANTED
+    if run.status == 1 and run.stderr.count(b"\n") == 1 and b"emory" in run.stderr:
+        return ENDS_EARLY
+    differing = re.findall(rb"(?m)^\d+ (?:calls|sizes|signatures|ids), (\d+) differ$", run.stdout)
+    if run.status == 0 and len(differing) == 4 and sum(map(int, differing)) <= MOST_DIFFER:
+        return A_FEW_DIFFER
+    return None
+
+
+def calls_trial(program, library, folder, number):
+    """The outcome of a run of pdb_call_tests with a growth refused, and the run."""
+    crate = CRATES / "pdb_call_tests"
+    try:
+        run = ask(program, [], crate / "data", library, folder / f"calls-{number}", REFUSE_AT=number)
+    except subprocess.TimeoutExpired:
+        return None, f"no end after {SECONDS} s"
+    return calls_outcome((crate / "stdout").read_bytes(), run), run
+
+
+def over_calls(program, library, folder):
+    """Tries pdb_call_tests, and gives the outcomes with their counts."""
+    run = calls_trial(program, library, folder, 0)
+    if run[0] != AS_WANTED:
+        sys.exit(f"pdb_call_tests: not as wanted with no growth refused: {run}")
+    calls = counts(folder / "calls-0")[0]
+    chosen = numbers(calls, CALLS_BETWEEN // 3, CALLS_BETWEEN)
+    print(f"pdb_call_tests: {len(chosen)} of {calls} growths", flush=True)
+    seen = Counter()
+    with concurrent.futures.ThreadPoolExecutor(WORKERS) as pool:
+        found = pool.map(lambda number: calls_trial(program, library, folder, number), chosen)
+        for number, (what, run) in zip(chosen, found):
+            seen[what] += 1
+            if what is None:
+                print(f"REFUSE_AT={number} pdb_call_tests: {run}", flush=True)
+    return seen
 
 
 def compiled(folder):
@@ -183,22 +227,30 @@ def compiled(folder):
     return library
 
 
-def main(program):
-    program = os.path.abspath(program)
-    seen = Counter()
+def show(seen, names):
+    """Prints how often each outcome was seen, and gives how many of those named were not."""
+    for name in names:
+        print(f"{seen[name]:8d}  {name}")
+    return sum(not seen[name] for name in names)
+
+
+def main(program, calls_program=None):
+    failed = 0
     with tempfile.TemporaryDirectory() as folder:
         folder = pathlib.Path(folder)
-        growths, wrong = over_cases(program, compiled(folder), folder, seen)
-    print(f"{growths} growths refused in {sum(seen.values())} runs over {len(RUNS)} cases, {wrong} wrong")
-    for what in MUST_BE_SEEN:
-        print(f"{seen[what]:8d}  {what}")
-    missing = [what for what in MUST_BE_SEEN if not seen[what]]
-    for what in missing:
-        print(f"never seen: {what}")
-    return 1 if wrong or missing else 0
+        library = compiled(folder)
+        seen = Counter()
+        growths = over_cases(os.path.abspath(program), library, folder, seen)
+        print(f"{growths} growths refused in {sum(seen.values())} runs of {len(RUNS)} cases, {seen[None]} wrong")
+        failed += seen[None] + show(seen, [AS_WANTED, AT_FIRST, IN_A_LOOK_UP, WHILE_READ])
+        if calls_program:
+            seen = over_calls(os.path.abspath(calls_program), library, folder)
+            print(f"{sum(seen.values())} runs of pdb_call_tests with a growth refused, {seen[None]} wrong")
+            failed += seen[None] + show(seen, [AS_WANTED, ENDS_EARLY, A_FEW_DIFFER])
+    return 1 if failed else 0
 
 
 if __name__ == "__main__":
     if len(sys.argv) not in (2, 3):
         sys.exit(__doc__)
-    sys.exit(main(sys.argv[1]))
+    sys.exit(main(*sys.argv[1:]))
