@@ -1,0 +1,256 @@
+#!/usr/bin/env python3
+"""Runs the built program with each of its growths refused, and reports every run that ends otherwise than it may.
+
+Usage: refused_growths.py PROGRAM [CALLS_PROGRAM]
+
+PROGRAM is a built pdb_report. An allocator is compiled with gcc (or $CC) and preloaded, which refuses the Nth growth
+alone, or each from the Nth on. N goes over all growths of each case; where there are very many, over the first, the
+last, and some between. A case is a run of crates/pdb_tests/data/runs.txt with what is wanted of it. It may end
+
+- as wanted: what was refused wasn't needed, or it was asked for again;
+- with status 1 and `Out of memory`, behind no text or that of the first addresses: memory ran out anywhere but while
+  the file's text was read;
+- with status 2 and `out of memory` behind the file's name, and no text: it ran out while that text was read, before
+  any look-up.
+
+It may not end with `cannot read` or `cannot write`: the file can be read, the lines can be written, and want of memory
+is told apart from both. Nor by a signal, past ten seconds, with another line, or with a part of an address's text.
+
+CALLS_PROGRAM is a built pdb_call_tests, and is run with some single growths refused. Then the answers to one list of
+calls may differ from what is wanted, or those to two questions: the one whose growth was refused, and the next that
+meets the same broken part, which may tell its own error there. All other answers are as wanted. Or the program ends
+early with status 1, where a growth of its own was refused.
+"""
+import concurrent.futures
+import os
+import pathlib
+import re
+import subprocess
+import sys
+import tempfile
+from collections import Counter, namedtuple
+
+HERE = pathlib.Path(__file__).resolve().parent
+CRATES = HERE.parent / "crates"
+SECONDS = 10
+WORKERS = max(1, (os.cpu_count() or 1) // 2)
+# What a run of runs.txt begins with; the first such run is the case.
+RUNS = [
+    "public_symbol.json names 1005",
+    "public_symbol.json frames 1005",
+    "public_symbol.json list",
+    "signatures.json names",
+    "circular_types.json names",
+    "three_modules.json frames 1025",
+    "badly_nested_sites.json frames",
+    "site_of_a_method.json frames",
+    "failing_lines.json names",
+    "failing_lines.json frames 1012",
+    "failing_parts.json frames 10c4 1024 10e4",
+    "lines_and_files.json frames",
+    "types_across_modules.json names",
+    "counter.json frames",
+    "counter.json list",
+    "interleaved_contributions.json names",
+    "overlapping_contributions.json names",
+    "size_out_of_range.json names",
+    "modules/two.json names",
+    "modules/broken.json names",
+    "modules/missing.json names",
+    "small_x64.json names",
+    "small_x64.json frames",
+    "small_x64.json list",
+]
+# How many of the growths of a case are refused at least at its start and its end, and about how many between.
+NEAR, BETWEEN = 300, 600
+CALLS_BETWEEN = 300
+MODES = ("REFUSE_AT", "REFUSE_FROM")
+
+AS_WANTED = "as wanted"
+AT_FIRST = "out of memory before any text"
+IN_A_LOOK_UP = "out of memory in a look-up, behind the texts before"
+WHILE_READ = "out of memory while the file's text was read"
+
+MOST_DIFFER = 2
+A_FEW_DIFFER = "one or two answers of a list of calls differ"
+ENDS_EARLY = "a growth of the list's own program was refused"
+
+Case = namedtuple("Case", "name folder words stdout stderr status")
+Run = namedtuple("Run", "status stdout stderr")
+
+
+def cases():
+    """The cases, in order."""
+    text = (CRATES / "pdb_tests" / "data" / "runs.txt").read_text()
+    runs = [run.split("\n", 1) for run in re.split(r"(?m)^\$ pdb_report ", text)[1:]]
+    for start in RUNS:
+        yield next(case(words, rest) for words, rest in runs if f"{words} ".startswith(f"{start} "))
+
+
+def case(words, rest):
+    """The case of a run with these words, of which the rest of its text says what is wanted."""
+    told, status = re.fullmatch(r"(.*?)status (\d)\n\n?", rest, re.S).groups()
+    lines = told.splitlines(True)
+    stderr = lines.pop() if status != "0" else ""
+    folder = CRATES / "pdb_tests" / "data"
+    return Case(words, folder, words.split(), "".join(lines).encode(), stderr.encode(), int(status))
+
+
+def answer_ends(stdout):
+    """The lengths of the beginnings of a text that end at the end of an answer."""
+    ends = {0, len(stdout)}
+    for line in re.finditer(rb"(?m)^(?!     )", stdout):
+        ends.add(line.start())
+    return ends
+
+
+def ask(program, words, folder, library, told, **refusal):
+    """A run of the program with growths refused."""
+    environment = dict(os.environ, LD_PRELOAD=str(library), COUNT_TO=str(told))
+    environment.update({name: str(number) for name, number in refusal.items()})
+    done = subprocess.run([program, *words], cwd=folder, env=environment, capture_output=True, timeout=SECONDS,
+                          stdin=subprocess.DEVNULL)
+    return Run(done.returncode, done.stdout, done.stderr)
+
+
+def counts(told):
+    """How many growths the last run asked for, and how many of them were refused."""
+    calls, refused = told.read_text().split()
+    return int(calls), int(refused)
+
+
+def outcome(case, run):
+    """What a run under a refusal came to, or None where it may not end so."""
+    name = case.words[0].encode()
+    if run == Run(case.status, case.stdout, case.stderr):
+        return AS_WANTED
+    if run.status == 1 and run.stderr == b"pdb_report: Out of memory\n":
+        if case.stdout.startswith(run.stdout) and len(run.stdout) in answer_ends(case.stdout):
+            return IN_A_LOOK_UP if run.stdout else AT_FIRST
+    if run == Run(2, b"", b"pdb_report: " + name + b": out of memory\n"):
+        return WHILE_READ
+    return None
+
+
+def numbers(calls, near, between):
+    """Which growths are refused, of so many."""
+    step = max(1, (calls - 2 * near) // between)
+    chosen = {*range(1, near + 1), *range(near, calls, step), *range(calls - near, calls + 1)}
+    return sorted(number for number in chosen if 0 < number <= calls)
+
+
+def trial(program, case, library, folder, mode, number):
+    """The outcome of a run with a growth refused and how many were; the outcome None has the run beside it."""
+    told = folder / f"{mode}-{number}"
+    try:
+        run = ask(program, case.words, case.folder, library, told, **{mode: number})
+    except subprocess.TimeoutExpired:
+        return None, 0, f"no end after {SECONDS} s"
+    if not told.exists():
+        return None, 0, run
+    refused = counts(told)[1]
+    told.unlink()
+    return outcome(case, run) if refused else None, refused, run
+
+
+def trials(program, case, library, folder):
+    """The arguments of all trials of a case, after a run with no refusal that has to be as wanted."""
+    told = folder / "told"
+    run = ask(program, case.words, case.folder, library, told)
+    if outcome(case, run) != AS_WANTED:
+        sys.exit(f"{case.name}: not as wanted with no growth refused: {run}")
+    calls = counts(told)[0]
+    chosen = numbers(calls, NEAR, BETWEEN)
+    print(f"{case.name[:60]}: {len(chosen)} of {calls} growths", flush=True)
+    return [(program, case, library, folder, mode, number) for mode in MODES for number in chosen]
+
+
+def over_cases(program, library, folder, seen):
+    """Tries all cases, counts the outcomes, and gives how many growths were refused."""
+    growths = 0
+    with concurrent.futures.ThreadPoolExecutor(WORKERS) as pool:
+        for case in cases():
+            arguments = trials(program, case, library, folder)
+            for argument, (what, refused, run) in zip(arguments, pool.map(lambda a: trial(*a), arguments)):
+                growths += refused
+                seen[what] += 1
+                if what is None:
+                    print(f"{argument[4]}={argument[5]} pdb_report {case.name}: {run}", flush=True)
+    return growths
+
+
+def calls_outcome(wanted, run):
+    """What a run of pdb_call_tests with one growth refused came to, or None where it may not end so."""
+    if run == Run(0, wanted, b""):
+        return AS_WANTED
+    if run.status == 1 and run.stderr.count(b"\n") == 1 and b"emory" in run.stderr:
+        return ENDS_EARLY
+    differing = re.findall(rb"(?m)^\d+ (?:calls|sizes|signatures|ids), (\d+) differ$", run.stdout)
+    if run.status == 0 and len(differing) == 4 and sum(map(int, differing)) <= MOST_DIFFER:
+        return A_FEW_DIFFER
+    return None
+
+
+def calls_trial(program, library, folder, number):
+    """The outcome of a run of pdb_call_tests with a growth refused, and the run."""
+    crate = CRATES / "pdb_call_tests"
+    try:
+        run = ask(program, [], crate / "data", library, folder / f"calls-{number}", REFUSE_AT=number)
+    except subprocess.TimeoutExpired:
+        return None, f"no end after {SECONDS} s"
+    return calls_outcome((crate / "stdout").read_bytes(), run), run
+
+
+def over_calls(program, library, folder):
+    """Tries pdb_call_tests, and gives the outcomes with their counts."""
+    run = calls_trial(program, library, folder, 0)
+    if run[0] != AS_WANTED:
+        sys.exit(f"pdb_call_tests: not as wanted with no growth refused: {run}")
+    calls = counts(folder / "calls-0")[0]
+    chosen = numbers(calls, CALLS_BETWEEN // 3, CALLS_BETWEEN)
+    print(f"pdb_call_tests: {len(chosen)} of {calls} growths", flush=True)
+    seen = Counter()
+    with concurrent.futures.ThreadPoolExecutor(WORKERS) as pool:
+        found = pool.map(lambda number: calls_trial(program, library, folder, number), chosen)
+        for number, (what, run) in zip(chosen, found):
+            seen[what] += 1
+            if what is None:
+                print(f"REFUSE_AT={number} pdb_call_tests: {run}", flush=True)
+    return seen
+
+
+def compiled(folder):
+    """The allocator, compiled into this folder."""
+    library = folder / "refusing_allocator.so"
+    subprocess.run([os.environ.get("CC", "gcc"), "-O2", "-shared", "-fPIC", "-o", library,
+                    HERE / "refusing_allocator.c"], check=True)
+    return library
+
+
+def show(seen, names):
+    """Prints how often each outcome was seen, and gives how many of those named were not."""
+    for name in names:
+        print(f"{seen[name]:8d}  {name}")
+    return sum(not seen[name] for name in names)
+
+
+def main(program, calls_program=None):
+    failed = 0
+    with tempfile.TemporaryDirectory() as folder:
+        folder = pathlib.Path(folder)
+        library = compiled(folder)
+        seen = Counter()
+        growths = over_cases(os.path.abspath(program), library, folder, seen)
+        print(f"{growths} growths refused in {sum(seen.values())} runs of {len(RUNS)} cases, {seen[None]} wrong")
+        failed += seen[None] + show(seen, [AS_WANTED, AT_FIRST, IN_A_LOOK_UP, WHILE_READ])
+        if calls_program:
+            seen = over_calls(os.path.abspath(calls_program), library, folder)
+            print(f"{sum(seen.values())} runs of pdb_call_tests with a growth refused, {seen[None]} wrong")
+            failed += seen[None] + show(seen, [AS_WANTED, ENDS_EARLY, A_FEW_DIFFER])
+    return 1 if failed else 0
+
+
+if __name__ == "__main__":
+    if len(sys.argv) not in (2, 3):
+        sys.exit(__doc__)
+    sys.exit(main(*sys.argv[1:]))
