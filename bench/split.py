@@ -18,7 +18,7 @@ def main():
         if isinstance(info, dict) and "error" not in info:
             (folder / f"{number}.json").write_text(json.dumps(info, separators=(",", ":")))
             infos[number] = {"file": f"{number}.json"}
-    (folder / "records.json").write_text(json.dumps({"version": 2, **records}, separators=(",", ":")))
+    (folder / "records.json").write_text(json.dumps({**records, "version": 2}, separators=(",", ":")))
 
 
 if __name__ == "__main__":
