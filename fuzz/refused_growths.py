@@ -16,10 +16,14 @@ last, and some between. A case is a run of crates/pdb_tests/data/runs.txt with w
 It may not end with `cannot read` or `cannot write`: the file can be read, the lines can be written, and want of memory
 is told apart from both. Nor by a signal, past ten seconds, with another line, or with a part of an address's text.
 
-CALLS_PROGRAM is a built pdb_call_tests, and is run with some single growths refused. Then the answers to one list of
-calls may differ from what is wanted, or those to two questions: the one whose growth was refused, and the next that
-meets the same broken part, which may tell its own error there. All other answers are as wanted. Or the program ends
-early with status 1, where a growth of its own was refused.
+CALLS_PROGRAM is a built pdb_call_tests. It is run over the lists of calls for each records file of calls.txt, with single
+growths refused. A call that has no memory is made again to the same context, and the calls behind it then. The run may
+end
+
+- as wanted, with a call made again or without;
+- with one list that differs, where a call was made again and the list is one of broken parts: the call that met such a
+  part first and then had no memory may tell, when it is made again, that the part failed before;
+- early with status 1, where a growth of the program's own was refused.
 """
 import concurrent.futures
 import os
@@ -63,7 +67,7 @@ RUNS = [
 ]
 # How many of the growths of a case are refused at least at its start and its end, and about how many between.
 NEAR, BETWEEN = 500, 6000
-CALLS_BETWEEN = 300
+CALLS_NEAR, CALLS_BETWEEN = 200, 600
 MODES = ("REFUSE_AT", "REFUSE_FROM")
 
 AS_WANTED = "as wanted"
@@ -71,9 +75,10 @@ AT_FIRST = "out of memory before any text"
 IN_A_LOOK_UP = "out of memory in a look-up, behind the texts before"
 WHILE_READ = "out of memory while the file's text was read"
 
-MOST_DIFFER = 2
-A_FEW_DIFFER = "one or two answers of a list of calls differ"
+MADE_AGAIN = "a call was made again, and all answers are as wanted"
+OF_A_BROKEN_PART = "a call was made again, and tells that a broken part failed before"
 ENDS_EARLY = "a growth of the list's own program was refused"
+QUESTIONS = ("calls.txt", "sizes.txt", "signatures.txt", "ids.txt")
 
 Case = namedtuple("Case", "name folder words stdout stderr status")
 Run = namedtuple("Run", "status stdout stderr")
@@ -179,43 +184,68 @@ def over_cases(program, library, folder, seen):
     return growths
 
 
-def calls_outcome(wanted, run):
-    """What a run of pdb_call_tests with one growth refused came to, or None where it may not end so."""
-    if run == Run(0, wanted, b""):
-        return AS_WANTED
+def calls_outcome(wanted, lists, run):
+    """What a run of pdb_call_tests over these lists came to with one growth refused, or None where it may not end so."""
     if run.status == 1 and run.stderr.count(b"\n") == 1 and b"emory" in run.stderr:
         return ENDS_EARLY
-    differing = re.findall(rb"(?m)^\d+ (?:calls|sizes|signatures|ids), (\d+) differ$", run.stdout)
-    if run.status == 0 and len(differing) == 4 and sum(map(int, differing)) <= MOST_DIFFER:
-        return A_FEW_DIFFER
+    if run.status or run.stderr:
+        return None
+    if run.stdout == wanted:
+        return AS_WANTED
+    told = run.stdout.decode().splitlines()
+    again = [line for line in told if line.endswith(" was made again")]
+    differ = [line for line in told if line.endswith(" differs")]
+    if len(again) == 1 and not differ:
+        return MADE_AGAIN
+    if len(again) == 1 and [line[: -len(" differs")] for line in differ] == [again[0][: -len(" was made again")]]:
+        return OF_A_BROKEN_PART if "unsuccessful" in lists else None
     return None
 
 
-def calls_trial(program, library, folder, number):
+def calls_folder(folder, name, lists):
+    """A folder of questions that has these lists of calls alone."""
+    folder = folder / name
+    folder.mkdir()
+    (folder / name).symlink_to(CRATES / "pdb_call_tests" / "data" / name)
+    for questions in QUESTIONS:
+        (folder / questions).write_text(f"file {name}\n{lists}" if questions == QUESTIONS[0] else "")
+    return folder
+
+
+def calls_trial(program, wanted, lists, library, folder, number):
     """The outcome of a run of pdb_call_tests with a growth refused, and the run."""
-    crate = CRATES / "pdb_call_tests"
     try:
-        run = ask(program, [], crate / "data", library, folder / f"calls-{number}", REFUSE_AT=number)
+        run = ask(program, [], folder, library, folder / f"told-{number}", REFUSE_AT=number)
     except subprocess.TimeoutExpired:
         return None, f"no end after {SECONDS} s"
-    return calls_outcome((crate / "stdout").read_bytes(), run), run
+    return calls_outcome(wanted, lists, run), run
 
 
 def over_calls(program, library, folder):
-    """Tries pdb_call_tests, and gives the outcomes with their counts."""
-    run = calls_trial(program, library, folder, 0)
-    if run[0] != AS_WANTED:
-        sys.exit(f"pdb_call_tests: not as wanted with no growth refused: {run}")
-    calls = counts(folder / "calls-0")[0]
-    chosen = numbers(calls, CALLS_BETWEEN // 3, CALLS_BETWEEN)
-    print(f"pdb_call_tests: {len(chosen)} of {calls} growths", flush=True)
+    """Tries pdb_call_tests over the lists for each records file, and gives the outcomes with their counts."""
+    seen = Counter()
+    text = (CRATES / "pdb_call_tests" / "data" / QUESTIONS[0]).read_text()
+    for part in text.split("file ")[1:]:
+        name, lists = part.split("\n", 1)
+        seen += over_lists(program, name, lists, library, calls_folder(folder, name, lists))
+    return seen
+
+
+def over_lists(program, name, lists, library, folder):
+    """Tries the lists of calls for one records file, and gives the outcomes with their counts."""
+    run = ask(program, [], folder, library, folder / "told-0", REFUSE_AT=0)
+    if run.status or b" 0 differ" not in run.stdout:
+        sys.exit(f"{name}: not as wanted with no growth refused: {run}")
+    calls = counts(folder / "told-0")[0]
+    chosen = numbers(calls, CALLS_NEAR, CALLS_BETWEEN)
+    print(f"calls over {name}: {len(chosen)} of {calls} growths", flush=True)
     seen = Counter()
     with concurrent.futures.ThreadPoolExecutor(WORKERS) as pool:
-        found = pool.map(lambda number: calls_trial(program, library, folder, number), chosen)
-        for number, (what, run) in zip(chosen, found):
+        found = pool.map(lambda number: calls_trial(program, run.stdout, lists, library, folder, number), chosen)
+        for number, (what, ended) in zip(chosen, found):
             seen[what] += 1
             if what is None:
-                print(f"REFUSE_AT={number} pdb_call_tests: {run}", flush=True)
+                print(f"REFUSE_AT={number} pdb_call_tests over {name}: {ended}", flush=True)
     return seen
 
 
@@ -246,7 +276,7 @@ def main(program, calls_program=None):
         if calls_program:
             seen = over_calls(os.path.abspath(calls_program), library, folder)
             print(f"{sum(seen.values())} runs of pdb_call_tests with a growth refused, {seen[None]} wrong")
-            failed += seen[None] + show(seen, [AS_WANTED, ENDS_EARLY, A_FEW_DIFFER])
+            failed += seen[None] + show(seen, [AS_WANTED, MADE_AGAIN, OF_A_BROKEN_PART, ENDS_EARLY])
     return 1 if failed else 0
 
 

@@ -1,6 +1,6 @@
 //! Lists of calls, each made to a context of its own.
 
-use crate::lists::{answers_differ, lists_of};
+use crate::lists::{lists_of, outcome_of};
 use crate::tally::Tally;
 use pdb_addr2line::ContextPdbData;
 use std::io;
@@ -15,7 +15,11 @@ pub(crate) fn over_data<R: Print + AllocGlobal>(
     let mut tally = tally;
     for list in lists_of(rt.alloc(), part)? {
         tally = tally.asked(list.calls());
-        if answers_differ(rt.alloc(), data, list) {
+        let outcome = outcome_of(rt.alloc(), data, list)?;
+        if outcome.made_again {
+            println!(rt; "{0} was made again", list.first())?;
+        }
+        if outcome.differs {
             println!(rt; "{0} differs", list.first())?;
             tally = tally.differing();
         }

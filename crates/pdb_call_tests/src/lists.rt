@@ -2,7 +2,7 @@
 
 use crate::answers::text_of_answer;
 use pdb_addr2line::pdb::{IdIndex, TypeIndex};
-use pdb_addr2line::{Answer, Call, Context, ContextPdbData, Error};
+use pdb_addr2line::{Answer, Call, Context, ContextPdbData};
 use std::alloc::{AllocError, Global};
 
 /// The lines of a list of calls.
@@ -88,67 +88,90 @@ fn calls_of(alloc: Global, list: CallList<'_>) -> Result<Vec<Call<'_>>, AllocErr
     Ok(calls)
 }
 
-/// The answers of a new context to calls.
-fn answers_of<'d>(
-    alloc: Global,
-    data: &'d ContextPdbData<'_>,
-    calls: &[Call<'_>],
-) -> Result<Vec<Answer<'d>>, Error> {
-    let mut context = data.make_context()?;
-    answers_to(alloc, &mut context, calls)
+/// How often a call for which there is no memory is made.
+const ATTEMPTS: usize = 3;
+
+/// What came of a list of calls.
+#[derive(Clone, Copy)]
+pub(crate) struct Outcome {
+    /// Whether the answers are other ones than are wanted.
+    pub(crate) differs: bool,
+    /// Whether there was no memory for a call, which was then made again.
+    pub(crate) made_again: bool,
 }
 
-/// The answers of a context to calls.
-fn answers_to<'d>(
-    alloc: Global,
-    context: &mut Context<'d, ContextPdbData<'_>>,
-    calls: &[Call<'_>],
-) -> Result<Vec<Answer<'d>>, Error> {
-    let mut answers = Vec::new(alloc);
-    context.run_calls(calls, &mut answers)?;
-    Ok(answers)
+impl Outcome {
+    /// There was no memory, however often it was asked for.
+    const NO_ANSWERS: Outcome = Outcome {
+        differs: true,
+        made_again: true,
+    };
 }
 
-/// Whether the answers to a list of calls are other ones than are wanted.
-pub(crate) fn answers_differ(alloc: Global, data: &ContextPdbData<'_>, list: CallList<'_>) -> bool {
-    match calls_of(alloc, list) {
-        Ok(calls) => call_answers_differ(alloc, data, list, &calls),
-        Err(_) => true,
-    }
-}
-
-/// Whether the answers to these calls are other ones than their list wants.
-fn call_answers_differ(
+/// What comes of a list of calls.
+pub(crate) fn outcome_of(
     alloc: Global,
     data: &ContextPdbData<'_>,
     list: CallList<'_>,
-    calls: &[Call<'_>],
-) -> bool {
-    match answers_of(alloc, data, calls) {
-        Ok(answers) => !are_wanted(alloc, list, &answers),
-        Err(_) => true,
+) -> Result<Outcome, AllocError> {
+    let calls = calls_of(alloc, list)?;
+    match data.make_context() {
+        Ok(context) => outcome_over(alloc, context, list, &calls, false),
+        Err(_) => match data.make_context() {
+            Ok(context) => outcome_over(alloc, context, list, &calls, true),
+            Err(_) => Ok(Outcome::NO_ANSWERS),
+        },
     }
 }
 
+/// What comes of a list of these calls over a new context, and whether that was made again.
+fn outcome_over(
+    alloc: Global,
+    context: Context<'_, ContextPdbData<'_>>,
+    list: CallList<'_>,
+    calls: &[Call<'_>],
+    made_again: bool,
+) -> Result<Outcome, AllocError> {
+    let mut context = context;
+    let mut answers = Vec::new(alloc);
+    let refusals = refusals_of(&mut context, calls, &mut answers);
+    Ok(Outcome {
+        differs: !are_wanted(alloc, list, &answers)?,
+        made_again: made_again || refusals > 0,
+    })
+}
+
+/// Has a context answer calls, and tells how often there was no memory for one. That one is made again, and
+/// the ones behind it are made then.
+fn refusals_of<'d>(
+    context: &mut Context<'d, ContextPdbData<'_>>,
+    calls: &[Call<'_>],
+    answers: &mut Vec<Answer<'d>>,
+) -> usize {
+    for refusals in 0..ATTEMPTS {
+        let left = calls.get(answers.len()..).unwrap_or(&[]);
+        if context.run_calls(left, answers).is_ok() {
+            return refusals;
+        }
+    }
+    ATTEMPTS
+}
+
 /// Whether answers are those that are wanted, one for each line.
-fn are_wanted(alloc: Global, list: CallList<'_>, answers: &[Answer<'_>]) -> bool {
+fn are_wanted(
+    alloc: Global,
+    list: CallList<'_>,
+    answers: &[Answer<'_>],
+) -> Result<bool, AllocError> {
     let mut left = answers.iter();
     for line in list.lines.lines() {
         let (_, wanted) = line.split_once(" | ").unwrap_or((line, ""));
         let Some(answer) = left.next() else {
-            return false;
+            return Ok(false);
         };
-        if !is_wanted(alloc, answer, wanted) {
-            return false;
+        if text_of_answer(alloc, answer)?.as_str() != wanted {
+            return Ok(false);
         }
     }
-    left.next().is_none()
-}
-
-/// Whether an answer is told by this text.
-fn is_wanted(alloc: Global, answer: &Answer<'_>, wanted: &str) -> bool {
-    match text_of_answer(alloc, answer) {
-        Ok(text) => text.as_str() == wanted,
-        Err(_) => false,
-    }
+    Ok(left.next().is_none())
 }

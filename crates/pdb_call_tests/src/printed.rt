@@ -77,34 +77,64 @@ fn is_wanted(alloc: Global, outcome: &Result<(), Error>, wanted: &str) -> bool {
     }
 }
 
-/// A writer that refuses every text.
-#[derive(Clone, Copy)]
-struct Refusing;
+/// Takes texts while there is room for them, and refuses the first that it has no room for.
+#[derive(Drop)]
+struct Narrow {
+    held: String,
+    room: usize,
+}
 
-impl fmt::Write for Refusing {
-    fn write_str(&mut self, _text: &str) -> fmt::Result {
-        Err(fmt::Error)
+impl fmt::Write for Narrow {
+    fn write_str(&mut self, text: &str) -> fmt::Result {
+        if self.room < text.len() {
+            return Err(fmt::Error);
+        }
+        self.room -= text.len();
+        match self.held.push_str(text) {
+            Ok(()) => Ok(()),
+            Err(_) => Err(fmt::Error),
+        }
     }
 }
 
-/// Whether a formatter tells of a writer that refuses.
+/// Whether a formatter tells of a writer with this much room that refuses, and wrote a beginning of the text.
 fn tells_of_refusal(
+    alloc: Global,
+    formatter: &mut TypeFormatter<'_, ContextPdbData<'_>>,
+    question: PrintedQuestion<'_>,
+    room: usize,
+) -> bool {
+    let mut writer = Narrow {
+        held: String::new(alloc),
+        room,
+    };
+    let outcome = emit(formatter, &mut writer, question);
+    matches!(outcome, Err(Error::FormatError(_)))
+        && question.text.starts_with(writer.held.as_str())
+}
+
+/// Whether a formatter tells of each writer that has less room than the text takes.
+fn tells_of_each_refusal(
+    alloc: Global,
     formatter: &mut TypeFormatter<'_, ContextPdbData<'_>>,
     question: PrintedQuestion<'_>,
 ) -> bool {
-    let mut writer = Refusing;
-    let outcome = emit(formatter, &mut writer, question);
-    matches!(outcome, Err(Error::FormatError(_)))
+    for room in 0..question.text.len() {
+        if !tells_of_refusal(alloc, formatter, question, room) {
+            return false;
+        }
+    }
+    true
 }
 
-/// Whether a formatter answers a question as is wanted. Where a text is wanted, a writer that refuses is told
-/// of first, and the formatter then answers as before.
+/// Whether a formatter answers a question as is wanted. Where a text is wanted, writers that refuse are told of
+/// first, and the formatter then answers as before.
 pub(crate) fn answers(
     alloc: Global,
     formatter: &mut TypeFormatter<'_, ContextPdbData<'_>>,
     question: PrintedQuestion<'_>,
 ) -> bool {
-    if question.outcome == "ok" && !tells_of_refusal(formatter, question) {
+    if question.outcome == "ok" && !tells_of_each_refusal(alloc, formatter, question) {
         return false;
     }
     let mut text = String::new(alloc);

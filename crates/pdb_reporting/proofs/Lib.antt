@@ -2,3 +2,5 @@ pub mod ReportLemmas
 pub mod FileReportLemmas
 pub mod ListLemmas
 pub mod PathLemmas
+pub mod ContextLemmas
+pub mod AnswerTextLemmas

@@ -52,11 +52,11 @@ split_at_last c text (Some x) h low =
     (λ t. Some (h.3 t, second t)) ∙ sym (ap (option_map (λ k. (take k text, drop (k + 1) text))) found)
 
 -- a module file of some name can't be read
-pub some_module_is_unread : (records name : List ℕ) (why : Stop) → IsModuleUnread (module_path records name) why
-    → AreModulesUnread records why
-some_module_is_unread records name (CannotReadModule told) at_path = (name, at_path)
-some_module_is_unread records name (Refused error) at_path = tt
-some_module_is_unread records name (CannotRead told) at_path = absurd at_path
-some_module_is_unread records name (stop.Records told fault) at_path = absurd at_path
-some_module_is_unread records name Usage at_path = absurd at_path
-some_module_is_unread records name CannotWrite at_path = absurd at_path
+pub some_module_is_unread : (records bytes name : List ℕ) (why : Stop) → IsModuleUnread (module_path records name) why
+    → AreModulesUnread records bytes why
+some_module_is_unread records bytes name (CannotReadModule told) at_path = (name, at_path)
+some_module_is_unread records bytes name (Refused error) at_path = at_path
+some_module_is_unread records bytes name (CannotRead told) at_path = absurd at_path
+some_module_is_unread records bytes name (stop.Records told fault) at_path = absurd at_path
+some_module_is_unread records bytes name Usage at_path = absurd at_path
+some_module_is_unread records bytes name CannotWrite at_path = absurd at_path

@@ -7,3 +7,4 @@ pub mod FileReports
 pub mod Stops
 pub mod ModulePaths
 pub mod Runs
+pub mod AnswerTexts

@@ -1,15 +1,18 @@
 -- What a report writes, and why it ends early.
 use Rattle.std.specs.Prelude.{◌≡◌, ◌≢◌, ◌≤◌, ℕ, true, List, [], ◌∷◌, ◌++◌}
-use Rattle.std.specs.Prelude.{Some, Result, Ok, Err, length, take, slice_get}
+use Rattle.std.specs.Prelude.{Some, Result, Ok, Err, length, take, map, slice_get}
 use Rattle.pdb_types.specs.declared.error.Error.{Error}
 use Rattle.pdb_types.specs.declared.error.Error.TheVariants.{OutOfMemory}
 use Rattle.pdb_types.specs.Outcomes.{and_then}
 use Rattle.pdb_types.specs.Standing.{Infos}
 use Rattle.pdb_descriptions.specs.Function.{Description}
-use Rattle.pdb_addr2line.specs.Functions.{functions_of}
+use Rattle.pdb_addr2line.specs.declared.calls.Call.{Call}
+use Rattle.pdb_addr2line.specs.declared.calls.Call.TheVariants.{FindFunction, FindFrames, Functions}
+use Rattle.pdb_addr2line.specs.Calls.{after_frames, after_calls}
+use Rattle.pdb_addr2line.specs.Functions.{functions_of, start_addresses, IsCutShort, OnlyGainsBroken}
 use Rattle.pdb_frames.specs.CodeParts.{CodeParts}
 use Rattle.pdb_addr2line.specs.Lookups.{function_at, frames_at, blamed_at, told_refusal}
-use Rattle.pdb_addr2line.specs.Sources.{Sources}
+use Rattle.pdb_addr2line.specs.Sources.{Sources, ContextState}
 use Rattle.pdb_reporting.specs.declared.reports.Command.{Command}
 use Rattle.pdb_reporting.specs.declared.reports.Command.TheVariants.{Names, Frames}
 use Rattle.pdb_reporting.specs.declared.reports.Command.TheVariants as wanted
@@ -45,6 +48,37 @@ abbrev pub report_text : {P : Type 0} → (P → Infos) → Sources P → CodePa
 report_text info sources failed Names addresses = addresses_text (function_text info sources) addresses
 report_text info sources failed Frames addresses = addresses_text (stack_text info sources failed) addresses
 report_text info sources failed wanted.List addresses = Ok (list_text (functions_of info sources))
+
+-- the calls of a context that a report makes: one for each address, or one for all functions
+abbrev pub report_calls : Command → List ℕ → List Call
+report_calls Names addresses = map FindFunction addresses
+report_calls Frames addresses = map FindFrames addresses
+report_calls wanted.List addresses = Functions ∷ []
+
+-- a context once the frames over an address are asked for: where memory ran out it remembers no more than broken parts
+-- of the records besides, and else it is as the look-up leaves it
+abbrev pub IsLeftByFrames : {P : Type 0} → (P → Infos) → ContextState P → ℕ → ReportFault → ContextState P → Type 0
+IsLeftByFrames info before address (Lookup error) after =
+    (error ≡ OutOfMemory → OnlyGainsBroken info before after)
+    × (error ≢ OutOfMemory → after ≡ after_frames info before address)
+IsLeftByFrames info before address Write after = after ≡ after_frames info before address
+
+-- a context that told the frames over the first of these addresses, and was then asked for those over the next
+pub record IsLeftAmid {P : Type 0} (info : P → Infos) (before after : ContextState P) (addresses : List ℕ)
+    (fault : ReportFault) : Type 0 where
+  pub done : ℕ
+  pub address : ℕ
+  pub next : slice_get addresses done ≡ Some address
+  pub left : IsLeftByFrames info (after_calls info before (map FindFrames (take done addresses))) address fault after
+
+-- a context where a report ended early: the look-ups before are made, and of the one that was under way only broken
+-- parts of the records are remembered
+abbrev pub IsLeft : {P : Type 0} → (P → Infos) → ContextState P → ContextState P → Command → List ℕ → ReportFault
+    → Type 0
+IsLeft info before after Names addresses fault = IsCutShort info before after addresses
+IsLeft info before after Frames addresses fault = IsLeftAmid info before after addresses fault
+IsLeft info before after wanted.List addresses fault =
+    IsCutShort info before after (start_addresses info before.sources)
 
 -- a sink takes the text, where there is one
 abbrev pub TakesText : Result (List ℕ) Error → SinkState → SinkState → Type 0

@@ -1,16 +1,30 @@
 -- How a run of the program ends.
-use Rattle.std.specs.Prelude.{◌≡◌, true, List, ℕ, Option, Some, None, Result, Ok, Err, string_bytes}
+use Rattle.std.specs.Prelude.{◌≡◌, ◌⊎◌, Bool, true, false, List, ℕ, Option, Some, None, Result, Ok, Err, string_bytes}
+use Rattle.std.specs.Io.KnownBytes.{Keeps}
+use Rattle.std.specs.declared.io.ErrorKind.{ErrorKind}
+use Rattle.std.specs.declared.io.ErrorKind.TheVariants as kind
+use Rattle.pdb_types.specs.declared.error.Error.TheVariants.{OutOfMemory}
+use Rattle.pdb_json_values.specs.declared.faults.RecordFault.{RecordFault}
+use Rattle.pdb_json_values.specs.Faults.{IsFaultOf}
+use Rattle.pdb_json.specs.RecordsFile.{records_of_files, module_files_of}
 use Rattle.pdb_reporting.specs.declared.stops.Stop.{Stop}
-use Rattle.pdb_reporting.specs.declared.stops.Stop.TheVariants.{Refused, Usage, CannotRead, CannotReadModule, CannotWrite}
+use Rattle.pdb_reporting.specs.declared.stops.Stop.TheVariants.{Refused, Usage, CannotRead}
+use Rattle.pdb_reporting.specs.declared.stops.Stop.TheVariants.{CannotReadModule, CannotWrite}
 use Rattle.pdb_reporting.specs.declared.stops.Stop.TheVariants as stop
+use Rattle.pdb_reporting.specs.Stops.{EndsOverFile}
 use Rattle.pdb_reporting.specs.Sinks.{SinkState}
 use Rattle.pdb_reporting.specs.Arguments.{Asked}
 use Rattle.pdb_reporting.specs.ModulePaths.{module_path}
 
+-- the system had no memory
+abbrev pub is_out_of_memory : ErrorKind → Bool
+is_out_of_memory kind.OutOfMemory = true
+is_out_of_memory _ = false
+
 -- a file can't be read, and is told of by its path; or memory ran out
 abbrev pub IsUnread : List ℕ → Stop → Type 0
 IsUnread path (CannotRead told) = told.now ≡ path
-IsUnread path (Refused error) = Unit {0}
+IsUnread path (Refused error) = error ≡ OutOfMemory
 IsUnread path (stop.Records told fault) = ⊥
 IsUnread path (CannotReadModule told) = ⊥
 IsUnread path Usage = ⊥
@@ -19,45 +33,81 @@ IsUnread path CannotWrite = ⊥
 -- the module file at a path can't be read, and is told of by its path; or memory ran out
 abbrev pub IsModuleUnread : List ℕ → Stop → Type 0
 IsModuleUnread path (CannotReadModule told) = string_bytes told ≡ path
-IsModuleUnread path (Refused error) = Unit {0}
+IsModuleUnread path (Refused error) = error ≡ OutOfMemory
 IsModuleUnread path (CannotRead told) = ⊥
 IsModuleUnread path (stop.Records told fault) = ⊥
 IsModuleUnread path Usage = ⊥
 IsModuleUnread path CannotWrite = ⊥
 
--- a module file of a records file can't be read, and is told of by its path, for some name; or the records file does
--- not tell its module files; or memory ran out
-abbrev pub AreModulesUnread : List ℕ → Stop → Type 0
-AreModulesUnread records (CannotReadModule told) = (name : List ℕ) × (string_bytes told ≡ module_path records name)
-AreModulesUnread records (Refused error) = Unit {0}
-AreModulesUnread records (stop.Records told fault) = told.now ≡ records
-AreModulesUnread records (CannotRead told) = ⊥
-AreModulesUnread records Usage = ⊥
-AreModulesUnread records CannotWrite = ⊥
+-- a module file of a records file with these bytes can't be read, and is told of by its path, for some name; or these
+-- bytes tell no module files; or memory ran out
+abbrev pub AreModulesUnread : List ℕ → List ℕ → Stop → Type 0
+AreModulesUnread records bytes (CannotReadModule told) =
+    (name : List ℕ) × (string_bytes told ≡ module_path records name)
+AreModulesUnread records bytes (Refused error) = error ≡ OutOfMemory
+AreModulesUnread records bytes (stop.Records told fault) =
+    (told.now ≡ records) × IsFaultOf fault (module_files_of bytes)
+AreModulesUnread records bytes (CannotRead told) = ⊥
+AreModulesUnread records bytes Usage = ⊥
+AreModulesUnread records bytes CannotWrite = ⊥
 
 -- why a run ends early whose words ask for nothing: memory ran out, or it is told how to ask; the sink is as it was
 abbrev pub StopsUnasked : SinkState → SinkState → Stop → Type 0
 StopsUnasked before after Usage = after ≡ before
-StopsUnasked before after (Refused error) = after ≡ before
+StopsUnasked before after (Refused error) = (error ≡ OutOfMemory) × (after ≡ before)
 StopsUnasked before after (CannotRead path) = ⊥
 StopsUnasked before after (CannotReadModule path) = ⊥
 StopsUnasked before after (stop.Records path fault) = ⊥
 StopsUnasked before after CannotWrite = ⊥
 
--- why a run ends early whose words ask for something: the file they name is told of by its path, and a module file by
--- one that a name has beside it; what can't be written was refused by the sink. What a file holds is the system's to say, so nothing is said of the records
-abbrev pub StopsAsked : Asked → SinkState → SinkState → Stop → Type 0
-StopsAsked asked before after Usage = ⊥
-StopsAsked asked before after (Refused error) = Unit {0}
-StopsAsked asked before after (CannotRead path) = (path.now ≡ asked.records) × (after ≡ before)
-StopsAsked asked before after (CannotReadModule path) =
+-- a run ends as it does over the bytes of some file and of its module files, and what the sink keeps back is handed on
+pub record EndsOverSomeFile {A : Type 0} (asked : Asked) (before after : SinkState) (result : Result A Stop)
+    : Type 0 where
+  pub bytes : List ℕ
+  pub files : List (List ℕ)
+  pub written : SinkState
+  pub ends : EndsOverFile asked.records asked.command asked.addresses (records_of_files bytes files)
+      before written result
+  pub same : Keeps written.held after.held
+  pub kept : after.failed ≡ written.failed
+
+-- a sink took what it does over the bytes of some file and of its module files, and refused to hand it on
+pub record EndsAtFlush (A : Type 0) (asked : Asked) (before after : SinkState) : Type 0 where
+  pub bytes : List ℕ
+  pub files : List (List ℕ)
+  pub written : SinkState
+  pub ended : Result A Stop
+  pub ends : EndsOverFile asked.records asked.command asked.addresses (records_of_files bytes files)
+      before written ended
+  pub same : Keeps written.held after.held
+  pub failed : after.failed ≡ true
+
+-- some bytes tell no module files, for this fault, of which the file's path is told; the sink is as it was
+pub record TellsNoModules (asked : Asked) (before after : SinkState) (path : List ℕ) (fault : RecordFault)
+    : Type 0 where
+  pub told : path ≡ asked.records
+  pub bytes : List ℕ
+  pub refused : IsFaultOf fault (module_files_of bytes)
+  pub same : after ≡ before
+
+-- why a run ends early whose words ask for something: a file can't be read, and is told of by its path, or memory ran
+-- out before a text was written; or it ends over what the files hold; or the sink refused to hand the texts on
+abbrev pub StopsAsked : Type 0 → Asked → SinkState → SinkState → Stop → Type 0
+StopsAsked A asked before after Usage = ⊥
+StopsAsked A asked before after (Refused error) =
+    ((error ≡ OutOfMemory) × (after ≡ before)) ⊎ EndsOverSomeFile {A = A} asked before after (Err (Refused error))
+StopsAsked A asked before after (CannotRead path) = (path.now ≡ asked.records) × (after ≡ before)
+StopsAsked A asked before after (CannotReadModule path) =
     ((name : List ℕ) × (string_bytes path ≡ module_path asked.records name)) × (after ≡ before)
-StopsAsked asked before after (stop.Records path fault) = path.now ≡ asked.records
-StopsAsked asked before after CannotWrite = after.failed ≡ true
+StopsAsked A asked before after (stop.Records path fault) =
+    TellsNoModules asked before after path.now fault
+    ⊎ EndsOverSomeFile {A = A} asked before after (Err (stop.Records path fault))
+StopsAsked A asked before after CannotWrite =
+    EndsOverSomeFile {A = A} asked before after (Err CannotWrite) ⊎ EndsAtFlush A asked before after
 
 -- how a run ends, by what its words ask for
 abbrev pub EndsRun : {A : Type 0} → Option Asked → SinkState → SinkState → Result A Stop → Type 0
 EndsRun None before after (Ok done) = ⊥
 EndsRun None before after (Err why) = StopsUnasked before after why
-EndsRun (Some asked) before after (Ok done) = Unit {0}
-EndsRun (Some asked) before after (Err why) = StopsAsked asked before after why
+EndsRun (Some asked) before after (Ok done) = EndsOverSomeFile asked before after (Ok done)
+EndsRun {A = A} (Some asked) before after (Err why) = StopsAsked A asked before after why

@@ -7,7 +7,8 @@ use Rattle.pdb_reporting.specs.declared.reports.Command.{Command}
 use Rattle.pdb_reporting.specs.declared.reports.ReportFault.{ReportFault}
 use Rattle.pdb_reporting.specs.declared.reports.ReportFault.TheVariants.{Lookup, Write}
 use Rattle.pdb_reporting.specs.declared.stops.Stop.{Stop}
-use Rattle.pdb_reporting.specs.declared.stops.Stop.TheVariants.{Refused, Usage, CannotRead, CannotReadModule, CannotWrite}
+use Rattle.pdb_reporting.specs.declared.stops.Stop.TheVariants.{Refused, Usage, CannotRead}
+use Rattle.pdb_reporting.specs.declared.stops.Stop.TheVariants.{CannotReadModule, CannotWrite}
 use Rattle.pdb_reporting.specs.declared.stops.Stop.TheVariants as stop
 use Rattle.pdb_reporting.specs.Sinks.{SinkState}
 use Rattle.pdb_reporting.specs.FileReports.{opened, TakesTexts, EndsOver}
@@ -55,7 +56,8 @@ Ends path command addresses (Ok records) before after (Err why) = StopsOver comm
 Ends path command addresses (Err fault) before after (Ok done) = ⊥
 Ends path command addresses (Err fault) before after (Err why) = StopsUnread path fault before after why
 
--- how a run ends over the bytes of a file and its module files: as over what is read of them, which is what they hold unless memory runs out
+-- how a run ends over the bytes of a file and its module files: as over what is read of them, which is what they hold
+-- unless memory runs out
 pub record EndsOverFile {A : Type 0} (path : List ℕ) (command : Command) (addresses : List ℕ)
     (held : Result Records Fault) (before after : SinkState) (result : Result A Stop) : Type 0 where
   pub read : Result Records RecordFault

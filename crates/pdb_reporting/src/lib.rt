@@ -4,6 +4,7 @@
 
 mod arguments;
 mod file_reports;
+pub mod laws;
 mod module_paths;
 mod printed_frames;
 mod printed_lines;

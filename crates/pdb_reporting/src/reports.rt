@@ -1,15 +1,22 @@
-ghost use Rattle.std.specs.Prelude.{◌≡◌, [], ◌∷◌, Ok, OnOk, IfErr};
+ghost use Rattle.std.specs.Prelude.{◌≡◌, [], ◌∷◌, map, option_map, Ok, OnOk, OnErr, IfErr, MatchResult};
 ghost use Rattle.pdb_types.specs.declared.error.Error.TheVariants.{OutOfMemory};
 ghost use Rattle.pdb_reporting.specs.declared.reports.ReportFault.TheVariants.{Lookup, Write};
-ghost use Rattle.pdb_addr2line.specs.Functions.{functions_at, functions_of};
+ghost use Rattle.pdb_addr2line.specs.declared.calls.Call.TheVariants.{FindFrames};
+ghost use Rattle.pdb_types.specs.Outcomes.{Gives};
+ghost use Rattle.pdb_descriptions.specs.Function.{description};
+ghost use Rattle.pdb_addr2line.specs.Calls.{after_frames, after_calls};
+ghost use Rattle.pdb_addr2line.specs.Lookups.{function_at, frames_told};
+ghost use Rattle.pdb_addr2line.specs.Functions.{functions_at, functions_of, start_addresses};
+ghost use Rattle.pdb_addr2line.specs.Functions.{after_function, after_functions, OnlyGainsBroken, IsCutShort};
 ghost use Rattle.pdb_reporting.specs.PrintedLines.{list_text};
 ghost use Rattle.pdb_reporting.specs.Reports.{function_text, stack_text, addresses_text, report_text};
 ghost use Rattle.pdb_reporting.specs.Reports.{TakesText, EndsAtOnce, EndsAmidTexts, EndsListEarly, EndsEarly};
+ghost use Rattle.pdb_reporting.specs.Reports.{report_calls, IsLeft, IsLeftAmid, IsLeftByFrames};
 
 use crate::printed_frames::frames_text;
 use crate::printed_lines::{line_of, list_line};
 use crate::sinks::{Sink, SinkFault};
-use pdb_addr2line::{Context, Error, ModuleProvider};
+use pdb_addr2line::{Context, Error, Function, FunctionFrames, ModuleProvider};
 use std::alloc::{AllocError, Global};
 
 /// What is asked of the program.
@@ -57,6 +64,33 @@ impl From<SinkFault> for ReportFault {
     }
 }
 
+/// The function over an address. What the context met broken on the way is broken.
+fn look_up<P: ModuleProvider>(
+    context: &mut Context<'_, P>,
+    address: u32,
+) -> Result<Option<Function>, Error>
+    ensures answer { MatchResult result
+        (λ found. option_map description found ≡ function_at P.info context.old.sources address)
+        (λ e. e ≡ OutOfMemory) }
+    ensures told { OnOk result (context.new ≡ after_function P.info context.old address) }
+    ensures gains { OnlyGainsBroken P.info context.old context.new }
+{
+    context.find_function(address)
+}
+
+/// The frames over an address. What the context met broken on the way is broken.
+fn look_up_frames<'a, P: ModuleProvider>(
+    context: &mut Context<'a, P>,
+    address: u32,
+) -> Result<Option<FunctionFrames<'a>>, Error>
+    ensures answer { Gives (λ f. f) result (frames_told P.info context.old address) }
+    ensures told { OnOk result (context.new ≡ after_frames P.info context.old address) }
+    ensures gains { OnOk result (OnlyGainsBroken P.info context.old context.new) }
+    ensures left { IfErr result (λ e. IsLeftByFrames P.info context.old address (Lookup e) context.new) }
+{
+    context.find_frames(address)
+}
+
 /// Writes the line of one address, after its look-up.
 fn put_function<P: ModuleProvider, W: Sink>(
     alloc: Global,
@@ -65,12 +99,14 @@ fn put_function<P: ModuleProvider, W: Sink>(
     sink: &mut W,
 ) -> Result<(), ReportFault>
     ensures sources { context.new.sources ≡ context.old.sources }
+    ensures told { OnOk result (context.new ≡ after_function P.info context.old address) }
+    ensures gains { OnlyGainsBroken P.info context.old context.new }
     ensures text { OnOk result
         (TakesText (function_text P.info context.old.sources address) (W.state sink.old) (W.state sink.new)) }
     ensures fault { IfErr result
         (EndsAtOnce (function_text P.info context.old.sources address) (W.state sink.old) (W.state sink.new)) }
 {
-    let function = context.find_function(address)?;
+    let function = look_up(context, address)?;
     let line = line_of(alloc, address, &function)?;
     sink.put(line.as_bytes())?;
     Ok(())
@@ -85,6 +121,8 @@ fn put_frames<P: ModuleProvider, W: Sink>(
 ) -> Result<(), ReportFault>
     ensures sources { context.new.sources ≡ context.old.sources }
     ensures code_failed { OnOk result (context.new.code_failed ≡ context.old.code_failed) }
+    ensures told { OnOk result (context.new ≡ after_frames P.info context.old address) }
+    ensures left { IfErr result (λ fault. IsLeftByFrames P.info context.old address fault context.new) }
     ensures text { OnOk result
         (let text = stack_text P.info context.old.sources context.old.code_failed address in
         TakesText text (W.state sink.old) (W.state sink.new)) }
@@ -92,7 +130,7 @@ fn put_frames<P: ModuleProvider, W: Sink>(
         (let text = stack_text P.info context.old.sources context.old.code_failed address in
         EndsAtOnce text (W.state sink.old) (W.state sink.new)) }
 {
-    let frames = context.find_frames(address)?;
+    let frames = look_up_frames(context, address)?;
     let text = frames_text(alloc, address, &frames)?;
     sink.put(text.as_bytes())?;
     Ok(())
@@ -106,11 +144,13 @@ fn put_listed<P: ModuleProvider, W: Sink>(
     sink: &mut W,
 ) -> Result<(), ReportFault>
     ensures sources { context.new.sources ≡ context.old.sources }
+    ensures told { OnOk result (context.new ≡ after_function P.info context.old start) }
+    ensures gains { OnlyGainsBroken P.info context.old context.new }
     ensures text { OnOk result (TakesText
         (Ok (list_text (functions_at P.info context.old.sources (start ∷ [])))) (W.state sink.old) (W.state sink.new)) }
     ensures fault { IfErr result (EndsListEarly [] (W.state sink.old) (W.state sink.new)) }
 {
-    let Some(function) = context.find_function(start)? else {
+    let Some(function) = look_up(context, start)? else {
         return Ok(());
     };
     let line = list_line(alloc, &function)?;
@@ -127,6 +167,8 @@ fn report_names<P: ModuleProvider, W: Sink>(
     sink: &mut W,
 ) -> Result<(), ReportFault>
     ensures sources { context.new.sources ≡ context.old.sources }
+    ensures told { OnOk result (context.new ≡ after_functions P.info context.old addresses.now) }
+    ensures cut_short { OnErr result (IsCutShort P.info context.old context.new addresses.now) }
     ensures text { OnOk result (TakesText (addresses_text (function_text P.info context.old.sources) addresses.now)
         (W.state sink.old) (W.state sink.new)) }
     ensures fault { IfErr result (EndsAmidTexts
@@ -147,6 +189,9 @@ fn report_frames<P: ModuleProvider, W: Sink>(
     sink: &mut W,
 ) -> Result<(), ReportFault>
     ensures sources { context.new.sources ≡ context.old.sources }
+    ensures told { OnOk result
+        (context.new ≡ after_calls P.info context.old (map FindFrames addresses.now)) }
+    ensures left { IfErr result (IsLeftAmid P.info context.old context.new addresses.now) }
     ensures text { OnOk result
         (let text_of = stack_text P.info context.old.sources context.old.code_failed in
         TakesText (addresses_text text_of addresses.now) (W.state sink.old) (W.state sink.new)) }
@@ -168,6 +213,10 @@ fn report_list<P: ModuleProvider, W: Sink>(
     sink: &mut W,
 ) -> Result<(), ReportFault>
     ensures sources { context.new.sources ≡ context.old.sources }
+    ensures told { OnOk result (context.new
+        ≡ after_functions P.info context.old (start_addresses P.info context.old.sources)) }
+    ensures cut_short { OnErr result
+        (IsCutShort P.info context.old context.new (start_addresses P.info context.old.sources)) }
     ensures text { OnOk result (TakesText
         (Ok (list_text (functions_of P.info context.old.sources))) (W.state sink.old) (W.state sink.new)) }
     ensures fault { IfErr result
@@ -195,6 +244,10 @@ pub fn report<P: ModuleProvider, W: Sink>(
     sink: &mut W,
 ) -> Result<(), ReportFault>
     ensures sources { context.new.sources ≡ context.old.sources }
+    // What failed afterwards is what fails by the calls that the report stands for.
+    ensures told { OnOk result
+        (context.new ≡ after_calls P.info context.old (report_calls command addresses.now)) }
+    ensures left { IfErr result (IsLeft P.info context.old context.new command addresses.now) }
     ensures text { OnOk result
         (let text = report_text P.info context.old.sources context.old.code_failed command addresses.now in
         TakesText text (W.state sink.old) (W.state sink.new)) }

@@ -1,7 +1,9 @@
-ghost use Rattle.std.specs.Prelude.{IfErr, map, string_bytes};
+ghost use Rattle.std.specs.Prelude.{◌≡◌, IfErr, map, string_bytes};
+ghost use Rattle.std.specs.IoError.{error_kind};
 ghost use Rattle.pdb_reporting.specs.Arguments.{asked};
 ghost use Rattle.pdb_reporting.specs.ModulePaths.{module_path};
 ghost use Rattle.pdb_reporting.specs.Runs.{EndsRun, IsUnread, IsModuleUnread, AreModulesUnread};
+ghost use Rattle.pdb_reporting.specs.Runs.{is_out_of_memory};
 
 use crate::arguments::parse;
 use crate::file_reports::report_file;
@@ -59,7 +61,7 @@ fn read_module_files<'w, R: Files + AllocGlobal>(
     records: &'w str,
     bytes: &[u8],
 ) -> Result<Vec<Vec<u8>>, Stop<'w>>
-    ensures { IfErr result (AreModulesUnread records.now) }
+    ensures { IfErr result (AreModulesUnread records.now bytes.now) }
 {
     let names = match module_files(rt.alloc(), bytes) {
         Ok(names) => names,
@@ -94,6 +96,8 @@ fn read_module_file<'w, R: Files + AllocGlobal>(
 }
 
 /// Whether the system had no memory.
-pub fn is_want_of_memory(error: &io::Error) -> bool {
+pub fn is_want_of_memory(error: &io::Error) -> bool
+    ensures { result ≡ is_out_of_memory (error_kind error.now) }
+{
     matches!(error.kind(), io::ErrorKind::OutOfMemory)
 }

@@ -1,10 +1,12 @@
 //! Runs the report over the records files beside it, and compares what it writes with what is wanted.
 //!
 //! `runs.txt` has a line `$ pdb_report WORD ..` for each run, then the lines that are wanted on standard
-//! output and on standard error, and a line `status N`.
+//! output and on standard error, and a line `status N`. A run that ends well is made again into writers that
+//! refuse: one for each room that is too small for its text, and one that doesn't hand on what it took.
 #![tactic(auto)]
 
 mod runs;
+mod writers;
 
 use pdb_reporting::{Out, run};
 use runs::{Run, next_run};
@@ -49,10 +51,19 @@ fn compare<R: Files + Print + AllocGlobal>(rt: &R, text: &str) -> io::Result<u64
 fn is_as_wanted<R: Files + Print + AllocGlobal>(rt: &R, run: &Run<'_>) -> io::Result<bool> {
     let (text, status) = outcome(rt, run.command)?;
     if text.as_str() == run.wanted && status == run.status {
-        return Ok(true);
+        return is_refused_as_wanted(rt, run);
     }
     println!(rt; "{}", run.command)?;
     println!(rt; "{text}status {status}")?;
+    Ok(false)
+}
+
+/// Whether a run ends as it should in writers that refuse. One that differs is printed.
+fn is_refused_as_wanted<R: Files + Print + AllocGlobal>(rt: &R, run: &Run<'_>) -> io::Result<bool> {
+    if writers::end_as_they_should(rt, run)? {
+        return Ok(true);
+    }
+    println!(rt; "{} differs where it can't write", run.command)?;
     Ok(false)
 }
 

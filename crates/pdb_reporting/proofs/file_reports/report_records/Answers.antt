@@ -1,6 +1,4 @@
-use Rattle.std.proofs.Common.{◌≡◌, refl}
-use Rattle.pdb_addr2line.specs.ContextData.{default_flags, context_of}
-use Rattle.pdb_reporting.specs.FileReports.{opened}
+use Rattle.std.proofs.Common.{refl}
 use Rattle.pdb_reporting.proofs.FileReportLemmas.{opened-accepted}
 use Rattle.pdb_reporting.proofs.file_reports.report_records.Goals as goal
 

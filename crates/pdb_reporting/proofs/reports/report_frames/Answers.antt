@@ -1,5 +1,7 @@
 use Rattle.std.proofs.Common.{◌∙◌, ◌<◌, length, get_or, arith}
 use Rattle.pdb_reporting.specs.Reports.{stack_text, TakesText, EndsAtOnce, EndsAmidTexts}
+use Rattle.pdb_reporting.specs.Reports.{IsLeftAmid}
+use Rattle.pdb_reporting.proofs.ContextLemmas.{after_frames_more, left_at_address}
 use Rattle.pdb_reporting.proofs.ReportLemmas.{takes_one_more, ends_at_address, fails_with}
 use Rattle.pdb_reporting.proofs.reports.report_frames.Goals as goal
 
@@ -14,6 +16,7 @@ loop-address-preserved g c =
     record {
       same = c.put_frames.ensures.sources ∙ c.loop-address.invariant.same;
       same_code = c.in_ok-put_frames.ensures.code_failed ∙ c.loop-address.invariant.same_code;
+      told = after_frames_more g.P.ModuleProvider.info c.args.context.now c.loop-address.context c.put_frames.new.context c.args.addresses.now c.loop-address.address-index below c.loop-address.invariant.told c.in_ok-put_frames.ensures.told;
       taken = takes_one_more text_of c.args.addresses.now c.loop-address.address-index (state c.args.sink.now) (state c.loop-address.sink) (state c.put_frames.new.sink) below c.loop-address.invariant.taken text;
     }
 
@@ -31,3 +34,13 @@ returns-in_err-put_frames-clause-fault g c =
     rw (c.loop-address.invariant.same, c.loop-address.invariant.same_code) at c.in_err-put_frames.ensures.fault in
     let ends = ends_at_address text_of addresses i before (state c.loop-address.sink) after fault below c.loop-address.invariant.taken at_once in
     fails_with _ fault (EndsAmidTexts text_of addresses before after) c.from_residual.ensures.1 ends
+
+pub returns-in_err-put_frames-clause-left : goal.returns-in_err-put_frames-clause-left
+returns-in_err-put_frames-clause-left g c =
+    let info = g.P.ModuleProvider.info in
+    let i = c.loop-address.address-index in
+    let addresses = c.args.addresses.now in
+    let fault = c.in_err-put_frames.field-0.0 in
+    let below : i < length addresses = omega arith in
+    let left = left_at_address info c.args.context.now c.loop-address.context c.put_frames.new.context addresses i fault below c.loop-address.invariant.told c.in_err-put_frames.ensures.left in
+    fails_with _ fault (IsLeftAmid info c.args.context.now c.put_frames.new.context addresses) c.from_residual.ensures.1 left

@@ -1,8 +1,10 @@
-use Rattle.std.proofs.Common.{◌≡◌, take}
+use Rattle.std.proofs.Common.{◌≡◌, take, map}
+use Rattle.pdb_addr2line.specs.declared.calls.Call.TheVariants.{FindFrames}
+use Rattle.pdb_addr2line.specs.Calls.{after_calls}
 use Rattle.pdb_reporting.specs.Reports.{stack_text, addresses_text, TakesText}
 use Rattle.pdb_reporting.proofs.reports.report_frames.Given as goal
 
--- the sink holds the texts of the addresses so far
+-- the sink holds the texts of the addresses so far, and the context told the frames there
 abbrev pub invariant-loop-address : goal.invariant-loop-address
 invariant-loop-address g l =
     let state = g.W.Sink.state in
@@ -10,5 +12,6 @@ invariant-loop-address g l =
     record {
       same : l.context.sources ≡ l.initial.context.sources;
       same_code : l.context.code_failed ≡ l.initial.context.code_failed;
+      told : l.context ≡ after_calls g.P.ModuleProvider.info l.initial.context (map FindFrames (take l.address-index l.addresses));
       taken : TakesText (addresses_text text_of (take l.address-index l.addresses)) (state l.initial.sink) (state l.sink);
     }

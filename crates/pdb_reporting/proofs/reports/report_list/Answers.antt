@@ -1,8 +1,11 @@
-use Rattle.std.proofs.Common.{◌≡◌, ◌∙◌, ◌<◌, [], ◌∷◌, length, get_or, take, ap, subst, arith}
-use Rattle.pdb_addr2line.specs.Functions.{functions_at, start_addresses}
+use Rattle.std.proofs.Common.{◌≡◌, ◌∙◌, ◌<◌, [], ◌∷◌, length, get_or, ap, subst, arith}
+use Rattle.std.proofs.lemmas.List.{take_all}
+use Rattle.pdb_addr2line.proofs.FunctionLemmas.{after_one_more, on_error}
+use Rattle.pdb_addr2line.specs.Functions.{functions_at, after_functions, start_addresses, IsCutShort}
 use Rattle.pdb_reporting.specs.PrintedLines.{list_text}
 use Rattle.pdb_reporting.specs.Reports.{EndsListEarly}
 use Rattle.pdb_reporting.specs.Sinks.{Takes}
+use Rattle.pdb_reporting.proofs.ContextLemmas.{cut_at_address}
 use Rattle.pdb_reporting.proofs.ListLemmas.{takes_one_listed, ends_listed}
 use Rattle.pdb_reporting.proofs.ReportLemmas.{fails_with}
 use Rattle.pdb_reporting.proofs.reports.report_list.Goals as goal
@@ -19,6 +22,7 @@ loop-start-preserved g c =
     rw c.loop-start.invariant.same at c.in_ok-put_listed.ensures.text in
     record {
       same = c.put_listed.ensures.sources ∙ c.loop-start.invariant.same;
+      told = after_one_more info c.args.context.now c.loop-start.context c.put_listed.new.context starts i below c.loop-start.invariant.told c.in_ok-put_listed.ensures.told;
       taken = takes_one_listed info sources starts i (state c.args.sink.now) (state c.loop-start.sink) (state c.put_listed.new.sink) below c.loop-start.invariant.taken next;
     }
 
@@ -36,3 +40,18 @@ returns-in_err-put_listed-clause-fault g c =
     ends_listed info sources starts c.loop-start.start-index before (state c.loop-start.sink) after c.loop-start.invariant.taken fault c.in_err-put_listed.ensures.fault in
     let ends = subst (λ xs. EndsListEarly (functions_at info sources xs) before after fault) is amid in
     fails_with _ fault (EndsListEarly (functions_at info sources (start_addresses info sources)) before after) c.from_residual-in_err-put_listed.ensures.1 ends
+
+pub returns-clause-told : goal.returns-clause-told
+returns-clause-told g c =
+    let info = g.P.ModuleProvider.info in
+    let whole = take_all c.loop-start.start-index c.deref-start-items.result.now c.loop-start-test.false in
+    c.loop-start.invariant.told
+    ∙ ap (after_functions info c.args.context.now) (whole ∙ (c.deref-start-items.ensures.value ∙ c.in_ok-starts.ensures.addresses))
+
+pub returns-in_err-put_listed-clause-cut_short : goal.returns-in_err-put_listed-clause-cut_short
+returns-in_err-put_listed-clause-cut_short g c =
+    let info = g.P.ModuleProvider.info in
+    let starts = c.deref-start-items.result.now in
+    let is : starts ≡ start_addresses info c.args.context.now.sources = c.deref-start-items.ensures.value ∙ c.in_ok-starts.ensures.addresses in
+    let cut = cut_at_address info c.args.context.now c.loop-start.context c.put_listed.new.context starts c.loop-start.start-index c.loop-start.invariant.told c.put_listed.ensures.gains in
+    on_error _ (subst (λ xs. IsCutShort info c.args.context.now c.put_listed.new.context xs) is cut)

@@ -1,5 +1,7 @@
 use Rattle.std.proofs.Common.{◌∙◌, ◌<◌, length, get_or, arith}
 use Rattle.pdb_reporting.specs.Reports.{function_text, TakesText}
+use Rattle.pdb_addr2line.proofs.FunctionLemmas.{after_one_more, on_error}
+use Rattle.pdb_reporting.proofs.ContextLemmas.{cut_at_address}
 use Rattle.pdb_reporting.proofs.ReportLemmas.{takes_one_more}
 use Rattle.pdb_reporting.proofs.reports.report_names.Goals as goal
 
@@ -13,5 +15,10 @@ loop-address-preserved g c =
     rw c.loop-address.invariant.same at c.in_ok-put_function.ensures.text in
     record {
       same = c.put_function.ensures.sources ∙ c.loop-address.invariant.same;
+      told = after_one_more g.P.ModuleProvider.info c.args.context.now c.loop-address.context c.put_function.new.context c.args.addresses.now c.loop-address.address-index below c.loop-address.invariant.told c.in_ok-put_function.ensures.told;
       taken = takes_one_more text_of c.args.addresses.now c.loop-address.address-index (state c.args.sink.now) (state c.loop-address.sink) (state c.put_function.new.sink) below c.loop-address.invariant.taken text;
     }
+
+pub returns-in_err-put_function-clause-cut_short : goal.returns-in_err-put_function-clause-cut_short
+returns-in_err-put_function-clause-cut_short g c =
+    on_error _ (cut_at_address g.P.ModuleProvider.info c.args.context.now c.loop-address.context c.put_function.new.context c.args.addresses.now c.loop-address.address-index c.loop-address.invariant.told c.put_function.ensures.gains)

@@ -6,5 +6,5 @@ pub returns-in_err-file : goal.returns-in_err-file
 returns-in_err-file g c =
     let p = err_from_is_err_and c.from_residual.result c.from_residual.ensures.1 in
     let unread =
-    some_module_is_unread c.args.records.now c.as_str.result.now c.in_err-file.field-0.0 c.in_err-file.ensures in
+    some_module_is_unread c.args.records.now c.args.bytes.now c.as_str.result.now c.in_err-file.field-0.0 c.in_err-file.ensures in
     rw (p.1, p.2) unread

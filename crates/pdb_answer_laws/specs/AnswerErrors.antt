@@ -1,0 +1,29 @@
+-- What an answer may hold in place of frames or of a text.
+use Rattle.std.specs.Prelude.{⊤, Result, Ok, Err}
+use Rattle.pdb_types.specs.declared.error.Error.{Error}
+use Rattle.pdb_types.specs.declared.error.Error.TheVariants.{PdbError, ExtendedModuleInfoUnsuccessful}
+use Rattle.pdb_types.specs.declared.error.Error.TheVariants.{ProcedureLinesUnsuccessful}
+use Rattle.pdb_types.specs.declared.error.Error.TheVariants.{ProcedureInlineRangesUnsuccessful}
+use Rattle.pdb_addr2line.specs.Calls.{ToldAnswer, ToldFrames, ToldText}
+use Rattle.pdb_laws.specs.PrintErrors.{IsPrintError}
+
+-- an error of the records of code, or that a part of them failed before
+abbrev pub IsCodeError : Error → Type 0
+IsCodeError (PdbError e) = ⊤
+IsCodeError ExtendedModuleInfoUnsuccessful = ⊤
+IsCodeError ProcedureLinesUnsuccessful = ⊤
+IsCodeError ProcedureInlineRangesUnsuccessful = ⊤
+IsCodeError other = ⊥
+
+-- an answer, or such an error
+abbrev pub IsRefusedByCode : {A : Type 0} → Result A Error → Type 0
+IsRefusedByCode (Ok answer) = ⊤
+IsRefusedByCode (Err e) = IsCodeError e
+
+-- in place of frames an answer holds no other error than one of the records of code, and in place of a text no other
+-- than one that printing is refused for
+abbrev pub HoldsErrorOfRecords : ToldAnswer → Type 0
+HoldsErrorOfRecords (ToldFrames frames) = IsRefusedByCode frames
+HoldsErrorOfRecords (ToldText (Ok text)) = ⊤
+HoldsErrorOfRecords (ToldText (Err e)) = IsPrintError e
+HoldsErrorOfRecords other = ⊤

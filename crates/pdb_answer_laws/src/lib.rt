@@ -1,0 +1,6 @@
+//! Laws on the answers of a context: what follows from the definitions of the crates below, in words of their own.
+//!
+//! Each function here does nothing. Its contract is a law, for all records, and the check proves it.
+#![tactic(auto)]
+
+pub mod answers;
