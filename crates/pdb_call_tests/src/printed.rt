@@ -109,8 +109,7 @@ fn tells_of_refusal(
         room,
     };
     let outcome = emit(formatter, &mut writer, question);
-    matches!(outcome, Err(Error::FormatError(_)))
-        && question.text.starts_with(writer.held.as_str())
+    matches!(outcome, Err(Error::FormatError(_))) && question.text.starts_with(writer.held.as_str())
 }
 
 /// Whether a formatter tells of each writer that has less room than the text takes.

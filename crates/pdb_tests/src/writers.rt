@@ -58,11 +58,18 @@ impl io::Write for Narrow {
 /// Whether a run that ends well, and has a text that isn't long, ends as it should in writers that refuse: with
 /// each room that is too small, and where what was written can't be handed on. A writer that takes a byte at a
 /// time takes the whole text.
-pub(crate) fn end_as_they_should<R: Files + AllocGlobal>(rt: &R, run: &Run<'_>) -> io::Result<bool> {
+pub(crate) fn end_as_they_should<R: Files + AllocGlobal>(
+    rt: &R,
+    run: &Run<'_>,
+) -> io::Result<bool> {
     if run.status != 0 || run.wanted.len() > LONGEST {
         return Ok(true);
     }
-    Ok(is_refused_at_each_room(rt, run)? && is_refused_at_flush(rt, run)? && is_taken_bytewise(rt, run)?)
+    Ok(
+        is_refused_at_each_room(rt, run)?
+            && is_refused_at_flush(rt, run)?
+            && is_taken_bytewise(rt, run)?,
+    )
 }
 
 /// Whether a run is refused by each writer with too little room.
@@ -80,7 +87,11 @@ fn is_refused_at<R: Files + AllocGlobal>(rt: &R, run: &Run<'_>, room: usize) -> 
     let mut out = Out::new(Narrow::new(rt.alloc(), room));
     let refused = is_refused(rt, run.command, &mut out)?;
     let writer = out.into_inner();
-    Ok(refused && writer.refusals == 1 && run.wanted.as_bytes().get(..room) == Some(writer.held.as_slice()))
+    Ok(
+        refused
+            && writer.refusals == 1
+            && run.wanted.as_bytes().get(..room) == Some(writer.held.as_slice()),
+    )
 }
 
 /// Whether a run says that it can't write where its writer doesn't hand on what it took.
@@ -102,7 +113,11 @@ fn is_taken_bytewise<R: Files + AllocGlobal>(rt: &R, run: &Run<'_>) -> io::Resul
 }
 
 /// Whether a run says that it can't write.
-fn is_refused<R: Files + AllocGlobal>(rt: &R, command: &str, out: &mut Out<Narrow>) -> io::Result<bool> {
+fn is_refused<R: Files + AllocGlobal>(
+    rt: &R,
+    command: &str,
+    out: &mut Out<Narrow>,
+) -> io::Result<bool> {
     let words = words_of(rt.alloc(), command)?;
     let ended = run(rt, &words, out);
     Ok(matches!(ended, Err(Stop::CannotWrite)))
