@@ -1,0 +1,78 @@
+use crate::bytes::{Bytes, u16_at, u32_at};
+use crate::faults::Fault;
+use crate::names::copy_name;
+use crate::numbers::{take_size, take_variant};
+use pdb_records::{
+    ClassKind, ClassType, EnumerateType, EnumerationType, RawString, TypeData, TypeIndex, UnionType,
+};
+use std::alloc::Global;
+
+/// The bit of a type's properties that says that it is only a forward reference.
+const FORWARD_REFERENCE: u16 = 0x80;
+
+/// The bit of a type's properties that says that a unique name stands behind its name.
+const UNIQUE_NAME: u16 = 0x200;
+
+/// A class, a struct or an interface.
+pub fn class(alloc: Global, class_kind: ClassKind, bytes: &[u8]) -> Result<TypeData, Fault> {
+    let mut rest = Bytes::new(bytes);
+    let front = rest.take(16)?;
+    let properties = u16_at(front, 2);
+    let size = take_size(&mut rest)?;
+    let name = copy_name(alloc, rest.text()?)?;
+    let unique_name = unique_name(alloc, properties, &mut rest)?;
+    Ok(TypeData::Class(ClassType {
+        class_kind,
+        name,
+        unique_name,
+        size,
+        forward_reference: properties & FORWARD_REFERENCE != 0,
+    }))
+}
+
+/// A union.
+pub fn union(alloc: Global, bytes: &[u8]) -> Result<TypeData, Fault> {
+    let mut rest = Bytes::new(bytes);
+    let front = rest.take(8)?;
+    let properties = u16_at(front, 2);
+    let size = take_size(&mut rest)?;
+    let name = copy_name(alloc, rest.text()?)?;
+    let unique_name = unique_name(alloc, properties, &mut rest)?;
+    Ok(TypeData::Union(UnionType {
+        name,
+        unique_name,
+        size,
+        forward_reference: properties & FORWARD_REFERENCE != 0,
+    }))
+}
+
+fn unique_name(
+    alloc: Global,
+    properties: u16,
+    rest: &mut Bytes<'_>,
+) -> Result<Option<RawString>, Fault> {
+    if properties & UNIQUE_NAME == 0 {
+        return Ok(None);
+    }
+    Ok(Some(copy_name(alloc, rest.text()?)?))
+}
+
+/// An enumeration.
+pub fn enumeration(alloc: Global, bytes: &[u8]) -> Result<TypeData, Fault> {
+    let mut rest = Bytes::new(bytes);
+    let front = rest.take(12)?;
+    let name = copy_name(alloc, rest.text()?)?;
+    Ok(TypeData::Enumeration(EnumerationType {
+        name,
+        underlying_type: TypeIndex(u32_at(front, 4)),
+    }))
+}
+
+/// One value of an enumeration.
+pub fn enumerate(alloc: Global, bytes: &[u8]) -> Result<TypeData, Fault> {
+    let mut rest = Bytes::new(bytes);
+    rest.take(2)?;
+    let value = take_variant(&mut rest)?;
+    let name = copy_name(alloc, rest.text()?)?;
+    Ok(TypeData::Enumerate(EnumerateType { name, value }))
+}

@@ -1,0 +1,148 @@
+ghost use Rattle.std.specs.Prelude.{◌≡◌, ◌≤◌, ◌<◌, ◌+◌, length, take, drop, IfOk, OnOk, OnErr};
+ghost use Rattle.byteorder.specs.Endian.{little_number};
+
+use crate::faults::CUT;
+use byteorder::{ByteOrder, LittleEndian};
+use pdb_records::StreamError;
+use std::marker::Model;
+
+/// What is still to be read of a run of bytes. Each call takes what it answers off the front, and
+/// answers [`CUT`] where too little is left.
+#[derive(Drop)]
+pub struct Bytes<'a> {
+    rest: &'a [u8],
+}
+
+impl<'a> Model for Bytes<'a> {
+    ghost use Rattle.std.specs.Prelude.{List, ℕ};
+
+    ghost Value = { List ℕ };
+
+    ghost view = { λ b. b.rest.now };
+}
+
+impl<'a> Bytes<'a> {
+    /// All of these bytes.
+    pub fn new(bytes: &'a [u8]) -> Self
+        ensures { result ≡ bytes.now }
+    {
+        Bytes { rest: bytes }
+    }
+
+    /// How many bytes are left.
+    pub fn len(&self) -> usize
+        ensures { result ≡ length self.now }
+    {
+        self.rest.len()
+    }
+
+    /// Whether no byte is left.
+    pub fn is_empty(&self) -> bool {
+        self.rest.is_empty()
+    }
+
+    /// The bytes that are left.
+    pub fn rest(&self) -> &'a [u8]
+        ensures { result.now ≡ self.now }
+    {
+        self.rest
+    }
+
+    /// The next bytes, so many.
+    pub fn take(&mut self, count: usize) -> Result<&'a [u8], StreamError>
+        ensures taken { IfOk result (λ taken. taken.now ≡ take count self.old) }
+        ensures size { IfOk result (λ taken. length taken.now ≡ count) }
+        ensures left { OnOk result (self.new ≡ drop count self.old) }
+        ensures short { OnErr result (length self.old < count) }
+    {
+        if self.rest.len() < count {
+            return Err(CUT);
+        }
+        let (taken, rest) = self.rest.split_at(count);
+        self.rest = rest;
+        Ok(taken)
+    }
+
+    /// Passes over the bytes up to the next place that is a multiple of four, counted from the end of the
+    /// first `whole` bytes that these are the rest of. Where the bytes end before, nothing is left.
+    pub fn align(&mut self, whole: usize) {
+        let read = whole.saturating_sub(self.rest.len());
+        let past = read % 4;
+        if past > 0 {
+            let count = self.rest.len().min(4 - past);
+            self.rest = &self.rest[count..];
+        }
+    }
+
+    /// The next byte.
+    pub fn u8(&mut self) -> Result<u8, StreamError> {
+        let taken = self.take(1)?;
+        Ok(taken[0])
+    }
+
+    /// The next number of two bytes.
+    pub fn u16(&mut self) -> Result<u16, StreamError>
+        ensures value { IfOk result (λ number. number ≡ little_number 2 (take 2 self.old)) }
+        ensures left { OnOk result (self.new ≡ drop 2 self.old) }
+    {
+        let taken = self.take(2)?;
+        Ok(LittleEndian::read_u16(taken))
+    }
+
+    /// The next number of four bytes.
+    pub fn u32(&mut self) -> Result<u32, StreamError>
+        ensures value { IfOk result (λ number. number ≡ little_number 4 (take 4 self.old)) }
+        ensures left { OnOk result (self.new ≡ drop 4 self.old) }
+    {
+        let taken = self.take(4)?;
+        Ok(LittleEndian::read_u32(taken))
+    }
+
+    /// The next number of eight bytes.
+    pub fn u64(&mut self) -> Result<u64, StreamError> {
+        let taken = self.take(8)?;
+        Ok(LittleEndian::read_u64(taken))
+    }
+
+    /// The next text, which ends before a zero byte. The zero is passed over.
+    pub fn text(&mut self) -> Result<&'a [u8], StreamError> {
+        let Some(end) = zero_in(self.rest) else {
+            return Err(CUT);
+        };
+        let text = self.take(end)?;
+        self.take(1)?;
+        Ok(text)
+    }
+
+    /// The next text, which a byte with its length stands in front of.
+    pub fn counted_text(&mut self) -> Result<&'a [u8], StreamError> {
+        let length = self.u8()?;
+        self.take(usize::from(length))
+    }
+}
+
+// The position of the first zero byte.
+fn zero_in(bytes: &[u8]) -> Option<usize> {
+    for (position, &byte) in bytes.iter().enumerate() {
+        if byte == 0 {
+            return Some(position);
+        }
+    }
+    None
+}
+
+/// The number of two bytes that stands in the front of a record.
+pub fn u16_at(front: &[u8], at: usize) -> u16
+    requires { at + 2 ≤ length front.now }
+    ensures { result ≡ little_number 2 (drop at front.now) }
+{
+    LittleEndian::read_u16(&front[at..])
+}
+
+/// The number of four bytes that stands in the front of a record.
+pub fn u32_at(front: &[u8], at: usize) -> u32
+    requires { at + 4 ≤ length front.now }
+    ensures { result ≡ little_number 4 (drop at front.now) }
+{
+    LittleEndian::read_u32(&front[at..])
+}

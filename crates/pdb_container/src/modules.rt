@@ -1,0 +1,179 @@
+use crate::bytes::Bytes;
+use crate::cross_modules::{read_exports, read_imports};
+use crate::dbi::{ModuleStream, Part, take_part};
+use crate::faults::{Fault, UNKNOWN_VERSION, apart, ended};
+use crate::files::{Files, read_files};
+use crate::inline_sites::CodeRecords;
+use crate::inlinees::read_inlinees;
+use crate::lines::read_lines;
+use crate::symbols::{list_symbols, read_symbols};
+use pdb_records::{
+    CrossModuleExports, CrossModuleImports, LineProgram, ModuleInfo, Reading, StreamError, Symbol,
+    SymbolLines,
+};
+use std::alloc::Global;
+
+/// The form of symbols that is known, as the number in front of them.
+const SYMBOLS_FORM: u32 = 4;
+
+const LINES: u32 = 0xf2;
+
+const FILES: u32 = 0xf4;
+
+const INLINEES: u32 = 0xf6;
+
+const IMPORTS: u32 = 0xf7;
+
+const EXPORTS: u32 = 0xf8;
+
+/// A part of what is known of a module's code.
+#[derive(Clone, Copy)]
+struct Subsection<'a> {
+    kind: u32,
+    bytes: &'a [u8],
+}
+
+/// The parts of what is known of a module's code, and why they end early, if they do.
+#[derive(Drop)]
+struct Subsections<'a> {
+    list: Vec<Subsection<'a>>,
+    fault: Option<StreamError>,
+}
+
+impl<'a> Subsections<'a> {
+    /// The bytes of the first part of this kind.
+    fn first(&self, kind: u32) -> Option<&'a [u8]> {
+        for subsection in &self.list {
+            if subsection.kind == kind {
+                return Some(subsection.bytes);
+            }
+        }
+        None
+    }
+
+    /// The bytes of the first part of this kind, none where there is no such part and all were read.
+    fn wanted(&self, kind: u32) -> Result<&'a [u8], StreamError> {
+        match (self.first(kind), self.fault) {
+            (Some(bytes), _) => Ok(bytes),
+            (None, None) => Ok(&[]),
+            (None, Some(error)) => Err(error),
+        }
+    }
+}
+
+/// What is known of a module, by the bytes of its stream.
+pub fn read_module(alloc: Global, place: ModuleStream, stream: &[u8]) -> Result<ModuleInfo, Fault> {
+    let mut bytes = Bytes::new(stream);
+    let symbols = take_part(&mut bytes, place.symbols);
+    take_part(&mut bytes, place.old_lines);
+    let lines = take_part(&mut bytes, place.lines);
+    let subsections = read_subsections(alloc, lines)?;
+    let code = read_code(alloc, &subsections)?;
+    let symbols = module_symbols(alloc, symbols, &code)?;
+    let line_program = apart(read_line_program(alloc, &subsections, &code.files))?;
+    let imports = apart(module_imports(alloc, &subsections))?;
+    let exports = apart(module_exports(alloc, &subsections))?;
+    let CodeRecords { files: _, inlinees } = code;
+    Ok(ModuleInfo {
+        symbols,
+        line_program,
+        inlinees: inlinees.list,
+        imports,
+        exports,
+    })
+}
+
+fn read_subsections<'a>(alloc: Global, part: Part<'a>) -> Result<Subsections<'a>, Fault> {
+    let mut list = Vec::new(alloc);
+    let fault = ended(fill_subsections(part.bytes, &mut list))?;
+    Ok(Subsections {
+        list,
+        fault: fault.or(part.fault),
+    })
+}
+
+fn fill_subsections<'a>(bytes: &'a [u8], list: &mut Vec<Subsection<'a>>) -> Result<(), Fault> {
+    let mut rest = Bytes::new(bytes);
+    for _ in 0..bytes.len() {
+        if rest.is_empty() {
+            break;
+        }
+        let kind = rest.u32()?;
+        let length = rest.u32()?;
+        let part = rest.take(length as usize)?;
+        rest.align(bytes.len());
+        list.push(Subsection { kind, bytes: part })?;
+    }
+    Ok(())
+}
+
+fn read_code(alloc: Global, subsections: &Subsections<'_>) -> Result<CodeRecords, Fault> {
+    let files = read_files(alloc, subsections.first(FILES).unwrap_or(&[]))?;
+    let mut inlinees = read_inlinees(alloc, subsections.first(INLINEES).unwrap_or(&[]))?;
+    inlinees.list.fault = inlinees.list.fault.or(subsections.fault);
+    Ok(CodeRecords { files, inlinees })
+}
+
+// The symbols behind the number of their form. They end early where the stream does.
+fn module_symbols(
+    alloc: Global,
+    part: Part<'_>,
+    code: &CodeRecords,
+) -> Result<Reading<Symbol>, Fault> {
+    let mut rest = Bytes::new(part.bytes);
+    if rest.is_empty() {
+        return Ok(Reading {
+            items: Vec::new(alloc),
+            fault: part.fault,
+        });
+    }
+    match rest.u32() {
+        Ok(SYMBOLS_FORM) => {
+            let list = list_symbols(alloc, rest.rest(), 4)?;
+            let mut symbols = read_symbols(alloc, &list, code)?;
+            symbols.fault = symbols.fault.or(part.fault);
+            Ok(symbols)
+        }
+        Ok(_) => Ok(Reading {
+            items: Vec::new(alloc),
+            fault: Some(UNKNOWN_VERSION),
+        }),
+        Err(error) => Ok(Reading {
+            items: Vec::new(alloc),
+            fault: Some(error),
+        }),
+    }
+}
+
+// The rows of all functions, and the files. A broken list of parts or of files fails them all.
+fn read_line_program(
+    alloc: Global,
+    subsections: &Subsections<'_>,
+    files: &Files,
+) -> Result<LineProgram, Fault> {
+    if let Some(error) = subsections.fault.or(files.fault) {
+        return Err(Fault::Broken(error));
+    }
+    let mut entries: Vec<SymbolLines> = Vec::new(alloc);
+    for subsection in &subsections.list {
+        if subsection.kind == LINES {
+            entries.push(read_lines(alloc, subsection.bytes, files)?)?;
+        }
+    }
+    let files = Vec::from_slice(alloc, &files.files)?;
+    Ok(LineProgram { entries, files })
+}
+
+fn module_imports(
+    alloc: Global,
+    subsections: &Subsections<'_>,
+) -> Result<CrossModuleImports, Fault> {
+    read_imports(alloc, subsections.wanted(IMPORTS)?)
+}
+
+fn module_exports(
+    alloc: Global,
+    subsections: &Subsections<'_>,
+) -> Result<CrossModuleExports, Fault> {
+    read_exports(alloc, subsections.wanted(EXPORTS)?)
+}

@@ -1,0 +1,225 @@
+use crate::container_fault::ContainerFault;
+use crate::dbi::{
+    DebugHeader, ModuleStream, more_stream, read_contributions, read_header, read_modules,
+};
+use crate::faults::{Fault, NO_STREAM, REARRANGED, apart};
+use crate::ids::read_ids;
+use crate::info::named_stream;
+use crate::modules::read_module;
+use crate::msf::Container;
+use crate::sections::{map_addresses, read_sections};
+use crate::strings::read_strings;
+use crate::symbols::read_global_symbols;
+use crate::types::read_types;
+use pdb_records::{
+    AddressMap, DebugInformation, IdInformation, ImageSectionHeader, ModuleInfo, PDB, StreamError,
+    StringTable, SymbolTable, TypeInformation,
+};
+use std::alloc::Global;
+
+/// The numbers of the streams that stand at fixed places.
+const INFO: u32 = 1;
+
+const TYPES: u32 = 2;
+
+const DEBUG: u32 = 3;
+
+const IDS: u32 = 4;
+
+/// The name of the stream of texts, with the zero behind it.
+const NAMES: [u8; 7] = *b"/names\0";
+
+/// The number that stands for no stream.
+const NO_NUMBER: u16 = 0xffff;
+
+/// Where the streams are named that not every file has: two for addresses that were rearranged, and the
+/// headers of the sections.
+const REARRANGED_TO: usize = 3;
+
+const REARRANGED_FROM: usize = 4;
+
+const SECTIONS: usize = 5;
+
+/// What stands in the stream of debug information and in the streams that it names.
+#[derive(Drop)]
+struct DebugRecords {
+    debug_information: Result<DebugInformation, StreamError>,
+    sections: Result<Option<Vec<ImageSectionHeader>>, StreamError>,
+    address_map: Result<AddressMap, StreamError>,
+    global_symbols: Result<SymbolTable, StreamError>,
+    module_infos: Vec<Result<Option<ModuleInfo>, StreamError>>,
+}
+
+/// The records of a PDB file.
+///
+/// An error where the file is none, or is cut short before the end of its directory, or there is no
+/// memory. All else that is broken is a failed stream or a fault in the records.
+pub fn read_pdb(alloc: Global, bytes: &[u8]) -> Result<PDB, ContainerFault> {
+    let mut container = Container::open(alloc, bytes)?;
+    Ok(read_records(alloc, &mut container)?)
+}
+
+fn read_records(alloc: Global, container: &mut Container<'_>) -> Result<PDB, Fault> {
+    let string_table = apart(read_texts(alloc, container))?;
+    let type_information = apart(type_information(alloc, container))?;
+    let id_information = apart(id_information(alloc, container))?;
+    let debug = debug_records(alloc, container)?;
+    Ok(PDB {
+        sections: debug.sections,
+        address_map: debug.address_map,
+        global_symbols: debug.global_symbols,
+        debug_information: debug.debug_information,
+        type_information,
+        id_information,
+        string_table,
+        module_infos: debug.module_infos,
+    })
+}
+
+fn read_texts(alloc: Global, container: &mut Container<'_>) -> Result<StringTable, Fault> {
+    let info = container.stream(alloc, INFO)?;
+    let number = named_stream(info.as_slice(), &NAMES)?;
+    let names = container.stream(alloc, number)?;
+    read_strings(alloc, names.as_slice())
+}
+
+fn type_information(
+    alloc: Global,
+    container: &mut Container<'_>,
+) -> Result<TypeInformation, Fault> {
+    let stream = container.stream(alloc, TYPES)?;
+    read_types(alloc, stream.as_slice())
+}
+
+// The ids. A file from before there were any has none.
+fn id_information(alloc: Global, container: &mut Container<'_>) -> Result<IdInformation, Fault> {
+    match apart(container.stream(alloc, IDS))? {
+        Ok(stream) => read_ids(alloc, stream.as_slice()),
+        Err(NO_STREAM) => read_ids(alloc, &[]),
+        Err(error) => Err(Fault::Broken(error)),
+    }
+}
+
+fn debug_records(alloc: Global, container: &mut Container<'_>) -> Result<DebugRecords, Fault> {
+    let stream = match apart(container.stream(alloc, DEBUG))? {
+        Ok(stream) => stream,
+        Err(error) => return Ok(failed(alloc, error)),
+    };
+    match read_header(stream.as_slice()) {
+        Ok(header) => headed_records(alloc, container, &header),
+        Err(error) => Ok(failed(alloc, error)),
+    }
+}
+
+// All that the stream of debug information leads to fails with it.
+fn failed(alloc: Global, error: StreamError) -> DebugRecords {
+    DebugRecords {
+        debug_information: Err(error),
+        sections: Err(error),
+        address_map: Err(error),
+        global_symbols: Err(error),
+        module_infos: Vec::new(alloc),
+    }
+}
+
+fn headed_records(
+    alloc: Global,
+    container: &mut Container<'_>,
+    header: &DebugHeader<'_>,
+) -> Result<DebugRecords, Fault> {
+    let mut streams = Vec::new(alloc);
+    let debug_information = debug_information(alloc, header, &mut streams)?;
+    let sections = apart(section_headers(alloc, container, header))?;
+    let address_map = apart(address_map(alloc, header, &sections))?;
+    let global_symbols = apart(global_symbols(alloc, container, header.global_symbols))?;
+    let module_infos = module_infos(alloc, container, &streams)?;
+    Ok(DebugRecords {
+        debug_information: Ok(debug_information),
+        sections,
+        address_map,
+        global_symbols,
+        module_infos,
+    })
+}
+
+fn debug_information(
+    alloc: Global,
+    header: &DebugHeader<'_>,
+    streams: &mut Vec<ModuleStream>,
+) -> Result<DebugInformation, Fault> {
+    let modules = read_modules(alloc, header.modules, streams)?;
+    let section_contributions = read_contributions(alloc, header.section_contributions)?;
+    Ok(DebugInformation {
+        machine_type: Ok(header.machine_type),
+        modules,
+        section_contributions,
+    })
+}
+
+fn section_headers(
+    alloc: Global,
+    container: &mut Container<'_>,
+    header: &DebugHeader<'_>,
+) -> Result<Option<Vec<ImageSectionHeader>>, Fault> {
+    let Some(number) = more_stream(header.more_streams.bytes, SECTIONS) else {
+        return Ok(None);
+    };
+    let stream = container.stream(alloc, u32::from(number))?;
+    Ok(Some(read_sections(alloc, stream.as_slice())?))
+}
+
+// Where the sections are loaded. It can't be told where addresses were rearranged after linking.
+fn address_map(
+    alloc: Global,
+    header: &DebugHeader<'_>,
+    sections: &Result<Option<Vec<ImageSectionHeader>>, StreamError>,
+) -> Result<AddressMap, Fault> {
+    let numbers = header.more_streams.bytes;
+    if more_stream(numbers, REARRANGED_TO).is_some()
+        || more_stream(numbers, REARRANGED_FROM).is_some()
+    {
+        return Err(Fault::Broken(REARRANGED));
+    }
+    match sections {
+        Ok(Some(sections)) => map_addresses(alloc, sections),
+        Ok(None) => Err(Fault::Broken(NO_STREAM)),
+        Err(error) => Err(Fault::Broken(*error)),
+    }
+}
+
+fn global_symbols(
+    alloc: Global,
+    container: &mut Container<'_>,
+    number: u16,
+) -> Result<SymbolTable, Fault> {
+    if number == NO_NUMBER {
+        return Err(Fault::Broken(NO_STREAM));
+    }
+    let stream = container.stream(alloc, u32::from(number))?;
+    read_global_symbols(alloc, stream.as_slice())
+}
+
+fn module_infos(
+    alloc: Global,
+    container: &mut Container<'_>,
+    streams: &[ModuleStream],
+) -> Result<Vec<Result<Option<ModuleInfo>, StreamError>>, Fault> {
+    let mut infos = Vec::with_capacity(alloc, streams.len())?;
+    for place in streams {
+        infos.push(apart(module_info(alloc, container, *place))?)?;
+    }
+    Ok(infos)
+}
+
+// What is known of a module, where it has a stream.
+fn module_info(
+    alloc: Global,
+    container: &mut Container<'_>,
+    place: ModuleStream,
+) -> Result<Option<ModuleInfo>, Fault> {
+    if place.stream == NO_NUMBER {
+        return Ok(None);
+    }
+    let stream = container.stream(alloc, u32::from(place.stream))?;
+    Ok(Some(read_module(alloc, place, stream.as_slice())?))
+}

@@ -1,0 +1,14 @@
+#!/bin/sh
+# Writes what llvm-symbolizer prints of each address of the program's functions into llvm-symbolizer.txt beside
+# this script, and the addresses into ../../stdin. It wants shapes.exe, which build.sh leaves here. No gate
+# runs this.
+set -e
+here=$(cd "$(dirname "$0")" && pwd)
+cd "$here/.."
+llvm-pdbutil dump --symbols shapes.pdb |
+    sed -n 's/.*addr = 0001:\([0-9]*\), code size = \([0-9]*\)$/\1 \2/p' |
+    while read -r offset size; do
+        offset=$(echo "$offset" | sed 's/^0*//')
+        seq $((4096 + ${offset:-0})) $((4096 + ${offset:-0} + size - 1))
+    done | while read -r address; do printf '0x%x\n' "$address"; done > ../stdin
+llvm-symbolizer --obj=program/shapes.exe --relative-address --functions=short < ../stdin > program/llvm-symbolizer.txt

@@ -1,0 +1,57 @@
+//! Tells the functions, files and lines that addresses of a Windows program come from, by its PDB file.
+//!
+//! `pdb_symbolizer [OPTIONS] FILE [ADDRESS...]` prints for each address the functions in whose code it
+//! lies, in the styles of `llvm-symbolizer`. With no address it reads them from standard input, a line
+//! each, and answers each before it reads the next.
+#![tactic(auto)]
+
+mod addresses;
+mod answers;
+mod command_line;
+mod input_files;
+mod json_text;
+mod options;
+mod runs;
+mod stops;
+
+use pdb_addr2line::Error;
+use std::env;
+use std::process::ExitCode;
+use std::rt::Env;
+use stops::Stop;
+
+fn main(rt: HostRuntime) -> ExitCode {
+    let words = match words(&rt) {
+        Ok(words) => words,
+        Err(stop) => return tell(&rt, &stop),
+    };
+    match runs::run(&rt, &words) {
+        Ok(()) => ExitCode::SUCCESS,
+        Err(stop) => tell(&rt, &stop),
+    }
+}
+
+/// The words of the command line.
+fn words<R: Env + AllocGlobal>(rt: &R) -> Result<Vec<String>, Stop<'static>> {
+    let Ok(words) = env::args(rt) else {
+        return Err(Stop::NoText);
+    };
+    match words.collect(rt.alloc()) {
+        Ok(words) => Ok(words),
+        Err(_) => Err(Stop::Refused(Error::OutOfMemory)),
+    }
+}
+
+/// Prints why the program ended early, and gives its status.
+fn tell<R: Print + Eprint>(rt: &R, stop: &Stop<'_>) -> ExitCode {
+    match stop {
+        Stop::Words(error) => {
+            let _ = error.print(rt);
+        }
+        Stop::ClosedPipe => {}
+        _ => {
+            let _ = eprintln!(rt; "{stop}");
+        }
+    }
+    ExitCode::from(stop.status())
+}
