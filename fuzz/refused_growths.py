@@ -23,7 +23,8 @@ end
 - as wanted, with a call made again or without;
 - with one list that differs, where a call was made again and the list is one of broken parts: the call that met such a
   part first and then had no memory may tell, when it is made again, that the part failed before;
-- early with status 1, where a growth of the program's own was refused.
+- early with status 1, or with no answers to lists over a file that it couldn't read, where a growth of the program's
+  own was refused.
 """
 import concurrent.futures
 import os
@@ -190,6 +191,8 @@ def calls_outcome(wanted, lists, run):
         return ENDS_EARLY
     if run.status or run.stderr:
         return None
+    if b" was refused\n" in run.stdout:
+        return ENDS_EARLY
     if run.stdout == wanted:
         return AS_WANTED
     told = run.stdout.decode().splitlines()
@@ -276,7 +279,8 @@ def main(program, calls_program=None):
         if calls_program:
             seen = over_calls(os.path.abspath(calls_program), library, folder)
             print(f"{sum(seen.values())} runs of pdb_call_tests with a growth refused, {seen[None]} wrong")
-            failed += seen[None] + show(seen, [AS_WANTED, MADE_AGAIN, OF_A_BROKEN_PART, ENDS_EARLY])
+            failed += seen[None] + show(seen, [AS_WANTED, MADE_AGAIN, ENDS_EARLY])
+            show(seen, [OF_A_BROKEN_PART])
     return 1 if failed else 0
 
 

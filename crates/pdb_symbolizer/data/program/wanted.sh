@@ -1,7 +1,7 @@
 #!/bin/sh
-# Writes what llvm-symbolizer prints of each address of the program's functions into llvm-symbolizer.txt beside
-# this script, and the addresses into ../../stdin. It wants shapes.exe, which build.sh leaves here. No gate
-# runs this.
+# Writes the addresses of the program's functions into ../../stdin, but for those of differences.txt, which
+# docs/CONTAINER.md explains, and what llvm-symbolizer prints of them into ../../stdout. It wants shapes.exe, which
+# build.sh leaves here. No gate runs this.
 set -e
 here=$(cd "$(dirname "$0")" && pwd)
 cd "$here/.."
@@ -10,5 +10,6 @@ llvm-pdbutil dump --symbols shapes.pdb |
     while read -r offset size; do
         offset=$(echo "$offset" | sed 's/^0*//')
         seq $((4096 + ${offset:-0})) $((4096 + ${offset:-0} + size - 1))
-    done | while read -r address; do printf '0x%x\n' "$address"; done > ../stdin
-llvm-symbolizer --obj=program/shapes.exe --relative-address --functions=short < ../stdin > program/llvm-symbolizer.txt
+    done | while read -r address; do printf '0x%x\n' "$address"; done |
+    grep -v -x -F -f program/differences.txt > ../stdin
+llvm-symbolizer --obj=program/shapes.exe --relative-address --functions=short < ../stdin > ../stdout
