@@ -1,7 +1,7 @@
 #!/usr/bin/env python3
 """Shows that tables are searched, and not that the records are scanned in their place.
 
-Usage: searches.py      in the repository; needs `rt`, and takes some ten minutes
+Usage: searches.py      in the repository; needs `rt`, and takes some four minutes
 
 A body that scans the records and never asks its table would meet the same contract, so no wrong body shows this. In a
 copy of the crates the clause on the value is struck from `Segments::find`, and then from `StackTable::find`. What
