@@ -1,0 +1,166 @@
+-- From how a report ends to the text that a call finds.
+use Rattle.std.proofs.Common.{◌≡◌, ◌∙◌, ℕ, List, [], ◌∷◌, ◌++◌, take, refl, sym, ap, subst, zero, suc}
+use Rattle.std.specs.Prelude.{◌≢◌, Option, Some, Result, Ok, Err, slice_get}
+use Rattle.pdb_records.specs.Records.{Records}
+use Rattle.pdb_types.specs.declared.error.Error.{Error}
+use Rattle.pdb_types.specs.declared.error.Error.TheVariants.{OutOfMemory}
+use Rattle.pdb_types.specs.Outcomes.{and_then, unless}
+use Rattle.pdb_types.specs.Standing.{Infos}
+use Rattle.pdb_addr2line.specs.Sources.{Sources}
+use Rattle.pdb_addr2line.specs.ContextData.{records_refusal, info_at, default_flags, context_of}
+use Rattle.pdb_json_values.specs.Faults.{Fault, IsFaultOf}
+use Rattle.pdb_json_values.specs.declared.faults.RecordFault.{RecordFault}
+use Rattle.pdb_json_values.specs.declared.faults.RecordFault.TheVariants as fault
+use Rattle.pdb_reporting.specs.declared.reports.Command.{Command}
+use Rattle.pdb_reporting.specs.declared.reports.Command.TheVariants.{Names, Frames}
+use Rattle.pdb_reporting.specs.declared.reports.Command.TheVariants as wanted
+use Rattle.pdb_reporting.specs.declared.reports.ReportFault.{ReportFault}
+use Rattle.pdb_reporting.specs.declared.reports.ReportFault.TheVariants.{Lookup, Write}
+use Rattle.pdb_reporting.specs.FileReports.{opened, text_over_records, EndsOverRecords}
+use Rattle.pdb_reporting.specs.Sinks.{SinkState}
+use Rattle.pdb_reporting.specs.Reports.{addresses_text, function_text, stack_text, report_text, TakesText, EndsAt}
+use Rattle.pdb_reporting.specs.Reports.{EndsEarly}
+use Rattle.pdb_c.specs.declared.refusals.Refusal.{Refusal}
+use Rattle.pdb_c.specs.declared.refusals.Refusal.TheVariants as refusal
+use Rattle.pdb_c.specs.Refusals.{refusal_of, refusal_of_fault, refusal_or_memory, refusal_of_records}
+use Rattle.pdb_c.specs.Refusals.{refusal_of_report}
+use Rattle.std.specs.Result.{IsErrAnd}
+use Rattle.pdb_c.specs.Texts.{told, text_over, Agrees}
+
+-- two texts in a row, of which the second has an error wherever a part of it is a text
+joined_refused : (first part rest : Result (List ℕ) Error) (error : Error) (texts : List ℕ)
+    → and_then first (λ a. and_then part (λ b. Ok (a ++ b))) ≡ Ok texts
+    → ((b : List ℕ) → part ≡ Ok b → rest ≡ Err error)
+    → and_then first (λ a. and_then rest (λ b. Ok (a ++ b))) ≡ Err error
+joined_refused (Ok a) (Ok b) rest error texts joined refused = rw (refused b refl) refl
+joined_refused (Ok a) (Err e) rest error texts joined refused = absurd cc
+joined_refused (Err e) part rest error texts joined refused = absurd cc
+
+-- a text that has an error, and whatever follows it
+first_refused : (first : Result (List ℕ) Error) (error : Error) (next : List ℕ → Result (List ℕ) Error)
+    → first ≡ Err error → and_then first next ≡ Err error
+first_refused first error next refused = rw refused refl
+
+-- the first address whose text has an error, behind addresses that all have texts
+text_refused : (text_of : ℕ → Result (List ℕ) Error) (addresses : List ℕ) (done address : ℕ) (error : Error)
+    (texts : List ℕ)
+    → slice_get addresses done ≡ Some address
+    → addresses_text text_of (take done addresses) ≡ Ok texts
+    → text_of address ≡ Err error
+    → addresses_text text_of addresses ≡ Err error
+text_refused f [] done address error texts next taken refused = absurd cc
+text_refused f (x ∷ xs) zero address error texts next taken refused =
+    let same : x ≡ address = cc in
+    first_refused (f x) error _ (ap f same ∙ refused)
+text_refused f (x ∷ xs) (suc n) address error texts next taken refused =
+    joined_refused (f x) (addresses_text f (take n xs)) (addresses_text f xs) error texts taken
+    (λ b is. text_refused f xs n address error b next is refused)
+
+-- a text that a sink took is a text
+taken_text : {A : Type 0} (text : Result (List ℕ) Error) (before after : SinkState)
+    → TakesText text before after → ((b : List ℕ) → text ≡ Ok b → A) → A
+taken_text (Ok b) before after taken next = next b refl
+taken_text (Err e) before after taken next = absurd taken
+
+-- addresses of which one is refused
+addresses_refused : (text_of : ℕ → Result (List ℕ) Error) (addresses : List ℕ) (before after : SinkState)
+    (error : Error) → error ≢ OutOfMemory → EndsAt text_of addresses before after error → addresses_text text_of addresses ≡ Err error
+addresses_refused f addresses before after error other ends =
+    taken_text (addresses_text f (take ends.done addresses)) before after ends.taken
+    (λ b is. text_refused f addresses ends.done ends.address error b ends.next is (ends.refused other))
+
+-- a report that ends early at a look-up, not for want of memory, has that look-up's error for its text
+pub report_refused : {P : Type 0} (info : P → Infos) (sources : Sources P) (command : Command) (addresses : List ℕ)
+    (before after : SinkState) (error : Error)
+    → error ≢ OutOfMemory → EndsEarly info sources [] command addresses before after (Lookup error)
+    → report_text info sources [] command addresses ≡ Err error
+report_refused info sources Names addresses before after error other ends =
+    addresses_refused (function_text info sources) addresses before after error other ends
+report_refused info sources Frames addresses before after error other ends =
+    addresses_refused (stack_text info sources []) addresses before after error other ends
+report_refused info sources wanted.List addresses before after error other ends = absurd (other ends.memory)
+
+-- the text that an empty sink took is what it holds
+pub report_taken : (text : Result (List ℕ) Error) (before after : SinkState) (held : List ℕ)
+    → before.held ≡ Some [] → Some held ≡ after.held → TakesText text before after → text ≡ Ok held
+report_taken (Ok b) before after held empty is taken =
+    let grown = rw empty at taken.held in
+    let same : b ≡ held = cc in
+    ap Ok same
+report_taken (Err e) before after held empty is taken = absurd taken
+
+-- an error that is no want of memory is told as this refusal
+pub is_other : (why : Refusal) (error : Error) → error ≢ OutOfMemory → refusal_or_memory why error ≡ why
+is_other why OutOfMemory other = absurd (other refl)
+is_other why error other = refl
+
+-- an error that is not told as want of memory is none
+pub not_memory : (why : Refusal) (error : Error)
+    → refusal_or_memory why error ≢ refusal.OutOfMemory → error ≢ OutOfMemory
+not_memory why error other is = other (ap (λ e. refusal_or_memory why e) is)
+
+-- what a reader's fault in a file is told as
+pub told_fault : {X : Type 0} (given : RecordFault) (read : Result X Fault)
+    → IsFaultOf given read → refusal_of_fault given ≢ refusal.OutOfMemory
+    → told refusal_of read ≡ Err (refusal_of_fault given)
+told_fault fault.NotJson read is other = rw is refl
+told_fault (fault.ModuleFiles wanted given) read is other = rw is refl
+told_fault (fault.Shape path wanted) read is other = rw is refl
+told_fault (fault.NumberOutOfRange path) read is other = rw is refl
+told_fault (fault.ModuleNotJson path) read is other = rw is refl
+told_fault fault.OutOfMemory read is other = absurd (other refl)
+
+-- records with no context
+pub context_refused : (command : Command) (made : Result (Sources Records) Error) (addresses : List ℕ) (error : Error)
+    → (error ≢ OutOfMemory → made ≡ Err error) → refusal_of_records error ≢ refusal.OutOfMemory
+    → text_over command made addresses ≡ Err (refusal_of_records error)
+context_refused command made addresses error gives other =
+    let no_memory = not_memory refusal.RecordsRefused error other in
+    rw (gives no_memory, is_other refusal.RecordsRefused error no_memory) refl
+
+-- an address that is refused
+pub address_refused : (command : Command) (made : Result (Sources Records) Error) (sources : Sources Records)
+    (addresses : List ℕ) (before after : SinkState) (why : ReportFault)
+    → made ≡ Ok sources
+    → EndsOverRecords sources command addresses before after why
+    → refusal_of_report why ≢ refusal.OutOfMemory
+    → text_over command made addresses ≡ Err (refusal_of_report why)
+address_refused command made sources addresses before after (Lookup error) is ends other =
+    let no_memory = not_memory refusal.AddressRefused error other in
+    let info : Records → Infos = λ records index m. info_at records index in
+    let refusal_at : Refusal → Result (List ℕ) Refusal = λ why. Err why in
+    let tell : Result (List ℕ) Error → Result (List ℕ) Refusal = told (λ e. refusal.AddressRefused) in
+    let text : text_over_records sources command addresses ≡ Err error =
+    report_refused info sources command addresses before after error no_memory ends in
+    let over : text_over command made addresses ≡ tell (text_over_records sources command addresses) =
+    ap (λ m. text_over command m addresses) is in
+    over ∙ (ap tell text ∙ ap refusal_at (sym (is_other refusal.AddressRefused error no_memory)))
+address_refused command made sources addresses before after Write is ends other = absurd (other refl)
+
+-- a text that was gathered whole, by a sink that was empty
+pub text_gathered : (command : Command) (made : Result (Sources Records) Error) (sources : Sources Records)
+    (addresses : List ℕ) (before after start : SinkState) (held : List ℕ)
+    → made ≡ Ok sources → before ≡ start → start.held ≡ Some [] → Some held ≡ after.held
+    → TakesText (text_over_records sources command addresses) before after
+    → text_over command made addresses ≡ Ok held
+text_gathered command made sources addresses before after start held is starts empty holds taken =
+    let held_of : SinkState → Option (List ℕ) = λ s. s.held in
+    let tell : Result (List ℕ) Error → Result (List ℕ) Refusal = told (λ e. refusal.AddressRefused) in
+    let text : text_over_records sources command addresses ≡ Ok held =
+    report_taken (text_over_records sources command addresses) before after held (ap held_of starts ∙ empty)
+    holds taken in
+    let over : text_over command made addresses ≡ tell (text_over_records sources command addresses) =
+    ap (λ m. text_over command m addresses) is in
+    over ∙ ap tell text
+
+-- records of which a stream failed have no context
+pub stream_failed : (records : Records) (error : Error)
+    → records_refusal records ≡ Some error → opened records ≡ Err error
+stream_failed records error refused = ap (λ r. unless r (context_of default_flags records)) refused
+
+-- a call that ends with what an error is told as
+pub tells : {A B : Type 0} (seen : A → B) (r : Result A Refusal) (why : Refusal) (definition : Result B Refusal)
+    → IsErrAnd r (λ given. given ≡ why) → (why ≢ refusal.OutOfMemory → definition ≡ Err why) → Agrees seen r definition
+tells seen (Ok a) why definition is at_why = absurd is
+tells seen (Err given) why definition is at_why =
+    subst (λ w. w ≢ refusal.OutOfMemory → definition ≡ Err w) (sym is) at_why

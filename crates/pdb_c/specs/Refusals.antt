@@ -1,0 +1,55 @@
+-- Why a call writes no text, and the numbers that stand for it.
+use Rattle.std.specs.Prelude.{ℤ, pos, neg_ℤ}
+use Rattle.pdb_types.specs.declared.error.Error.{Error}
+use Rattle.pdb_types.specs.declared.error.Error.TheVariants as error
+use Rattle.pdb_json_values.specs.declared.faults.RecordFault.{RecordFault}
+use Rattle.pdb_json_values.specs.declared.faults.RecordFault.TheVariants as fault
+use Rattle.pdb_json_values.specs.Faults.{Fault, not_json, module_files, shape, out_of_range, module_not_json}
+use Rattle.pdb_reporting.specs.declared.reports.ReportFault.{ReportFault}
+use Rattle.pdb_reporting.specs.declared.reports.ReportFault.TheVariants.{Lookup, Write}
+use Rattle.pdb_c.specs.declared.refusals.Refusal.{Refusal}
+use Rattle.pdb_c.specs.declared.refusals.Refusal.TheVariants.{NoAddresses, NotJson, NoRecords, ModuleFiles}
+use Rattle.pdb_c.specs.declared.refusals.Refusal.TheVariants.{RecordsRefused, AddressRefused}
+use Rattle.pdb_c.specs.declared.refusals.Refusal.TheVariants.{OutOfMemory, BufferTooSmall}
+
+-- the number that a call answers for a refusal
+abbrev pub code : Refusal → ℤ
+code NoAddresses = neg_ℤ (pos 2)
+code NotJson = neg_ℤ (pos 3)
+code NoRecords = neg_ℤ (pos 4)
+code ModuleFiles = neg_ℤ (pos 5)
+code RecordsRefused = neg_ℤ (pos 6)
+code AddressRefused = neg_ℤ (pos 7)
+code OutOfMemory = neg_ℤ (pos 8)
+code BufferTooSmall = neg_ℤ (pos 9)
+
+-- what a fault in a records file is told as
+abbrev pub refusal_of : Fault → Refusal
+refusal_of not_json = NotJson
+refusal_of (module_files wanted given) = ModuleFiles
+refusal_of (shape path wanted) = NoRecords
+refusal_of (out_of_range path) = NoRecords
+refusal_of (module_not_json path) = NoRecords
+
+-- what a reader's fault is told as
+abbrev pub refusal_of_fault : RecordFault → Refusal
+refusal_of_fault fault.NotJson = NotJson
+refusal_of_fault (fault.ModuleFiles wanted given) = ModuleFiles
+refusal_of_fault (fault.Shape path wanted) = NoRecords
+refusal_of_fault (fault.NumberOutOfRange path) = NoRecords
+refusal_of_fault (fault.ModuleNotJson path) = NoRecords
+refusal_of_fault fault.OutOfMemory = OutOfMemory
+
+-- this error, but for want of memory, which is told as itself
+abbrev pub refusal_or_memory : Refusal → Error → Refusal
+refusal_or_memory refusal error.OutOfMemory = OutOfMemory
+refusal_or_memory refusal other = refusal
+
+-- what an error is told as where the records have no context
+abbrev pub refusal_of_records : Error → Refusal
+refusal_of_records error = refusal_or_memory RecordsRefused error
+
+-- what is told of a report that ends early, whose text is gathered in memory
+abbrev pub refusal_of_report : ReportFault → Refusal
+refusal_of_report (Lookup error) = refusal_or_memory AddressRefused error
+refusal_of_report Write = OutOfMemory

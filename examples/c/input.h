@@ -1,0 +1,69 @@
+/* What the examples read: a file, the addresses of a command line, and a refusal's name. */
+#ifndef INPUT_H
+#define INPUT_H
+
+#include <errno.h>
+#include <stdio.h>
+#include <stdlib.h>
+
+#include "limberlime.h"
+
+static inline const char *refusal_name(int64_t refusal)
+{
+    switch (refusal) {
+    case LIMBERLIME_NULL_POINTER: return "null pointer";
+    case LIMBERLIME_NO_ADDRESSES: return "no addresses";
+    case LIMBERLIME_NOT_JSON: return "not a JSON text";
+    case LIMBERLIME_NO_RECORDS: return "no records";
+    case LIMBERLIME_MODULE_FILES: return "module files";
+    case LIMBERLIME_RECORDS_REFUSED: return "records refused";
+    case LIMBERLIME_ADDRESS_REFUSED: return "address refused";
+    case LIMBERLIME_OUT_OF_MEMORY: return "out of memory";
+    case LIMBERLIME_BUFFER_TOO_SMALL: return "buffer too small";
+    default: return "unknown refusal";
+    }
+}
+
+/* The whole file at a path, which the caller frees, or null. It is never null for an empty file. */
+static inline uint8_t *read_file(const char *path, size_t *length)
+{
+    FILE *file = fopen(path, "rb");
+    uint8_t *bytes = NULL;
+    size_t capacity = 0;
+    *length = 0;
+    if (file == NULL)
+        return NULL;
+    do {
+        capacity = capacity == 0 ? 65536 : 2 * capacity;
+        uint8_t *more = realloc(bytes, capacity);
+        if (more == NULL)
+            break;
+        bytes = more;
+        *length += fread(bytes + *length, 1, capacity - *length, file);
+    } while (*length == capacity);
+    if (*length == capacity || ferror(file)) {
+        free(bytes);
+        bytes = NULL;
+    }
+    fclose(file);
+    return bytes;
+}
+
+/* The addresses that words spell in hexadecimal digits, which the caller frees, or null. */
+static inline uint32_t *read_addresses(char **words, size_t count)
+{
+    uint32_t *addresses = malloc((count + 1) * sizeof *addresses);
+    for (size_t i = 0; addresses != NULL && i < count; i++) {
+        char *end;
+        errno = 0;
+        unsigned long long address = strtoull(words[i], &end, 16);
+        if (errno != 0 || *end != '\0' || end == words[i] || address > UINT32_MAX) {
+            free(addresses);
+            return NULL;
+        }
+        addresses[i] = (uint32_t)address;
+    }
+    return addresses;
+}
+
+#endif

@@ -1,0 +1,146 @@
+/* Asks the library for what it refuses, and sees that each refusal is told by its number, with the buffer as it was.
+ *
+ *     refusals RECORDS FAILING_PARTS
+ *
+ * They are small_x64.json and failing_parts.json of crates/pdb_tests/data. The status is 1 where an answer is another
+ * than is wanted.
+ */
+#include <string.h>
+
+#include "input.h"
+
+#define CAPACITY 4096
+#define UNTOUCHED 0xAA
+
+static uint8_t buffer[CAPACITY];
+static const uint32_t addresses[2] = {0x1544, 0x2b45};
+static int failures;
+
+/* Sees that the buffer holds nothing but what stood in it from `from` on. */
+static int untouched(size_t from)
+{
+    for (size_t i = from; i < CAPACITY; i++)
+        if (buffer[i] != UNTOUCHED)
+            return 0;
+    return 1;
+}
+
+/* What a call answered, and where it put the wanted length, which is read here, behind the call. */
+static void expect(const char *what, int64_t answer, int64_t wanted_answer, const size_t *length, size_t wanted_length)
+{
+    size_t written = answer > 0 ? (size_t)answer : 0;
+    if (answer != wanted_answer || *length != wanted_length || !untouched(written)) {
+        printf("%s: answered %lld, wanted %lld; length %zu, wanted %zu; %s behind\n", what, (long long)answer,
+               (long long)wanted_answer, *length, wanted_length, untouched(written) ? "untouched" : "WRITTEN");
+        failures++;
+    }
+    memset(buffer, UNTOUCHED, CAPACITY);
+}
+
+/* The answer to a text in place of the records. */
+static void expect_text(const char *text, int64_t wanted_answer)
+{
+    size_t wanted = 7;
+    int64_t answer = limberlime_frames((const uint8_t *)text, strlen(text), addresses, 2, buffer, CAPACITY, &wanted);
+    expect(text, answer, wanted_answer, &wanted, 0);
+    wanted = 7;
+    answer = limberlime_names((const uint8_t *)text, strlen(text), addresses, 2, buffer, CAPACITY, &wanted);
+    expect(text, answer, wanted_answer, &wanted, 0);
+}
+
+#define STREAMS \
+    "\"sections\":[{\"virtual_address\":4096,\"virtual_size\":256,\"execute\":true}]," \
+    "\"address_map\":[{\"virtual_address\":4096,\"virtual_size\":256}],\"global_symbols\":[]," \
+    "\"type_information\":[],\"id_information\":[],\"string_table\":[],"
+#define ONE_MODULE(CONTRIBUTIONS) \
+    "\"debug_information\":{\"machine_type\":\"Amd64\",\"modules\":[{\"name\":\"a\"},{\"name\":\"b\"}]," \
+    "\"section_contributions\":[" CONTRIBUTIONS "]},"
+
+static void refused_texts(void)
+{
+    expect_text("", LIMBERLIME_NOT_JSON);
+    expect_text("{", LIMBERLIME_NOT_JSON);
+    expect_text("{}", LIMBERLIME_NO_RECORDS);
+    expect_text("[]", LIMBERLIME_NO_RECORDS);
+    expect_text("{" STREAMS ONE_MODULE("{\"section\":1,\"offset\":0,\"size\":4294967296,\"module\":0}")
+                "\"module_infos\":[]}", LIMBERLIME_NO_RECORDS);
+    expect_text("{\"version\":2," STREAMS ONE_MODULE("") "\"module_infos\":[{\"file\":\"a.json\"}]}",
+                LIMBERLIME_MODULE_FILES);
+    expect_text("{" STREAMS ONE_MODULE("{\"section\":1,\"offset\":0,\"size\":8,\"module\":0},"
+                                       "{\"section\":1,\"offset\":4,\"size\":8,\"module\":1}")
+                "\"module_infos\":[]}", LIMBERLIME_RECORDS_REFUSED);
+}
+
+static void refused_pointers(const uint8_t *records, size_t length)
+{
+    size_t wanted = 7;
+    expect("null records", limberlime_frames(NULL, length, addresses, 2, buffer, CAPACITY, &wanted),
+           LIMBERLIME_NULL_POINTER, &wanted, 7);
+    expect("null records, length 0", limberlime_frames(NULL, 0, addresses, 2, buffer, CAPACITY, &wanted),
+           LIMBERLIME_NULL_POINTER, &wanted, 7);
+    expect("null addresses", limberlime_frames(records, length, NULL, 2, buffer, CAPACITY, &wanted),
+           LIMBERLIME_NULL_POINTER, &wanted, 7);
+    expect("null addresses, count 0", limberlime_names(records, length, NULL, 0, buffer, CAPACITY, &wanted),
+           LIMBERLIME_NULL_POINTER, &wanted, 7);
+    expect("null buffer", limberlime_frames(records, length, addresses, 2, NULL, CAPACITY, &wanted),
+           LIMBERLIME_NULL_POINTER, &wanted, 7);
+    expect("null buffer, capacity 0", limberlime_names(records, length, addresses, 2, NULL, 0, &wanted),
+           LIMBERLIME_NULL_POINTER, &wanted, 7);
+    expect("null length", limberlime_names(records, length, addresses, 2, buffer, CAPACITY, NULL),
+           LIMBERLIME_NULL_POINTER, &wanted, 7);
+    expect("all null", limberlime_names(NULL, 0, NULL, 0, NULL, 0, NULL), LIMBERLIME_NULL_POINTER, &wanted, 7);
+}
+
+static void refused_lengths(const uint8_t *records, size_t length)
+{
+    size_t whole = 0, wanted = 7;
+    int64_t answer = limberlime_frames(records, length, addresses, 2, buffer, CAPACITY, &whole);
+    expect("a buffer that is large enough", answer, (int64_t)whole, &whole, whole);
+    if (answer <= 0) {
+        printf("no text to go by: %lld\n", (long long)answer);
+        failures++;
+        return;
+    }
+    expect("no addresses", limberlime_frames(records, length, addresses, 0, buffer, CAPACITY, &wanted),
+           LIMBERLIME_NO_ADDRESSES, &wanted, 0);
+    expect("no bytes", limberlime_frames(records, 0, addresses, 2, buffer, CAPACITY, &wanted),
+           LIMBERLIME_NOT_JSON, &wanted, 0);
+    expect("records cut off", limberlime_frames(records, length / 2, addresses, 2, buffer, CAPACITY, &wanted),
+           LIMBERLIME_NOT_JSON, &wanted, 0);
+    answer = limberlime_frames(records, length, addresses, 2, buffer, 0, &wanted);
+    expect("a buffer of no bytes", answer, LIMBERLIME_BUFFER_TOO_SMALL, &wanted, whole);
+    answer = limberlime_frames(records, length, addresses, 2, buffer, whole - 1, &wanted);
+    expect("a buffer that is short by one byte", answer, LIMBERLIME_BUFFER_TOO_SMALL, &wanted, whole);
+    answer = limberlime_frames(records, length, addresses, 2, buffer, whole, &wanted);
+    expect("a buffer of the very length", answer, (int64_t)whole, &wanted, whole);
+}
+
+/* One of two addresses is refused, since its module has a broken list of inlined functions. Of the other nothing is
+ * written. */
+static void refused_address(const uint8_t *records, size_t length)
+{
+    static const uint32_t asked[] = {0x10c4, 0x1024};
+    size_t wanted = 7;
+    int64_t answer = limberlime_frames(records, length, asked, 2, buffer, CAPACITY, &wanted);
+    expect("an address that is refused", answer, LIMBERLIME_ADDRESS_REFUSED, &wanted, 0);
+}
+
+int main(int argc, char **argv)
+{
+    size_t length, failing_length;
+    uint8_t *records = argc == 3 ? read_file(argv[1], &length) : NULL;
+    uint8_t *failing = argc == 3 ? read_file(argv[2], &failing_length) : NULL;
+    if (records == NULL || failing == NULL) {
+        fprintf(stderr, "usage: refusals RECORDS FAILING_PARTS\n");
+        return 2;
+    }
+    memset(buffer, UNTOUCHED, CAPACITY);
+    refused_texts();
+    refused_pointers(records, length);
+    refused_lengths(records, length);
+    refused_address(failing, failing_length);
+    free(records);
+    free(failing);
+    printf("refusals: %d answers are others than wanted\n", failures);
+    return failures == 0 ? 0 : 1;
+}

@@ -1,0 +1,50 @@
+#!/bin/sh
+# Builds the static library and the examples of C and Rust, and compares what they print with pdb_report's.
+#
+# Usage: examples/run.sh [FOLDER [PROGRAM]]
+#
+# The examples are left in FOLDER, which is else a new one that is removed at the end. PROGRAM is a built pdb_report;
+# else it is built here. Wanted are gcc, rustc and rt.
+set -eu
+
+top=$(cd "$(dirname "$0")/.." && pwd)
+kit=$(dirname "$(rt doc)")
+folder=${1:-$(mktemp -d)}
+[ $# -gt 0 ] || trap 'rm -rf "$folder"' EXIT
+mkdir -p "$folder"
+folder=$(cd "$folder" && pwd)
+
+(cd "$top/crates/pdb_c" && rt lib)
+program=${2:-$top/crates/pdb_report/out/pdb_report}
+[ $# -gt 1 ] || (cd "$top/crates/pdb_report" && rt run -- "$top/crates/pdb_report/data/a.json" list) >/dev/null
+
+library="$top/crates/pdb_c/out/libpdb_c.a"
+for name in report refusals; do
+    gcc -std=c11 -O2 -Wall -Wextra -Werror -I "$top/include" -o "$folder/${name}_c" \
+        "$top/examples/c/$name.c" "$library" "$kit/c/liblibc_c.a"
+done
+rustc --edition 2021 -O -o "$folder/report_rust" "$top/examples/rust/report.rs" \
+    -C link-arg="$library" -C link-arg="$kit/c/liblibc_c.a"
+
+records="$top/crates/pdb_tests/data/small_x64.json"
+"$folder/refusals_c" "$records" "$top/crates/pdb_tests/data/failing_parts.json"
+failed=0
+
+# Compares what an example prints with what pdb_report printed.
+compare() {
+    "$@" >"$folder/printed"
+    cmp -s "$folder/wanted" "$folder/printed" && return
+    echo "$1 prints something else than pdb_report"
+    failed=1
+}
+
+# shellcheck disable=SC2046
+set -- 1544 2b45 6011 1000 ffffffff $(seq 4096 7 25000 | xargs printf '0x%x ')
+for command in frames names; do
+    "$program" "$records" "$command" "$@" >"$folder/wanted"
+    for example in report_c report_rust; do
+        compare "$folder/$example" "$records" "$command" "$@"
+    done
+done
+[ "$failed" = 0 ] && echo "examples: C and Rust print what pdb_report prints of $# addresses"
+exit "$failed"
