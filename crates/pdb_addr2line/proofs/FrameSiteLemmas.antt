@@ -96,7 +96,7 @@ nested_frames : (strings : Strings) (name_of : IdIndex → Option (List ℕ)) (n
     → function_frames strings name_of name (Some info) (found_procedure m p) x ≡ Ok frames
     → IsSoleOver (inlinee_ids info.inlinees.items) (sites_of info p) x
     → slice_get (reverse frames) (level + 1) ≡ Some frame → slice_get (reverse frames) (level + 2) ≡ Some under
-    → AreNestedFrames strings name_of info p x frame under
+    → AreNestedFrames strings name_of info p x level frame under
 nested_frames strings name_of name info m p x frames level frame under is sole first second =
     let here = and_then-ok (origin info (found_procedure m p) x) _ frames is in
     let o = here.0 in
@@ -117,6 +117,8 @@ nested_frames strings name_of name info m p x frames level frame under is sole f
     record {
       outer = outer.0;
       inner = inner.0;
+      outer_level = outer.3;
+      inner_level = inner.3;
       has_outer = outer.1;
       has_inner = inner.1;
       of_outer = record {
@@ -145,7 +147,7 @@ pub frames_nested : {P : Type 0} (infos : P → Infos) (s : Sources P) (address 
     → records_of infos s (found_procedure m p) ≡ Some info → frames_at infos s address ≡ Ok (Some told)
     → IsSoleOver (inlinee_ids info.inlinees.items) (sites_of info p) place.offset
     → slice_get (reverse told.frames) (level + 1) ≡ Some frame → slice_get (reverse told.frames) (level + 2) ≡ Some under
-    → AreNestedFrames s.strings (id_name infos s.basis m) info p place.offset frame under
+    → AreNestedFrames s.strings (id_name infos s.basis m) info p place.offset level frame under
 frames_nested infos s address place m p info told level frame under lies over records answered sole first second =
     let is = told_at infos s address place (found_procedure m p) told lies over answered in
     nested_frames s.strings (id_name infos s.basis m) (function_name infos s.basis (global_functions_of s) (found_procedure m p))

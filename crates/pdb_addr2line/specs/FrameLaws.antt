@@ -1,5 +1,5 @@
 -- What follows from the definition of frames.
-use Rattle.std.specs.Prelude.{◌≡◌, ℕ, List, [], ◌∷◌, ◌++◌, Option, Some, None, Ok, Contains, IsTrue}
+use Rattle.std.specs.Prelude.{◌≡◌, ℕ, ◌+◌, List, [], ◌∷◌, ◌++◌, Option, Some, None, Ok, Contains, IsTrue}
 use Rattle.pdb_records.specs.LinePrograms.{Lines}
 use Rattle.pdb_records.specs.declared.ids.IdIndex.{IdIndex}
 use Rattle.pdb_records.specs.declared.modules.ModuleInfo.{ModuleInfo}
@@ -49,11 +49,14 @@ pub record IsFrameOf (strings : Strings) (name_of : IdIndex → Option (List ℕ
   pub read : info.line_program ≡ Ok program
   pub told : frame ≡ inlined_frame strings program (name_of range.inlinee) range
 
--- two frames are of two sites of a procedure, and that of the second lies directly inside that of the first
+-- two frames are of two sites of a procedure, the first of a site of this level, and the second of one a level deeper,
+-- which lies directly inside that of the first
 pub record AreNestedFrames (strings : Strings) (name_of : IdIndex → Option (List ℕ)) (info : ModuleInfo)
-    (p : ModuleProcedure) (x : ℕ) (frame under : FrameDescription) : Type 0 where
+    (p : ModuleProcedure) (x level : ℕ) (frame under : FrameDescription) : Type 0 where
   pub outer : Site
   pub inner : Site
+  pub outer_level : depth outer ≡ level
+  pub inner_level : depth inner ≡ level + 1
   pub has_outer : Contains (sites_of info p) outer
   pub has_inner : Contains (sites_of info p) inner
   pub of_outer : IsFrameOf strings name_of info p x outer frame

@@ -20,6 +20,13 @@ ghost use Rattle.pdb_descriptions.specs.Names.{function_name, id_name};
 ghost use Rattle.pdb_addr2line.specs.Sources.{Sources, ContextState, global_functions_of};
 
 pub use crate::function_laws::{start_addresses_are_all_starts, start_addresses_ascend};
+pub use pdb_documents::laws::{
+    a_scope_that_repeats_is_circular, an_index_inside_itself_is_circular,
+    every_id_has_one_unfolding, every_signature_has_one_unfolding, every_type_has_one_unfolding,
+    siblings_may_repeat, text_does_not_depend_on_failed_parts,
+    the_document_of_a_signature_is_what_it_unfolds_to,
+    the_document_of_an_id_is_what_it_unfolds_to,
+};
 pub use pdb_functions::laws::{
     contributions_are_refused_for, contributions_in_reading_order_stay,
     first_global_function_of_each_start_is_kept, first_procedure_of_each_start_is_kept,
@@ -31,14 +38,28 @@ pub use pdb_inline::laws::{
     added_ranges_are_of_maximal_runs, ranges_cover_deeper_sites, ranges_lie_in_ranges_above,
     stacks_have_all_levels, stacks_lie_directly_inside, well_nested_sites_are_inside_by_position,
 };
+pub use pdb_laws::blame::the_part_to_blame_has_the_error;
+pub use pdb_laws::circles::{
+    ids_are_circular_exactly_where_an_index_repeats,
+    signatures_are_circular_exactly_where_an_index_repeats,
+    types_are_circular_exactly_where_an_index_repeats,
+};
+pub use pdb_laws::picks::{
+    global_function_starts_last, inlined_bodies_start_last, line_row_starts_last,
+};
+pub use pdb_laws::refusals::{ids_are_refused_for, signatures_are_refused_for};
 pub use pdb_ranges::laws::{
-    missing_runs_hold_what_is_missing, runs_are_determined, runs_of_ranges_hold_their_numbers,
+    last_painted_gives_the_value, missing_runs_hold_what_is_missing, runs_are_determined,
+    runs_of_ranges_hold_their_numbers,
 };
 pub use pdb_records::laws::{
     hash_of_indices_agrees_with_equality, order_of_indices_agrees_with_equality,
 };
-pub use pdb_signatures::laws::text_does_not_depend_on_failed_parts;
 use pdb_types::ModuleProvider;
+pub use pdb_types::laws::{
+    chains_that_end_have_the_size_at_their_end, chains_that_never_end_have_no_size,
+    chains_that_repeat_have_no_size,
+};
 
 /// Where frames are told, there is at least one, and the last is that of the function over the address.
 pub fn frames_end_in_the_function<P: ModuleProvider>()
@@ -69,8 +90,8 @@ pub fn functions_and_frames_agree<P: ModuleProvider>()
 {}
 
 /// Where for each depth one inline site of a procedure alone has ranges over an address, the site of each
-/// frame lies directly inside that of the next outer one. Frames are counted from outside here, those of
-/// inlined bodies from 1 on.
+/// frame lies directly inside that of the next outer one, and is as deep as the frame's level. Frames are
+/// counted from outside here, those of inlined bodies from 1 on.
 pub fn frames_lie_directly_inside<P: ModuleProvider>()
     ensures { (s : Sources P) (address : ℕ) (place : PdbInternalSectionOffset) (position : ℕ) (p : ModuleProcedure)
         (info : ModuleInfo) (told : FramesDescription) (level : ℕ) (frame under : FrameDescription)
@@ -81,7 +102,7 @@ pub fn frames_lie_directly_inside<P: ModuleProvider>()
         → IsSoleOver (inlinee_ids info.inlinees.items) (sites_of info p) place.offset
         → slice_get (reverse told.frames) (level + 1) ≡ Some frame
         → slice_get (reverse told.frames) (level + 2) ≡ Some under
-        → AreNestedFrames s.strings (id_name P.info s.basis position) info p place.offset frame under }
+        → AreNestedFrames s.strings (id_name P.info s.basis position) info p place.offset level frame under }
 {}
 
 /// Which parts of the records failed before changes no answer but an error: in any list of calls, an answer is

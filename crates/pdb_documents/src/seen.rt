@@ -124,6 +124,7 @@ impl<'a> Seen<'a> {
         ensures added { OnOk result ((q : ℕ) → has self.new.set.now q ≡ (has self.old.set.now q || q == index.0)) }
         ensures absent { OnOk result (has self.old.set.now index.0 ≡ false) }
         ensures refused { IfErr result (λ e. IsRefusal e index (has self.old.set.now index.0)) }
+        ensures forgotten { OnErr result (self.new.inserted.items ≡ self.old.inserted.items) }
         ensures unchanged { OnErr result ((q : ℕ) → has self.new.set.now q ≡ has self.old.set.now q) }
         // Whatever the result is, what stood before the level stays.
         ensures remembered { OnOk result (self.new.inserted.items ≡ self.old.inserted.items ++ index ∷ []) }
@@ -160,6 +161,7 @@ impl<'a> Seen<'a> {
     pub fn insert_one(&mut self, index: TypeIndex) -> Result<Seen<'_>, SeenError>
         ensures added { IfOk result (λ level. (q : ℕ)
             → has level.set.now q ≡ (has self.entry.now.set.now q || q == index.0)) }
+        ensures absent { OnOk result (has self.entry.now.set.now index.0 ≡ false) }
         ensures one { IfOk result (λ level. level.inserted.items ≡ index ∷ []) }
         ensures refused { IfErr result (λ e. IsRefusal e index (has self.entry.now.set.now index.0)) }
     {

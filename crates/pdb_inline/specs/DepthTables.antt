@@ -1,5 +1,5 @@
 -- Tables of which range is picked at each depth, by its position.
-use Rattle.std.specs.Prelude.{ℕ, zero, suc, ◌+◌, List, [], ◌∷◌, Option, Some, None, map}
+use Rattle.std.specs.Prelude.{ℕ, zero, suc, ◌+◌, List, [], ◌∷◌, Option, Some, None, length, map}
 use Rattle.std.specs.Global.{Vec}
 use Rattle.pdb_ranges.specs.declared.segment.Segment.{Segment}
 use Rattle.pdb_ranges.specs.Segments.{value_at}
@@ -27,6 +27,11 @@ with_outer_position (Some position) inner = position ∷ inner
 abbrev pub up_to_gap : List (Option ℕ) → List ℕ
 up_to_gap [] = []
 up_to_gap (position ∷ positions) = with_outer_position position (up_to_gap positions)
+
+-- the positions of the inlined bodies over a number, the outermost first: at each depth that of the range that is
+-- picked, which of equal ranges is the first of the list
+abbrev pub inline_positions : List InlineRange → ℕ → List ℕ
+inline_positions ranges x = up_to_gap (picked_positions ranges x (length ranges) 0)
 
 -- the positions that the tables have for a number, up to the first table that has none
 abbrev pub positions_in : List (List (Segment ℕ)) → ℕ → List ℕ

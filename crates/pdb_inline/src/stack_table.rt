@@ -1,7 +1,7 @@
 ghost use Rattle.std.specs.Prelude.{◌≡◌, ℕ, ◌+◌, ◌*◌, ◌≤◌, [], length, IfOk, OnOk, if◌then◌else◌};
 ghost use Rattle.pdb_ranges.specs.Probes.{digits};
 ghost use Rattle.pdb_ranges.specs.RangeSet.{is_within};
-ghost use Rattle.pdb_inline.specs.DepthTables.{positions_in};
+ghost use Rattle.pdb_inline.specs.DepthTables.{positions_in, inline_positions};
 ghost use Rattle.pdb_inline.specs.RangeBounds.{ChangesAt};
 ghost use Rattle.pdb_inline.specs.StackTable.{stack_over, HasStacks};
 
@@ -37,7 +37,7 @@ impl Model for StackTable {
 }
 
 impl StackTable {
-    /// The table of a list of ranges, in whatever order they stand.
+    /// The table of a list of ranges, in whatever order they stand. Of equal ranges it has the position of the first.
     ///
     /// Its time grows with (n + s) log n for n ranges and stacks of s positions in all. For ranges that nest in one
     /// another s may grow with the square of n; [`ProcedureStacks`](crate::ProcedureStacks) has a bound on it.
@@ -47,6 +47,7 @@ impl StackTable {
     /// [`AllocError`] alone.
     pub fn new(alloc: Global, ranges: &[InlineRange]) -> Result<Self, AllocError>
         ensures stacks { IfOk result (λ table. HasStacks ranges.now table) }
+        ensures positions { IfOk result (λ table. (x : ℕ) → stack_over table x ≡ inline_positions ranges.now x) }
         ensures at_most_four_each { IfOk result (λ table. length table ≤ 4 * length ranges.now) }
     {
         let tables = depth_tables(alloc, ranges)?;

@@ -1,2 +1,3 @@
 pub mod JsonLemmas
 pub mod FirstVersionLemmas
+pub mod MemberLemmas

@@ -8,3 +8,4 @@ pub mod ModuleFiles
 pub mod ModuleInfos
 pub mod RecordsFile
 pub mod FirstVersion
+pub mod MemberLaws

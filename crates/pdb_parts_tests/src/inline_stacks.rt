@@ -45,6 +45,9 @@ static OVER_EQUAL_STARTS: [Over<'static>; 4] = [
     (0x30, &[2]),
 ];
 
+/// A range, and in it two that are equal.
+static EQUAL: [Range; 3] = [(0x10, 0x40, 0), (0x18, 0x30, 1), (0x18, 0x30, 1)];
+
 /// What is over offsets where there are no ranges.
 static OVER_NOTHING: [Over<'static>; 3] = [(0, &[]), (1, &[]), (u64::MAX, &[])];
 
@@ -168,6 +171,22 @@ fn finds_positions_at_several_offsets(rt: HostRuntime) {
 #[test]
 fn takes_the_first_of_equal_starts(rt: HostRuntime) {
     assert!(rt; all_find(rt.alloc(), &EQUAL_STARTS, &OVER_EQUAL_STARTS));
+}
+
+/// Ranges of one id, so that those with the same bounds and depth are equal.
+fn ranges_of_one_id(alloc: Global, shown: &[Range]) -> Result<Vec<InlineRange>, AllocError> {
+    let mut ranges = ranges_of(alloc, shown)?;
+    for range in &mut ranges {
+        range.inlinee = IdIndex(0);
+    }
+    Ok(ranges)
+}
+
+#[test]
+fn has_the_position_of_the_first_of_equal_ranges(rt: HostRuntime) -> Result<(), AllocError> {
+    let ranges = ranges_of_one_id(rt.alloc(), &EQUAL)?;
+    assert!(rt; table_finds(rt.alloc(), &ranges, 0x20, &[0, 1]));
+    Ok(())
 }
 
 #[test]

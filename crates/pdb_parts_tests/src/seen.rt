@@ -29,6 +29,11 @@ fn is_inner_level(level: &mut Seen<'_>) -> bool {
     has_numbers_below(level.set, 4) && holds_empty_level(level) && has_numbers_below(level.set, 4)
 }
 
+/// Whether no level is entered with a number, and none is taken out by that.
+fn refuses_level(seen: &mut Seen<'_>, index: TypeIndex) -> bool {
+    seen.insert_one(index).is_err()
+}
+
 /// Whether a level is entered with the number 3.
 fn holds_inner_level(seen: &mut Seen<'_>) -> bool {
     match seen.insert_one(TypeIndex(3)) {
@@ -40,6 +45,9 @@ fn holds_inner_level(seen: &mut Seen<'_>) -> bool {
 /// Whether the level of the number 1 takes in another number, and is as before when two levels were inside.
 fn is_outer_level(level: &mut Seen<'_>) -> bool {
     level.insert(TypeIndex(0)).is_err()
+        && refuses_level(level, TypeIndex(0))
+        && refuses_level(level, TypeIndex(1))
+        && has_numbers_below(level.set, 2)
         && level.insert(TypeIndex(2)).is_ok()
         && has_numbers_below(level.set, 3)
         && holds_inner_level(level)

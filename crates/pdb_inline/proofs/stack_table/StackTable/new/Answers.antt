@@ -22,6 +22,10 @@ returns-clause-stacks c = λ x.
     rw c.deref.ensures.value (ap up_to_gap (c.in_ok-tables.ensures x)) in
     rw (c.in_ok-table.ensures.stacks x, values) (positions_are ranges x)
 
+pub returns-clause-positions : goal.returns-clause-positions
+returns-clause-positions c = λ x.
+    rw (c.in_ok-table.ensures.stacks x, c.deref.ensures.value) (ap up_to_gap (c.in_ok-tables.ensures x))
+
 pub returns-clause-at_most_four_each : goal.returns-clause-at_most_four_each
 returns-clause-at_most_four_each c =
     let count : length c.deref-2.result.now ≡ 2 * length c.args.ranges.now =
