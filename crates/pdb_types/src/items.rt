@@ -3,7 +3,7 @@ ghost use Rattle.std.specs.Prelude.{OnErr, take, length, None, Some, option_map}
 ghost use Rattle.std.specs.Option.{option_copied, option_or};
 ghost use Rattle.std.specs.BTreeMap.{get};
 ghost use Rattle.std.specs.Ordering.{nat_cmp};
-ghost use Rattle.pdb_types.specs.Items.{Knows, first_item, item_of, missing};
+ghost use Rattle.pdb_types.specs.Items.{Knows, first_item, item_of, absence};
 ghost use Rattle.pdb_types.specs.Outcomes.{Gives};
 
 use crate::ascending::{Numbered, find_in_beginning};
@@ -170,12 +170,12 @@ fn find_behind<'a, I: ItemIndex, D>(
 }
 
 /// Why an index has no entry: the list could not be read to its end, or nothing in it has the index.
-fn why_missing(fault: Option<StreamError>, number: u32) -> Error
-    ensures { result ≡ missing fault number }
+pub(crate) fn absence(fault: Option<StreamError>, number: u32) -> pdb_records::Error
+    ensures { result ≡ absence fault number }
 {
     match fault {
-        Some(fault) => Error::from(pdb_records::Error::Stream(fault)),
-        None => Error::from(pdb_records::Error::TypeNotFound(number)),
+        Some(fault) => pdb_records::Error::Stream(fault),
+        None => pdb_records::Error::TypeNotFound(number),
     }
 }
 
@@ -229,7 +229,7 @@ impl<'a, I: ItemIndex, D> ItemMap<'a, I, D> {
         let read = &self.information.items;
         match self.find(index)? {
             Some(item) => Ok(item),
-            None => Err(why_missing(read.fault, number)),
+            None => Err(Error::from(absence(read.fault, number))),
         }
     }
 }
