@@ -15,7 +15,7 @@ use Rattle.pdb_records.specs.declared.error.Error as records
 use Rattle.pdb_records.specs.declared.types.Item.{Item}
 use Rattle.pdb_records.specs.declared.types.TypeIndex.{TypeIndex}
 use Rattle.pdb_records.specs.declared.types.TypeData.{TypeData}
-use Rattle.pdb_types.specs.ForwardReferences.{Aggregate, aggregate, told_by, size_behind, size_for, definition_size, first_definition, entries_behind, referred_name, forward_size_among, forward_size, size_under, Defines, Tabulates}
+use Rattle.pdb_types.specs.ForwardReferences.{Aggregate, aggregate, told_by, size_behind, size_for, definition_size, first_definition, entries_behind, referred_name, entry_name, forward_size, size_under, Defines, Tabulates}
 use Rattle.pdb_types.specs.Items.{first_item}
 use Rattle.pdb_types.specs.Resolution.{answered}
 use Rattle.pdb_types.specs.Reading.{said, entry}
@@ -53,12 +53,25 @@ unfolding Defines
 forward_size_among-by_name behind sizes defined None = refl
 forward_size_among-by_name behind sizes defined (Some name) = defined name
 
+-- the size that an entry's own name is given by these entries, where it is a forward reference
+abbrev forward_size_among : List (Item TypeIndex TypeData) → Item TypeIndex TypeData → Option ℕ
+forward_size_among items item = option_and_then (λ name. first_definition name items) (entry_name item)
+
+-- the first of some entries has its size behind it where the index is its own, and else the index has it behind another
+forward_size-first : (number : ℕ) (item : Item TypeIndex TypeData) (behind : List (Item TypeIndex TypeData))
+    → forward_size number (item ∷ behind) ≡ cond (nat_eq item.index.0 number) (forward_size_among behind item) (forward_size number behind)
+forward_size-first number item behind =
+    elim (nat_eq item.index.0 number) as (λ b.
+      option_and_then (λ name. first_definition name (cond b behind (entries_behind number behind)))
+      (option_and_then entry_name (cond b (Some item) (first_item (λ index. index.0) number behind)))
+      ≡ cond b (forward_size_among behind item) (forward_size number behind)) [ true ↦ refl | false ↦ refl ]
+
 -- a table that takes up an entry before those that it has the answers of has its answer too
 pub tabulates_more : (behind : List (Item TypeIndex TypeData)) (item : Item TypeIndex TypeData) (number : ℕ) (told : Option Aggregate) (size : Option ℕ) (by_name : BTreeMap (Bor (List ℕ)) ℕ) (old new : BTreeMap ℕ ℕ) → number ≡ item.index.0 → told ≡ told_by item → size ≡ option_and_then (size_under by_name) (option_and_then referred_name told) → Defines behind by_name → Tabulates behind old → ((n : ℕ) → get nat_cmp new n ≡ cond (nat_eq number n) size (get nat_cmp old n)) → Tabulates (item ∷ behind) new
 unfolding Tabulates
 tabulates_more behind item number told size by_name old new same is answers defined tabulated step n =
     let own : size ≡ forward_size_among behind item = answers ∙ (forward_size_among-by_name behind by_name defined (option_and_then referred_name told) ∙ ap (λ t. option_and_then (λ name. first_definition name behind) (option_and_then referred_name t)) is) in
-    step n ∙ (ap (λ m. cond (nat_eq m n) size (get nat_cmp old n)) same ∙ (ap (λ s. cond (nat_eq (item.index.0) n) s (get nat_cmp old n)) own ∙ ap (λ s. cond (nat_eq (item.index.0) n) (forward_size_among behind item) s) (tabulated n)))
+    step n ∙ (ap (λ m. cond (nat_eq m n) size (get nat_cmp old n)) same ∙ (ap (λ s. cond (nat_eq (item.index.0) n) s (get nat_cmp old n)) own ∙ (ap (λ s. cond (nat_eq (item.index.0) n) (forward_size_among behind item) s) (tabulated n) ∙ sym (forward_size-first n item behind))))
 
 -- an index that no entry has has nothing behind it
 pub entries_behind-absent : (number : ℕ) (items : List (Item TypeIndex TypeData)) → first_item (λ index. index.0) number items ≡ None → entries_behind number items ≡ []
@@ -66,17 +79,14 @@ entries_behind-absent number [] absent = refl
 entries_behind-absent number (item ∷ items) absent =
     (elim (nat_eq (item.index.0) number) as (λ b. cond b (Some item) (first_item (λ index. index.0) number items) ≡ None → cond b items (entries_behind number items) ≡ []) [ true ↦ λ e. cc | false ↦ λ e. entries_behind-absent number items e ]) absent
 
--- the size behind an entry by its own name, where it is a forward reference
-forward_size-told : (number : ℕ) (a : Aggregate) (items : List (Item TypeIndex TypeData)) (found : Item TypeIndex TypeData) → first_item (λ index. index.0) number items ≡ Some found → told_by found ≡ Some a → a.forward_reference ≡ true → forward_size number items ≡ first_definition a.name (entries_behind number items)
-forward_size-told number a [] found is told refers = cc
-forward_size-told number a (item ∷ items) found is told refers =
-    (elim (nat_eq item.index.0 number) as (λ b. cond b (Some item) (first_item (λ index. index.0) number items) ≡ Some found → cond b (forward_size_among items item) (forward_size number items) ≡ first_definition a.name (cond b items (entries_behind number items))) [
-      | true ↦ λ e.
-          let same : item ≡ found = cc in
-          let by : told_by item ≡ Some a = ap told_by same ∙ told in
-          ap (λ t. option_and_then (λ name. first_definition name items) (option_and_then referred_name t)) by ∙ ap (λ b. option_and_then (λ name. first_definition name items) (cond b (Some a.name) None)) refers
-      | false ↦ λ e. forward_size-told number a items found e told refers
-    ]) is
+-- the size behind an entry of the name that it goes by, where it is a forward reference
+forward_size-told : (number : ℕ) (a : Aggregate) (items : List (Item TypeIndex TypeData)) (found : Item TypeIndex TypeData)
+    → first_item (λ index. index.0) number items ≡ Some found → told_by found ≡ Some a → a.forward_reference ≡ true
+    → forward_size number items ≡ size_behind number a.name items
+forward_size-told number a items found is told refers =
+    let sized : Option (List ℕ) → Option ℕ = option_and_then (λ name. size_behind number name items) in
+    ap (λ o. sized (option_and_then entry_name o)) is
+    ∙ (ap (λ t. sized (option_and_then referred_name t)) told ∙ ap (λ b. sized (cond b (Some a.name) None)) refers)
 
 -- the size of a forward reference that was read is that behind it by its own name
 pub forward_size-read : (types : Read (Item TypeIndex TypeData)) (number : ℕ) (type : TypeData) (a : Aggregate) → entry (λ index. index.0) types number ≡ Ok type → aggregate type ≡ Some a → a.forward_reference ≡ true → forward_size number types.items ≡ size_behind number a.name types.items

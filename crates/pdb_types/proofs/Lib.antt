@@ -1,4 +1,5 @@
 pub mod ForwardLemmas
+pub mod AscendingLemmas
 pub mod ItemLemmas
 pub mod ModuleLemmas
 pub mod SizeLemmas

@@ -13,6 +13,7 @@ use Rattle.pdb_records.specs.declared.types.TypeIndex.{TypeIndex}
 use Rattle.pdb_records.specs.declared.types.TypeData.{TypeData}
 use Rattle.pdb_records.specs.declared.types.TypeData.TheVariants.{Class, Union}
 use Rattle.pdb_types.specs.declared.aggregates.Aggregate as code
+use Rattle.pdb_types.specs.Items.{first_item}
 
 -- what a class or a union tells of itself: what it goes by, its size, and whether it is a forward reference
 pub record Aggregate : Type 0 where
@@ -63,16 +64,15 @@ size_behind number name items = first_definition name (entries_behind number ite
 abbrev pub referred_name : Aggregate → Option (List ℕ)
 referred_name a = if a.forward_reference then Some a.name else None
 
--- the size that an entry's own name is given by these entries, where it is a forward reference
-abbrev pub forward_size_among : List (Item TypeIndex TypeData) → Item TypeIndex TypeData → Option ℕ
-forward_size_among items item =
-    option_and_then (λ name. first_definition name items) (option_and_then referred_name (told_by item))
+-- the name that an entry goes by, where it is a forward reference
+abbrev pub entry_name : Item TypeIndex TypeData → Option (List ℕ)
+entry_name item = option_and_then referred_name (told_by item)
 
--- the size that the own name of the first entry with this index is given behind it, where it is a forward reference
+-- the size behind the first entry with this index of the name that it goes by, where it is a forward reference
 abbrev pub forward_size : ℕ → List (Item TypeIndex TypeData) → Option ℕ
-forward_size number [] = None
-forward_size number (item ∷ items) =
-    if item.index.0 == number then forward_size_among items item else forward_size number items
+forward_size number items =
+    option_and_then (λ name. size_behind number name items)
+    (option_and_then entry_name (first_item (λ index. index.0) number items))
 
 -- the size under a name, in a map by names that are lent
 abbrev pub size_under : BTreeMap (Bor (List ℕ)) ℕ → List ℕ → Option ℕ

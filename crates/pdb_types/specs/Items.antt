@@ -6,6 +6,7 @@ use Rattle.std.specs.Ordering.{nat_cmp}
 use Rattle.pdb_records.specs.Readings.{Read}
 use Rattle.pdb_records.specs.declared.types.Item.{Item}
 use Rattle.pdb_records.specs.declared.error.StreamError.{StreamError}
+use Rattle.pdb_records.specs.declared.error.Error as records
 use Rattle.pdb_records.specs.declared.error.Error.TheVariants.{Stream, TypeNotFound}
 use Rattle.pdb_types.specs.declared.error.Error.{Error}
 use Rattle.pdb_types.specs.declared.error.Error.TheVariants.{PdbError}
@@ -14,14 +15,14 @@ use Rattle.pdb_types.specs.declared.error.Error.TheVariants.{PdbError}
 abbrev pub first_item : {I D : Type 0} → (I → ℕ) → ℕ → List (Item I D) → Option (Item I D)
 first_item number_of number items = find (λ item. number_of item.index == number) items
 
--- why an index has no entry: the list could not be read to its end, or nothing has it
-abbrev pub missing : Option StreamError → ℕ → Error
-missing None number = PdbError (TypeNotFound number)
-missing (Some fault) number = PdbError (Stream fault)
+-- why an index has no entry: the list could not be read to its end, or nothing in it has the number
+abbrev pub absence : Option StreamError → ℕ → records.Error
+absence None number = TypeNotFound number
+absence (Some fault) number = Stream fault
 
 -- what was found, or why nothing was
 abbrev pub found_or_missing : {I D : Type 0} → Option StreamError → ℕ → Option (Item I D) → Result (Item I D) Error
-found_or_missing fault number None = Err (missing fault number)
+found_or_missing fault number None = Err (PdbError (absence fault number))
 found_or_missing fault number (Some item) = Ok item
 
 -- the entry of an index: the first that has its number

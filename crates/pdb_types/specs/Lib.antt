@@ -5,6 +5,7 @@ pub mod Errors
 pub mod Outcomes
 pub mod Unread
 pub mod FailedParts
+pub mod Ascending
 pub mod Items
 pub mod Sizes
 pub mod ForwardReferences

@@ -2,22 +2,16 @@
 use Rattle.std.specs.Prelude.{ℕ, ◌^◌, Option, Some, None, Result, Ok, Err, nat_lt, if◌then◌else◌}
 use Rattle.pdb_records.specs.Readings.{Read}
 use Rattle.pdb_records.specs.declared.error.StreamError.{StreamError}
-use Rattle.pdb_records.specs.declared.error.Error.TheVariants.{Stream, TypeNotFound}
 use Rattle.pdb_records.specs.declared.types.Item.{Item}
-use Rattle.pdb_types.specs.Items.{first_item}
+use Rattle.pdb_types.specs.Items.{absence, first_item}
 use Rattle.pdb_types.specs.Outcomes.{and_then}
 use Rattle.pdb_types.specs.Resolution.{answered, resolved}
 use Rattle.pdb_types.specs.Standing.{Linked}
 use Rattle.pdb_types.specs.Unread.{Trouble, Missing, trouble_by}
 
--- why no entry was found: the list could not be read to its end, or nothing in it has the number
-abbrev pub absent : Option StreamError → ℕ → Trouble
-absent None number = trouble_by (TypeNotFound number)
-absent (Some fault) number = trouble_by (Stream fault)
-
 -- what the entry that was found says
 abbrev pub said : {I D : Type 0} → Option StreamError → ℕ → Option (Item I D) → Result D Trouble
-said fault number None = Err (absent fault number)
+said fault number None = Err (trouble_by (absence fault number))
 said fault number (Some item) = answered item.content
 
 -- what the first entry with this number says

@@ -3,9 +3,10 @@ ghost use Rattle.std.specs.Prelude.{OnErr, take, length, None, Some, option_map}
 ghost use Rattle.std.specs.Option.{option_copied, option_or};
 ghost use Rattle.std.specs.BTreeMap.{get};
 ghost use Rattle.std.specs.Ordering.{nat_cmp};
-ghost use Rattle.pdb_types.specs.Items.{Knows, first_item, item_of, missing};
+ghost use Rattle.pdb_types.specs.Items.{Knows, first_item, item_of, absence};
 ghost use Rattle.pdb_types.specs.Outcomes.{Gives};
 
+use crate::ascending::{Numbered, find_in_beginning};
 use crate::error::{Error, Result};
 use crate::keep_first::keep_first;
 use pdb_records::{
@@ -41,12 +42,26 @@ impl ItemIndex for IdIndex {
     }
 }
 
-/// Finds the entries of a list by their index. The list is read as far as it was asked for, and what was
-/// read is kept.
+impl<I: ItemIndex, D> Numbered for Item<I, D> {
+    ghost number_of = { λ item. I.number_of item.index };
+
+    fn number(&self) -> u32 {
+        self.index.number()
+    }
+}
+
+/// Finds the entries of a list by their index. The list is read as far as it was asked for.
+///
+/// As long as the indices ascend from the beginning on, as in lists that linkers write, an entry is searched in the
+/// list itself, and no memory is taken. The entries behind that beginning, if there are any, are kept by their index.
 pub struct ItemMap<'a, I: ItemIndex, D> {
     information: &'a ItemInformation<I, D>,
-    known: BTreeMap<u32, &'a Item<I, D>>,
+    /// How many entries at the beginning were read and ascend.
+    ascending: usize,
+    /// How many entries behind them were read.
     scanned: usize,
+    /// The entries behind them, as far as they were read.
+    known: BTreeMap<u32, &'a Item<I, D>>,
 }
 
 /// The types of a program by their index.
@@ -56,26 +71,30 @@ pub type TypeMap<'a> = ItemMap<'a, TypeIndex, TypeData>;
 pub type IdMap<'a> = ItemMap<'a, IdIndex, IdData>;
 
 impl<'a, I: ItemIndex, D> Model for ItemMap<'a, I, D> {
-    ghost use Rattle.std.specs.Prelude.{◌≤◌, length, take};
+    ghost use Rattle.std.specs.Prelude.{◌≤◌, drop, length, take};
     ghost use Rattle.pdb_records.specs.Readings.{Read};
     ghost use Rattle.pdb_records.specs.declared.types.Item.{Item};
+    ghost use Rattle.pdb_types.specs.Ascending.{Ascends};
     ghost use Rattle.pdb_types.specs.Items.{Knows};
 
     ghost Value = { Read (Item I D) };
 
     ghost view = { λ m. m.information.now.items };
 
-    ghost invariant = { λ m.
-        (m.scanned ≤ length m.information.now.items.items)
-        × Knows I.number_of (take m.scanned m.information.now.items.items) m.known };
+    ghost invariant = { λ m. let items = m.information.now.items.items in
+        (m.ascending ≤ length items)
+        × Ascends (λ item. I.number_of item.index) (take m.ascending items)
+        × (m.scanned ≤ length (drop m.ascending items))
+        × Knows I.number_of (take m.scanned (drop m.ascending items)) m.known };
 }
 
 impl<I: ItemIndex, D> Drop for ItemMap<'_, I, D> {
     fn drop(self) {
         let ItemMap {
             information: _,
-            known: _,
+            ascending: _,
             scanned: _,
+            known: _,
         } = self;
     }
 }
@@ -131,13 +150,32 @@ fn scan<'a, I: ItemIndex, D>(
     Ok(None)
 }
 
+/// The first entry with this number, one that is known or else one that is read.
+fn find_behind<'a, I: ItemIndex, D>(
+    items: &'a [Item<I, D>],
+    known: &mut BTreeMap<u32, &'a Item<I, D>>,
+    scanned: &mut usize,
+    number: u32,
+) -> Result<Option<&'a Item<I, D>>, AllocError>
+    requires within { scanned.old ≤ length items.now }
+    requires indexed { Knows I.number_of (take scanned.old items.now) known.old }
+    ensures within { scanned.new ≤ length items.now }
+    ensures indexed { Knows I.number_of (take scanned.new items.now) known.new }
+    ensures found { IfOk result (λ item. option_copied item ≡ first_item I.number_of number items.now) }
+{
+    if let Some(item) = look_up(known, number) {
+        return Ok(Some(item));
+    }
+    scan(items, known, scanned, number)
+}
+
 /// Why an index has no entry: the list could not be read to its end, or nothing in it has the index.
-fn why_missing(fault: Option<StreamError>, number: u32) -> Error
-    ensures { result ≡ missing fault number }
+pub(crate) fn absence(fault: Option<StreamError>, number: u32) -> pdb_records::Error
+    ensures { result ≡ absence fault number }
 {
     match fault {
-        Some(fault) => Error::from(pdb_records::Error::Stream(fault)),
-        None => Error::from(pdb_records::Error::TypeNotFound(number)),
+        Some(fault) => pdb_records::Error::Stream(fault),
+        None => pdb_records::Error::TypeNotFound(number),
     }
 }
 
@@ -148,8 +186,9 @@ impl<'a, I: ItemIndex, D> ItemMap<'a, I, D> {
     {
         ItemMap {
             information,
-            known: BTreeMap::new(alloc),
+            ascending: 0,
             scanned: 0,
+            known: BTreeMap::new(alloc),
         }
     }
 
@@ -167,11 +206,13 @@ impl<'a, I: ItemIndex, D> ItemMap<'a, I, D> {
         ensures same { self.new ≡ self.old }
     {
         let number = index.number();
-        if let Some(item) = look_up(&self.known, number) {
+        let list = &self.information.items;
+        let items = list.items.as_slice();
+        if let Some(item) = find_in_beginning(items, &mut self.ascending, self.scanned, number) {
             return Ok(Some(item));
         }
-        let list = &self.information.items;
-        scan(&list.items, &mut self.known, &mut self.scanned, number)
+        let (_, behind) = items.split_at(self.ascending);
+        find_behind(behind, &mut self.known, &mut self.scanned, number)
     }
 
     /// The first entry of the list with this index.
@@ -188,7 +229,7 @@ impl<'a, I: ItemIndex, D> ItemMap<'a, I, D> {
         let read = &self.information.items;
         match self.find(index)? {
             Some(item) => Ok(item),
-            None => Err(why_missing(read.fault, number)),
+            None => Err(Error::from(absence(read.fault, number))),
         }
     }
 }

@@ -6,6 +6,7 @@
 #![tactic(auto)]
 
 mod aggregates;
+mod ascending;
 mod error;
 mod exports;
 mod failed_parts;

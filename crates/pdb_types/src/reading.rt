@@ -6,7 +6,7 @@ ghost use Rattle.pdb_types.specs.Findings.{Fits, Keeps};
 
 use crate::error::Result;
 use crate::findings::Findings;
-use crate::items::{ItemIndex, ItemMap};
+use crate::items::{ItemIndex, ItemMap, absence};
 use crate::provider::ModuleProvider;
 use crate::standing::Standing;
 use crate::unread::Unread;
@@ -24,10 +24,7 @@ fn entry<'a, I: ItemIndex, D>(map: &mut ItemMap<'a, I, D>, index: I) -> Result<&
             Ok(content) => Ok(content),
             Err(error) => Err(Unread::from(*error)),
         },
-        None => match fault {
-            Some(fault) => Err(Unread::from(pdb_records::Error::Stream(fault))),
-            None => Err(Unread::from(pdb_records::Error::TypeNotFound(number))),
-        },
+        None => Err(Unread::from(absence(fault, number))),
     }
 }
 

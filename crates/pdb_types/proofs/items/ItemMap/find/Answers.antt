@@ -1,8 +1,39 @@
-use Rattle.pdb_types.proofs.ItemLemmas.{first_item-known, first_item-unknown}
+use Rattle.std.proofs.Common.{◌∙◌, sym, ap}
+use Rattle.pdb_types.proofs.AscendingLemmas.{first_take}
+use Rattle.pdb_types.proofs.ItemLemmas.{index_number, has_read, first_behind}
 use Rattle.pdb_types.proofs.items.ItemMap.find.Goals as goal
 
-pub returns-in-Some-clause-found : goal.returns-in-Some-clause-found
-returns-in-Some-clause-found g c = first_item-known g.I.ItemIndex.number_of _ _ _ _ _ _ _ c.self.view_is c.number-number.ensures c.self.invariant.1 c.in-Some.ensures
+pub invariant_of-self : goal.invariant_of-self
+invariant_of-self g c =
+    let same = c.as_slice-items.ensures.value ∙ ap (λ read. read.items) c.list.view_is in
+    let said = c.find_in_beginning.ensures in
+    let read =
+    has_read g.I.ItemIndex.number_of c.self.inside.information.now.items.items _ _ _ _
+    said.stays c.self.invariant.2 c.self.invariant.3 in
+    (rw same at said.within, rw same at said.ascends, read.within, read.indexed)
 
-pub scan-requires-clause-new : goal.scan-requires-clause-new
-scan-requires-clause-new g c = rw c.deref.ensures.value (first_item-unknown g.I.ItemIndex.number_of _ _ _ _ _ c.list.view_is c.self.invariant.1 c.in_default.ensures)
+pub returns-in-Some-clause-found : goal.returns-in-Some-clause-found
+returns-in-Some-clause-found g c =
+    let same =
+    c.as_slice-items.ensures.value
+    ∙ (ap (λ read. read.items) c.list.view_is ∙ ap (λ read. read.items) c.self.view_is) in
+    rw (← same, ← c.number-number.ensures)
+    (sym (first_take (index_number g.I.ItemIndex.number_of) _ _ _ _ (sym c.in-Some.ensures.found)))
+
+pub find_behind-requires-clause-indexed : goal.find_behind-requires-clause-indexed
+find_behind-requires-clause-indexed g c =
+    let same = c.as_slice-items.ensures.value ∙ ap (λ read. read.items) c.list.view_is in
+    let said = c.find_in_beginning.ensures in
+    let read =
+    has_read g.I.ItemIndex.number_of c.self.inside.information.now.items.items _ _ _ _
+    said.stays c.self.invariant.2 c.self.invariant.3 in
+    rw (c.split_at.ensures.back, same) read.indexed
+
+pub returns-clause-found : goal.returns-clause-found
+returns-clause-found g c =
+    let number_of = g.I.ItemIndex.number_of in
+    let same =
+    c.as_slice-items.ensures.value
+    ∙ (ap (λ read. read.items) c.list.view_is ∙ ap (λ read. read.items) c.self.view_is) in
+    let behind = first_behind number_of _ _ _ c.in_default.ensures.found in
+    rw (← same, ← c.number-number.ensures, ← behind, ← c.split_at.ensures.back) c.find_behind.ensures.found

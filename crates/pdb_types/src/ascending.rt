@@ -1,0 +1,108 @@
+ghost use Rattle.std.specs.Prelude.{◌≡◌, ◌<◌, ◌≤◌, ◌+◌, ℕ, IfSome, Some, None, length, slice_get, take};
+ghost use Rattle.std.specs.Option.{option_copied};
+ghost use Rattle.pdb_types.specs.Ascending.{Ascends, first_numbered};
+
+/// An entry of a list that is found by its number.
+pub(crate) trait Numbered {
+    /// The number that the entry is found by.
+    ghost number_of: { Self → ℕ };
+
+    /// The number that the entry is found by.
+    fn number(&self) -> u32
+        ensures { result ≡ number_of self.now };
+}
+
+/// The entry that has this number if no number is left out from there to the last entry.
+fn guess<T: Numbered>(entries: &[T], number: u32) -> Option<&T>
+    requires { Ascends T.number_of entries.now }
+    ensures { IfSome result (λ entry. first_numbered T.number_of number entries.now ≡ Some entry.now) }
+{
+    let last = entries.len().checked_sub(1)?;
+    let gap = entries[last].number().checked_sub(number)?;
+    let position = last.checked_sub(gap as usize)?;
+    let entry = &entries[position];
+    if entry.number() == number {
+        return Some(entry);
+    }
+    None
+}
+
+/// The entry with this number, among entries whose numbers ascend. It takes no memory.
+///
+/// Lists that linkers write end in a run of entries with no number left out, so a guess from the end comes ahead of a
+/// binary search.
+pub(crate) fn find_ascending<T: Numbered>(entries: &[T], number: u32) -> Option<&T>
+    requires { Ascends T.number_of entries.now }
+    ensures { option_copied result ≡ first_numbered T.number_of number entries.now }
+{
+    if let Some(entry) = guess(entries, number) {
+        return Some(entry);
+    }
+    match entries.binary_search_by_key(&number, |entry| entry.number()) {
+        Ok(position) => Some(&entries[position]),
+        Err(_) => None,
+    }
+}
+
+/// The entry behind those at the beginning, whose numbers ascend, if there is one and its number is above theirs.
+fn next_above<T: Numbered>(entries: &[T], ascending: usize) -> Option<&T>
+    requires { Ascends T.number_of (take ascending entries.now) }
+    ensures there { IfSome result (λ entry. slice_get entries.now ascending ≡ Some entry.now) }
+    ensures ascends { IfSome result (λ _. Ascends T.number_of (take (ascending + 1) entries.now)) }
+{
+    let entry = entries.get(ascending)?;
+    let Some(last) = ascending.checked_sub(1) else {
+        return Some(entry);
+    };
+    if entries[last].number() < entry.number() {
+        return Some(entry);
+    }
+    None
+}
+
+/// Reads on to the entry with this number, which isn't among those that were read, or else as far as numbers ascend.
+pub(crate) fn read_ascending<'a, T: Numbered>(
+    entries: &'a [T],
+    ascending: &mut usize,
+    number: u32,
+) -> Option<&'a T>
+    requires within { ascending.old ≤ length entries.now }
+    requires ascends { Ascends T.number_of (take ascending.old entries.now) }
+    requires new { first_numbered T.number_of number (take ascending.old entries.now) ≡ None }
+    ensures within { ascending.new ≤ length entries.now }
+    ensures ascends { Ascends T.number_of (take ascending.new entries.now) }
+    ensures found { option_copied result
+        ≡ first_numbered T.number_of number (take ascending.new entries.now) }
+{
+    while let Some(entry) = next_above(entries, *ascending) {
+        *ascending += 1;
+        if entry.number() == number {
+            return Some(entry);
+        }
+    }
+    None
+}
+
+/// The entry with this number, among the entries at the beginning, whose numbers ascend. As long as none behind them
+/// was read, it reads on to it, and else as far as numbers ascend.
+pub(crate) fn find_in_beginning<'a, T: Numbered>(
+    entries: &'a [T],
+    ascending: &mut usize,
+    behind: usize,
+    number: u32,
+) -> Option<&'a T>
+    requires within { ascending.old ≤ length entries.now }
+    requires ascends { Ascends T.number_of (take ascending.old entries.now) }
+    ensures within { ascending.new ≤ length entries.now }
+    ensures ascends { Ascends T.number_of (take ascending.new entries.now) }
+    ensures stays { 0 < behind → ascending.new ≡ ascending.old }
+    ensures found { option_copied result
+        ≡ first_numbered T.number_of number (take ascending.new entries.now) }
+{
+    let (beginning, _) = entries.split_at(*ascending);
+    let found = find_ascending(beginning, number);
+    if found.is_some() || behind > 0 {
+        return found;
+    }
+    read_ascending(entries, ascending, number)
+}
