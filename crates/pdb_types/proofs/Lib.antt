@@ -1,6 +1,6 @@
 pub mod ForwardLemmas
 pub mod AscendingLemmas
-pub mod ItemLemmas
+pub mod KeptLemmas
 pub mod ModuleLemmas
 pub mod SizeLemmas
 pub mod ChainLemmas

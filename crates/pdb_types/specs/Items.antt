@@ -1,8 +1,5 @@
 -- Entries of a list of types or ids by their index.
-use Rattle.std.specs.Prelude.{◌≡◌, ℕ, ◌==◌, List, Option, Some, None, Result, Ok, Err, option_map, find}
-use Rattle.std.specs.Borrow.{Bor}
-use Rattle.std.specs.BTreeMap.{BTreeMap, get}
-use Rattle.std.specs.Ordering.{nat_cmp}
+use Rattle.std.specs.Prelude.{ℕ, ◌==◌, List, Option, Some, None, Result, Ok, Err, find}
 use Rattle.pdb_records.specs.Readings.{Read}
 use Rattle.pdb_records.specs.declared.types.Item.{Item}
 use Rattle.pdb_records.specs.declared.error.StreamError.{StreamError}
@@ -10,6 +7,10 @@ use Rattle.pdb_records.specs.declared.error.Error as records
 use Rattle.pdb_records.specs.declared.error.Error.TheVariants.{Stream, TypeNotFound}
 use Rattle.pdb_types.specs.declared.error.Error.{Error}
 use Rattle.pdb_types.specs.declared.error.Error.TheVariants.{PdbError}
+
+-- the number of an entry's index
+abbrev pub index_number : {I D : Type 0} → (I → ℕ) → Item I D → ℕ
+index_number number_of item = number_of item.index
 
 -- the first entry whose index has this number
 abbrev pub first_item : {I D : Type 0} → (I → ℕ) → ℕ → List (Item I D) → Option (Item I D)
@@ -28,8 +29,3 @@ found_or_missing fault number (Some item) = Ok item
 -- the entry of an index: the first that has its number
 abbrev pub item_of : {I D : Type 0} → (I → ℕ) → Read (Item I D) → ℕ → Result (Item I D) Error
 item_of number_of read number = found_or_missing read.fault number (first_item number_of number read.items)
-
--- a map knows each of these entries by its number
-unfoldable pub Knows : {I D : Type 0} → (I → ℕ) → List (Item I D) → BTreeMap ℕ (Bor (Item I D)) → Type 0
-Knows number_of items known =
-    (number : ℕ) → option_map (λ entry. entry.now) (get nat_cmp known number) ≡ first_item number_of number items

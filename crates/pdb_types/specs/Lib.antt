@@ -6,12 +6,11 @@ pub mod Outcomes
 pub mod Unread
 pub mod FailedParts
 pub mod Ascending
+pub mod KeptEntries
 pub mod Items
 pub mod Sizes
 pub mod ForwardReferences
-pub mod Texts
 pub mod ModuleNames
-pub mod Exports
 pub mod Standing
 pub mod Resolution
 pub mod Reading

@@ -60,6 +60,18 @@ fn next_above<T: Numbered>(entries: &[T], ascending: usize) -> Option<&T>
     None
 }
 
+/// How many entries at the beginning ascend.
+pub(crate) fn ascending_length<T: Numbered>(entries: &[T]) -> usize
+    ensures within { result ≤ length entries.now }
+    ensures ascends { Ascends T.number_of (take result entries.now) }
+{
+    let mut ascending = 0;
+    while let Some(_) = next_above(entries, ascending) {
+        ascending += 1;
+    }
+    ascending
+}
+
 /// Reads on to the entry with this number, which isn't among those that were read, or else as far as numbers ascend.
 pub(crate) fn read_ascending<'a, T: Numbered>(
     entries: &'a [T],

@@ -1,14 +1,11 @@
-ghost use Rattle.std.specs.Prelude.{◌≡◌, ◌≤◌, ◌∷◌, [], ℕ, IfOk, IfErr, OnOk};
-ghost use Rattle.std.specs.Prelude.{OnErr, take, length, None, Some, option_map};
-ghost use Rattle.std.specs.Option.{option_copied, option_or};
-ghost use Rattle.std.specs.BTreeMap.{get};
-ghost use Rattle.std.specs.Ordering.{nat_cmp};
-ghost use Rattle.pdb_types.specs.Items.{Knows, first_item, item_of, absence};
+ghost use Rattle.std.specs.Prelude.{◌≡◌, ℕ, IfOk};
+ghost use Rattle.std.specs.Option.{option_copied};
+ghost use Rattle.pdb_types.specs.Items.{absence, first_item, index_number, item_of};
 ghost use Rattle.pdb_types.specs.Outcomes.{Gives};
 
 use crate::ascending::{Numbered, find_in_beginning};
 use crate::error::{Error, Result};
-use crate::keep_first::keep_first;
+use crate::kept_entries::read_on;
 use pdb_records::{
     IdData, IdIndex, Item, ItemInformation, Reading, StreamError, TypeData, TypeIndex,
 };
@@ -43,7 +40,7 @@ impl ItemIndex for IdIndex {
 }
 
 impl<I: ItemIndex, D> Numbered for Item<I, D> {
-    ghost number_of = { λ item. I.number_of item.index };
+    ghost number_of = { index_number I.number_of };
 
     fn number(&self) -> u32 {
         self.index.number()
@@ -75,7 +72,8 @@ impl<'a, I: ItemIndex, D> Model for ItemMap<'a, I, D> {
     ghost use Rattle.pdb_records.specs.Readings.{Read};
     ghost use Rattle.pdb_records.specs.declared.types.Item.{Item};
     ghost use Rattle.pdb_types.specs.Ascending.{Ascends};
-    ghost use Rattle.pdb_types.specs.Items.{Knows};
+    ghost use Rattle.pdb_types.specs.Items.{index_number};
+    ghost use Rattle.pdb_types.specs.KeptEntries.{Knows};
 
     ghost Value = { Read (Item I D) };
 
@@ -83,9 +81,9 @@ impl<'a, I: ItemIndex, D> Model for ItemMap<'a, I, D> {
 
     ghost invariant = { λ m. let items = m.information.now.items.items in
         (m.ascending ≤ length items)
-        × Ascends (λ item. I.number_of item.index) (take m.ascending items)
+        × Ascends (index_number I.number_of) (take m.ascending items)
         × (m.scanned ≤ length (drop m.ascending items))
-        × Knows I.number_of (take m.scanned (drop m.ascending items)) m.known };
+        × Knows (index_number I.number_of) (take m.scanned (drop m.ascending items)) m.known };
 }
 
 impl<I: ItemIndex, D> Drop for ItemMap<'_, I, D> {
@@ -97,76 +95,6 @@ impl<I: ItemIndex, D> Drop for ItemMap<'_, I, D> {
             known: _,
         } = self;
     }
-}
-
-/// Remembers an entry, unless an earlier one has its number.
-fn learn<'a, I: ItemIndex, D>(
-    known: &mut BTreeMap<u32, &'a Item<I, D>>,
-    item: &'a Item<I, D>,
-) -> Result<(), AllocError>
-    ensures learned { OnOk result ((number : ℕ) → option_map (λ entry. entry.now) (get nat_cmp known.new number)
-        ≡ option_or (option_map (λ entry. entry.now) (get nat_cmp known.old number))
-        (first_item I.number_of number (item.now ∷ []))) }
-    ensures refused { OnErr result ((number : ℕ) → get nat_cmp known.new number ≡ get nat_cmp known.old number) }
-{
-    keep_first(known, item.index.number(), item)
-}
-
-/// The entry with this number, among those that are known.
-fn look_up<'a, I: ItemIndex, D>(
-    known: &BTreeMap<u32, &'a Item<I, D>>,
-    number: u32,
-) -> Option<&'a Item<I, D>>
-    ensures { option_copied result ≡ option_map (λ entry. entry.now) (get nat_cmp known.now number) }
-{
-    match known.get(&number) {
-        Some(item) => Some(*item),
-        None => None,
-    }
-}
-
-/// Reads on to the entry with this number, which is not known yet, or else to the end of the list.
-fn scan<'a, I: ItemIndex, D>(
-    items: &'a [Item<I, D>],
-    known: &mut BTreeMap<u32, &'a Item<I, D>>,
-    scanned: &mut usize,
-    number: u32,
-) -> Result<Option<&'a Item<I, D>>, AllocError>
-    requires within { scanned.old ≤ length items.now }
-    requires indexed { Knows I.number_of (take scanned.old items.now) known.old }
-    requires new { first_item I.number_of number (take scanned.old items.now) ≡ None }
-    ensures within { scanned.new ≤ length items.now }
-    ensures indexed { Knows I.number_of (take scanned.new items.now) known.new }
-    ensures found { IfOk result (λ item. option_copied item ≡ first_item I.number_of number items.now) }
-{
-    while *scanned < items.len() {
-        let item = &items[*scanned];
-        learn(known, item)?;
-        *scanned += 1;
-        if item.index.number() == number {
-            return Ok(Some(item));
-        }
-    }
-    Ok(None)
-}
-
-/// The first entry with this number, one that is known or else one that is read.
-fn find_behind<'a, I: ItemIndex, D>(
-    items: &'a [Item<I, D>],
-    known: &mut BTreeMap<u32, &'a Item<I, D>>,
-    scanned: &mut usize,
-    number: u32,
-) -> Result<Option<&'a Item<I, D>>, AllocError>
-    requires within { scanned.old ≤ length items.now }
-    requires indexed { Knows I.number_of (take scanned.old items.now) known.old }
-    ensures within { scanned.new ≤ length items.now }
-    ensures indexed { Knows I.number_of (take scanned.new items.now) known.new }
-    ensures found { IfOk result (λ item. option_copied item ≡ first_item I.number_of number items.now) }
-{
-    if let Some(item) = look_up(known, number) {
-        return Ok(Some(item));
-    }
-    scan(items, known, scanned, number)
 }
 
 /// Why an index has no entry: the list could not be read to its end, or nothing in it has the index.
@@ -212,7 +140,7 @@ impl<'a, I: ItemIndex, D> ItemMap<'a, I, D> {
             return Ok(Some(item));
         }
         let (_, behind) = items.split_at(self.ascending);
-        find_behind(behind, &mut self.known, &mut self.scanned, number)
+        read_on(behind, &mut self.known, &mut self.scanned, number)
     }
 
     /// The first entry of the list with this index.

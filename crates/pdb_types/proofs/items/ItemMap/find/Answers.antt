@@ -1,6 +1,7 @@
 use Rattle.std.proofs.Common.{◌∙◌, sym, ap}
+use Rattle.pdb_types.specs.Items.{index_number}
 use Rattle.pdb_types.proofs.AscendingLemmas.{first_take}
-use Rattle.pdb_types.proofs.ItemLemmas.{index_number, has_read, first_behind}
+use Rattle.pdb_types.proofs.KeptLemmas.{has_read, first_behind}
 use Rattle.pdb_types.proofs.items.ItemMap.find.Goals as goal
 
 pub invariant_of-self : goal.invariant_of-self
@@ -8,7 +9,7 @@ invariant_of-self g c =
     let same = c.as_slice-items.ensures.value ∙ ap (λ read. read.items) c.list.view_is in
     let said = c.find_in_beginning.ensures in
     let read =
-    has_read g.I.ItemIndex.number_of c.self.inside.information.now.items.items _ _ _ _
+    has_read (index_number g.I.ItemIndex.number_of) c.self.inside.information.now.items.items _ _ _ _
     said.stays c.self.invariant.2 c.self.invariant.3 in
     (rw same at said.within, rw same at said.ascends, read.within, read.indexed)
 
@@ -20,20 +21,19 @@ returns-in-Some-clause-found g c =
     rw (← same, ← c.number-number.ensures)
     (sym (first_take (index_number g.I.ItemIndex.number_of) _ _ _ _ (sym c.in-Some.ensures.found)))
 
-pub find_behind-requires-clause-indexed : goal.find_behind-requires-clause-indexed
-find_behind-requires-clause-indexed g c =
+pub read_on-requires-clause-indexed : goal.read_on-requires-clause-indexed
+read_on-requires-clause-indexed g c =
     let same = c.as_slice-items.ensures.value ∙ ap (λ read. read.items) c.list.view_is in
     let said = c.find_in_beginning.ensures in
     let read =
-    has_read g.I.ItemIndex.number_of c.self.inside.information.now.items.items _ _ _ _
+    has_read (index_number g.I.ItemIndex.number_of) c.self.inside.information.now.items.items _ _ _ _
     said.stays c.self.invariant.2 c.self.invariant.3 in
     rw (c.split_at.ensures.back, same) read.indexed
 
 pub returns-clause-found : goal.returns-clause-found
 returns-clause-found g c =
-    let number_of = g.I.ItemIndex.number_of in
     let same =
     c.as_slice-items.ensures.value
     ∙ (ap (λ read. read.items) c.list.view_is ∙ ap (λ read. read.items) c.self.view_is) in
-    let behind = first_behind number_of _ _ _ c.in_default.ensures.found in
-    rw (← same, ← c.number-number.ensures, ← behind, ← c.split_at.ensures.back) c.find_behind.ensures.found
+    let behind = first_behind (index_number g.I.ItemIndex.number_of) _ _ _ c.in_default.ensures.found in
+    rw (← same, ← c.number-number.ensures, ← behind, ← c.split_at.ensures.back) c.read_on.ensures.found
