@@ -1,6 +1,6 @@
 -- Maps that have only what fits, and what was found of the records.
 use Rattle.std.proofs.Common.{◌≡◌, ◌∙◌, ℕ, List, [], cond, refl, sym, ap, subst}
-use Rattle.std.specs.Prelude.{Option, Some, None, Ok, IfSome}
+use Rattle.std.specs.Prelude.{Some, None, Ok}
 use Rattle.std.specs.declared.cmp.Ordering.{Ordering}
 use Rattle.std.specs.declared.cmp.Ordering.TheVariants.{Less, Equal, Greater}
 use Rattle.std.specs.Ordering.{nat_cmp, ordering_then, is_eq}
@@ -11,7 +11,6 @@ use Rattle.pdb_records.specs.declared.strings.StringRef.{StringRef}
 use Rattle.pdb_types.specs.declared.findings.Findings.{Findings}
 use Rattle.pdb_types.specs.declared.findings.Asked.{Asked}
 use Rattle.pdb_types.specs.declared.type_sizes.TypeSize.{TypeSize}
-use Rattle.pdb_types.specs.ForwardReferences.{Tabulates}
 use Rattle.pdb_types.specs.Outcomes.{and_then}
 use Rattle.pdb_types.specs.Resolution.{texts, module_under, exports}
 use Rattle.pdb_types.specs.Standing.{Basis, Infos, Linked, linked}

@@ -62,9 +62,9 @@ forward_size-first : (number : ℕ) (item : Item TypeIndex TypeData) (behind : L
     → forward_size number (item ∷ behind) ≡ cond (nat_eq item.index.0 number) (forward_size_among behind item) (forward_size number behind)
 forward_size-first number item behind =
     elim (nat_eq item.index.0 number) as (λ b.
-      option_and_then (λ name. first_definition name (cond b behind (entries_behind number behind)))
-      (option_and_then entry_name (cond b (Some item) (first_item (λ index. index.0) number behind)))
-      ≡ cond b (forward_size_among behind item) (forward_size number behind)) [ true ↦ refl | false ↦ refl ]
+    option_and_then (λ name. first_definition name (cond b behind (entries_behind number behind)))
+    (option_and_then entry_name (cond b (Some item) (first_item (λ index. index.0) number behind)))
+    ≡ cond b (forward_size_among behind item) (forward_size number behind)) [ true ↦ refl | false ↦ refl ]
 
 -- a table that takes up an entry before those that it has the answers of has its answer too
 pub tabulates_more : (behind : List (Item TypeIndex TypeData)) (item : Item TypeIndex TypeData) (number : ℕ) (told : Option Aggregate) (size : Option ℕ) (by_name : BTreeMap (Bor (List ℕ)) ℕ) (old new : BTreeMap ℕ ℕ) → number ≡ item.index.0 → told ≡ told_by item → size ≡ option_and_then (size_under by_name) (option_and_then referred_name told) → Defines behind by_name → Tabulates behind old → ((n : ℕ) → get nat_cmp new n ≡ cond (nat_eq number n) size (get nat_cmp old n)) → Tabulates (item ∷ behind) new

@@ -1,5 +1,5 @@
 -- Why something could not be read.
-use Rattle.std.specs.Prelude.{◌≡◌, ℕ, List, Result, Ok, Err}
+use Rattle.std.specs.Prelude.{◌≡◌, ℕ, Result, Ok, Err}
 use Rattle.pdb_records.specs.declared.error.Error as records
 use Rattle.pdb_records.specs.declared.error.Error.TheVariants.{TypeNotFound, UnimplementedTypeKind}
 use Rattle.pdb_types.specs.declared.error.Error.TheVariants.{PdbError}

@@ -1,4 +1,4 @@
-use Rattle.std.proofs.Common.{◌≤◌, drop, length, refl}
+use Rattle.std.proofs.Common.{◌≤◌, drop, length}
 use Rattle.pdb_types.specs.ForwardReferences.{Defines, Tabulates}
 use Rattle.pdb_types.proofs.forward_sizes.forward_sizes.Given as goal
 

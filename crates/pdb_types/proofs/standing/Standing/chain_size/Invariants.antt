@@ -1,8 +1,8 @@
-use Rattle.std.proofs.Common.{◌≡◌, ◌^◌, ◌+◌, ℕ, suc, true}
+use Rattle.std.proofs.Common.{◌≡◌, ◌^◌, ℕ, suc, true}
 use Rattle.std.specs.BTreeSet.{contains}
 use Rattle.std.specs.Ordering.{nat_cmp}
 use Rattle.pdb_types.specs.Standing.{linked}
-use Rattle.pdb_types.specs.TypeSizes.{step, size_of}
+use Rattle.pdb_types.specs.TypeSizes.{step}
 use Rattle.pdb_types.specs.SizeLaws.{Leads}
 use Rattle.pdb_types.specs.Findings.{Keeps}
 use Rattle.pdb_types.proofs.FreeNumbers.{free}

@@ -1,4 +1,4 @@
-use Rattle.std.proofs.Common.{◌∙◌, sym, ap}
+use Rattle.std.proofs.Common.{◌∙◌, ap}
 use Rattle.pdb_types.proofs.FindingLemmas.{fits_new}
 use Rattle.pdb_types.proofs.standing.Standing.no_findings.Goals as goal
 
