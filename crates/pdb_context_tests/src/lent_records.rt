@@ -2,6 +2,7 @@ use crate::contexts::holds_over_records;
 use pdb_addr2line::pdb::Error::Stream;
 use pdb_addr2line::pdb::{PDB, StreamError};
 use pdb_addr2line::{ContextPdbData, Error};
+use pdb_export::write_records;
 use std::alloc::Global;
 
 /// A program with something in each of its streams.
@@ -42,52 +43,20 @@ fn fail(pdb: &mut PDB, stream: Required, fault: StreamError) {
     }
 }
 
-/// How much each stream of a program holds, where it could be read.
-#[derive(PartialEq, Clone, Copy)]
-struct Counts {
-    sections: Option<usize>,
-    address_map: Option<usize>,
-    global_symbols: Option<usize>,
-    modules: Option<usize>,
-    contributions: Option<usize>,
-    types: Option<usize>,
-    ids: Option<usize>,
-    strings: Option<usize>,
-    module_infos: usize,
+/// The records, whole, as the text of a records file.
+fn text_of(alloc: Global, pdb: &PDB) -> Option<Vec<u8>> {
+    let mut text = Vec::new(alloc);
+    match write_records(alloc, &mut text, pdb, &[]) {
+        Ok(()) => Some(text),
+        Err(_) => None,
+    }
 }
 
-/// How much each stream of these records holds.
-fn count(pdb: &PDB) -> Counts {
-    let debug_information = pdb.debug_information.as_ref().ok();
-    Counts {
-        sections: match &pdb.sections {
-            Ok(Some(sections)) => Some(sections.len()),
-            _ => None,
-        },
-        address_map: pdb.address_map.as_ref().ok().map(|map| map.sections.len()),
-        global_symbols: pdb
-            .global_symbols
-            .as_ref()
-            .ok()
-            .map(|symbols| symbols.symbols.items.len()),
-        modules: debug_information.map(|debug| debug.modules.items.len()),
-        contributions: debug_information.map(|debug| debug.section_contributions.items.len()),
-        types: pdb
-            .type_information
-            .as_ref()
-            .ok()
-            .map(|types| types.items.items.len()),
-        ids: pdb
-            .id_information
-            .as_ref()
-            .ok()
-            .map(|ids| ids.items.items.len()),
-        strings: pdb
-            .string_table
-            .as_ref()
-            .ok()
-            .map(|table| table.strings.len()),
-        module_infos: pdb.module_infos.len(),
+/// Whether the records are those of a text.
+fn have_text(alloc: Global, pdb: &PDB, wanted: &[u8]) -> bool {
+    match text_of(alloc, pdb) {
+        Some(text) => text.as_slice() == wanted,
+        None => false,
     }
 }
 
@@ -109,8 +78,10 @@ fn are_refused(alloc: Global, pdb: &mut PDB, fault: StreamError) -> bool {
 fn stay_when_refused(alloc: Global, pdb: &mut PDB, stream: Required) -> bool {
     let fault = StreamError(stream as u32);
     fail(pdb, stream, fault);
-    let before = count(pdb);
-    are_refused(alloc, pdb, fault) && count(pdb) == before
+    let Some(before) = text_of(alloc, pdb) else {
+        return false;
+    };
+    are_refused(alloc, pdb, fault) && have_text(alloc, pdb, &before)
 }
 
 #[test]
@@ -125,8 +96,10 @@ fn refused_records_stay_as_they_were_lent(rt: HostRuntime) {
 
 /// Whether lent records are taken, and stay as they were.
 fn stay_when_taken(alloc: Global, pdb: &mut PDB) -> bool {
-    let before = count(pdb);
-    lend(alloc, pdb).is_ok() && count(pdb) == before
+    let Some(before) = text_of(alloc, pdb) else {
+        return false;
+    };
+    lend(alloc, pdb).is_ok() && have_text(alloc, pdb, &before)
 }
 
 #[test]

@@ -11,6 +11,8 @@ mod formatters;
 #[cfg(test)]
 mod frames;
 #[cfg(test)]
+mod inline_ranges;
+#[cfg(test)]
 mod lent_records;
 #[cfg(test)]
 mod records;
