@@ -19,6 +19,7 @@ FIRST, LATER = "first pass", "later passes"
 SYMBOLS = [125_000, 250_000, 500_000, 1_000_000]
 PROGRAMS = [(3_000, 50, 40_000), (6_000, 50, 80_000), (12_000, 50, 160_000)]
 SMALL_PROCEDURES = [(12_500, 10, 12_500), (25_000, 10, 25_000), (50_000, 10, 50_000)]
+GENUINE = (3_000, 50, 40_000, 186_000, 37_000)
 HOSTILE = [25_000, 50_000, 100_000, 200_000]
 MANY = [125_000, 250_000, 500_000]
 CHAINS = [50_000, 100_000, 200_000]
@@ -169,6 +170,35 @@ def programs(program, runs):
         )
 
 
+def genuine(program, runs):
+    heads = {
+        "genuine": "ascending",
+        "genuine-descending": "descending",
+        "genuine-shuffled": "in no order",
+        "genuine-doubles": "each twice",
+    }
+    rows = []
+    for shape, order in heads.items():
+        figure = measured(program, runs, shape, [GENUINE])[0]
+        passes = [value(which) for value in (functions, frames) for which in (FIRST, LATER)]
+        times = [passed(figure) for passed in passes]
+        rows.append([
+            order,
+            time_text(figure.parsed),
+            f"{figure.peak_at_the_end * 1024 / figure.bytes:.1f}",
+            time_text(figure.context),
+            f"{time_text(times[0])} ({times[0] / times[1]:.1f})",
+            time_text(times[1]),
+            f"{time_text(times[2])} ({times[2] / times[3]:.1f})",
+            time_text(times[3]),
+        ])
+    print_table(
+        ["Types", "Reading", "Memory, bytes a byte", "Making a context", "Functions, first pass", "later passes",
+         "Frames, first pass", "later passes"],
+        zip(*rows),
+    )
+
+
 def hostile(program, runs):
     heads = {
         "procedures": "Nested procedures",
@@ -208,7 +238,14 @@ def signatures(program, runs):
     by_shape(program, runs, "Functions", chains, MANY, frames(FIRST))
 
 
-SUBJECTS = {"reading": reading, "programs": programs, "hostile": hostile, "types": types, "signatures": signatures}
+SUBJECTS = {
+    "reading": reading,
+    "programs": programs,
+    "genuine": genuine,
+    "hostile": hostile,
+    "types": types,
+    "signatures": signatures,
+}
 
 
 def main():

@@ -7,6 +7,9 @@ Shapes of programs as they are:
 
     symbols N           public symbols of 16 bytes, a procedure at each sixteenth one, a thousand modules in turn
     program P S A       procedures with sites in two nests, line rows and a signature, and the number of addresses
+    genuine P S A T I   the same with so many types and ids, of which five hundred each are asked for, all over them
+    genuine-descending, genuine-shuffled, genuine-doubles
+                        the same, where the types stand from the last to the first, in no order, or each twice
 
 Shapes that a hostile writer could hand in:
 
@@ -31,6 +34,7 @@ Types and ids, of which signatures and names of inlined functions are made:
     scopes-circle N     the same, where the first is the scope of the last
 """
 import json
+import random
 import sys
 
 SECTION_START = 0x1000
@@ -40,6 +44,8 @@ CROSS_MODULE = 1 << 31
 NO_END = 0xFFFF_FFFF
 PUBLIC, PROCEDURE, SITE = 0x110E, 0x1110, 0x114D
 OTHER = {"raw_kind": 0}
+# How many functions of a program are inlined, and how many of its types and ids are asked for.
+INLINED = ASKED = 500
 
 
 class Module:
@@ -106,20 +112,32 @@ def symbols(count):
     )
 
 
-def nest(position, start, size, sites, inlined, files):
+def nest(position, start, size, sites, inlinees, files):
     """Sites at a position of a list of symbols, each directly inside the one before. The deeper a site is, the later
     its code begins, and all end together."""
     for depth in range(sites):
         shift = min(depth * size // sites, size)
-        inlinee = FIRST_INDEX + (start + depth) % inlined
+        inlinee = inlinees[(start + depth) % len(inlinees)]
         yield site(inlinee, position + 2 * sites - depth - 1, start + shift, size - shift, depth % files, depth)
     for _ in range(sites):
         yield OTHER
 
 
-def program(procedures, sites, asked):
-    size, in_module, rows, files, inlined = 0x400, 100, 16, 64, 500
+def one_signature():
+    """The types of one signature, and its index."""
+    return signature_types("arguments", 2), [FIRST_INDEX]
+
+
+def some_ids():
+    """The ids of the functions that are inlined, and their indices."""
+    return (function_id(position, None) for position in range(INLINED)), range(FIRST_INDEX, FIRST_INDEX + INLINED)
+
+
+def program(procedures, sites, asked, signatures=one_signature, ids=some_ids):
+    size, in_module, rows, files = 0x400, 100, 16, 64
     outer = sites * 14 // 25
+    types, signature_indices = signatures()
+    all_ids, inlinees = ids()
 
     def numbers(module):
         return range(module * in_module, min(procedures, (module + 1) * in_module))
@@ -127,9 +145,10 @@ def program(procedures, sites, asked):
     def module_symbols(module):
         for turn, number in enumerate(numbers(module)):
             first, start = turn * (2 * sites + 2), number * size
-            yield procedure(start, size, "program::part::procedure", first + 2 * sites + 1, FIRST_INDEX)
-            yield from nest(first + 1, start, size // 2, outer, inlined, files)
-            yield from nest(first + 1 + 2 * outer, start + size // 2, size // 2, sites - outer, inlined, files)
+            signature_index = signature_indices[number % len(signature_indices)]
+            yield procedure(start, size, "program::part::procedure", first + 2 * sites + 1, signature_index)
+            yield from nest(first + 1, start, size // 2, outer, inlinees, files)
+            yield from nest(first + 1 + 2 * outer, start + size // 2, size // 2, sites - outer, inlinees, files)
             yield OTHER
 
     def entries(module):
@@ -142,7 +161,6 @@ def program(procedures, sites, asked):
             yield {**place(number * size), "lines": lines}
 
     count = -(-procedures // in_module)
-    inlinees = range(FIRST_INDEX, FIRST_INDEX + inlined)
     return Program(
         [Module(module_symbols(at), entries(at), range(files), inlinees) for at in range(count)],
         spread(procedures * size, asked),
@@ -150,10 +168,61 @@ def program(procedures, sites, asked):
             {"section": 1, "offset": at * in_module * size, "size": len(numbers(at)) * size, "module": at}
             for at in range(count)
         ),
-        types=signature_types("arguments", 2),
-        ids=(function_id(position, None) for position in range(inlined)),
+        types=types,
+        ids=all_ids,
         texts=({"ref": number, "text": "source/program/part.cpp"} for number in range(files)),
     )
+
+
+def class_with_a_method(number):
+    """Six types: a class, a pointer to it, a number, a modifier of it, a list of arguments, and a function."""
+    first = 6 * number
+    named = {"kind": "Class", "class_kind": "Class", "name": f"program::Class{number}"}
+    yield {**named, "size": 8 * number, "forward_reference": False}
+    yield {"kind": "Pointer", "underlying_type": index(first), "mode": "Pointer", "is_const": False, "size": 8}
+    yield NUMBER
+    yield modifier(index(first + 2))
+    yield argument_list([first + 1, first + 3])
+    yield function_type(first + 4)
+
+
+def ascending(types):
+    return types
+
+
+def descending(types):
+    return reversed(list(types))
+
+
+def shuffled(types):
+    types = list(types)
+    random.Random(1).shuffle(types)
+    return types
+
+
+def doubles(types):
+    for entry in types:
+        yield entry
+        yield {"index": entry["index"], **NUMBER}
+
+
+def genuine(order):
+    """A program whose list of types is in this order."""
+
+    def made(procedures, sites, asked, types, ids):
+        classes = types // 6
+
+        def signatures():
+            all_types = (entry for number in range(classes) for entry in class_with_a_method(number))
+            return order(numbered(all_types)), [index(6 * (classes * at // ASKED) + 5) for at in range(ASKED)]
+
+        def spread_ids():
+            all_ids = (function_id(position, None, index(5)) for position in range(ids))
+            return all_ids, [index(ids * at // ASKED) for at in range(ASKED)]
+
+        return program(procedures, sites, asked, signatures, spread_ids)
+
+    return made
 
 
 # What a hostile writer could hand in.
@@ -344,8 +413,8 @@ def signature(shape):
 # Ids.
 
 
-def function_id(position, scope):
-    made = {"index": index(position), "kind": "Function", "function_type": FIRST_INDEX, "name": "g"}
+def function_id(position, scope, function_type=FIRST_INDEX):
+    made = {"index": index(position), "kind": "Function", "function_type": function_type, "name": "g"}
     return made if scope is None else {**made, "scope": scope}
 
 
@@ -368,6 +437,10 @@ def scopes_circle(count):
 SHAPES = {
     "symbols": symbols,
     "program": program,
+    "genuine": genuine(ascending),
+    "genuine-descending": genuine(descending),
+    "genuine-shuffled": genuine(shuffled),
+    "genuine-doubles": genuine(doubles),
     "procedures": nested_procedures,
     "sites": nested_sites,
     "side-by-side": sites_side_by_side,
