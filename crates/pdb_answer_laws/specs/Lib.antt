@@ -1,1 +1,2 @@
 pub mod AnswerErrors
+pub mod BrokenLists

@@ -4,3 +4,4 @@
 #![tactic(auto)]
 
 pub mod answers;
+pub mod neighbours;
