@@ -24,8 +24,7 @@ pub use pdb_documents::laws::{
     a_scope_that_repeats_is_circular, an_index_inside_itself_is_circular,
     every_id_has_one_unfolding, every_signature_has_one_unfolding, every_type_has_one_unfolding,
     siblings_may_repeat, text_does_not_depend_on_failed_parts,
-    the_document_of_a_signature_is_what_it_unfolds_to,
-    the_document_of_an_id_is_what_it_unfolds_to,
+    the_document_of_a_signature_is_what_it_unfolds_to, the_document_of_an_id_is_what_it_unfolds_to,
 };
 pub use pdb_functions::laws::{
     contributions_are_refused_for, contributions_in_reading_order_stay,
