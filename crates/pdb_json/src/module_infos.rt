@@ -1,15 +1,14 @@
-ghost use Rattle.std.specs.Prelude.{◌≡◌, ◌<◌, ◌^◌, [], get_or};
+ghost use Rattle.std.specs.Prelude.{◌≡◌, ◌<◌, ◌+◌, ◌^◌, [], get_or};
 ghost use Rattle.pdb_json.specs.ModuleFiles.{contents};
-ghost use Rattle.serde_json.specs.View.{view};
+ghost use Rattle.serde_json.specs.View.{view, items_view};
 ghost use Rattle.pdb_json_values.specs.Faults.{Agrees};
-ghost use Rattle.pdb_json_values.specs.Values.{found};
 ghost use Rattle.pdb_json.specs.ModuleInfos.{holding, own_info_of, module_stream_of, module_file_of, info_with};
-ghost use Rattle.pdb_json.specs.ModuleInfos.{read_after, infos_of};
+ghost use Rattle.pdb_json.specs.ModuleInfos.{read_after, infos_from, infos_of};
 
 use crate::json::json;
 use crate::named_files::stands_for_file;
 use pdb_json_records::FromJson;
-use pdb_json_values::{Reader, RecordFault, array, inside, inside_element};
+use pdb_json_values::{Reader, RecordFault, inside, inside_element, wanted};
 use pdb_records::{ModuleInfo, StreamError};
 use serde_json::Value;
 use std::marker::Model;
@@ -96,7 +95,7 @@ fn file_bytes(files: &[Vec<u8>], number: usize) -> &[u8]
 
 /// How many module files are read once this element is.
 fn read_after(reader: Reader, done: usize, value: &Value) -> usize
-    requires { done < 2 ^ 63 }
+    requires { done + 1 < 2 ^ 64 }
     ensures { result ≡ read_after reader.version done (view value.now) }
 {
     if stands_for_file(reader, value) {
@@ -106,23 +105,33 @@ fn read_after(reader: Reader, done: usize, value: &Value) -> usize
     }
 }
 
-/// Reads what is known of each module from the elements of an array and from the module files.
-#[tactic(auto, unfolding(crate::specs::ModuleInfos::infos_of))]
+/// Reads what is known of each module from elements and from the module files. Each element is given back before
+/// the next is read.
+fn all_known(reader: Reader, files: &[Vec<u8>], values: Vec<Value>) -> Result<AllKnown, RecordFault>
+    ensures { Agrees result (infos_from reader.version (contents files.now) 0 0 (items_view values.items)) }
+{
+    let mut infos = Vec::new(reader.alloc);
+    let mut done = 0;
+    for (number, value) in values.into_iter().enumerate() {
+        let read = info_with(reader, file_bytes(files, done), &value);
+        let info = inside_element(reader.alloc, number, read)?;
+        infos.push(info)?;
+        done = read_after(reader, done, &value);
+    }
+    Ok(AllKnown { infos })
+}
+
+/// Reads what is known of each module from an array and from the module files.
+#[tactic(auto, unfolding(crate::specs::ModuleInfos::infos_of, pdb_json_values::specs::Values::array_of))]
 pub(crate) fn infos(
     reader: Reader,
     files: &[Vec<u8>],
-    value: Option<&Value>,
+    value: Value,
 ) -> Result<AllKnown, RecordFault>
-    ensures { Agrees result (infos_of reader.version (contents files.now) (found value.entry)) }
+    ensures { Agrees result (infos_of reader.version (contents files.now) (view value)) }
 {
-    let values = array(reader, value)?;
-    let mut infos = Vec::new(reader.alloc);
-    let mut done = 0;
-    for (number, value) in values.iter().enumerate() {
-        let read = info_with(reader, file_bytes(files, done), value);
-        let info = inside_element(reader.alloc, number, read)?;
-        infos.push(info)?;
-        done = read_after(reader, done, value);
+    match value {
+        Value::Array(values) => all_known(reader, files, values),
+        _ => wanted(reader.alloc, "array"),
     }
-    Ok(AllKnown { infos })
 }

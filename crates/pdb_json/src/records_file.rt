@@ -1,4 +1,6 @@
-ghost use Rattle.std.specs.Prelude.{[], map, string_bytes, length, codes};
+ghost use Rattle.std.specs.Prelude.{◌≡◌, [], map, string_bytes, length, codes, unwrap_or};
+ghost use Rattle.serde_json.specs.Data.{null};
+ghost use Rattle.serde_json.specs.Find.{get};
 ghost use Rattle.pdb_json_records.specs.Members.{member_of};
 ghost use Rattle.pdb_json.specs.ModuleFiles.{contents};
 ghost use Rattle.pdb_json.specs.ModuleInfos.{infos_of};
@@ -25,23 +27,33 @@ fn first_reader(alloc: Global) -> Reader {
     }
 }
 
+/// Takes the values of modules out of a file: null where there are none. All else of the file is given back.
+fn module_values(mut file: Value) -> Value
+    ensures { view result ≡ unwrap_or (get (codes "module_infos") (view file)) null }
+{
+    match file.get_mut("module_infos") {
+        Some(value) => value.take(),
+        None => Value::Null,
+    }
+}
+
 /// Reads what is known of each module from a file of the reader's version and from its module files.
 #[tactic(auto, unfolding(pdb_json_records::specs::Members::member_of))]
-fn module_infos(reader: Reader, files: &[Vec<u8>], file: &Value) -> Result<AllKnown, RecordFault>
+fn module_infos(reader: Reader, files: &[Vec<u8>], file: Value) -> Result<AllKnown, RecordFault>
     ensures { Agrees result
-        (member_of (codes "module_infos") (infos_of reader.version (contents files.now)) (view file.now)) }
+        (member_of (codes "module_infos") (infos_of reader.version (contents files.now)) (view file)) }
 {
-    let read = infos(reader, files, file.get("module_infos"));
+    let read = infos(reader, files, module_values(file));
     inside(reader.alloc, "module_infos", read)
 }
 
 /// Reads all records from a file of the reader's version and from its module files.
 #[tactic(auto, unfolding(crate::specs::RecordsFile::records_in_version))]
-fn file_records(reader: Reader, files: &[Vec<u8>], file: &Value) -> Result<PDB, RecordFault>
+fn file_records(reader: Reader, files: &[Vec<u8>], file: Value) -> Result<PDB, RecordFault>
     ensures { Agrees result
-        (records_in_version reader.version (contents files.now) (view file.now)) }
+        (records_in_version reader.version (contents files.now) (view file)) }
 {
-    let mut records = shared_records(reader, file)?;
+    let mut records = shared_records(reader, &file)?;
     let known = module_infos(reader, files, file)?;
     records.module_infos = known.infos;
     Ok(records)
@@ -52,10 +64,10 @@ fn counted_records(
     reader: Reader,
     names: &[String],
     files: &[Vec<u8>],
-    file: &Value,
+    file: Value,
 ) -> Result<PDB, RecordFault>
     ensures { Agrees result (counted (length names.now) (length files.now)
-        (records_in_version reader.version (contents files.now) (view file.now))) }
+        (records_in_version reader.version (contents files.now) (view file))) }
 {
     if names.len() == files.len() {
         file_records(reader, files, file)
@@ -69,14 +81,14 @@ fn counted_records(
 
 /// Reads all records from a file's value and from its module files.
 #[tactic(auto, unfolding(crate::specs::RecordsFile::records_of))]
-fn records(alloc: Global, files: &[Vec<u8>], value: &Value) -> Result<PDB, RecordFault>
-    ensures { Agrees result (records_of (contents files.now) (view value.now)) }
+fn records(alloc: Global, files: &[Vec<u8>], value: Value) -> Result<PDB, RecordFault>
+    ensures { Agrees result (records_of (contents files.now) (view value)) }
 {
-    let file = object(first_reader(alloc), Some(value))?;
+    let file = object(first_reader(alloc), Some(&value))?;
     let version = file_version(first_reader(alloc), file)?;
     let reader = Reader { alloc, version };
     let wanted = file_names(reader, file)?;
-    counted_records(reader, &wanted.names, files, file)
+    counted_records(reader, &wanted.names, files, value)
 }
 
 /// Reads all records of a program from a records file, which is a JSON text, and from the module files that
@@ -88,8 +100,9 @@ fn records(alloc: Global, files: &[Vec<u8>], value: &Value) -> Result<PDB, Recor
 /// whole or doesn't fit. But what [`module_files`] refuses comes before all other faults, and then
 /// [`RecordFault::ModuleFiles`] where the file names another number of module files than was given.
 /// [`RecordFault::ModuleNotJson`] has the path of the member `file` that names a file which is no JSON text.
-/// [`RecordFault::OutOfMemory`] may come at any time. Reading takes time in proportion to the texts. The
-/// value of a module file is given back before the next is read.
+/// [`RecordFault::OutOfMemory`] may come at any time. Reading takes time in proportion to the texts. JSON values
+/// are given back as they are read: those of the shared records before the first module is read, and those of a
+/// module, or of its module file, before the next is.
 ///
 /// ```
 /// let text = br#"{"version":2,"sections":null,"address_map":[],"global_symbols":[],
@@ -105,7 +118,7 @@ pub fn read_records_with(alloc: Global, bytes: &[u8], files: &[Vec<u8>]) -> Resu
     ensures { Agrees result (records_of_files bytes.now (contents files.now)) }
 {
     match json(alloc, bytes)? {
-        Some(value) => records(alloc, files, &value),
+        Some(value) => records(alloc, files, value),
         None => Err(RecordFault::NotJson),
     }
 }

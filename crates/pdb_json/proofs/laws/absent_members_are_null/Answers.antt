@@ -5,7 +5,7 @@ use Rattle.pdb_json.proofs.MemberLemmas.{nothing_under}
 use Rattle.pdb_json.proofs.laws.absent_members_are_null.Goals as goal
 
 pub returns-clause-absent : goal.returns-clause-absent
-returns-clause-absent c = λ read name d is. nothing_under read name d (ap (λ found. unwrap_or found null) is)
+returns-clause-absent t c = λ read name d is. nothing_under read name d (ap (λ found. unwrap_or found null) is)
 
 pub returns-clause-is_null : goal.returns-clause-is_null
-returns-clause-is_null c = λ read name d is. nothing_under read name d (ap (λ found. unwrap_or found null) is)
+returns-clause-is_null t c = λ read name d is. nothing_under read name d (ap (λ found. unwrap_or found null) is)
