@@ -1,0 +1,40 @@
+use crate::faults::ExportFault;
+use crate::members::{ToJson, member};
+use json::Writer;
+use pdb_records::{Error, Item, ItemInformation};
+
+/// What is written as members of an object that has others too.
+pub(crate) trait ToMembers {
+    /// Writes the members.
+    fn to_members(&self, text: &mut Writer) -> Result<(), ExportFault>;
+}
+
+impl<I: ToJson, D: ToMembers> ToJson for ItemInformation<I, D> {
+    fn to_json(&self, text: &mut Writer) -> Result<(), ExportFault> {
+        self.items.to_json(text)
+    }
+}
+
+impl<I: ToJson, D: ToMembers> ToJson for Item<I, D> {
+    fn to_json(&self, text: &mut Writer) -> Result<(), ExportFault> {
+        text.begin_object()?;
+        member(text, "index", &self.index)?;
+        match &self.content {
+            Ok(content) => content.to_members(text)?,
+            Err(error) => member(text, "error", error)?,
+        }
+        Ok(text.end_object()?)
+    }
+}
+
+impl ToJson for Error {
+    fn to_json(&self, text: &mut Writer) -> Result<(), ExportFault> {
+        text.begin_object()?;
+        match self {
+            Error::Stream(error) => member(text, "stream", &error.0)?,
+            Error::UnimplementedTypeKind(kind) => member(text, "unimplemented", kind)?,
+            _ => return Err(ExportFault::NoPlace),
+        }
+        Ok(text.end_object()?)
+    }
+}

@@ -1,0 +1,24 @@
+//! Writes the records of a program as a records file of version 2, with what is known of a module in the file or
+//! in a file of its own.
+//!
+//! Each record of `pdb_records` has an `impl` of `ToJson` here, in a file of its subject. Text is made for the
+//! records that all modules share, and then for each module, and is handed to the writer before the next is made.
+#![tactic(auto)]
+
+mod debug_information;
+mod faults;
+mod ids;
+mod items;
+mod lines;
+mod members;
+mod modules;
+mod names;
+mod numbers;
+mod records_file;
+mod sections;
+mod strings;
+mod symbols;
+mod types;
+
+pub use faults::ExportFault;
+pub use records_file::{write_module, write_records};

@@ -1,0 +1,33 @@
+use crate::faults::ExportFault;
+use crate::members::{ToJson, member};
+use crate::sections::place;
+use json::Writer;
+use pdb_records::{LineInfo, LineProgram, SymbolLines};
+
+impl ToJson for LineInfo {
+    fn to_json(&self, text: &mut Writer) -> Result<(), ExportFault> {
+        text.begin_object()?;
+        member(text, "offset", &self.offset)?;
+        member(text, "file_index", &self.file_index)?;
+        member(text, "line_start", &self.line_start)?;
+        Ok(text.end_object()?)
+    }
+}
+
+impl ToJson for SymbolLines {
+    fn to_json(&self, text: &mut Writer) -> Result<(), ExportFault> {
+        text.begin_object()?;
+        place(text, self.offset)?;
+        member(text, "lines", &self.lines)?;
+        Ok(text.end_object()?)
+    }
+}
+
+impl ToJson for LineProgram {
+    fn to_json(&self, text: &mut Writer) -> Result<(), ExportFault> {
+        text.begin_object()?;
+        member(text, "entries", &self.entries)?;
+        member(text, "files", &self.files)?;
+        Ok(text.end_object()?)
+    }
+}

@@ -1,0 +1,87 @@
+use crate::faults::ExportFault;
+use json::Writer;
+use pdb_records::{Reading, StreamError};
+
+/// What is written as a value of a records file.
+pub(crate) trait ToJson {
+    /// Writes the value.
+    fn to_json(&self, text: &mut Writer) -> Result<(), ExportFault>;
+}
+
+/// Writes a member of an object.
+pub(crate) fn member<T: ToJson>(
+    text: &mut Writer,
+    name: &str,
+    value: &T,
+) -> Result<(), ExportFault> {
+    text.key(name)?;
+    value.to_json(text)
+}
+
+/// Writes a member of an object where it has a value.
+pub(crate) fn optional<T: ToJson>(
+    text: &mut Writer,
+    name: &str,
+    value: &Option<T>,
+) -> Result<(), ExportFault> {
+    match value {
+        Some(value) => member(text, name, value),
+        None => Ok(()),
+    }
+}
+
+impl<T: ToJson> ToJson for Option<T> {
+    fn to_json(&self, text: &mut Writer) -> Result<(), ExportFault> {
+        match self {
+            Some(value) => value.to_json(text),
+            None => Ok(text.null()?),
+        }
+    }
+}
+
+impl<T: ToJson> ToJson for Vec<T> {
+    fn to_json(&self, text: &mut Writer) -> Result<(), ExportFault> {
+        text.begin_array()?;
+        for value in self {
+            value.to_json(text)?;
+        }
+        Ok(text.end_array()?)
+    }
+}
+
+impl<T: ToJson> ToJson for Reading<T> {
+    fn to_json(&self, text: &mut Writer) -> Result<(), ExportFault> {
+        match self.fault {
+            None => self.items.to_json(text),
+            Some(fault) => faulty(text, &self.items, fault),
+        }
+    }
+}
+
+/// Writes the items of a list, and the fault that stands behind them.
+fn faulty<T: ToJson>(
+    text: &mut Writer,
+    items: &Vec<T>,
+    fault: StreamError,
+) -> Result<(), ExportFault> {
+    text.begin_object()?;
+    member(text, "items", items)?;
+    member(text, "fault", &fault.0)?;
+    Ok(text.end_object()?)
+}
+
+impl<T: ToJson> ToJson for Result<T, StreamError> {
+    fn to_json(&self, text: &mut Writer) -> Result<(), ExportFault> {
+        match self {
+            Ok(value) => value.to_json(text),
+            Err(error) => failed(text, *error),
+        }
+    }
+}
+
+/// Writes a stream that could not be read.
+fn failed(text: &mut Writer, error: StreamError) -> Result<(), ExportFault> {
+    text.begin_object()?;
+    member(text, "error", &error.0)?;
+    Ok(text.end_object()?)
+}

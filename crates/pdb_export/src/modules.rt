@@ -1,0 +1,47 @@
+use crate::faults::ExportFault;
+use crate::members::{ToJson, member};
+use json::Writer;
+use pdb_records::{CrossModuleExports, CrossModuleImports, ImportedModule, ModuleInfo};
+
+impl ToJson for ImportedModule {
+    fn to_json(&self, text: &mut Writer) -> Result<(), ExportFault> {
+        text.begin_object()?;
+        member(text, "module", &self.module)?;
+        member(text, "locals", &self.locals)?;
+        Ok(text.end_object()?)
+    }
+}
+
+impl ToJson for CrossModuleImports {
+    fn to_json(&self, text: &mut Writer) -> Result<(), ExportFault> {
+        self.modules.to_json(text)
+    }
+}
+
+impl ToJson for (u32, u32) {
+    /// Writes an export: the number under which an index is offered, and the index.
+    fn to_json(&self, text: &mut Writer) -> Result<(), ExportFault> {
+        text.begin_object()?;
+        member(text, "local", &self.0)?;
+        member(text, "global", &self.1)?;
+        Ok(text.end_object()?)
+    }
+}
+
+impl ToJson for CrossModuleExports {
+    fn to_json(&self, text: &mut Writer) -> Result<(), ExportFault> {
+        self.exports.to_json(text)
+    }
+}
+
+impl ToJson for ModuleInfo {
+    fn to_json(&self, text: &mut Writer) -> Result<(), ExportFault> {
+        text.begin_object()?;
+        member(text, "symbols", &self.symbols)?;
+        member(text, "line_program", &self.line_program)?;
+        member(text, "inlinees", &self.inlinees)?;
+        member(text, "imports", &self.imports)?;
+        member(text, "exports", &self.exports)?;
+        Ok(text.end_object()?)
+    }
+}

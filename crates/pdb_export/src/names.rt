@@ -1,0 +1,27 @@
+use crate::faults::ExportFault;
+use crate::members::ToJson;
+use json::Writer;
+use pdb_records::RawString;
+use std::str;
+
+impl ToJson for &str {
+    fn to_json(&self, text: &mut Writer) -> Result<(), ExportFault> {
+        Ok(text.string(self)?)
+    }
+}
+
+impl ToJson for String {
+    fn to_json(&self, text: &mut Writer) -> Result<(), ExportFault> {
+        self.as_str().to_json(text)
+    }
+}
+
+impl ToJson for RawString {
+    /// Writes a name: a text where it is UTF-8, and else its bytes.
+    fn to_json(&self, text: &mut Writer) -> Result<(), ExportFault> {
+        match str::from_utf8(&self.0) {
+            Ok(name) => name.to_json(text),
+            Err(_) => self.0.to_json(text),
+        }
+    }
+}

@@ -1,0 +1,35 @@
+use crate::faults::ExportFault;
+use crate::members::{ToJson, member};
+use json::Writer;
+use pdb_records::{AddressMap, AddressRange, ImageSectionHeader, PdbInternalSectionOffset};
+
+/// Writes the two members of a place.
+pub(crate) fn place(text: &mut Writer, place: PdbInternalSectionOffset) -> Result<(), ExportFault> {
+    member(text, "section", &place.section)?;
+    member(text, "offset", &place.offset)
+}
+
+impl ToJson for ImageSectionHeader {
+    fn to_json(&self, text: &mut Writer) -> Result<(), ExportFault> {
+        text.begin_object()?;
+        member(text, "virtual_address", &self.virtual_address)?;
+        member(text, "virtual_size", &self.virtual_size)?;
+        member(text, "execute", &self.execute)?;
+        Ok(text.end_object()?)
+    }
+}
+
+impl ToJson for AddressRange {
+    fn to_json(&self, text: &mut Writer) -> Result<(), ExportFault> {
+        text.begin_object()?;
+        member(text, "virtual_address", &self.virtual_address)?;
+        member(text, "virtual_size", &self.virtual_size)?;
+        Ok(text.end_object()?)
+    }
+}
+
+impl ToJson for AddressMap {
+    fn to_json(&self, text: &mut Writer) -> Result<(), ExportFault> {
+        self.sections.to_json(text)
+    }
+}

@@ -1,0 +1,93 @@
+use crate::faults::ExportFault;
+use crate::members::{ToJson, member, optional};
+use crate::sections::place;
+use json::Writer;
+use pdb_records::{
+    InlineRow, InlineSiteSymbol, ProcedureSymbol, PublicSymbol, SeparatedCodeSymbol, Symbol,
+    SymbolData, SymbolTable, ThunkSymbol,
+};
+
+impl ToJson for SymbolTable {
+    fn to_json(&self, text: &mut Writer) -> Result<(), ExportFault> {
+        self.symbols.to_json(text)
+    }
+}
+
+impl ToJson for Symbol {
+    fn to_json(&self, text: &mut Writer) -> Result<(), ExportFault> {
+        text.begin_object()?;
+        member(text, "raw_kind", &self.raw_kind)?;
+        optional(text, "data", &self.content)?;
+        Ok(text.end_object()?)
+    }
+}
+
+impl ToJson for SymbolData {
+    fn to_json(&self, text: &mut Writer) -> Result<(), ExportFault> {
+        text.begin_object()?;
+        match self {
+            SymbolData::Public(symbol) => public(text, symbol)?,
+            SymbolData::Procedure(symbol) => procedure(text, symbol)?,
+            SymbolData::SeparatedCode(symbol) => separated_code(text, symbol)?,
+            SymbolData::Thunk(symbol) => thunk(text, symbol)?,
+            SymbolData::InlineSite(symbol) => inline_site(text, symbol)?,
+            SymbolData::Other => member(text, "kind", &"Other")?,
+        }
+        Ok(text.end_object()?)
+    }
+}
+
+/// Writes the members of a name that is visible outside its module.
+fn public(text: &mut Writer, symbol: &PublicSymbol) -> Result<(), ExportFault> {
+    member(text, "kind", &"Public")?;
+    place(text, symbol.offset)?;
+    member(text, "name", &symbol.name)
+}
+
+/// Writes the members of a procedure.
+fn procedure(text: &mut Writer, symbol: &ProcedureSymbol) -> Result<(), ExportFault> {
+    member(text, "kind", &"Procedure")?;
+    place(text, symbol.offset)?;
+    member(text, "len", &symbol.len)?;
+    member(text, "name", &symbol.name)?;
+    member(text, "end", &symbol.end)?;
+    member(text, "type_index", &symbol.type_index)
+}
+
+/// Writes the members of code that stands apart from its procedure's body.
+fn separated_code(text: &mut Writer, symbol: &SeparatedCodeSymbol) -> Result<(), ExportFault> {
+    member(text, "kind", &"SeparatedCode")?;
+    place(text, symbol.offset)?;
+    member(text, "len", &symbol.len)?;
+    member(text, "parent_section", &symbol.parent_offset.section)?;
+    member(text, "parent_offset", &symbol.parent_offset.offset)?;
+    member(text, "end", &symbol.end)
+}
+
+/// Writes the members of a short piece of code that leads to a procedure.
+fn thunk(text: &mut Writer, symbol: &ThunkSymbol) -> Result<(), ExportFault> {
+    member(text, "kind", &"Thunk")?;
+    place(text, symbol.offset)?;
+    member(text, "len", &symbol.len)?;
+    member(text, "name", &symbol.name)?;
+    member(text, "end", &symbol.end)
+}
+
+/// Writes the members of a place where a call was replaced by the callee's body.
+fn inline_site(text: &mut Writer, symbol: &InlineSiteSymbol) -> Result<(), ExportFault> {
+    member(text, "kind", &"InlineSite")?;
+    member(text, "inlinee", &symbol.inlinee)?;
+    member(text, "end", &symbol.end)?;
+    member(text, "rows", &symbol.rows)
+}
+
+impl ToJson for InlineRow {
+    fn to_json(&self, text: &mut Writer) -> Result<(), ExportFault> {
+        text.begin_object()?;
+        member(text, "offset", &self.offset)?;
+        optional(text, "length", &self.length)?;
+        member(text, "file_index", &self.file_index)?;
+        member(text, "line_start", &self.line_start)?;
+        Ok(text.end_object()?)
+    }
+}
