@@ -149,6 +149,9 @@ fn write_json(
     write!(out, "{{\"Address\":\"0x{given:x}\",\"ModuleName\":")?;
     write_quoted(out, options.file)?;
     out.push_str(",\"Symbol\":[")?;
+    if frames.is_empty() {
+        write_json_place(out, "", "", 0)?;
+    }
     for (position, frame) in frames.iter().enumerate() {
         if position > 0 {
             out.push(',')?;
@@ -163,11 +166,19 @@ fn write_json_frame(
     options: &Options<'_>,
     frame: &Frame<'_>,
 ) -> Result<(), AllocError> {
-    let line = frame.line.unwrap_or(0);
+    write_json_place(
+        out,
+        file_of(options, frame, ""),
+        json_name(options, frame),
+        frame.line.unwrap_or(0),
+    )
+}
+
+fn write_json_place(out: &mut String, file: &str, name: &str, line: u32) -> Result<(), AllocError> {
     out.push_str("{\"Column\":0,\"Discriminator\":0,\"FileName\":")?;
-    write_quoted(out, file_of(options, frame, ""))?;
+    write_quoted(out, file)?;
     out.push_str(",\"FunctionName\":")?;
-    write_quoted(out, json_name(options, frame))?;
+    write_quoted(out, name)?;
     write!(
         out,
         ",\"Line\":{line},\"StartAddress\":\"\",\"StartFileName\":\"\",\"StartLine\":0}}"

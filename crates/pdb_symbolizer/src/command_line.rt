@@ -1,5 +1,5 @@
 use crate::addresses::parse_number;
-use crate::options::{FunctionNames, Options, Style};
+use crate::options::{Export, FunctionNames, Options, Style};
 use crate::stops::Stop;
 use clap::{Arg, ArgAction, ArgMatches, Command};
 use std::alloc::{AllocError, Global};
@@ -103,6 +103,8 @@ fn arguments<'a>(alloc: Global) -> Result<Vec<Arg<'a>>, AllocError> {
     for valued in &VALUED {
         arguments.push(valued_argument(alloc, valued))?;
     }
+    arguments.push(export(alloc)?)?;
+    arguments.push(modules(alloc)?)?;
     arguments.push(file(alloc))?;
     arguments.push(addresses(alloc))?;
     Ok(arguments)
@@ -139,6 +141,22 @@ fn functions<'a>(alloc: Global) -> Arg<'a> {
         .help("What to print of a function's name")
 }
 
+fn export<'a>(alloc: Global) -> Result<Arg<'a>, AllocError> {
+    Arg::new(alloc, "export")
+        .long("export")
+        .value_name("RECORDS")
+        .help("Write the records to this records file, and answer no address")
+        .conflicts_with("ADDRESS")
+}
+
+fn modules<'a>(alloc: Global) -> Result<Arg<'a>, AllocError> {
+    Arg::new(alloc, "modules")
+        .long("modules")
+        .value_name("FOLDER")
+        .help("Write a file for each module to this folder, from the folder of RECORDS")
+        .requires_arg("export")
+}
+
 fn file<'a>(alloc: Global) -> Arg<'a> {
     Arg::new(alloc, "FILE")
         .required(true)
@@ -169,6 +187,15 @@ fn options_of<'w>(alloc: Global, matches: &ArgMatches<'w>) -> Result<Options<'w>
         style,
         base,
         adjust,
+        export: export_of(matches),
+    })
+}
+
+fn export_of<'w>(matches: &ArgMatches<'w>) -> Option<Export<'w>> {
+    let records = matches.get_str("export")?;
+    Some(Export {
+        records,
+        modules: matches.get_str("modules"),
     })
 }
 

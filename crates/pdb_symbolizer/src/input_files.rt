@@ -1,3 +1,4 @@
+use crate::progress::Progress;
 use crate::stops::Stop;
 use pdb_addr2line::Error;
 use pdb_addr2line::pdb::PDB;
@@ -11,8 +12,13 @@ use std::{fs, io};
 const PDB_FILE: [u8; 14] = *b"Microsoft C/C+";
 
 /// The records of a file: a PDB file, or else a records file with its module files.
-pub fn read_records_of<'w, R: Files + AllocGlobal>(rt: &R, path: &'w str) -> Result<PDB, Stop<'w>> {
+pub fn read_records_of<'w, R: Files + Eprint + AllocGlobal>(
+    rt: &R,
+    progress: &Progress,
+    path: &'w str,
+) -> Result<PDB, Stop<'w>> {
     let bytes = read_file(rt, path)?;
+    progress.tell_size(rt, path, bytes.len());
     if bytes.starts_with(&PDB_FILE) {
         return read_container(rt.alloc(), path, &bytes);
     }
@@ -70,13 +76,14 @@ fn read_module_file<'w, R: Files + AllocGlobal>(
 }
 
 /// The path of a name beside a file: the name itself where it begins with a slash.
-fn beside(alloc: Global, path: &str, name: &str) -> Result<String, AllocError> {
+pub fn beside(alloc: Global, path: &str, name: &str) -> Result<String, AllocError> {
     match (name.starts_with('/'), path.rsplit_once('/')) {
         (false, Some((folder, _))) => format!(in alloc; "{folder}/{name}"),
         _ => String::from_str(alloc, name),
     }
 }
 
-fn is_want_of_memory(error: &io::Error) -> bool {
+/// Whether the error is that there was no memory.
+pub fn is_want_of_memory(error: &io::Error) -> bool {
     matches!(error.kind(), io::ErrorKind::OutOfMemory)
 }

@@ -2,20 +2,25 @@
 //!
 //! `pdb_symbolizer [OPTIONS] FILE [ADDRESS...]` prints for each address the functions in whose code it
 //! lies, in the styles of `llvm-symbolizer`. With no address it reads them from standard input, a line
-//! each, and answers each before it reads the next.
+//! each, and answers each before it reads the next. `pdb_symbolizer --export RECORDS FILE` writes what it
+//! read as a records file.
 #![tactic(auto)]
 
 mod addresses;
 mod answers;
 mod command_line;
+mod export_files;
 mod input_files;
 mod json_text;
 mod options;
+mod progress;
 mod runs;
 mod stops;
 
 use pdb_addr2line::Error;
+use progress::Progress;
 use std::env;
+use std::io::IsTerminal;
 use std::process::ExitCode;
 use std::rt::Env;
 use stops::Stop;
@@ -25,7 +30,8 @@ fn main(rt: HostRuntime) -> ExitCode {
         Ok(words) => words,
         Err(stop) => return tell(&rt, &stop),
     };
-    match runs::run(&rt, &words) {
+    let mut progress = Progress::new(&rt, rt.stderr().is_terminal());
+    match runs::run(&rt, &mut progress, &words) {
         Ok(()) => ExitCode::SUCCESS,
         Err(stop) => tell(&rt, &stop),
     }

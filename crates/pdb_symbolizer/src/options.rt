@@ -23,6 +23,15 @@ pub enum Style {
     Json,
 }
 
+/// The files that the records are written to.
+#[derive(Clone, Copy)]
+pub struct Export<'w> {
+    /// The records file.
+    pub records: &'w str,
+    /// The folder of a file for each module, where they are to have one.
+    pub modules: Option<&'w str>,
+}
+
 /// What the words of a command line ask for.
 #[derive(Drop)]
 pub struct Options<'w> {
@@ -44,6 +53,8 @@ pub struct Options<'w> {
     pub base: u64,
     /// What else is taken from the addresses.
     pub adjust: u64,
+    /// Where the records are written to, in place of answers.
+    pub export: Option<Export<'w>>,
 }
 
 impl Options<'_> {

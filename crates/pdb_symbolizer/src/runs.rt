@@ -1,25 +1,50 @@
 use crate::addresses::parse_number;
 use crate::answers::{write_answer, write_no_answer};
 use crate::command_line::parse;
+use crate::export_files::write_files;
 use crate::input_files::read_records_of;
-use crate::options::{Options, Style};
+use crate::options::{Export, Options, Style};
+use crate::progress::Progress;
 use crate::stops::Stop;
 use pdb_addr2line::{Context, ContextPdbData, Error, Frame, FunctionFrames, ModuleProvider};
 use std::io::{self, BufRead, BufReader, Write};
 use std::rt::Files;
+use std::time::Clock;
 
-/// Does what the words of a command line ask for: reads the file, and answers each address.
-pub fn run<'w, R: Files + Input + Print + Eprint + AllocGlobal>(
+/// Does what the words of a command line ask for: reads the file, and answers each address or writes the records.
+pub fn run<'w, R: Files + Input + Print + Eprint + Clock + AllocGlobal>(
     rt: &R,
+    progress: &mut Progress,
     words: &'w [String],
 ) -> Result<(), Stop<'w>> {
     let options = parse(rt.alloc(), words)?;
-    let records = read_records_of(rt, options.file)?;
-    let data = ContextPdbData::try_from_pdb(rt.alloc(), records)?;
-    answer_over(rt, &options, &data)
+    match options.export {
+        Some(export) => write_over(rt, progress, options.file, export),
+        None => answer_over(rt, progress, &options),
+    }
 }
 
-fn answer_over<'w, R: Input + Print + Eprint + AllocGlobal>(
+fn write_over<'w, R: Files + Eprint + Clock + AllocGlobal>(
+    rt: &R,
+    progress: &mut Progress,
+    file: &'w str,
+    export: Export<'w>,
+) -> Result<(), Stop<'w>> {
+    let records = read_records_of(rt, progress, file)?;
+    write_files(rt, progress, export, &records)
+}
+
+fn answer_over<'w, R: Files + Input + Print + Eprint + AllocGlobal>(
+    rt: &R,
+    progress: &Progress,
+    options: &Options<'w>,
+) -> Result<(), Stop<'w>> {
+    let records = read_records_of(rt, progress, options.file)?;
+    let data = ContextPdbData::try_from_pdb(rt.alloc(), records)?;
+    answer_all(rt, options, &data)
+}
+
+fn answer_all<'w, R: Input + Print + Eprint + AllocGlobal>(
     rt: &R,
     options: &Options<'_>,
     data: &ContextPdbData<'_>,
@@ -130,7 +155,8 @@ fn frames_at<'a, 'w, R: Eprint, P: ModuleProvider>(
     }
 }
 
-/// The frames that are printed: without inlined functions the last one alone.
+/// The frames that are printed: without inlined functions one alone, in GNU's form the innermost, and else the
+/// function itself.
 fn shown<'f, 'a>(options: &Options<'_>, found: &'f Option<FunctionFrames<'a>>) -> &'f [Frame<'a>] {
     let Some(found) = found else {
         return &[];
@@ -139,7 +165,10 @@ fn shown<'f, 'a>(options: &Options<'_>, found: &'f Option<FunctionFrames<'a>>) -
     if options.inlines || frames.is_empty() {
         return frames;
     }
-    &frames[frames.len() - 1..]
+    match options.style {
+        Style::Gnu => &frames[..1],
+        _ => &frames[frames.len() - 1..],
+    }
 }
 
 /// Writes a text whole.

@@ -1,5 +1,6 @@
 use pdb_addr2line::Error;
 use pdb_container::ContainerFault;
+use pdb_export::ExportFault;
 use pdb_json::RecordFault;
 use std::alloc::{AllocError, AllocFailed};
 
@@ -27,6 +28,9 @@ pub enum Stop<'w> {
     /// The file is a records file that holds no records.
     #[error("pdb_symbolizer: {0}: {1}")]
     Records(&'w str, RecordFault),
+    /// The file at this path could not be written.
+    #[error("pdb_symbolizer: {0}: {1}")]
+    Export(String, ExportFault),
     /// The records were refused, or there was no memory.
     #[error("pdb_symbolizer: {0}")]
     Refused(Error),

@@ -1,0 +1,89 @@
+#!/usr/bin/env python3
+"""Has the built pdb_symbolizer export PDB files, and compares what is said of the PDB file and of the records files.
+
+Usage: export.py PROGRAM REPORT PDB ADDRESSES
+
+ADDRESSES is a file with an address a line. The PDB file is exported as one records file, and as one with a file for
+each module; both are exported again, which has to give the same bytes. Of each address pdb_symbolizer has to say the
+same of the PDB file and of both records files, and the built pdb_report has to print the same frames of both.
+"""
+import itertools
+import json
+import pathlib
+import subprocess
+import sys
+import tempfile
+
+FRAME = "     {FunctionName} at {FileName}:{Line}\n"
+UNKNOWN = {"FunctionName": "<unknown>", "FileName": "??", "Line": "??"}
+AT_ONCE = 1000
+
+
+def run(*words, text=None):
+    """What a program prints."""
+    return subprocess.run(words, input=text, capture_output=True, text=True, check=True).stdout
+
+
+def report_of(answer):
+    """The answer as pdb_report prints it."""
+    frames = answer["Symbol"]
+    if not frames:
+        return ""
+    lines = [FRAME.format(**{key: frame[key] or unknown for key, unknown in UNKNOWN.items()}) for frame in frames]
+    return f"{answer['Address']} - {len(frames)} frames:\n" + "".join(lines)
+
+
+def answers(program, file, addresses):
+    """What pdb_symbolizer says of a file."""
+    text = run(program, "--output-style=JSON", file, text="".join(f"{address}\n" for address in addresses))
+    return [json.loads(line) | {"ModuleName": ""} for line in text.splitlines()]
+
+
+def report(program, records, addresses):
+    """What pdb_report prints of a records file, a thousand addresses at once."""
+    begun = iter(addresses)
+    parts = iter(lambda: [*itertools.islice(begun, AT_ONCE)], [])
+    return "".join(run(program, records, "frames", *part) for part in parts)
+
+
+def exported(program, folder, source, name):
+    """A records file of a source, and one with a file for each module."""
+    whole, parted = folder / f"{name}.json", folder / f"{name}.parted.json"
+    run(program, "--export", whole, source)
+    run(program, "--export", parted, "--modules", f"{name}.modules", source)
+    return whole, parted
+
+
+def texts(records):
+    """The bytes of a records file and of its module files."""
+    modules = sorted((records.parent / f"{records.name.split('.')[0]}.modules").glob("*.json"))
+    return [file.read_bytes() for file in ([records, *modules] if ".parted" in records.name else [records])]
+
+
+def main(program, reporter, pdb, path):
+    addresses = open(path).read().split()
+    wanted = answers(program, pdb, addresses)
+    lines = "".join(report_of(answer) for answer in wanted)
+    wrong = []
+    with tempfile.TemporaryDirectory() as folder:
+        folder = pathlib.Path(folder)
+        first = exported(program, folder, pdb, "first")
+        for number, records in enumerate(first):
+            again = exported(program, folder, records, f"again{number}")
+            if texts(again[0]) != texts(first[0]):
+                wrong.append(f"{records.name}, exported again, has other bytes")
+            if [text.replace(f"again{number}".encode(), b"first") for text in texts(again[1])] != texts(first[1]):
+                wrong.append(f"{records.name}, exported again with module files, has other bytes")
+            found = answers(program, records, addresses)
+            wrong += [f"{records.name}: {a}\n  {b}" for a, b in zip(wanted, found, strict=True) if a != b]
+            if report(reporter, records, addresses) != lines:
+                wrong.append(f"{records.name}: pdb_report prints other frames")
+    print("\n".join(wrong[:20]))
+    print(f"{len(addresses)} addresses, {len(lines.splitlines())} lines of pdb_report, {len(wrong)} differences")
+    return 1 if wrong else 0
+
+
+if __name__ == "__main__":
+    if len(sys.argv) != 5:
+        sys.exit(__doc__)
+    sys.exit(main(*sys.argv[1:]))

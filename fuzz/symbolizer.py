@@ -1,0 +1,168 @@
+#!/usr/bin/env python3
+"""Compares what the built pdb_symbolizer and llvm-symbolizer print, in each style and with each option.
+
+Usage: symbolizer.py PROGRAM PDB EXE ADDRESSES [SHOWN]
+
+ADDRESSES is a file with an address a line, relative to where the program is loaded. Each style (LLVM, GNU, JSON) is
+asked for with each set of options over all of them, and the answers are compared address by address. A line is printed
+for each run, with how many answers are the same and how many differ by kind, and the first SHOWN of each kind:
+
+lines    another number of lines
+name     a function's name
+file     a file's name
+line     a line's number, and nothing else
+form     anything else, as an empty line that one of them has
+"""
+import collections
+import itertools
+import json
+import re
+import subprocess
+import sys
+
+STYLES = ["LLVM", "GNU", "JSON"]
+NAMES = ["--functions=short", "--functions=none"]
+INLINES = ["--inlines", "--no-inlines"]
+FLAGS = ["--addresses", "--pretty-print", "--basenames"]
+PLACE = re.compile(r"(.*?):(\d+)(:\d+)?$")
+
+
+def option_sets():
+    """Each set of options that is tried."""
+    for names, inlines in itertools.product(NAMES, INLINES):
+        for count in range(len(FLAGS) + 1):
+            for flags in itertools.combinations(FLAGS, count):
+                yield [names, inlines, *flags]
+
+
+def asked(words, addresses):
+    """What a program prints where it reads these addresses."""
+    done = subprocess.run(words, input="".join(f"{address}\n" for address in addresses), capture_output=True, text=True)
+    return done.stdout
+
+
+def json_answers(text):
+    """The objects of a text, one behind the other, whatever the space between them."""
+    decoder, at, answers = json.JSONDecoder(), 0, []
+    while at < len(text):
+        answer, at = decoder.raw_decode(text, at)
+        at += len(text[at:]) - len(text[at:].lstrip())
+        answer.pop("ModuleName", None)
+        answers.append(answer)
+    return answers
+
+
+def json_kind(ours, theirs):
+    """How two answers in JSON differ, or None."""
+    if ours == theirs:
+        return None
+    if [*ours] != [*theirs] or ours.get("Address") != theirs.get("Address"):
+        return "form"
+    ours, theirs = ours["Symbol"], theirs["Symbol"]
+    if len(ours) != len(theirs):
+        return "lines"
+    for key, kind in (("FunctionName", "name"), ("FileName", "file"), ("Line", "line")):
+        if [frame[key] for frame in ours] != [frame[key] for frame in theirs]:
+            return kind
+    return "form"
+
+
+def line_kind(ours, theirs):
+    """How two lines differ, or None."""
+    if ours == theirs:
+        return None
+    here, there = PLACE.match(ours), PLACE.match(theirs)
+    if not here or not there:
+        return "form" if "" in (ours, theirs) else "name"
+    if here[3] != there[3]:
+        return "form"
+    if here[1] != there[1]:
+        return "file" if here[1].split(" at ")[0] == there[1].split(" at ")[0] else "name"
+    return "line"
+
+
+def plain_kind(ours, theirs):
+    """How two answers in lines differ, or None."""
+    kinds = {line_kind(*pair) for pair in zip(ours, theirs)} - {None}
+    if len(ours) != len(theirs):
+        return "lines"
+    for kind in ("form", "name", "file", "line"):
+        if kind in kinds:
+            return kind
+    return None
+
+
+class Comparison:
+    """Two programs, asked the same."""
+
+    def __init__(self, program, pdb, exe, addresses):
+        self.addresses = addresses
+        self.ours = [program]
+        self.pdb = pdb
+        self.theirs = ["llvm-symbolizer", f"--obj={exe}", "--relative-address"]
+
+    def texts(self, options, addresses):
+        """What both print."""
+        ours = asked([*self.ours, *options, self.pdb], addresses)
+        return ours, asked([*self.theirs, *options], addresses)
+
+    def json(self, options):
+        """The answers of both in JSON."""
+        ours, theirs = (json_answers(text) for text in self.texts(options, self.addresses))
+        return [json_kind(*pair) for pair in zip(ours, theirs, strict=True)], list(zip(ours, theirs))
+
+    def plain(self, options):
+        """The answers of both in lines, where an address between them tells where each begins."""
+        marked = [*options] if "--addresses" in options else [*options, "--addresses"]
+        pairs = zip(*(split(text, self.addresses) for text in self.texts(marked, self.addresses)), strict=True)
+        pairs = list(pairs)
+        return [plain_kind(*pair) for pair in pairs], pairs
+
+
+def split(text, addresses):
+    """The lines of each answer; each begins with its address."""
+    answers, lines = [], text.split("\n")[:-1]
+    starts = iter(addresses)
+    wanted = next(starts, None)
+    for line in lines:
+        if wanted is not None and re.match(rf"{wanted}(: |$)", line):
+            answers.append([])
+            wanted = next(starts, None)
+        answers[-1].append(line)
+    return answers
+
+
+def whole(comparison, options):
+    """Whether the texts without addresses are those with them, and the addresses left out: by both programs."""
+    if "--addresses" in options or "--output-style=JSON" in options:
+        return True
+    end = ": " if "--pretty-print" in options else "\n"
+    plain = comparison.texts(options, comparison.addresses)
+    marked = comparison.texts([*options, "--addresses"], comparison.addresses)
+    return all("".join(part for part in re.split(rf"^0x[0-9a-f]+{end}", text, flags=re.M)) == bare
+               for bare, text in zip(plain, marked))
+
+
+def main(program, pdb, exe, path, shown):
+    addresses = open(path).read().split()
+    comparison = Comparison(program, pdb, exe, addresses)
+    total = collections.Counter()
+    for style in STYLES:
+        for options in option_sets():
+            options = [f"--output-style={style}", *options]
+            kinds, pairs = comparison.json(options) if style == "JSON" else comparison.plain(options)
+            counts = collections.Counter(kind or "same" for kind in kinds)
+            if not whole(comparison, options):
+                counts["addresses change the rest"] += 1
+            total += counts
+            print(" ".join(options), dict(sorted(counts.items())), flush=True)
+            for kind in sorted(set(kinds) - {None}):
+                for pair in [pair for pair, found in zip(pairs, kinds) if found == kind][:shown]:
+                    print(f"  {kind}\n    ours   {pair[0]}\n    theirs {pair[1]}")
+    print("all", dict(sorted(total.items())))
+
+
+if __name__ == "__main__":
+    if len(sys.argv) not in (5, 6):
+        sys.exit(__doc__)
+    main(*sys.argv[1:5], int(sys.argv[5]) if len(sys.argv) == 6 else 0)
