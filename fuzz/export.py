@@ -24,13 +24,18 @@ def run(*words, text=None):
     return subprocess.run(words, input=text, capture_output=True, text=True, check=True).stdout
 
 
+def line_of(frame):
+    """A frame as pdb_report prints it. A row may tell the line 0; that of a frame without a file is not known."""
+    known = {"Line": "0"} if frame["FileName"] else {}
+    return FRAME.format(**{key: frame[key] or unknown for key, unknown in (UNKNOWN | known).items()})
+
+
 def report_of(answer):
     """The answer as pdb_report prints it."""
     frames = answer["Symbol"]
     if not frames:
         return ""
-    lines = [FRAME.format(**{key: frame[key] or unknown for key, unknown in UNKNOWN.items()}) for frame in frames]
-    return f"{answer['Address']} - {len(frames)} frames:\n" + "".join(lines)
+    return f"{answer['Address']} - {len(frames)} frames:\n" + "".join(map(line_of, frames))
 
 
 def answers(program, file, addresses):

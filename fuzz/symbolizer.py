@@ -1,14 +1,18 @@
 #!/usr/bin/env python3
 """Compares what the built pdb_symbolizer and llvm-symbolizer print, in each style and with each option.
 
-Usage: symbolizer.py PROGRAM PDB EXE ADDRESSES [SHOWN]
+Usage: symbolizer.py PROGRAM PDB EXE ADDRESSES [SHOWN [OPTION..]]
 
 ADDRESSES is a file with an address a line, relative to where the program is loaded. Each style (LLVM, GNU, JSON) is
 asked for with each set of options over all of them, and the answers are compared address by address. A line is printed
-for each run, with how many answers are the same and how many differ by kind, and the first SHOWN of each kind:
+for each run, with how many answers are the same and how many differ by kind, and the first SHOWN of each kind. With
+OPTIONs this one set of options is tried.
 
 lines    another number of lines
 name     a function's name
+unnamed  a function's name that only one of them tells
+place    a place that only one of them knows
+folder   a file's folders
 file     a file's name
 line     a line's number, and nothing else
 form     anything else, as an empty line that one of them has
@@ -25,6 +29,9 @@ NAMES = ["--functions=short", "--functions=none"]
 INLINES = ["--inlines", "--no-inlines"]
 FLAGS = ["--addresses", "--pretty-print", "--basenames"]
 PLACE = re.compile(r"(.*?):(\d+)(:\d+)?$")
+FRONT = re.compile(r"^(0x[0-9a-f]+: )?( \(inlined by\) )?")
+SPACE = re.compile(r"\s*")
+KINDS = ("form", "name", "unnamed", "place", "file", "line", "folder")
 
 
 def option_sets():
@@ -46,10 +53,36 @@ def json_answers(text):
     decoder, at, answers = json.JSONDecoder(), 0, []
     while at < len(text):
         answer, at = decoder.raw_decode(text, at)
-        at += len(text[at:]) - len(text[at:].lstrip())
+        at = SPACE.match(text, at).end()
         answer.pop("ModuleName", None)
         answers.append(answer)
     return answers
+
+
+def name_kind(ours, theirs):
+    """How two names of functions differ, or None."""
+    if ours == theirs:
+        return None
+    return "unnamed" if {ours, theirs} & {"", "??"} else "name"
+
+
+def place_kind(ours, theirs):
+    """How two places differ, each a file and a line, or None."""
+    if ours == theirs:
+        return None
+    if ours[0] == theirs[0]:
+        return "line"
+    if {ours[0], theirs[0]} & {"", "??"}:
+        return "place"
+    here, there = (re.split(r"[\\/]", place[0])[-1] for place in (ours, theirs))
+    if here != there:
+        return "file"
+    return "folder" if ours[1] == theirs[1] else "line"
+
+
+def first_kind(kinds):
+    """The gravest of some kinds, or None."""
+    return next((kind for kind in KINDS if kind in kinds), None)
 
 
 def json_kind(ours, theirs):
@@ -58,38 +91,36 @@ def json_kind(ours, theirs):
         return None
     if [*ours] != [*theirs] or ours.get("Address") != theirs.get("Address"):
         return "form"
-    ours, theirs = ours["Symbol"], theirs["Symbol"]
-    if len(ours) != len(theirs):
+    if len(ours["Symbol"]) != len(theirs["Symbol"]):
         return "lines"
-    for key, kind in (("FunctionName", "name"), ("FileName", "file"), ("Line", "line")):
-        if [frame[key] for frame in ours] != [frame[key] for frame in theirs]:
-            return kind
-    return "form"
+    kinds = set()
+    for here, there in zip(ours["Symbol"], theirs["Symbol"]):
+        kinds.add(name_kind(here["FunctionName"], there["FunctionName"]))
+        kinds.add(place_kind(*((frame["FileName"], frame["Line"]) for frame in (here, there))))
+    return first_kind(kinds) or "form"
 
 
 def line_kind(ours, theirs):
     """How two lines differ, or None."""
     if ours == theirs:
         return None
+    ours, theirs = FRONT.sub("", ours), FRONT.sub("", theirs)
     here, there = PLACE.match(ours), PLACE.match(theirs)
-    if not here or not there:
-        return "form" if "" in (ours, theirs) else "name"
+    if bool(here) != bool(there):
+        return "form"
+    if not here:
+        return name_kind(ours, theirs)
     if here[3] != there[3]:
         return "form"
-    if here[1] != there[1]:
-        return "file" if here[1].split(" at ")[0] == there[1].split(" at ")[0] else "name"
-    return "line"
+    names, files = zip(*(place[1].rpartition(" at ")[::2] for place in (here, there)))
+    return name_kind(*names) or place_kind(*zip(files, (here[2], there[2])))
 
 
 def plain_kind(ours, theirs):
     """How two answers in lines differ, or None."""
-    kinds = {line_kind(*pair) for pair in zip(ours, theirs)} - {None}
     if len(ours) != len(theirs):
         return "lines"
-    for kind in ("form", "name", "file", "line"):
-        if kind in kinds:
-            return kind
-    return None
+    return first_kind({line_kind(*pair) for pair in zip(ours, theirs)})
 
 
 class Comparison:
@@ -143,12 +174,12 @@ def whole(comparison, options):
                for bare, text in zip(plain, marked))
 
 
-def main(program, pdb, exe, path, shown):
+def main(program, pdb, exe, path, shown, *only):
     addresses = open(path).read().split()
     comparison = Comparison(program, pdb, exe, addresses)
     total = collections.Counter()
     for style in STYLES:
-        for options in option_sets():
+        for options in [only] if only else option_sets():
             options = [f"--output-style={style}", *options]
             kinds, pairs = comparison.json(options) if style == "JSON" else comparison.plain(options)
             counts = collections.Counter(kind or "same" for kind in kinds)
@@ -163,6 +194,6 @@ def main(program, pdb, exe, path, shown):
 
 
 if __name__ == "__main__":
-    if len(sys.argv) not in (5, 6):
+    if len(sys.argv) < 5:
         sys.exit(__doc__)
-    main(*sys.argv[1:5], int(sys.argv[5]) if len(sys.argv) == 6 else 0)
+    main(*sys.argv[1:5], int(sys.argv[5]) if len(sys.argv) > 5 else 0, *sys.argv[6:])

@@ -1,0 +1,161 @@
+#!/usr/bin/env python3
+"""Compares how much of each kind a records file has, and how much llvm-pdbutil shows of the PDB file it was made of.
+
+Usage: counts.py PROGRAM PDB
+
+The built pdb_symbolizer exports the PDB file. A line is printed for each kind, with both counts; of what modules have
+the counts are compared module by module. A module without a stream counts as one without records: llvm-pdbutil 14
+shows for such a module the lines and the inlinees of the module in front of it once more.
+"""
+import collections
+import itertools
+import json
+import pathlib
+import re
+import subprocess
+import sys
+import tempfile
+
+MODULE = re.compile(r"\s*Mod (\d+) \| ")
+SYMBOL = re.compile(r"\s*\d+ \| (S_\w+)")
+SHOWN = re.compile(r"\s*Showing ([\d,]+) records")
+LEAF = re.compile(r"\s*0x[0-9A-F]+ \| (LF_\w+)")
+INLINEE = re.compile(r"\s*0x[0-9A-F]+ \| +\d+ \| ")
+BLOCK = re.compile(r"\s*(\d+:[0-9A-F]+-[0-9A-F]+), line/addr entries = \d+")
+ROW = re.compile(r"(NSI|ASI|\d+|\?+) [0-9A-F]{8}")
+PROCEDURES = {"S_GPROC32", "S_LPROC32", "S_GPROC32_ID", "S_LPROC32_ID", "S_LPROC32_DPC", "S_LPROC32_DPC_ID"}
+KINDS = {"InlineSite": {"S_INLINESITE", "S_INLINESITE2"}, "Procedure": PROCEDURES, "SeparatedCode": {"S_SEPCODE"},
+         "Thunk": {"S_THUNK32"}}
+TYPES = {
+    "ArgumentList": {"LF_ARGLIST"}, "Array": {"LF_ARRAY"}, "Class": {"LF_CLASS", "LF_INTERFACE", "LF_STRUCTURE"},
+    "Enumeration": {"LF_ENUM"}, "MemberFunction": {"LF_MFUNCTION"}, "Modifier": {"LF_MODIFIER"},
+    "Other": {"LF_BITFIELD", "LF_FIELDLIST", "LF_METHODLIST", "LF_VFTABLE"}, "Pointer": {"LF_POINTER"},
+    "Procedure": {"LF_PROCEDURE"}, "Union": {"LF_UNION"}}
+IDS = {"Function": {"LF_FUNC_ID"}, "MemberFunction": {"LF_MFUNC_ID"}, "Other": {"LF_BUILDINFO", "LF_UDT_SRC_LINE"},
+       "String": {"LF_STRING_ID"}, "StringList": {"LF_SUBSTR_LIST"}}
+LISTS = {"types": TYPES, "ids": IDS}
+
+
+def dump(option, pdb):
+    """The lines of a dump."""
+    done = subprocess.run(["llvm-pdbutil", "dump", option, pdb], capture_output=True, text=True, errors="replace")
+    return done.stdout.splitlines()
+
+
+def by_module(option, pdb):
+    """The lines of a dump for each module."""
+    lines = collections.defaultdict(list)
+    module = None
+    for line in dump(option, pdb):
+        found = MODULE.match(line)
+        if found:
+            module = int(found[1])
+        elif module is not None:
+            lines[module].append(line)
+    return lines
+
+
+def symbol_counts(names):
+    """How many symbols there are of each kind that has content, and of all."""
+    counts = {kind: sum(name in kinds for name in names) for kind, kinds in KINDS.items()}
+    return counts | {"symbols": len(names)}
+
+
+def by_kind(name, count, counts):
+    """The counts of the kinds of a list, under its name, and of what is of no kind that is known."""
+    return {f"{name}, {kind}": count for kind, count in (counts | {"unknown": count - sum(counts.values())}).items()}
+
+
+def shown_lines(lines):
+    """The counts of parts of lines, each of them shown once for each of its files, and of rows that are of a line."""
+    blocks = [BLOCK.match(line) for line in lines]
+    ranges = [block[1] for block in blocks if block]
+    rows = [row for line, block in zip(lines, blocks) if not block for row in ROW.findall(line)]
+    return {"parts of lines": sum(1 for _ in itertools.groupby(ranges)),
+            "rows": sum(row not in ("NSI", "ASI") for row in rows)}
+
+
+def shown(pdb):
+    """What llvm-pdbutil shows: counts of the file, and of each module that has a stream."""
+    modules = by_module("--modules", pdb)
+    globals_ = [found[1] for found in map(SYMBOL.match, dump("--gsi-records", pdb)) if found]
+    whole = {"modules": len(modules), "global symbols": len(globals_),
+             "Public": sum(name == "S_PUB32" for name in globals_),
+             "section contributions": sum(line.lstrip().startswith("SC[") for line in dump("--section-contribs", pdb)),
+             "sections": sum("SECTION HEADER" in line for line in dump("--section-headers", pdb))}
+    for name, kinds in LISTS.items():
+        lines = dump(f"--{name}", pdb)
+        whole[name] = sum(int(found[1].replace(",", "")) for found in map(SHOWN.match, lines) if found)
+        leaves = collections.Counter(found[1] for found in map(LEAF.match, lines) if found)
+        counts = {kind: sum(leaves[leaf] for leaf in kinds[kind]) for kind in kinds}
+        whole |= by_kind(name, whole[name], counts)
+    parts = {option: by_module(option, pdb) for option in ("--symbols", "-l", "--il")}
+    known = {}
+    for module, lines in modules.items():
+        if any("debug stream: 65535" in line for line in lines):
+            continue
+        symbols = [found[1] for found in map(SYMBOL.match, parts["--symbols"][module]) if found]
+        inlinees = sum(bool(INLINEE.match(line)) for line in parts["--il"][module])
+        known[module] = symbol_counts(symbols) | shown_lines(parts["-l"][module]) | {"inlinees": inlinees}
+    return whole, known
+
+
+def items(reading):
+    """The items of a reading, and nothing of a stream that failed."""
+    return reading if isinstance(reading, list) else reading.get("items", [])
+
+
+def kind_of(symbol):
+    """The kind of a symbol's content."""
+    return symbol.get("data", {}).get("kind")
+
+
+def module_counts(info):
+    """What a records file has of a module."""
+    kinds = [kind_of(symbol) for symbol in items(info["symbols"])]
+    entries = info["line_program"].get("entries", [])
+    counts = {kind: kinds.count(kind) for kind in KINDS} | {"symbols": len(kinds)}
+    return counts | {"parts of lines": len(entries), "rows": sum(len(items(entry["lines"])) for entry in entries),
+                     "inlinees": len(items(info["inlinees"]))}
+
+
+def recorded(records):
+    """What a records file has: counts of the file, and of each module that has records."""
+    debug = records["debug_information"]
+    symbols = items(records["global_symbols"])
+    whole = {"modules": len(items(debug["modules"])), "global symbols": len(symbols),
+             "Public": sum(kind_of(symbol) == "Public" for symbol in symbols),
+             "section contributions": len(items(debug["section_contributions"])),
+             "sections": len(records["sections"] or [])}
+    for name, kinds in LISTS.items():
+        found = [item.get("kind") for item in items(records[f"{name[:-1]}_information"])]
+        found = [kind for kind in found if kind != "Primitive"]
+        whole[name] = len(found)
+        whole |= by_kind(name, len(found), {kind: found.count(kind) for kind in kinds})
+    return whole, {module: module_counts(info) for module, info in enumerate(records["module_infos"]) if info}
+
+
+def main(program, pdb):
+    with tempfile.TemporaryDirectory() as folder:
+        out = pathlib.Path(folder) / "records.json"
+        subprocess.run([program, "--export", out, pdb], check=True)
+        (ours, our_modules), (theirs, their_modules) = recorded(json.loads(out.read_bytes())), shown(pdb)
+    wrong = 0
+    for kind in ours:
+        wrong += ours[kind] != theirs[kind]
+        print(f"{kind}: {ours[kind]}, shown {theirs[kind]}")
+    wrong += our_modules.keys() != their_modules.keys()
+    print(f"modules with records: {len(our_modules)}, shown {len(their_modules)}")
+    for kind in next(iter(our_modules.values()), {}):
+        here, there = ({module: counts[kind] for module, counts in modules.items()}
+                       for modules in (our_modules, their_modules))
+        apart = [module for module in sorted({*here, *there}) if here.get(module) != there.get(module)]
+        wrong += len(apart)
+        print(f"{kind}: {sum(here.values())}, shown {sum(there.values())}", f"apart in {apart[:9]}" if apart else "")
+    return 1 if wrong else 0
+
+
+if __name__ == "__main__":
+    if len(sys.argv) != 3:
+        sys.exit(__doc__)
+    sys.exit(main(*sys.argv[1:]))
