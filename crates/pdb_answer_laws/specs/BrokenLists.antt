@@ -33,7 +33,8 @@ other = record { raw_kind = 4430; content = Some Other }
 -- the same row
 abbrev pub own_row_beside_an_added_range : List Symbol
 own_row_beside_an_added_range =
-    other ∷ site 4097 4 [] ∷ site 4098 3 (row ∷ []) ∷ other ∷ other ∷ site 4099 6 (row ∷ []) ∷ other ∷ other ∷ []
+    other ∷ site 4097 4 [] ∷ site 4098 3 (row ∷ []) ∷ other ∷ other
+    ∷ site 4099 6 (row ∷ []) ∷ other ∷ other ∷ []
 
 -- the sites that its walk finds
 abbrev pub sites : List Site
