@@ -26,7 +26,7 @@ CHAINS = [50_000, 100_000, 200_000]
 
 
 class Run:
-    """What one run of the program told: microseconds of each step, kilobytes, and how many were found."""
+    """What one run of the program answered: microseconds of each step, kilobytes, and how many were found."""
 
     def __init__(self, told, counted):
         self.parsed, self.peaks, self.contexts = 0, [], []

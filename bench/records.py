@@ -16,7 +16,7 @@ Shapes that a hostile writer could hand in:
     procedures N        procedures, each nested in the one before and covered by it
     sites N             inline sites of one procedure, each directly inside the one before
     side-by-side N      inline sites of one procedure, one after the other inside a first one without rows
-    publics N           public symbols, all at one place
+    publics N           public symbols, all at one section offset
 
 Types and ids, of which signatures and names of inlined functions are made:
 
@@ -72,7 +72,7 @@ def place(offset):
 
 
 def spread(span, count):
-    """So many addresses all over the code at the section's start, neighbours at other places of their functions."""
+    """So many addresses all over the code at the section's start, neighbours at other offsets of their functions."""
     step = span // count + 37
     return [SECTION_START + number * step % span for number in range(count)]
 

@@ -19,15 +19,17 @@ program=${2:-$top/crates/pdb_report/out/pdb_report}
 [ $# -gt 1 ] || (cd "$top/crates/pdb_report" && rt run -- "$top/crates/pdb_report/data/a.json" list) >/dev/null
 
 library="$top/crates/pdb_c/out/libpdb_c.a"
-for name in report refusals; do
+for name in report opened refusals; do
     gcc -std=c11 -O2 -Wall -Wextra -Werror -I "$top/include" -o "$folder/${name}_c" \
         "$top/examples/c/$name.c" "$library" "$kit/c/liblibc_c.a"
 done
-rustc --edition 2021 -O -o "$folder/report_rust" "$top/examples/rust/report.rs" \
-    -C link-arg="$library" -C link-arg="$kit/c/liblibc_c.a"
+for name in report opened; do
+    rustc --edition 2021 -O -o "$folder/${name}_rust" "$top/examples/rust/$name.rs" \
+        -C link-arg="$library" -C link-arg="$kit/c/liblibc_c.a"
+done
 
-records="$top/crates/pdb_tests/data/small_x64.json"
-"$folder/refusals_c" "$records" "$top/crates/pdb_tests/data/failing_parts.json"
+records="$top/crates/pdb_report_tests/data/small_x64.json"
+"$folder/refusals_c" "$records" "$top/crates/pdb_report_tests/data/failing_parts.json"
 failed=0
 
 # Compares what an example prints with what pdb_report printed.
@@ -42,7 +44,7 @@ compare() {
 set -- 1544 2b45 6011 1000 ffffffff $(seq 4096 7 25000 | xargs printf '0x%x ')
 for command in frames names; do
     "$program" "$records" "$command" "$@" >"$folder/wanted"
-    for example in report_c report_rust; do
+    for example in report_c opened_c report_rust opened_rust; do
         compare "$folder/$example" "$records" "$command" "$@"
     done
 done

@@ -9,6 +9,7 @@ report an example has to print the same; where it ends early an example has to p
 20th seed, and the genuine program, is run under valgrind too. Up to 20 differences are printed; the status is 1 where
 there is one.
 """
+import itertools
 import json
 import os
 import pathlib
@@ -24,14 +25,16 @@ from generate import generate  # noqa: E402
 from model import with_big_stack  # noqa: E402
 from records import Fault, module_files  # noqa: E402
 
-SAMPLE = FUZZ.parent / "crates" / "pdb_tests" / "data" / "small_x64.json"
+SAMPLE = FUZZ.parent / "crates" / "pdb_report_tests" / "data" / "small_x64.json"
 LANGUAGES = ["c", "rust"]
+# What reads the records at each call, and what reads them once.
+EXAMPLES = ["report", "opened"]
 MOST_SHOWN = 20
 SEEDS_TO_A_CHECK = 20
 SECONDS = 120
 ADDRESS = re.compile(r"(0x)?[0-9a-fA-F]{1,8}")
 VALGRIND = ["valgrind", "--quiet", "--error-exitcode=99", "--leak-check=full"]
-# The leaks that are errors: in C, each block that isn't freed; Rust's own runtime keeps one to the end.
+# The leaks that are errors: in C, each block that isn't freed; Rust's own runtime holds one to the end.
 LEAKS = {"c": "all", "rust": "definite,indirect,possible"}
 
 Run = namedtuple("Run", "stdout status stderr")
@@ -43,7 +46,7 @@ def run(words):
 
 
 def refusal(program, path, data, command, ended):
-    """What an example has to tell where the program's run ended early, by the records file's fault or by whether the
+    """What an example has to say where the program's run ended early, by the records file's fault or by whether the
     program refuses the records with no address too."""
     try:
         if module_files(data):
@@ -75,15 +78,25 @@ def compare(program, folder, path, data, runs, check, counts):
     for words in runs:
         report = wanted(program, path, data, words)
         counts[report.stderr.strip() or "whole reports"] += 1
-        for language in LANGUAGES:
+        for example, language in itertools.product(EXAMPLES, LANGUAGES):
+            if example == "opened" and len(words) == 1:
+                continue
             kinds = LEAKS[language]
             checked = [*VALGRIND, f"--errors-for-leak-kinds={kinds}", f"--show-leak-kinds={kinds}"]
             for before in ([], checked) if check else ([],):
-                got = run([*before, folder / f"report_{language}", path, *words])
+                got = run([*before, folder / f"{example}_{language}", path, *words])
                 counts["runs" + (" under valgrind" if before else "")] += 1
-                if got != report:
-                    found.append((f"report_{language}", bool(before), path, words, report, got))
+                if seen(example, got) != report:
+                    found.append((f"{example}_{language}", bool(before), path, words, report, got))
     return found
+
+
+def seen(example, got):
+    """A run as one of `report` would be: an example that reads the records once asks for one address after the other,
+    so it may have printed the texts of those before the one that is refused, and goes by another name."""
+    if example == "report" or got.status == 0:
+        return got
+    return Run(b"", got.status, got.stderr.replace(f"{example}: ", "report: ", 1))
 
 
 def asked(runs):
@@ -92,7 +105,7 @@ def asked(runs):
 
 
 def sample_runs():
-    """Runs over the genuine program: some 300 places all over its sections."""
+    """Runs over the genuine program: some 300 addresses all over its sections."""
     sections = json.loads(SAMPLE.read_bytes())["address_map"]
     places = [section["virtual_address"] + n for section in sections for n in range(0, section["virtual_size"], 37)]
     words = [f"{place:x}" for place in places[::len(places) // 300 + 1]]

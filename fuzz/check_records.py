@@ -3,7 +3,7 @@
 
 Usage: check_records.py RECORDS ..      exit status 0: nothing to warn of, 1: something
 
-What the reader of records refuses is not looked for here: pdb_report tells that. A file that refers to files of
+What the reader of records refuses is not looked for here: pdb_report says that. A file that refers to files of
 modules is read with them, beside it. No number of bytes is trusted: a text that is no JSON ends with one line.
 """
 import json
@@ -99,7 +99,7 @@ class Checker:
             self.members(f"/debug_information/modules/{number}", module, "module")
 
     def place(self, path, section, offset):
-        """Warns of a place in no section, or past its end."""
+        """Warns of a section offset in no section, or past its end."""
         if not isinstance(section, int) or not isinstance(offset, int):
             return
         if not 1 <= section <= len(self.sections):

@@ -24,7 +24,7 @@ NUMBERS = [0, 1, 2, 3, 4, 7, 0x7f, 0x80, 0xff, 0x1000, 0x7fff, 0x8000, 0xffff, 0
 
 
 def blocks_of(pdb):
-    """The block size, and the place of the directory's numbers in the file."""
+    """The block size, and the position of the directory's numbers in the file."""
     size = struct.unpack_from("<I", pdb, 32)[0]
     length, where = struct.unpack_from("<I", pdb, 44)[0], struct.unpack_from("<I", pdb, 52)[0]
     first = struct.unpack_from("<I", pdb, where * size)[0]
@@ -40,7 +40,7 @@ def flipped(pdb, chance):
 
 
 def numbered(pdb, chance):
-    """A number of one, two or four bytes in the place of another, some of them at places of four."""
+    """A number of one, two or four bytes in the place of another, some of them at multiples of four."""
     out = bytearray(pdb)
     for _ in range(chance.choice([1, 1, 2, 4])):
         width = chance.choice([1, 2, 4])

@@ -25,7 +25,7 @@ def run(*words, text=None):
 
 
 def line_of(frame):
-    """A frame as pdb_report prints it. A row may tell the line 0; that of a frame without a file is not known."""
+    """A frame as pdb_report prints it. A row may have the line 0; that of a frame without a file is not known."""
     known = {"Line": "0"} if frame["FileName"] else {}
     return FRAME.format(**{key: frame[key] or unknown for key, unknown in (UNKNOWN | known).items()})
 

@@ -12,7 +12,7 @@ import subprocess
 import sys
 import tempfile
 
-DATA = pathlib.Path(__file__).resolve().parent.parent / "crates" / "pdb_tests" / "data"
+DATA = pathlib.Path(__file__).resolve().parent.parent / "crates" / "pdb_report_tests" / "data"
 NUMBERS = [b"4294967295", b"4294967296", b"18446744073709551615", b"18446744073709551616", b"-1", b"1e999", b"0.5", b"0"]
 ADDRESSES = ["0", "1000", "1010", "1025", "2000", "7fffffff", "fffffff0", "ffffffff"]
 

@@ -17,7 +17,7 @@ import time
 from collections import namedtuple
 
 CRATES = pathlib.Path(__file__).resolve().parent.parent / "crates"
-DATA = CRATES / "pdb_tests" / "data"
+DATA = CRATES / "pdb_report_tests" / "data"
 EXAMPLE = CRATES / "pdb_report" / "data" / "a.json"
 SECONDS = 10
 USAGE = "usage: pdb_report RECORDS (frames|names ADDRESS...|list)"

@@ -5,7 +5,7 @@ Usage: refused_growths.py PROGRAM [CALLS_PROGRAM]
 
 PROGRAM is a built pdb_report. An allocator is compiled with gcc (or $CC) and preloaded, which refuses the Nth growth
 alone, or each from the Nth on. N goes over all growths of each case; where there are very many, over the first, the
-last, and some between. A case is a run of crates/pdb_tests/data/runs.txt with what is wanted of it. It may end
+last, and some between. A case is a run of crates/pdb_report_tests/data/runs.txt with what is wanted of it. It may end
 
 - as wanted: what was refused wasn't needed, or it was asked for again;
 - with status 1 and `Out of memory`, behind no text or that of the first addresses: memory ran out anywhere but while
@@ -13,16 +13,16 @@ last, and some between. A case is a run of crates/pdb_tests/data/runs.txt with w
 - with status 2 and `out of memory` behind the file's name, and no text: it ran out while that text was read, before
   any look-up.
 
-It may not end with `cannot read` or `cannot write`: the file can be read, the lines can be written, and want of memory
-is told apart from both. Nor by a signal, past ten seconds, with another line, or with a part of an address's text.
+It may not end with `cannot read` or `cannot write`: the file can be read, the lines can be written, and out of memory
+is distinguished from both. Nor by a signal, past ten seconds, with another line, or with a part of an address's text.
 
-CALLS_PROGRAM is a built pdb_call_tests. It is run over the lists of calls for each records file of calls.txt, with single
-growths refused. A call that has no memory is made again to the same context, and the calls behind it then. The run may
-end
+CALLS_PROGRAM is a built pdb_call_tests. It is run over the lists of calls for each records file of calls.txt, with
+single growths refused. A call that has no memory is made again to the same context, and the calls behind it then. The
+run may end
 
 - as wanted, with a call made again or without;
 - with one list that differs, where a call was made again and the list is one of broken parts: the call that met such a
-  part first and then had no memory may tell, when it is made again, that the part failed before;
+  part first and then had no memory may answer, when it is made again, that the part failed before;
 - early with status 1, or with no answers to lists over a file that it couldn't read, where a growth of the program's
   own was refused.
 """
@@ -87,7 +87,7 @@ Run = namedtuple("Run", "status stdout stderr")
 
 def cases():
     """The cases, in order."""
-    text = (CRATES / "pdb_tests" / "data" / "runs.txt").read_text()
+    text = (CRATES / "pdb_report_tests" / "data" / "runs.txt").read_text()
     runs = [run.split("\n", 1) for run in re.split(r"(?m)^\$ pdb_report ", text)[1:]]
     for start in RUNS:
         yield next(case(words, rest) for words, rest in runs if f"{words} ".startswith(f"{start} "))
@@ -98,7 +98,7 @@ def case(words, rest):
     told, status = re.fullmatch(r"(.*?)status (\d)\n\n?", rest, re.S).groups()
     lines = told.splitlines(True)
     stderr = lines.pop() if status != "0" else ""
-    folder = CRATES / "pdb_tests" / "data"
+    folder = CRATES / "pdb_report_tests" / "data"
     return Case(words, folder, words.split(), "".join(lines).encode(), stderr.encode(), int(status))
 
 

@@ -45,7 +45,7 @@ __attribute__((destructor)) static void end(void)
     close(file);
 }
 
-/* Counts a call, and tells whether it is refused. */
+/* Counts a call, and answers whether it is refused. */
 static int is_refused(void)
 {
     if (!counting)

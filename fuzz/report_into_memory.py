@@ -20,7 +20,7 @@ from refused_growths import AS_WANTED, HERE, MODES, Run, ask, cases, compiled, c
 
 ROOT = HERE.parent
 NAME = "report_into_memory"
-LIBRARIES = "pdb_addr2line pdb_reporting"
+LIBRARIES = "pdb_addr2line pdb_report_lib"
 CASES = ("public_symbol.json names ", "site_of_a_method.json frames ", "counter.json list ", "counter.json frames ")
 NEAR, BETWEEN = 500, 1500
 CANNOT_WRITE = b"pdb_report: cannot write\n"
@@ -29,7 +29,7 @@ IN_THE_WRITER = "a growth of the writer was refused"
 PROGRAM = """//! Writes a report into memory, and then what that holds to standard output.
 #![tactic(auto)]
 
-use pdb_reporting::{Out, Stop, run};
+use pdb_report_lib::{Out, Stop, run};
 use std::alloc::AllocError;
 use std::io::Write;
 use std::process::ExitCode;
@@ -83,7 +83,7 @@ def built(folder):
 
 def into_memory(case, run):
     """What a run came to, or None where it may not end so."""
-    if run.status == 1 and run.stderr == CANNOT_WRITE:
+    if run.status == 2 and run.stderr == CANNOT_WRITE:
         return IN_THE_WRITER if case.stdout.startswith(run.stdout) else None
     if run == Run(3, b"", b""):
         return "a growth of the list of words was refused"

@@ -6,7 +6,7 @@ Usage: searches.py      in the repository; needs `rt`, and takes some four minut
 A body that scans the records and never asks its table would meet the same contract, so no wrong body shows this. In a
 copy of the crates the clause on the value is struck from `Segments::find`, and then from `StackTable::find`. What
 stands on a search must then be proved no longer: the searches of contributions, procedures and whole stacks, and with
-the last the stack that frames are told by. The script fails where one of them is still proved.
+the last the stack that frames are answered by. The script fails where one of them is still proved.
 """
 import pathlib
 import re

@@ -10,8 +10,8 @@ OPTIONs this one set of options is tried.
 
 lines    another number of lines
 name     a function's name
-unnamed  a function's name that only one of them tells
-place    a place that only one of them knows
+unnamed  a function's name that only one of them answers
+place    a location that only one of them knows
 folder   a file's folders
 file     a file's name
 line     a line's number, and nothing else
@@ -67,7 +67,7 @@ def name_kind(ours, theirs):
 
 
 def place_kind(ours, theirs):
-    """How two places differ, each a file and a line, or None."""
+    """How two locations differ, each a file and a line, or None."""
     if ours == theirs:
         return None
     if ours[0] == theirs[0]:
@@ -143,7 +143,7 @@ class Comparison:
         return [json_kind(*pair) for pair in zip(ours, theirs, strict=True)], list(zip(ours, theirs))
 
     def plain(self, options):
-        """The answers of both in lines, where an address between them tells where each begins."""
+        """The answers of both in lines, where an address between them shows where each begins."""
         marked = [*options] if "--addresses" in options else [*options, "--addresses"]
         pairs = zip(*(split(text, self.addresses) for text in self.texts(marked, self.addresses)), strict=True)
         pairs = list(pairs)

@@ -20,6 +20,7 @@ static inline const char *refusal_name(int64_t refusal)
     case LIMBERLIME_ADDRESS_REFUSED: return "address refused";
     case LIMBERLIME_OUT_OF_MEMORY: return "out of memory";
     case LIMBERLIME_BUFFER_TOO_SMALL: return "buffer too small";
+    case LIMBERLIME_CLOSED_HANDLE: return "closed handle";
     default: return "unknown refusal";
     }
 }

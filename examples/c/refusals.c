@@ -1,9 +1,9 @@
-/* Asks the library for what it refuses, and sees that each refusal is told by its number, with the buffer as it was.
+/* Asks the library for what it refuses, sees that each refusal is answered by its number, with the buffer as it was.
  *
  *     refusals RECORDS FAILING_PARTS
  *
- * They are small_x64.json and failing_parts.json of crates/pdb_tests/data. The status is 1 where an answer is another
- * than is wanted.
+ * They are small_x64.json and failing_parts.json of crates/pdb_report_tests/data. The status is 1 where an answer is
+ * another than is wanted.
  */
 #include <string.h>
 
@@ -125,6 +125,102 @@ static void refused_address(const uint8_t *records, size_t length)
     expect("an address that is refused", answer, LIMBERLIME_ADDRESS_REFUSED, &wanted, 0);
 }
 
+/* A handle that holds nothing, asked in both ways. */
+static void expect_closed(const char *what, struct limberlime_handle *handle)
+{
+    size_t wanted = 7;
+    int64_t answer = limberlime_frames_of(handle, addresses, 2, buffer, CAPACITY, &wanted);
+    expect(what, answer, LIMBERLIME_CLOSED_HANDLE, &wanted, 0);
+    wanted = 7;
+    answer = limberlime_names_of(handle, addresses, 0, buffer, CAPACITY, &wanted);
+    expect(what, answer, LIMBERLIME_CLOSED_HANDLE, &wanted, 0);
+    if (handle->records != NULL) {
+        printf("%s: the handle leads somewhere\n", what);
+        failures++;
+    }
+}
+
+/* What an opening answers. */
+static void expect_opening(const char *what, const uint8_t *records, size_t length, struct limberlime_handle *handle,
+                           int64_t wanted_answer)
+{
+    int64_t answer = limberlime_open(records, length, handle);
+    if (answer != wanted_answer) {
+        printf("opening %s: answered %lld, wanted %lld\n", what, (long long)answer, (long long)wanted_answer);
+        failures++;
+    }
+}
+
+/* An opening that is refused leaves a handle closed, whether it was open before or not. */
+static void refused_opening(const char *text, int64_t wanted_answer, const uint8_t *records, size_t length)
+{
+    struct limberlime_handle handle = LIMBERLIME_CLOSED;
+    expect_opening(text, (const uint8_t *)text, strlen(text), &handle, wanted_answer);
+    expect_closed(text, &handle);
+    expect_opening("records", records, length, &handle, 0);
+    expect_opening(text, (const uint8_t *)text, strlen(text), &handle, wanted_answer);
+    expect_closed(text, &handle);
+}
+
+static void refused_openings(const uint8_t *records, size_t length)
+{
+    refused_opening("{", LIMBERLIME_NOT_JSON, records, length);
+    refused_opening("{}", LIMBERLIME_NO_RECORDS, records, length);
+    refused_opening("{\"version\":2," STREAMS ONE_MODULE("") "\"module_infos\":[{\"file\":\"a.json\"}]}",
+                    LIMBERLIME_MODULE_FILES, records, length);
+    refused_opening("{" STREAMS ONE_MODULE("{\"section\":1,\"offset\":0,\"size\":8,\"module\":0},"
+                                           "{\"section\":1,\"offset\":4,\"size\":8,\"module\":1}")
+                    "\"module_infos\":[]}", LIMBERLIME_RECORDS_REFUSED, records, length);
+}
+
+/* Null pointers, none of which changes what a handle holds. */
+static void refused_handle_pointers(struct limberlime_handle *handle, const uint8_t *records, size_t length)
+{
+    size_t wanted = 7;
+    expect_opening("into no handle", records, length, NULL, LIMBERLIME_NULL_POINTER);
+    expect_opening("null records", NULL, 0, handle, LIMBERLIME_NULL_POINTER);
+    limberlime_close(NULL);
+    expect("no handle", limberlime_frames_of(NULL, addresses, 2, buffer, CAPACITY, &wanted),
+           LIMBERLIME_NULL_POINTER, &wanted, 7);
+    expect("null addresses", limberlime_names_of(handle, NULL, 0, buffer, CAPACITY, &wanted),
+           LIMBERLIME_NULL_POINTER, &wanted, 7);
+    expect("null buffer", limberlime_frames_of(handle, addresses, 2, NULL, 0, &wanted),
+           LIMBERLIME_NULL_POINTER, &wanted, 7);
+    expect("null length", limberlime_names_of(handle, addresses, 2, buffer, CAPACITY, NULL),
+           LIMBERLIME_NULL_POINTER, &wanted, 7);
+}
+
+/* What an open handle refuses, and that it answers afterwards as the calls over bytes do. */
+static void refused_questions(const uint8_t *records, size_t length, const uint8_t *failing, size_t failing_length)
+{
+    static const uint32_t asked[] = {0x10c4, 0x1024};
+    static uint8_t text[CAPACITY];
+    struct limberlime_handle handle = LIMBERLIME_CLOSED;
+    size_t whole = 0, wanted = 7;
+    int64_t answer = limberlime_frames(records, length, addresses, 2, text, CAPACITY, &whole);
+    expect_closed("never opened", &handle);
+    expect_opening("records with a broken module", failing, failing_length, &handle, 0);
+    expect("an address that is refused", limberlime_frames_of(&handle, asked, 2, buffer, CAPACITY, &wanted),
+           LIMBERLIME_ADDRESS_REFUSED, &wanted, 0);
+    expect_opening("other records", records, length, &handle, 0);
+    refused_handle_pointers(&handle, records, length);
+    expect("no addresses", limberlime_frames_of(&handle, addresses, 0, buffer, CAPACITY, &wanted),
+           LIMBERLIME_NO_ADDRESSES, &wanted, 0);
+    expect("a buffer that is short by one byte",
+           limberlime_frames_of(&handle, addresses, 2, buffer, whole - 1, &wanted),
+           LIMBERLIME_BUFFER_TOO_SMALL, &wanted, whole);
+    int64_t again = limberlime_frames_of(&handle, addresses, 2, buffer, whole, &wanted);
+    if (answer <= 0 || memcmp(text, buffer, whole) != 0) {
+        printf("an open handle has another text\n");
+        failures++;
+    }
+    expect("a buffer of the very length", again, answer, &wanted, whole);
+    limberlime_close(&handle);
+    expect_closed("closed", &handle);
+    limberlime_close(&handle);
+    expect_closed("closed twice", &handle);
+}
+
 int main(int argc, char **argv)
 {
     size_t length, failing_length;
@@ -139,6 +235,8 @@ int main(int argc, char **argv)
     refused_pointers(records, length);
     refused_lengths(records, length);
     refused_address(failing, failing_length);
+    refused_openings(records, length);
+    refused_questions(records, length, failing, failing_length);
     free(records);
     free(failing);
     printf("refusals: %d answers are others than wanted\n", failures);

@@ -10,7 +10,7 @@
 
 typedef int64_t (*report_call)(const uint8_t *, size_t, const uint32_t *, size_t, uint8_t *, size_t, size_t *);
 
-/* Prints a report. The first buffer does for most; where it does not, the call has told the length that is wanted. */
+/* Prints a report. The first buffer does for most; where it does not, the call has said the length that is wanted. */
 static int print_report(report_call call, const uint8_t *records, size_t records_length, const uint32_t *addresses,
                         size_t address_count)
 {

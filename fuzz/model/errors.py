@@ -32,7 +32,7 @@ class Error(Exception):
 
 
 class FailedParts:
-    """The parts of the records that were met broken: each tells its own error once."""
+    """The parts of the records that were met broken: each answers its own error once."""
 
     def __init__(self):
         self.parts = set()
@@ -49,7 +49,7 @@ class FailedParts:
 
 
 def plain(variant):
-    """An error that tells nothing but its variant."""
+    """An error that says nothing but its variant."""
     return Error(variant, PLAIN[variant])
 
 

@@ -24,7 +24,7 @@ def refuse_fault(reading):
 
 
 def internal_offset(address_map, address):
-    """The place of an address, (section, offset): in the first section that holds it."""
+    """The section offset of an address, (section, offset): in the first section that holds it."""
     for number, section in enumerate(address_map[:LAST_SECTION], 1):
         if section.virtual_address <= address < section.virtual_address + section.virtual_size:
             return number, address - section.virtual_address
@@ -32,7 +32,7 @@ def internal_offset(address_map, address):
 
 
 def address_of(address_map, section, offset):
-    """The address of a place, where there is such a section and the sum fits 32 bits."""
+    """The address of a section offset, where there is such a section and the sum fits 32 bits."""
     if section == 0 or section > min(len(address_map), LAST_SECTION):
         return None
     address = address_map[section - 1].virtual_address + offset
@@ -101,9 +101,9 @@ def merged_contributions(claims):
 
 
 def global_functions(symbols, sections, contribution_starts):
-    """The name, or None, of the global function at each place: of several at one place the first.
+    """The name, or None, of the global function at each section offset: of several at one the first.
 
-    Public symbols are told first, then the starts of contributions and the ends of sections that hold code.
+    Public symbols are listed first, then the starts of contributions and the ends of sections that hold code.
     """
     functions = {}
     for symbol in symbols:
@@ -137,7 +137,7 @@ def name_and_type(data, last):
 
 
 def procedure_at(position, symbol, last):
-    """The procedure that the symbol at a position tells of, if it counts; `last` is the last that did."""
+    """The procedure that the symbol at a position shows, if it counts; `last` is the last that did."""
     data = symbol.data
     if symbol.raw_kind not in CODE_KINDS or data is None:
         return None
@@ -163,7 +163,7 @@ def symbol_procedures(symbols):
 
 
 class Program:
-    """The records that a context stands on, and the look-up of functions in them."""
+    """The inputs of a context, and the look-up of functions in them."""
 
     def __init__(self, pdb):
         """Refuses what can't be read. The first refusal in this order is the error."""
@@ -185,7 +185,7 @@ class Program:
         self.module_infos = pdb.module_infos
 
     def provided_info(self, module):
-        """The records of the module at a position: an info, None or Failed."""
+        """The records of the module at a module index: an info, None or Failed."""
         return self.module_infos[module] if module < len(self.module_infos) else None
 
     def readable_info(self, module):
@@ -222,10 +222,10 @@ class Program:
                    default=None)
 
     def look_up(self, address):
-        """What lies over an address: its place, its module, and where the function there starts, with either
+        """What lies over an address: its section offset, its module, and where the function there starts, with either
         its procedure or the name of the global function. None where no function lies there.
 
-        A procedure over the place goes before a global function; that has to start in the contribution.
+        A procedure over the section offset goes before a global function; that has to start in the contribution.
         """
         place = internal_offset(self.address_map, address)
         contribution = place and self.contribution_over(*place)

@@ -12,7 +12,7 @@ PUBLIC_NAMES = ["?f@@YAXXZ", "?g", "?", "foo", "_bar", "", "?é@@", "f", "??0C@@
 
 
 class Code(Layout, Types):
-    """`starts` are places at which symbols with code start; `module` is the module that is being made."""
+    """`starts` are section offsets at which symbols with code start; `module` is the module that is being made."""
 
     # -------------------------------------------------------- single symbols
 
@@ -278,7 +278,7 @@ class Code(Layout, Types):
         return exports
 
     def make_info(self, module):
-        """The records of the module at a position."""
+        """The records of the module at a module index."""
         self.module = module
         symbols = self.make_symbols()
         inlinees = self.make_inlinees(symbols)

@@ -1,4 +1,4 @@
-"""Random sections, places in them, and contributions."""
+"""Random sections, section offsets in them, and contributions."""
 from choices import Choices
 
 GREATEST = 2**32 - 1
@@ -44,7 +44,7 @@ class Layout(Choices):
         if self.broken(0.05):
             self.random.shuffle(self.address_map)
 
-    # --------------------------------------------------------------- places
+    # ------------------------------------------------------ section offsets
 
     def section(self):
         """The number of a section, mostly of one with code."""
@@ -77,7 +77,7 @@ class Layout(Choices):
     # -------------------------------------------------------- contributions
 
     def make_contributions(self):
-        """The contributions; `spots` are places in those of each module."""
+        """The contributions; `spots` are section offsets in those of each module."""
         if self.mode != "mixed":
             found = [(number, 0, 0x100, (number - 1) % max(len(self.modules), 1))
                      for number in range(1, len(self.sections) + 1)]

@@ -15,13 +15,13 @@ ALL_WORDS = [["!"], ["!", "no.json", "names", "10"], ["!", ".", "list"], ["!", "
 
 
 def places_over(section, start, size):
-    """Places in and around a range of bytes."""
+    """Section offsets in and around a range of bytes."""
     return [(section, start), (section, start), (section, start + size), (section, start + size - 1),
             (section, start + size // 2), (section, start - 1)]
 
 
 def symbol_places(symbols):
-    """Places around what symbols tell of; rows of sites lie in the section of the code before them."""
+    """Section offsets around what symbols show; rows of sites lie in the section of the code before them."""
     found = []
     section = None
     for symbol in symbols:
@@ -49,7 +49,7 @@ def contributions_of(file):
 
 class Runs(Layout):
     def places(self, file):
-        """Places of the records that an address may hit: (section, offset)."""
+        """Section offsets of the records that an address may hit: (section, offset)."""
         found = []
         for contribution in contributions_of(file):
             found += places_over(contribution["section"], contribution["offset"], contribution["size"])
@@ -72,7 +72,7 @@ class Runs(Layout):
         return False
 
     def addresses_of_places(self, file):
-        """The addresses of the places, by the address map and now and then by the sections."""
+        """The addresses of the section offsets, by the address map and now and then by the sections."""
         found = []
         for section, offset in self.places(file):
             for sections in [self.address_map] + ([self.sections] if self.chance(0.1) else []):

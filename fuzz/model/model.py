@@ -3,7 +3,7 @@
 Usage: model.py RECORDS (frames|names ADDRESS...|list)
 
 `run(words, get)` gives standard output, the status and standard error. `words` are the program's arguments;
-`get(name)` gives the bytes of a file, or None. Left out are want of memory, a standard output that can't be
+`get(name)` gives the bytes of a file, or None. Left out are memory that runs out, a standard output that can't be
 written, and arguments that aren't UTF-8.
 """
 import re

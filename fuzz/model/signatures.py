@@ -1,8 +1,8 @@
 """Prints the signatures of functions and ids, under the default flags.
 
 Text goes to a list of pieces, `out`, so that what stands before an error is known. `open_indices` are the
-indices that are being printed: one that opens inside itself is refused as circular. `module` is the position
-of the module that asks.
+indices that are being printed: one that opens inside itself is refused as circular. `module` is the module
+index of the module that asks.
 """
 import re
 

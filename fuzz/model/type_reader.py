@@ -1,4 +1,4 @@
-"""Reads types and ids by the indices that modules write, across modules too, and tells sizes of types."""
+"""Reads types and ids by the indices that modules write, across modules too, and answers sizes of types."""
 import errors
 from errors import Error, FailedParts, note
 from primitives import PRIMITIVES
@@ -35,7 +35,7 @@ def position_of(items, index):
 
 
 class TypeReader:
-    """Types and ids of a program. `module` is always the position of the module that asks."""
+    """Types and ids of a program. `module` is always the module index of the module that asks."""
 
     def __init__(self, program):
         self.program = program

@@ -13,7 +13,7 @@ use Rattle.pdb_records.specs.Addresses.{internal_offset}
 use Rattle.pdb_records.specs.declared.ids.IdIndex.{IdIndex}
 use Rattle.pdb_records.specs.declared.modules.ModuleInfo.{ModuleInfo}
 use Rattle.pdb_types.specs.Outcomes.{unless, and_then}
-use Rattle.pdb_types.specs.Standing.{Infos}
+use Rattle.pdb_types.specs.TypeInputs.{ProviderInfos}
 use Rattle.pdb_types.specs.declared.error.Error.{Error}
 use Rattle.pdb_functions.specs.Lookup.{FoundFunction, found_procedure, found_global}
 use Rattle.pdb_inline.specs.InlineRanges.{inline_ranges}
@@ -23,15 +23,15 @@ use Rattle.pdb_inline.specs.declared.inline_ranges.InlineRange.{InlineRange}
 use Rattle.pdb_inline.proofs.InlineStackLemmas.{length-inline_stack}
 use Rattle.pdb_inline.proofs.NestingLemmas.{procedure_nested}
 use Rattle.pdb_frames.specs.ExtendedInfo.{ExtendedInfo, inlinee_ids, extended_info}
-use Rattle.pdb_frames.specs.Frame.{FrameDescription, FramesDescription}
+use Rattle.pdb_frames.specs.Frame.{FrameInfo, FramesInfo}
 use Rattle.pdb_frames.specs.Lines.{function_row, read_whole}
 use Rattle.pdb_frames.specs.Origins.{Origin, function_module, function_start, function_ranges, origin}
 use Rattle.pdb_addr2line.specs.FrameLaws.{levels_over}
-use Rattle.pdb_descriptions.specs.Frames.{Strings, own_frame, inlined_frames, function_frames}
+use Rattle.pdb_function_info.specs.Frames.{Strings, own_frame, inlined_frames, function_frames}
 use Rattle.pdb_addr2line.specs.Lookups.{found_at, frames_at, records_of}
-use Rattle.pdb_descriptions.specs.Names.{function_name, id_name}
-use Rattle.pdb_addr2line.specs.Sources.{Sources, global_functions_of}
-use Rattle.pdb_addr2line.proofs.FrameLawLemmas.{told_at}
+use Rattle.pdb_function_info.specs.Names.{function_name, id_name}
+use Rattle.pdb_addr2line.specs.ContextInputs.{ContextInputs, global_functions_of}
+use Rattle.pdb_addr2line.proofs.FrameLawLemmas.{shown_at}
 
 -- where what follows an answer succeeds, the answer did
 pub and_then-ok : {A B E : Type 0} (r : Result A E) (next : A → Result B E) (b : B) → and_then r next ≡ Ok b
@@ -59,14 +59,14 @@ known_inlinees info known is = by_program (streamed info.line_program) is where
   by_fault : (program : Lines) (fault : Option StreamError)
       → and_then (unless (option_map (λ f. PdbError (Stream f)) fault) (Ok info.inlinees.items)) (λ items. Ok (known_with program items)) ≡ Ok known
       → known.inlinees ≡ inlinee_ids info.inlinees.items
-  by_fault program None told = sym (ap ids_in told)
-  by_fault program (Some fault) told = absurd cc
+  by_fault program None shown = sym (ap ids_in shown)
+  by_fault program (Some fault) shown = absurd cc
 
   by_program : (program : Result Lines Error)
       → and_then program (λ lines. and_then (read_whole info.inlinees) (λ items. Ok (known_with lines items))) ≡ Ok known
       → known.inlinees ≡ inlinee_ids info.inlinees.items
-  by_program (Ok program) told = by_fault program info.inlinees.fault told
-  by_program (Err e) told = absurd cc
+  by_program (Ok program) shown = by_fault program info.inlinees.fault shown
+  by_program (Err e) shown = absurd cc
 
 -- of the ranges of a function there is a stack with an entry for each level
 stack_levels : (info : ModuleInfo) (found : FoundFunction) (x : ℕ) (ids : List IdIndex) (ranges : List InlineRange)
@@ -96,10 +96,10 @@ origin_levels info found x o is =
 
 -- a function has a frame for each level, and its own
 level_frames : (strings : Strings) (name_of : IdIndex → Option (List ℕ)) (name : Option (List ℕ))
-    (records : Option ModuleInfo) (found : FoundFunction) (x : ℕ) (frames : List FrameDescription)
+    (records : Option ModuleInfo) (found : FoundFunction) (x : ℕ) (frames : List FrameInfo)
     → function_frames strings name_of name records found x ≡ Ok frames → length frames ≡ levels_over records found x + 1
 level_frames strings name_of name None found x frames is =
-    let alone : FrameDescription = record { function = name; file = None; line = None } in
+    let alone : FrameInfo = record { function = name; file = None; line = None } in
     let same : alone ∷ [] ≡ frames = cc in
     rw (← same) refl
 level_frames strings name_of name (Some info) found x frames is =
@@ -110,12 +110,12 @@ level_frames strings name_of name (Some info) found x frames is =
     rw (← same, ← origin_levels info found x o here.1) (simp (length-append, length-reverse, length-map) (omega arith))
 
 -- over an address there is a frame for each level, and that of the function
-pub frames_by_level : {P : Type 0} (info : P → Infos) (s : Sources P) (address : ℕ) (place : PdbInternalSectionOffset)
-    (found : FoundFunction) (told : FramesDescription)
-    → internal_offset s.address_map (record { 0 = address }) ≡ Some place → found_at info s address ≡ Some found
-    → frames_at info s address ≡ Ok (Some told)
-    → length told.frames ≡ levels_over (records_of info s found) found place.offset + 1
-frames_by_level info s address place found told lies over answered =
-    let is = told_at info s address place found told lies over answered in
-    level_frames s.strings (id_name info s.basis (function_module found))
-    (function_name info s.basis (global_functions_of s) found) (records_of info s found) found place.offset told.frames is.frames
+pub frames_by_level : {P : Type 0} (info : P → ProviderInfos) (s : ContextInputs P) (address : ℕ) (section_offset : PdbInternalSectionOffset)
+    (found : FoundFunction) (shown : FramesInfo)
+    → internal_offset s.address_map (record { 0 = address }) ≡ Some section_offset → found_at info s address ≡ Some found
+    → frames_at info s address ≡ Ok (Some shown)
+    → length shown.frames ≡ levels_over (records_of info s found) found section_offset.offset + 1
+frames_by_level info s address section_offset found shown lies over answered =
+    let is = shown_at info s address section_offset found shown lies over answered in
+    level_frames s.strings (id_name info s.type_inputs (function_module found))
+    (function_name info s.type_inputs (global_functions_of s) found) (records_of info s found) found section_offset.offset shown.frames is.frames

@@ -11,7 +11,7 @@ use Rattle.pdb_records.specs.declared.ids.IdIndex.{IdIndex}
 use Rattle.pdb_records.specs.declared.modules.ModuleInfo.{ModuleInfo}
 use Rattle.pdb_types.specs.Outcomes.{and_then}
 use Rattle.pdb_types.specs.Resolution.{streamed}
-use Rattle.pdb_types.specs.Standing.{Infos}
+use Rattle.pdb_types.specs.TypeInputs.{ProviderInfos}
 use Rattle.pdb_types.specs.declared.error.Error.{Error}
 use Rattle.pdb_functions.specs.Lookup.{found_procedure}
 use Rattle.pdb_functions.specs.Procedures.{ModuleProcedure}
@@ -21,15 +21,15 @@ use Rattle.pdb_inline.specs.declared.inline_ranges.InlineRange.{InlineRange}
 use Rattle.pdb_inline.proofs.DirectlyInsideLemmas.{entry_of_site, stack_directly_inside}
 use Rattle.pdb_inline.proofs.NestingLemmas.{procedure_nested}
 use Rattle.pdb_frames.specs.ExtendedInfo.{ExtendedInfo, inlinee_ids, extended_info}
-use Rattle.pdb_frames.specs.Frame.{FrameDescription, FramesDescription}
+use Rattle.pdb_frames.specs.Frame.{FrameInfo, FramesInfo}
 use Rattle.pdb_frames.specs.Lines.{function_row, read_whole}
 use Rattle.pdb_frames.specs.Origins.{Origin, function_ranges, origin}
 use Rattle.pdb_addr2line.specs.FrameLaws.{sites_of, AreNestedFrames}
-use Rattle.pdb_descriptions.specs.Frames.{Strings, own_frame, inlined_frame, function_frames}
+use Rattle.pdb_function_info.specs.Frames.{Strings, own_frame, inlined_frame, function_frames}
 use Rattle.pdb_addr2line.specs.Lookups.{found_at, frames_at, records_of}
-use Rattle.pdb_descriptions.specs.Names.{function_name, id_name}
-use Rattle.pdb_addr2line.specs.Sources.{Sources, global_functions_of}
-use Rattle.pdb_addr2line.proofs.FrameLawLemmas.{told_at}
+use Rattle.pdb_function_info.specs.Names.{function_name, id_name}
+use Rattle.pdb_addr2line.specs.ContextInputs.{ContextInputs, global_functions_of}
+use Rattle.pdb_addr2line.proofs.FrameLawLemmas.{shown_at}
 use Rattle.pdb_addr2line.proofs.FrameLevelLemmas.{and_then-ok, unless-ok, known_inlinees, known_with}
 
 -- the parts of where code comes from, where that is known
@@ -52,9 +52,9 @@ known_program info known is = by_stream info.line_program refl is where
   by_stream : (program : Result Lines StreamError) → info.line_program ≡ program
       → and_then (streamed program) (λ lines. and_then (read_whole info.inlinees) (λ items. Ok (known_with lines items))) ≡ Ok known
       → info.line_program ≡ Ok known.line_program
-  by_stream (Err fault) here told = absurd cc
-  by_stream (Ok program) here told =
-      let items = and_then-ok (read_whole info.inlinees) (λ list. Ok (known_with program list)) known told in
+  by_stream (Err fault) here shown = absurd cc
+  by_stream (Ok program) here shown =
+      let items = and_then-ok (read_whole info.inlinees) (λ list. Ok (known_with program list)) known shown in
       let same : program ≡ known.line_program = ap known_in items.2 in
       rw same at here
 
@@ -76,12 +76,12 @@ origin_parts info m p x o is =
     )
 
 -- counted from outside, behind the function's own frame, each frame is that of an entry of the stack
-frame_of_entry : (f : InlineRange → FrameDescription) (own : FrameDescription) (stack : List InlineRange) (frames : List FrameDescription)
-    (level : ℕ) (frame : FrameDescription) → frames ≡ reverse (map f stack) ++ own ∷ [] → slice_get (reverse frames) (level + 1) ≡ Some frame
+frame_of_entry : (f : InlineRange → FrameInfo) (own : FrameInfo) (stack : List InlineRange) (frames : List FrameInfo)
+    (level : ℕ) (frame : FrameInfo) → frames ≡ reverse (map f stack) ++ own ∷ [] → slice_get (reverse frames) (level + 1) ≡ Some frame
     → (range : InlineRange) × (slice_get stack level ≡ Some range) × (frame ≡ f range)
 frame_of_entry f own stack frames level frame is got =
     let turned : reverse frames ≡ own ∷ map f stack =
-    rw is (reverse-append (reverse (map f stack)) (own ∷ []) ∙ ap (λ (xs : List FrameDescription). own ∷ xs) (reverse-reverse (map f stack))) in
+    rw is (reverse-append (reverse (map f stack)) (own ∷ []) ∙ ap (λ (xs : List FrameInfo). own ∷ xs) (reverse-reverse (map f stack))) in
     let there : slice_get (map f stack) level ≡ Some frame = rw (turned, add-one level) at got in
     by_entry (slice_get stack level) refl (sym (slice_get-map f stack level) ∙ there)
   where
@@ -92,7 +92,7 @@ frame_of_entry f own stack frames level frame is got =
 
 -- neighbours among the frames of a procedure are of sites that lie directly inside one another
 nested_frames : (strings : Strings) (name_of : IdIndex → Option (List ℕ)) (name : Option (List ℕ)) (info : ModuleInfo)
-    (m : ℕ) (p : ModuleProcedure) (x : ℕ) (frames : List FrameDescription) (level : ℕ) (frame under : FrameDescription)
+    (m : ℕ) (p : ModuleProcedure) (x : ℕ) (frames : List FrameInfo) (level : ℕ) (frame under : FrameInfo)
     → function_frames strings name_of name (Some info) (found_procedure m p) x ≡ Ok frames
     → IsSoleOver (inlinee_ids info.inlinees.items) (sites_of info p) x
     → slice_get (reverse frames) (level + 1) ≡ Some frame → slice_get (reverse frames) (level + 2) ≡ Some under
@@ -103,7 +103,7 @@ nested_frames strings name_of name info m p x frames level frame under is sole f
     let parts = origin_parts info m p x o here.1 in
     let ids = inlinee_ids info.inlinees.items in
     let sites = sites_of info p in
-    let f : InlineRange → FrameDescription = λ range. inlined_frame strings o.line_program (name_of range.inlinee) range in
+    let f : InlineRange → FrameInfo = λ range. inlined_frame strings o.line_program (name_of range.inlinee) range in
     let own = own_frame strings name o.line_program o.row in
     let all : reverse (map f o.stack) ++ own ∷ [] ≡ frames = cc in
     let next : level + 2 ≡ (level + 1) + 1 = omega arith in
@@ -127,7 +127,7 @@ nested_frames strings name_of name info m p x frames level frame under is sole f
         over = rw outer.3 outer.4;
         program = o.line_program;
         read = parts.0;
-        told = one.2;
+        shown = one.2;
       };
       of_inner = record {
         range = two.0;
@@ -135,20 +135,20 @@ nested_frames strings name_of name info m p x frames level frame under is sole f
         over = rw inner.3 inner.4;
         program = o.line_program;
         read = parts.0;
-        told = two.2;
+        shown = two.2;
       };
       directly = stack_directly_inside ids sites x level outer.0 inner.0 one.0 two.0 nested sole outer.1 inner.1 range_in under_in outer.2 inner.2;
     }
 
 -- the same for the frames over an address
-pub frames_nested : {P : Type 0} (infos : P → Infos) (s : Sources P) (address : ℕ) (place : PdbInternalSectionOffset)
-    (m : ℕ) (p : ModuleProcedure) (info : ModuleInfo) (told : FramesDescription) (level : ℕ) (frame under : FrameDescription)
-    → internal_offset s.address_map (record { 0 = address }) ≡ Some place → found_at infos s address ≡ Some (found_procedure m p)
-    → records_of infos s (found_procedure m p) ≡ Some info → frames_at infos s address ≡ Ok (Some told)
-    → IsSoleOver (inlinee_ids info.inlinees.items) (sites_of info p) place.offset
-    → slice_get (reverse told.frames) (level + 1) ≡ Some frame → slice_get (reverse told.frames) (level + 2) ≡ Some under
-    → AreNestedFrames s.strings (id_name infos s.basis m) info p place.offset level frame under
-frames_nested infos s address place m p info told level frame under lies over records answered sole first second =
-    let is = told_at infos s address place (found_procedure m p) told lies over answered in
-    nested_frames s.strings (id_name infos s.basis m) (function_name infos s.basis (global_functions_of s) (found_procedure m p))
-    info m p place.offset told.frames level frame under (rw records at is.frames) sole first second
+pub frames_nested : {P : Type 0} (infos : P → ProviderInfos) (s : ContextInputs P) (address : ℕ) (section_offset : PdbInternalSectionOffset)
+    (m : ℕ) (p : ModuleProcedure) (info : ModuleInfo) (shown : FramesInfo) (level : ℕ) (frame under : FrameInfo)
+    → internal_offset s.address_map (record { 0 = address }) ≡ Some section_offset → found_at infos s address ≡ Some (found_procedure m p)
+    → records_of infos s (found_procedure m p) ≡ Some info → frames_at infos s address ≡ Ok (Some shown)
+    → IsSoleOver (inlinee_ids info.inlinees.items) (sites_of info p) section_offset.offset
+    → slice_get (reverse shown.frames) (level + 1) ≡ Some frame → slice_get (reverse shown.frames) (level + 2) ≡ Some under
+    → AreNestedFrames s.strings (id_name infos s.type_inputs m) info p section_offset.offset level frame under
+frames_nested infos s address section_offset m p info shown level frame under lies over records answered sole first second =
+    let is = shown_at infos s address section_offset (found_procedure m p) shown lies over answered in
+    nested_frames s.strings (id_name infos s.type_inputs m) (function_name infos s.type_inputs (global_functions_of s) (found_procedure m p))
+    info m p section_offset.offset shown.frames level frame under (rw records at is.frames) sole first second

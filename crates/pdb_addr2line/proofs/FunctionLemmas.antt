@@ -4,18 +4,18 @@ use Rattle.std.specs.Prelude.{Result, Ok, Err, OnErr}
 use Rattle.std.proofs.lemmas.List.{take_more}
 use Rattle.std.proofs.lemmas.List.Elements.{filter_map-append}
 use Rattle.std.proofs.lemmas.List.Sums.{fold-append}
-use Rattle.pdb_types.specs.Standing.{Infos}
+use Rattle.pdb_types.specs.TypeInputs.{ProviderInfos}
 use Rattle.pdb_addr2line.specs.Functions.{functions_at, after_function, after_functions, OnlyGainsBroken, IsCutShort}
 use Rattle.pdb_addr2line.specs.Lookups.{function_at}
-use Rattle.pdb_addr2line.specs.Sources.{Sources, ContextState}
+use Rattle.pdb_addr2line.specs.ContextInputs.{ContextInputs, ContextState}
 
--- telling functions changes nothing that a context stands on
-pub sources_stay : {P : Type 0} (info : P → Infos) (c : ContextState P) (addresses : List ℕ) → (after_functions info c addresses).sources ≡ c.sources
-sources_stay info c [] = refl
-sources_stay info c (address ∷ addresses) = sources_stay info (after_function info c address) addresses
+-- answering functions leaves a context's inputs unchanged
+pub inputs_stay : {P : Type 0} (info : P → ProviderInfos) (c : ContextState P) (addresses : List ℕ) → (after_functions info c addresses).inputs ≡ c.inputs
+inputs_stay info c [] = refl
+inputs_stay info c (address ∷ addresses) = inputs_stay info (after_function info c address) addresses
 
--- a context once it told the function over one address more
-pub after_one_more : {P : Type 0} (info : P → Infos) (c between after : ContextState P) (addresses : List ℕ) (i : ℕ) → i < length addresses
+-- a context once it answered the function over one address more
+pub after_one_more : {P : Type 0} (info : P → ProviderInfos) (c between after : ContextState P) (addresses : List ℕ) (i : ℕ) → i < length addresses
     → between ≡ after_functions info c (take i addresses)
     → after ≡ after_function info between (get_or addresses i 0)
     → after ≡ after_functions info c (take (i + 1) addresses)
@@ -26,7 +26,7 @@ after_one_more info c between after addresses i below first next =
     ∙ sym (ap (after_functions info c) (take_more addresses i 0 below))))
 
 -- the functions over one address more
-pub functions_one_more : {P : Type 0} (info : P → Infos) (s : Sources P) (addresses : List ℕ) (i : ℕ) → i < length addresses
+pub functions_one_more : {P : Type 0} (info : P → ProviderInfos) (s : ContextInputs P) (addresses : List ℕ) (i : ℕ) → i < length addresses
     → functions_at info s (take (i + 1) addresses)
     ≡ functions_at info s (take i addresses) ++ functions_at info s (get_or addresses i 0 ∷ [])
 functions_one_more info s addresses i below =
@@ -39,7 +39,7 @@ take_nil zero = refl
 take_nil (suc n) = refl
 
 -- cut short at one address, after others
-pub cut_short_later : {P : Type 0} (info : P → Infos) (c between after : ContextState P) (addresses : List ℕ) (i : ℕ) → i < length addresses
+pub cut_short_later : {P : Type 0} (info : P → ProviderInfos) (c between after : ContextState P) (addresses : List ℕ) (i : ℕ) → i < length addresses
     → between ≡ after_functions info c (take i addresses)
     → IsCutShort info between after (get_or addresses i 0 ∷ [])
     → IsCutShort info c after addresses
@@ -52,9 +52,9 @@ cut_short_later {P = P} info c between after addresses i below first cut = by_do
   by_done (suc n) interrupted =
       let all : take n [] ≡ [] = take_nil n in
       let one : OnlyGainsBroken info (after_function info between address) after = subst (λ xs. OnlyGainsBroken info (after_functions info between (address ∷ xs)) after) all interrupted in
-      let told : after_function info between address ≡ after_functions info c (take (i + 1) addresses) =
+      let shown : after_function info between address ≡ after_functions info c (take (i + 1) addresses) =
       after_one_more info c between (after_function info between address) addresses i below first refl in
-      record { done = i + 1; interrupted = subst (λ b. OnlyGainsBroken info b after) told one }
+      record { done = i + 1; interrupted = subst (λ b. OnlyGainsBroken info b after) shown one }
 
 -- what holds anyway holds on an error
 pub on_error : {A E : Type 0} (r : Result A E) {fact : Type 0} → fact → OnErr r fact

@@ -1,4 +1,4 @@
--- The functions of a program, told one by one.
+-- The functions of a program, answered one by one.
 use Rattle.std.proofs.Common.{◌≡◌, ◌∙◌, ℕ, true, false, List, [], ◌∷◌, ◌++◌, refl, sym, ap, append_assoc, MatchResult, OnOk, OnErr}
 use Rattle.std.specs.Prelude.{Option, Some, None, Result, Ok, Err, option_map}
 use Rattle.std.specs.Option.{is_some}
@@ -7,78 +7,74 @@ use Rattle.std.proofs.lemmas.List.Elements.{filter_map-append}
 use Rattle.std.proofs.lemmas.List.Sums.{fold-append}
 use Rattle.pdb_types.specs.declared.error.Error.{Error}
 use Rattle.pdb_types.specs.declared.error.Error.TheVariants.{OutOfMemory}
-use Rattle.pdb_types.specs.Standing.{Infos}
-use Rattle.pdb_descriptions.specs.declared.function.Function.{Function}
-use Rattle.pdb_descriptions.specs.Function.{description}
+use Rattle.pdb_types.specs.TypeInputs.{ProviderInfos}
+use Rattle.pdb_function_info.specs.declared.function.Function.{Function}
+use Rattle.pdb_function_info.specs.Function.{function_view}
 use Rattle.pdb_addr2line.specs.Functions.{functions_at, after_function, OnlyGainsBroken}
-use Rattle.pdb_addr2line.specs.FunctionSteps.{Passes, Tells}
+use Rattle.pdb_addr2line.specs.FunctionSteps.{Passes, Continues}
 use Rattle.pdb_addr2line.specs.Lookups.{function_at}
-use Rattle.pdb_addr2line.specs.Sources.{ContextState}
-use Rattle.pdb_addr2line.proofs.FunctionLemmas.{sources_stay}
+use Rattle.pdb_addr2line.specs.ContextInputs.{ContextState}
+use Rattle.pdb_addr2line.proofs.FunctionLemmas.{inputs_stay}
 
--- what a context stands on stays while addresses are passed
-passing_stays : {P : Type 0} {info : P → Infos} {before after : ContextState P} {all passed left : List ℕ}
-    → Passes info before after all passed left → after.sources ≡ before.sources
+-- a context's inputs stay while addresses are passed
+passing_stays : {P : Type 0} {info : P → ProviderInfos} {before after : ContextState P} {all passed left : List ℕ}
+    → Passes info before after all passed left → after.inputs ≡ before.inputs
 passing_stays {info = info} {before = before} {passed = passed} passes =
-    ap (λ c. c.sources) passes.told ∙ sources_stay info before passed
-
--- nothing is passed at first
-pub passes_none : {P : Type 0} (info : P → Infos) (c : ContextState P) (all : List ℕ) → Passes info c c all [] all
-passes_none info c all = record { parts = refl; none = refl; told = refl }
+    ap (λ c. c.inputs) passes.shown ∙ inputs_stay info before passed
 
 -- the first address that is left
-first_left : {P : Type 0} {info : P → Infos} {before between : ContextState P} {all passed rest left : List ℕ} {address : ℕ}
+first_left : {P : Type 0} {info : P → ProviderInfos} {before between : ContextState P} {all passed rest left : List ℕ} {address : ℕ}
     → Passes info before between all passed rest → rest ≡ address ∷ left → Passes info before between all passed (address ∷ left)
 first_left passes first = rw first at passes
 
 -- one address more is passed
-passes_more : {P : Type 0} {info : P → Infos} {before between after : ContextState P} {all passed left : List ℕ} {address : ℕ}
+passes_more : {P : Type 0} {info : P → ProviderInfos} {before between after : ContextState P} {all passed left : List ℕ} {address : ℕ}
     → Passes info before between all passed (address ∷ left)
-    → function_at info before.sources address ≡ None → after ≡ after_function info between address
+    → function_at info before.inputs address ≡ None → after ≡ after_function info between address
     → Passes info before after all (passed ++ address ∷ []) left
-passes_more {info = info} {before = before} {between = between} {passed = passed} {left = left} {address = address} passes nothing told =
-    let alone : functions_at info before.sources (address ∷ []) ≡ [] = rw nothing refl in
+passes_more {info = info} {before = before} {between = between} {passed = passed} {left = left} {address = address} passes nothing shown =
+    let alone : functions_at info before.inputs (address ∷ []) ≡ [] = rw nothing refl in
     record {
       parts = passes.parts ∙ sym (append_assoc passed (address ∷ []) left);
-      none = filter_map-append (function_at info before.sources) passed (address ∷ []) ∙ (ap (λ xs. xs ++ functions_at info before.sources (address ∷ [])) passes.none ∙ alone);
-      told = told ∙ (ap (λ c. after_function info c address) passes.told ∙ sym (fold-append (after_function info) before passed (address ∷ [])));
+      none = filter_map-append (function_at info before.inputs) passed (address ∷ []) ∙ (ap (λ xs. xs ++ functions_at info before.inputs (address ∷ [])) passes.none ∙ alone);
+      shown = shown ∙ (ap (λ c. after_function info c address) passes.shown ∙ sym (fold-append (after_function info) before passed (address ∷ [])));
     }
 
--- an address that nothing is told of is passed
-pub passed_here : {P : Type 0} (info : P → Infos) (before between after : ContextState P) (all passed rest left : List ℕ) (address : ℕ)
+-- an address that nothing is answered for is passed
+pub passed_here : {P : Type 0} (info : P → ProviderInfos) (before between after : ContextState P) (all passed rest left : List ℕ) (address : ℕ)
     (found : Result (Option Function) Error)
     → Passes info before between all passed rest → rest ≡ address ∷ left
-    → MatchResult found (λ f. option_map description f ≡ function_at info between.sources address) (λ e. e ≡ OutOfMemory)
+    → MatchResult found (λ f. option_map function_view f ≡ function_at info between.inputs address) (λ e. e ≡ OutOfMemory)
     → OnOk found (after ≡ after_function info between address)
     → is_some (result_transpose found) ≡ false
     → Passes info before after all (passed ++ address ∷ []) left
-passed_here info before between after all passed rest left address (Ok None) passes first answer told nothing =
-    let none : function_at info before.sources address ≡ None =
+passed_here info before between after all passed rest left address (Ok None) passes first answer shown nothing =
+    let none : function_at info before.inputs address ≡ None =
     ap (λ s. function_at info s address) (sym (passing_stays passes)) ∙ sym answer in
-    passes_more (first_left passes first) none told
-passed_here info before between after all passed rest left address (Ok (Some f)) passes first answer told nothing = absurd (cc)
-passed_here info before between after all passed rest left address (Err e) passes first answer told nothing = absurd (cc)
+    passes_more (first_left passes first) none shown
+passed_here info before between after all passed rest left address (Ok (Some f)) passes first answer shown nothing = absurd (cc)
+passed_here info before between after all passed rest left address (Err e) passes first answer shown nothing = absurd (cc)
 
--- what is told of an address is told next
-pub told_here : {P : Type 0} (info : P → Infos) (before between after : ContextState P) (all passed rest left : List ℕ) (address : ℕ)
+-- what is answered for an address is answered next
+pub shown_here : {P : Type 0} (info : P → ProviderInfos) (before between after : ContextState P) (all passed rest left : List ℕ) (address : ℕ)
     (found : Result (Option Function) Error)
     → Passes info before between all passed rest → rest ≡ address ∷ left
-    → MatchResult found (λ f. option_map description f ≡ function_at info between.sources address) (λ e. e ≡ OutOfMemory)
+    → MatchResult found (λ f. option_map function_view f ≡ function_at info between.inputs address) (λ e. e ≡ OutOfMemory)
     → OnOk found (after ≡ after_function info between address)
     → OnErr found (OnlyGainsBroken info between after)
     → is_some (result_transpose found) ≡ true
-    → Tells info before after all left (result_transpose found)
-told_here info before between after all passed rest left address (Ok None) passes first answer told interrupted something = absurd (cc)
-told_here info before between after all passed rest left address (Ok (Some f)) passes first answer told interrupted something =
+    → Continues info before after all left (result_transpose found)
+shown_here info before between after all passed rest left address (Ok None) passes first answer shown interrupted something = absurd (cc)
+shown_here info before between after all passed rest left address (Ok (Some f)) passes first answer shown interrupted something =
     record {
       passed = passed;
       address = address;
       between = between;
       passes = first_left passes first;
       function = ap (λ s. function_at info s address) (sym (passing_stays passes)) ∙ sym answer;
-      told = told;
+      shown = shown;
     }
-told_here info before between after all passed rest left address (Err e) passes first answer told interrupted something =
+shown_here info before between after all passed rest left address (Err e) passes first answer shown interrupted something =
     record {
       passed = passed;
       address = address;

@@ -1,39 +1,39 @@
 -- A list of calls, call by call.
 use Rattle.std.proofs.Common.{◌≡◌, ◌∙◌, ℕ, ◌+◌, ◌<◌, List, [], ◌∷◌, ◌++◌, length, take, drop, map, get_or, sym, ap, refl, append_assoc}
 use Rattle.std.proofs.lemmas.List.{take_more, take-append-drop, map-append}
-use Rattle.pdb_types.specs.Standing.{Infos}
-use Rattle.pdb_addr2line.specs.Calls.{ToldAnswer, told_answer, Appends, StopsEarly, answer_to, answers_to, after_call, after_calls}
+use Rattle.pdb_types.specs.TypeInputs.{ProviderInfos}
+use Rattle.pdb_addr2line.specs.Calls.{AnswerView, answer_view, Appends, StopsEarly, answer_to, answers_to, after_call, after_calls}
 use Rattle.pdb_addr2line.specs.declared.calls.Answer.{Answer}
 use Rattle.pdb_addr2line.specs.declared.calls.Call.{Call}
 use Rattle.pdb_addr2line.specs.declared.calls.Call.TheVariants.{FindFunction}
 use Rattle.pdb_addr2line.specs.Functions.{OnlyGainsBroken}
-use Rattle.pdb_addr2line.specs.Sources.{ContextState}
+use Rattle.pdb_addr2line.specs.ContextInputs.{ContextState}
 
 -- calls that are made one behind the other are made together
-after_both : {P : Type 0} (info : P → Infos) (c : ContextState P) (calls more : List Call)
+after_both : {P : Type 0} (info : P → ProviderInfos) (c : ContextState P) (calls more : List Call)
     → after_calls info c (calls ++ more) ≡ after_calls info (after_calls info c calls) more
 after_both info c [] more = refl
 after_both info c (call ∷ calls) more = after_both info (after_call info c call) calls more
 
 -- and so are their answers
-answers_of_both : {P : Type 0} (info : P → Infos) (c : ContextState P) (calls more : List Call)
+answers_of_both : {P : Type 0} (info : P → ProviderInfos) (c : ContextState P) (calls more : List Call)
     → answers_to info c (calls ++ more) ≡ answers_to info c calls ++ answers_to info (after_calls info c calls) more
 answers_of_both info c [] more = refl
 answers_of_both info c (call ∷ calls) more =
     ap (λ answers. answer_to info c call ∷ answers) (answers_of_both info (after_call info c call) calls more)
 
 -- a list that is longer by answers, and then by more, is longer by all
-appends_more : (before between after : List Answer) (first second : List ToldAnswer)
+appends_more : (before between after : List Answer) (first second : List AnswerView)
     → Appends before between first → Appends between after second → Appends before after (first ++ second)
 appends_more before between after first second one two = record {
   appended = one.appended ++ two.appended;
   is = two.is ∙ ap (λ answers. answers ++ two.appended) one.is ∙ append_assoc before one.appended two.appended;
-  told = map-append told_answer one.appended two.appended ∙ ap (λ told. told ++ map told_answer two.appended) one.told
-      ∙ ap (λ told. first ++ told) two.told;
+  shown = map-append answer_view one.appended two.appended ∙ ap (λ shown. shown ++ map answer_view two.appended) one.shown
+      ∙ ap (λ shown. first ++ shown) two.shown;
 }
 
 -- a context once one call more is made
-pub after_one_call_more : {P : Type 0} (info : P → Infos) (c between after : ContextState P) (calls : List Call) (i : ℕ)
+pub after_one_call_more : {P : Type 0} (info : P → ProviderInfos) (c between after : ContextState P) (calls : List Call) (i : ℕ)
     → i < length calls → between ≡ after_calls info c (take i calls)
     → after ≡ after_call info between (get_or calls i (FindFunction 0)) → after ≡ after_calls info c (take (i + 1) calls)
 after_one_call_more info c between after calls i below so_far next =
@@ -43,7 +43,7 @@ after_one_call_more info c between after calls i below so_far next =
     ∙ sym (ap (after_calls info c) (take_more calls i (FindFunction 0) below))
 
 -- the answers once one call more is made
-pub answers_one_more : {P : Type 0} (info : P → Infos) (c between : ContextState P) (calls : List Call) (i : ℕ)
+pub answers_one_more : {P : Type 0} (info : P → ProviderInfos) (c between : ContextState P) (calls : List Call) (i : ℕ)
     (before answers after : List Answer) → i < length calls → between ≡ after_calls info c (take i calls)
     → Appends before answers (answers_to info c (take i calls))
     → Appends answers after (answer_to info between (get_or calls i (FindFunction 0)) ∷ [])
@@ -68,7 +68,7 @@ split_at calls i below =
     ∙ append_assoc (take i calls) (call ∷ []) (drop (i + 1) calls)
 
 -- where the next call counts as not made, the calls before it are answered, and no other
-pub stops_here : {P : Type 0} (info : P → Infos) (c between after : ContextState P) (calls : List Call) (i : ℕ)
+pub stops_here : {P : Type 0} (info : P → ProviderInfos) (c between after : ContextState P) (calls : List Call) (i : ℕ)
     (before answers last : List Answer) → i < length calls → between ≡ after_calls info c (take i calls)
     → Appends before answers (answers_to info c (take i calls)) → last ≡ answers → OnlyGainsBroken info between after
     → StopsEarly info c calls before last after

@@ -18,13 +18,13 @@ use Rattle.pdb_records.specs.declared.addresses.Rva.{Rva}
 use Rattle.pdb_records.specs.declared.addresses.AddressRange.{AddressRange}
 use Rattle.pdb_records.specs.declared.addresses.PdbInternalSectionOffset.{PdbInternalSectionOffset}
 use Rattle.pdb_records.specs.declared.debug_information.Module.{Module}
-use Rattle.pdb_types.specs.Standing.{Infos}
+use Rattle.pdb_types.specs.TypeInputs.{ProviderInfos}
 use Rattle.pdb_functions.specs.GlobalFunctions.{GlobalFunction}
 use Rattle.pdb_functions.specs.Lookup.{procedures_of_module}
 use Rattle.pdb_functions.specs.Procedures.{ModuleProcedure, provided_procedures}
 use Rattle.pdb_addr2line.specs.FunctionLaws.{Ascend, IsProcedureStart, IsStart}
-use Rattle.pdb_addr2line.specs.Functions.{procedures_of_modules, start_places, with_start, with_starts, start_addresses}
-use Rattle.pdb_addr2line.specs.Sources.{Sources, global_functions_of}
+use Rattle.pdb_addr2line.specs.Functions.{procedures_of_modules, start_section_offsets, with_start, with_starts, start_addresses}
+use Rattle.pdb_addr2line.specs.ContextInputs.{ContextInputs, global_functions_of}
 
 -- ---- a number put among others
 
@@ -107,9 +107,9 @@ put_in k (x ∷ xs) = by_order (nat_cmp k x) refl (put_in k xs) where
   by_order Greater is rest = behind x k (insert_key nat_cmp xs k) rest
 
 -- the others stay
-put_keeps : (k q : ℕ) (ks : List ℕ) → Contains ks q → Contains (insert_key nat_cmp ks k) q
-put_keeps k q [] held = behind k q [] held
-put_keeps k q (x ∷ xs) held = by_order (nat_cmp k x) (put_keeps k q xs) where
+put_contains : (k q : ℕ) (ks : List ℕ) → Contains ks q → Contains (insert_key nat_cmp ks k) q
+put_contains k q [] held = behind k q [] held
+put_contains k q (x ∷ xs) held = by_order (nat_cmp k x) (put_contains k q xs) where
   by_front : (x ≡ q) ⊎ Contains xs q → (Contains xs q → Contains (insert_key nat_cmp xs k) q) → Contains (x ∷ insert_key nat_cmp xs k) q
   by_front (inl same) next = rw same (front q (insert_key nat_cmp xs k))
   by_front (inr rest) next = behind x q (insert_key nat_cmp xs k) (next rest)
@@ -119,106 +119,106 @@ put_keeps k q (x ∷ xs) held = by_order (nat_cmp k x) (put_keeps k q xs) where
   by_order Equal next = held
   by_order Greater next = by_front (in_front x q xs held) next
 
--- ---- the addresses of places
+-- ---- the addresses of section offsets
 
--- one of these places has the address
-record HasPlace (sections : List AddressRange) (places : List PdbInternalSectionOffset) (address : ℕ) : Type 0 where
-  place : PdbInternalSectionOffset
-  listed : Contains places place
-  at : rva sections place ≡ Some (record { 0 = address })
+-- one of these section offsets has the address
+record HasSectionOffset (sections : List AddressRange) (section_offsets : List PdbInternalSectionOffset) (address : ℕ) : Type 0 where
+  section_offset : PdbInternalSectionOffset
+  listed : Contains section_offsets section_offset
+  at : rva sections section_offset ≡ Some (record { 0 = address })
 
--- the address of one place more keeps the order
-ascend_start : (sections : List AddressRange) (starts : List ℕ) (place : PdbInternalSectionOffset) → Ascend starts → Ascend (with_start sections starts place)
-ascend_start sections starts place up = by_address (rva sections place) where
+-- the list stays in order with the address of one section offset more
+ascend_start : (sections : List AddressRange) (starts : List ℕ) (section_offset : PdbInternalSectionOffset) → Ascend starts → Ascend (with_start sections starts section_offset)
+ascend_start sections starts section_offset up = by_address (rva sections section_offset) where
   by_address : (found : Option Rva) → Ascend (option_map_or (λ address. insert_key nat_cmp starts address.0) found starts)
   by_address None = up
   by_address (Some address) = ascend_put address.0 starts up
 
--- the addresses of places keep the order
-ascend_starts : (sections : List AddressRange) (starts : List ℕ) (places : List PdbInternalSectionOffset) → Ascend starts → Ascend (with_starts sections starts places)
+-- the list stays in order with the addresses of section offsets
+ascend_starts : (sections : List AddressRange) (starts : List ℕ) (section_offsets : List PdbInternalSectionOffset) → Ascend starts → Ascend (with_starts sections starts section_offsets)
 ascend_starts sections starts [] up = up
-ascend_starts sections starts (place ∷ places) up =
-    ascend_starts sections (with_start sections starts place) places (ascend_start sections starts place up)
+ascend_starts sections starts (section_offset ∷ section_offsets) up =
+    ascend_starts sections (with_start sections starts section_offset) section_offsets (ascend_start sections starts section_offset up)
 
--- with the address of one place more there are that one and the others
-start_cases : (sections : List AddressRange) (starts : List ℕ) (place : PdbInternalSectionOffset) (q : ℕ)
-    → Contains (with_start sections starts place) q → Contains starts q ⊎ (rva sections place ≡ Some (record { 0 = q }))
-start_cases sections starts place q held = by_address (rva sections place) refl held where
-  by_put : (address : Rva) → rva sections place ≡ Some address → Contains starts q ⊎ (address.0 ≡ q) → Contains starts q ⊎ (rva sections place ≡ Some (record { 0 = q }))
+-- with the address of one section offset more there are that one and the others
+start_cases : (sections : List AddressRange) (starts : List ℕ) (section_offset : PdbInternalSectionOffset) (q : ℕ)
+    → Contains (with_start sections starts section_offset) q → Contains starts q ⊎ (rva sections section_offset ≡ Some (record { 0 = q }))
+start_cases sections starts section_offset q held = by_address (rva sections section_offset) refl held where
+  by_put : (address : Rva) → rva sections section_offset ≡ Some address → Contains starts q ⊎ (address.0 ≡ q) → Contains starts q ⊎ (rva sections section_offset ≡ Some (record { 0 = q }))
   by_put address at (inl before) = inl before
   by_put address at (inr same) = inr (at ∙ ap (λ (n : ℕ). Some (record { 0 = n })) same)
 
-  by_address : (found : Option Rva) → rva sections place ≡ found
+  by_address : (found : Option Rva) → rva sections section_offset ≡ found
       → Contains (option_map_or (λ address. insert_key nat_cmp starts address.0) found starts) q
-      → Contains starts q ⊎ (rva sections place ≡ Some (record { 0 = q }))
+      → Contains starts q ⊎ (rva sections section_offset ≡ Some (record { 0 = q }))
   by_address None at h = inl h
   by_address (Some address) at h = by_put address at (put_cases address.0 q starts h)
 
 -- the others stay
-start_keeps : (sections : List AddressRange) (starts : List ℕ) (place : PdbInternalSectionOffset) (q : ℕ)
-    → Contains starts q → Contains (with_start sections starts place) q
-start_keeps sections starts place q held = by_address (rva sections place) where
+start_contains : (sections : List AddressRange) (starts : List ℕ) (section_offset : PdbInternalSectionOffset) (q : ℕ)
+    → Contains starts q → Contains (with_start sections starts section_offset) q
+start_contains sections starts section_offset q held = by_address (rva sections section_offset) where
   by_address : (found : Option Rva) → Contains (option_map_or (λ address. insert_key nat_cmp starts address.0) found starts) q
   by_address None = held
-  by_address (Some address) = put_keeps address.0 q starts held
+  by_address (Some address) = put_contains address.0 q starts held
 
--- the address of the place is there
-start_in : (sections : List AddressRange) (starts : List ℕ) (place : PdbInternalSectionOffset) (q : ℕ)
-    → rva sections place ≡ Some (record { 0 = q }) → Contains (with_start sections starts place) q
-start_in sections starts place q at = rw at (put_in q starts)
+-- the address of the section offset is there
+start_in : (sections : List AddressRange) (starts : List ℕ) (section_offset : PdbInternalSectionOffset) (q : ℕ)
+    → rva sections section_offset ≡ Some (record { 0 = q }) → Contains (with_start sections starts section_offset) q
+start_in sections starts section_offset q at = rw at (put_in q starts)
 
--- with the addresses of places there are those and the others
-starts_cases : (sections : List AddressRange) (starts : List ℕ) (places : List PdbInternalSectionOffset) (q : ℕ)
-    → Contains (with_starts sections starts places) q → Contains starts q ⊎ HasPlace sections places q
+-- with the addresses of section offsets there are those and the others
+starts_cases : (sections : List AddressRange) (starts : List ℕ) (section_offsets : List PdbInternalSectionOffset) (q : ℕ)
+    → Contains (with_starts sections starts section_offsets) q → Contains starts q ⊎ HasSectionOffset sections section_offsets q
 starts_cases sections starts [] q held = inl held
-starts_cases sections starts (place ∷ places) q held = by_rest (starts_cases sections (with_start sections starts place) places q held) where
-  by_first : Contains starts q ⊎ (rva sections place ≡ Some (record { 0 = q })) → Contains starts q ⊎ HasPlace sections (place ∷ places) q
+starts_cases sections starts (section_offset ∷ section_offsets) q held = by_rest (starts_cases sections (with_start sections starts section_offset) section_offsets q held) where
+  by_first : Contains starts q ⊎ (rva sections section_offset ≡ Some (record { 0 = q })) → Contains starts q ⊎ HasSectionOffset sections (section_offset ∷ section_offsets) q
   by_first (inl before) = inl before
-  by_first (inr at) = inr (record { place = place; listed = front place places; at = at })
+  by_first (inr at) = inr (record { section_offset = section_offset; listed = front section_offset section_offsets; at = at })
 
-  by_rest : Contains (with_start sections starts place) q ⊎ HasPlace sections places q → Contains starts q ⊎ HasPlace sections (place ∷ places) q
-  by_rest (inl first) = by_first (start_cases sections starts place q first)
-  by_rest (inr rest) = inr (record { place = rest.place; listed = behind place rest.place places rest.listed; at = rest.at })
+  by_rest : Contains (with_start sections starts section_offset) q ⊎ HasSectionOffset sections section_offsets q → Contains starts q ⊎ HasSectionOffset sections (section_offset ∷ section_offsets) q
+  by_rest (inl first) = by_first (start_cases sections starts section_offset q first)
+  by_rest (inr rest) = inr (record { section_offset = rest.section_offset; listed = behind section_offset rest.section_offset section_offsets rest.listed; at = rest.at })
 
 -- the others stay
-starts_keep : (sections : List AddressRange) (starts : List ℕ) (places : List PdbInternalSectionOffset) (q : ℕ)
-    → Contains starts q → Contains (with_starts sections starts places) q
-starts_keep sections starts [] q held = held
-starts_keep sections starts (place ∷ places) q held =
-    starts_keep sections (with_start sections starts place) places q (start_keeps sections starts place q held)
+starts_contain : (sections : List AddressRange) (starts : List ℕ) (section_offsets : List PdbInternalSectionOffset) (q : ℕ)
+    → Contains starts q → Contains (with_starts sections starts section_offsets) q
+starts_contain sections starts [] q held = held
+starts_contain sections starts (section_offset ∷ section_offsets) q held =
+    starts_contain sections (with_start sections starts section_offset) section_offsets q (start_contains sections starts section_offset q held)
 
--- the address of each place is there
-starts_in : (sections : List AddressRange) (starts : List ℕ) (places : List PdbInternalSectionOffset) (place : PdbInternalSectionOffset) (q : ℕ)
-    → Contains places place → rva sections place ≡ Some (record { 0 = q }) → Contains (with_starts sections starts places) q
-starts_in sections starts [] place q listed at = let below = listed.1 in absurd (omega (arith, below))
-starts_in sections starts (first ∷ places) place q listed at =
-    by_front (in_front first place places listed) (λ rest. starts_in sections (with_start sections starts first) places place q rest at)
+-- the address of each section offset is there
+starts_in : (sections : List AddressRange) (starts : List ℕ) (section_offsets : List PdbInternalSectionOffset) (section_offset : PdbInternalSectionOffset) (q : ℕ)
+    → Contains section_offsets section_offset → rva sections section_offset ≡ Some (record { 0 = q }) → Contains (with_starts sections starts section_offsets) q
+starts_in sections starts [] section_offset q listed at = let below = listed.1 in absurd (omega (arith, below))
+starts_in sections starts (first ∷ section_offsets) section_offset q listed at =
+    by_front (in_front first section_offset section_offsets listed) (λ rest. starts_in sections (with_start sections starts first) section_offsets section_offset q rest at)
   where
-    by_front : (first ≡ place) ⊎ Contains places place → (Contains places place → Contains (with_starts sections starts (first ∷ places)) q)
-        → Contains (with_starts sections starts (first ∷ places)) q
+    by_front : (first ≡ section_offset) ⊎ Contains section_offsets section_offset → (Contains section_offsets section_offset → Contains (with_starts sections starts (first ∷ section_offsets)) q)
+        → Contains (with_starts sections starts (first ∷ section_offsets)) q
     by_front (inl same) next =
-        starts_keep sections (with_start sections starts first) places q (start_in sections starts first q (rw same at))
+        starts_contain sections (with_start sections starts first) section_offsets q (start_in sections starts first q (rw same at))
     by_front (inr rest) next = next rest
 
--- the addresses of two lists of places, the one after the other
+-- the addresses of two lists of section offsets, the one after the other
 pub with_starts_append : (sections : List AddressRange) (starts : List ℕ) (xs ys : List PdbInternalSectionOffset)
     → with_starts sections starts (xs ++ ys) ≡ with_starts sections (with_starts sections starts xs) ys
 with_starts_append sections starts xs ys = fold-append (with_start sections) starts xs ys
 
 -- the addresses of the procedures of a module, and then those of the modules behind it
-pub with_starts_of_module : (sections : List AddressRange) (starts : List ℕ) (infos : Infos) (at : ℕ) (m : Module) (ms : List Module)
+pub with_starts_of_module : (sections : List AddressRange) (starts : List ℕ) (infos : ProviderInfos) (at : ℕ) (m : Module) (ms : List Module)
     → with_starts sections starts (map (λ p. p.offset) (procedures_of_modules infos at (m ∷ ms)))
     ≡ with_starts sections (with_starts sections starts (map (λ p. p.offset) (provided_procedures (infos at m)))) (map (λ p. p.offset) (procedures_of_modules infos (at + 1) ms))
 with_starts_of_module sections starts infos at m ms =
     ap (with_starts sections starts) (map-append (λ (p : ModuleProcedure). p.offset) (provided_procedures (infos at m)) (procedures_of_modules infos (at + 1) ms))
     ∙ with_starts_append sections starts (map (λ p. p.offset) (provided_procedures (infos at m))) (map (λ p. p.offset) (procedures_of_modules infos (at + 1) ms))
 
--- the procedures of the module at a position are those that the provider answers for it
-procedures_here : (infos : Infos) (modules : List Module) (at : ℕ) (m : Module) → slice_get modules at ≡ Some m → procedures_of_module infos modules at ≡ provided_procedures (infos at m)
+-- the procedures of the module at a module index are those that the provider answers for it
+procedures_here : (infos : ProviderInfos) (modules : List Module) (at : ℕ) (m : Module) → slice_get modules at ≡ Some m → procedures_of_module infos modules at ≡ provided_procedures (infos at m)
 procedures_here infos modules at m is = rw is refl
 
--- the addresses of the procedures of the modules from a position on: first those of the module there
-pub with_starts_of_next : (sections : List AddressRange) (starts : List ℕ) (infos : Infos) (at : ℕ) (modules : List Module) → at < length modules
+-- the addresses of the procedures of the modules from a module index on: first those of the module there
+pub with_starts_of_next : (sections : List AddressRange) (starts : List ℕ) (infos : ProviderInfos) (at : ℕ) (modules : List Module) → at < length modules
     → with_starts sections starts (map (λ p. p.offset) (procedures_of_modules infos at (drop at modules)))
     ≡ with_starts sections (with_starts sections starts (map (λ p. p.offset) (procedures_of_module infos modules at))) (map (λ p. p.offset) (procedures_of_modules infos (at + 1) (drop (at + 1) modules)))
 with_starts_of_next sections starts infos at modules below =
@@ -229,7 +229,7 @@ with_starts_of_next sections starts infos at modules below =
     ∙ ap (λ ps. with_starts sections (with_starts sections starts (map (λ (p : ModuleProcedure). p.offset) ps)) (map (λ (p : ModuleProcedure). p.offset) (procedures_of_modules infos (at + 1) rest)))
     (sym (procedures_here infos modules at (get_or modules at none) (slice_get-get_or modules at none below))))
 
--- ---- the places of functions
+-- ---- the section offsets of functions
 
 -- an element of a list of images is the image of an element
 image : {X Y : Type 0} (f : X → Y) (xs : List X) (y : Y) → Contains (map f xs) y → (x : X) × Contains xs x × (f x ≡ y)
@@ -250,14 +250,14 @@ in_image f (z ∷ zs) x held = by_front (in_front z x zs held) (in_image f zs x)
   by_front (inl same) next = rw same (front (f x) (map f zs))
   by_front (inr rest) next = behind (f z) (f x) (map f zs) (next rest)
 
--- a procedure of modules counted from a position is one of a module of the list
-record IsListed (infos : Infos) (at : ℕ) (ms : List Module) (p : ModuleProcedure) : Type 0 where
+-- a procedure of modules counted from a module index is one of a module of the list
+record IsListed (infos : ProviderInfos) (at : ℕ) (ms : List Module) (p : ModuleProcedure) : Type 0 where
   index : ℕ
   m : Module
   is : slice_get ms index ≡ Some m
   listed : Contains (provided_procedures (infos (at + index) m)) p
 
-listed_from : (infos : Infos) (at : ℕ) (ms : List Module) (p : ModuleProcedure) → Contains (procedures_of_modules infos at ms) p → IsListed infos at ms p
+listed_from : (infos : ProviderInfos) (at : ℕ) (ms : List Module) (p : ModuleProcedure) → Contains (procedures_of_modules infos at ms) p → IsListed infos at ms p
 listed_from infos at [] p held = let below = held.1 in absurd (omega (arith, below))
 listed_from infos at (m ∷ ms) p held =
     by_part (Contains-append_cases (provided_procedures (infos at m)) (procedures_of_modules infos (at + 1) ms) p held) (listed_from infos (at + 1) ms p)
@@ -272,7 +272,7 @@ listed_from infos at (m ∷ ms) p held =
         let same : at + suc of.index ≡ (at + 1) + of.index = omega arith in
         record { index = suc of.index; m = of.m; is = of.is; listed = rw same of.listed }
 
-listed_in : (infos : Infos) (at : ℕ) (ms : List Module) (p : ModuleProcedure) (index : ℕ) (m : Module) → slice_get ms index ≡ Some m
+listed_in : (infos : ProviderInfos) (at : ℕ) (ms : List Module) (p : ModuleProcedure) (index : ℕ) (m : Module) → slice_get ms index ≡ Some m
     → Contains (provided_procedures (infos (at + index) m)) p → Contains (procedures_of_modules infos at ms) p
 listed_in infos at [] p index m is listed = absurd (cc)
 listed_in infos at (first ∷ ms) p zero m is listed =
@@ -287,61 +287,61 @@ listed_in infos at (first ∷ ms) p (suc index) m is listed =
 
 -- ---- the laws
 
-pub starts_ascend : {P : Type 0} (info : P → Infos) (s : Sources P) → Ascend (start_addresses info s)
-starts_ascend info s = ascend_starts s.address_map [] (start_places info s) tt
+pub starts_ascend : {P : Type 0} (info : P → ProviderInfos) (s : ContextInputs P) → Ascend (start_addresses info s)
+starts_ascend info s = ascend_starts s.address_map [] (start_section_offsets info s) tt
 
 -- an address is among them exactly where a function starts there
-pub starts_are : {P : Type 0} (info : P → Infos) (s : Sources P) (address : ℕ) → Contains (start_addresses info s) address ↔ IsStart info s address
-starts_are {P = P} info s address = (told, held) where
-  infos : Infos
+pub starts_are : {P : Type 0} (info : P → ProviderInfos) (s : ContextInputs P) (address : ℕ) → Contains (start_addresses info s) address ↔ IsStart info s address
+starts_are {P = P} info s address = (shown, held) where
+  infos : ProviderInfos
   infos = info s.provider
 
   procedures : List ModuleProcedure
-  procedures = procedures_of_modules infos 0 s.basis.modules
+  procedures = procedures_of_modules infos 0 s.type_inputs.modules
 
   globals : List GlobalFunction
   globals = global_functions_of s
 
-  listed_as : (p : ModuleProcedure) → IsListed infos 0 s.basis.modules p → rva s.address_map p.offset ≡ Some (record { 0 = address }) → IsProcedureStart info s address
+  listed_as : (p : ModuleProcedure) → IsListed infos 0 s.type_inputs.modules p → rva s.address_map p.offset ≡ Some (record { 0 = address }) → IsProcedureStart info s address
   listed_as p of at =
       let same : 0 + of.index ≡ of.index = omega arith in
       let held : Contains (provided_procedures (infos of.index of.m)) p = rw same at of.listed in
-      record { position = of.index; procedure = p; listed = rw of.is held; at = at }
+      record { module_index = of.index; procedure = p; listed = rw of.is held; at = at }
 
-  by_part : (found : HasPlace s.address_map (start_places info s) address)
-      → Contains (map (λ f. f.start) globals) found.place ⊎ Contains (map (λ p. p.offset) procedures) found.place → IsStart info s address
+  by_part : (found : HasSectionOffset s.address_map (start_section_offsets info s) address)
+      → Contains (map (λ f. f.start) globals) found.section_offset ⊎ Contains (map (λ p. p.offset) procedures) found.section_offset → IsStart info s address
   by_part found (inl first) =
-      let of = image (λ (f : GlobalFunction). f.start) globals found.place first in
+      let of = image (λ (f : GlobalFunction). f.start) globals found.section_offset first in
       inl (record { function = of.0; listed = of.1; at = rw of.2 found.at })
   by_part found (inr second) =
-      let of = image (λ (p : ModuleProcedure). p.offset) procedures found.place second in
-      inr (listed_as of.0 (listed_from infos 0 s.basis.modules of.0 of.1) (rw of.2 found.at))
+      let of = image (λ (p : ModuleProcedure). p.offset) procedures found.section_offset second in
+      inr (listed_as of.0 (listed_from infos 0 s.type_inputs.modules of.0 of.1) (rw of.2 found.at))
 
-  by_place : Contains [] address ⊎ HasPlace s.address_map (start_places info s) address → IsStart info s address
-  by_place (inl none) = let below = none.1 in absurd (omega (arith, below))
-  by_place (inr found) =
-      by_part found (Contains-append_cases (map (λ f. f.start) globals) (map (λ p. p.offset) procedures) found.place found.listed)
+  by_section_offset : Contains [] address ⊎ HasSectionOffset s.address_map (start_section_offsets info s) address → IsStart info s address
+  by_section_offset (inl none) = let below = none.1 in absurd (omega (arith, below))
+  by_section_offset (inr found) =
+      by_part found (Contains-append_cases (map (λ f. f.start) globals) (map (λ p. p.offset) procedures) found.section_offset found.listed)
 
-  told : Contains (start_addresses info s) address → IsStart info s address
-  told h = by_place (starts_cases s.address_map [] (start_places info s) address h)
+  shown : Contains (start_addresses info s) address → IsStart info s address
+  shown h = by_section_offset (starts_cases s.address_map [] (start_section_offsets info s) address h)
 
-  in_module : (position : ℕ) (p : ModuleProcedure) (found : Option Module) → slice_get s.basis.modules position ≡ found
-      → Contains (procedures_of_module infos s.basis.modules position) p → Contains procedures p
-  in_module position p None is h =
+  in_module : (module_index : ℕ) (p : ModuleProcedure) (found : Option Module) → slice_get s.type_inputs.modules module_index ≡ found
+      → Contains (procedures_of_module infos s.type_inputs.modules module_index) p → Contains procedures p
+  in_module module_index p None is h =
       let none : Contains {X = ModuleProcedure} [] p = rw is at h in
       let below = none.1 in absurd (omega (arith, below))
-  in_module position p (Some m) is h =
-      let same : 0 + position ≡ position = omega arith in
-      let listed : Contains (provided_procedures (infos position m)) p = rw is at h in
-      listed_in infos 0 s.basis.modules p position m is (rw same listed)
+  in_module module_index p (Some m) is h =
+      let same : 0 + module_index ≡ module_index = omega arith in
+      let listed : Contains (provided_procedures (infos module_index m)) p = rw is at h in
+      listed_in infos 0 s.type_inputs.modules p module_index m is (rw same listed)
 
   held : IsStart info s address → Contains (start_addresses info s) address
   held (inl g) =
       let in_globals : Contains (map (λ f. f.start) globals) g.function.start = in_image (λ (f : GlobalFunction). f.start) globals g.function g.listed in
-      starts_in s.address_map [] (start_places info s) g.function.start address
+      starts_in s.address_map [] (start_section_offsets info s) g.function.start address
       (Contains-append_left (map (λ f. f.start) globals) (map (λ p. p.offset) procedures) g.function.start in_globals) g.at
   held (inr p) =
-      let listed : Contains procedures p.procedure = in_module p.position p.procedure (slice_get s.basis.modules p.position) refl p.listed in
+      let listed : Contains procedures p.procedure = in_module p.module_index p.procedure (slice_get s.type_inputs.modules p.module_index) refl p.listed in
       let in_procedures : Contains (map (λ p. p.offset) procedures) p.procedure.offset = in_image (λ (p : ModuleProcedure). p.offset) procedures p.procedure listed in
-      starts_in s.address_map [] (start_places info s) p.procedure.offset address
+      starts_in s.address_map [] (start_section_offsets info s) p.procedure.offset address
       (Contains-append_right (map (λ f. f.start) globals) (map (λ p. p.offset) procedures) p.procedure.offset in_procedures) p.at

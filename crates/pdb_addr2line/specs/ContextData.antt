@@ -10,9 +10,9 @@ use Rattle.pdb_types.specs.declared.error.Error.{Error}
 use Rattle.pdb_types.specs.declared.error.Error.TheVariants.{PdbError}
 use Rattle.pdb_types.specs.declared.flags.TypeFormatterFlags.{TypeFormatterFlags}
 use Rattle.pdb_types.specs.Resolution.{streamed}
-use Rattle.pdb_types.specs.Standing.{Basis, program_pointer_size}
+use Rattle.pdb_types.specs.TypeInputs.{TypeInputs, program_pointer_size}
 use Rattle.pdb_types.specs.Outcomes.{unless, first_refusal, and_then}
-use Rattle.pdb_addr2line.specs.Sources.{Sources, accepted}
+use Rattle.pdb_addr2line.specs.ContextInputs.{ContextInputs, accepted}
 
 -- a stream's fault, where it failed
 abbrev pub stream_refusal : {A : Type 0} → Result A StreamError → Option Error
@@ -28,7 +28,7 @@ records_refusal r =
     first_refusal (stream_refusal r.id_information) (
     stream_refusal r.address_map))))
 
--- what the records hold of the module at a position; past the list there is nothing
+-- what the records hold of the module at a module index; past the list there is nothing
 abbrev pub info_at : Records → ℕ → Result (Option ModuleInfo) StreamError
 info_at r index = unwrap_or (slice_get r.module_infos index) (Ok None)
 
@@ -38,7 +38,7 @@ sections_read r =
     and_then (streamed r.sections) (λ sections.
     Ok (unwrap_or sections []))
 
--- what signatures can't be told for: a fault of the list of modules, and then a machine that could not be read
+-- why signatures can't be answered: a fault of the list of modules, and then a machine that could not be read
 abbrev pub formatter_refusal : DebugInformation → Option Error
 formatter_refusal debug =
     first_refusal (option_map (λ fault. PdbError (Stream fault)) debug.modules.fault) (
@@ -53,8 +53,8 @@ abbrev pub if_read : {A : Type 0} → Result A StreamError → Option A
 if_read (Ok content) = Some content
 if_read (Err fault) = None
 
--- what the formatter of these records stands on: refused for the list of modules and the machine
-abbrev pub formatter_of : TypeFormatterFlags → Records → Result (Basis Records) Error
+-- the type inputs of the formatter of these records: refused for the list of modules and the machine
+abbrev pub formatter_of : TypeFormatterFlags → Records → Result (TypeInputs Records) Error
 formatter_of flags r =
     and_then (streamed r.debug_information) (λ debug.
     and_then (streamed r.type_information) (λ types.
@@ -71,10 +71,10 @@ formatter_of flags r =
       flags = flags;
     }))))))
 
--- the context over these records whose formatter stands on this: refused for the sections, and then as a context over
--- their contents is
-abbrev pub context_over : Records → Basis Records → Result (Sources Records) Error
-context_over r basis =
+-- the context over these records whose formatter has these type inputs: refused for the sections, and then as a
+-- context over their contents is
+abbrev pub context_over : Records → TypeInputs Records → Result (ContextInputs Records) Error
+context_over r type_inputs =
     and_then (streamed r.debug_information) (λ debug.
     and_then (streamed r.global_symbols) (λ symbols.
     and_then (streamed r.address_map) (λ ranges.
@@ -86,9 +86,9 @@ context_over r basis =
       global_symbols = symbols;
       strings = if_read r.string_table;
       debug_information = debug;
-      basis = basis;
+      type_inputs = type_inputs;
     })))))
 
 -- the context of these records: refused as their formatter is, and then as one over them with that formatter
-abbrev pub context_of : TypeFormatterFlags → Records → Result (Sources Records) Error
+abbrev pub context_of : TypeFormatterFlags → Records → Result (ContextInputs Records) Error
 context_of flags r = and_then (formatter_of flags r) (context_over r)

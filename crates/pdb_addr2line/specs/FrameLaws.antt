@@ -9,9 +9,9 @@ use Rattle.pdb_inline.specs.InlineStacks.{levels, lies_over, site_ranges, IsDire
 use Rattle.pdb_inline.specs.Sites.{Site, depth, walk}
 use Rattle.pdb_inline.specs.declared.inline_ranges.InlineRange.{InlineRange}
 use Rattle.pdb_frames.specs.ExtendedInfo.{inlinee_ids}
-use Rattle.pdb_frames.specs.Frame.{FrameDescription, FramesDescription}
-use Rattle.pdb_descriptions.specs.Frames.{Strings, inlined_frame}
-use Rattle.pdb_descriptions.specs.Function.{Description}
+use Rattle.pdb_frames.specs.Frame.{FrameInfo, FramesInfo}
+use Rattle.pdb_function_info.specs.Frames.{Strings, inlined_frame}
+use Rattle.pdb_function_info.specs.Function.{FunctionInfo}
 
 -- the inline sites of a procedure, by the records of its module
 abbrev pub sites_of : ModuleInfo → ModuleProcedure → List Site
@@ -26,33 +26,33 @@ levels_over (Some info) (found_procedure m p) x =
     levels (inlinee_ids info.inlinees.items) (sites_of info p) x
 
 -- there are frames, and the last has this name
-pub record EndIn (frames : List FrameDescription) (name : Option (List ℕ)) : Type 0 where
-  pub inner : List FrameDescription
-  pub own : FrameDescription
+pub record EndIn (frames : List FrameInfo) (name : Option (List ℕ)) : Type 0 where
+  pub inner : List FrameInfo
+  pub own : FrameInfo
   pub split : frames ≡ inner ++ own ∷ []
   pub named : own.function ≡ name
 
--- what is told of a function and of its frames agrees: where it starts and ends, and the name of the last frame
-pub record Agree (function : Description) (told : FramesDescription) : Type 0 where
-  pub start_rva : told.start_rva ≡ function.start_rva
-  pub end_rva : told.end_rva ≡ function.end_rva
-  pub name : EndIn told.frames function.name
+-- the function info and the frames info of a function agree: where it starts and ends, and the name of the last frame
+pub record Agree (function : FunctionInfo) (shown : FramesInfo) : Type 0 where
+  pub start_rva : shown.start_rva ≡ function.start_rva
+  pub end_rva : shown.end_rva ≡ function.end_rva
+  pub name : EndIn shown.frames function.name
 
--- a frame is of an inline site of a procedure: it tells of a range of the site that lies over an offset, with the files
+-- a frame is of an inline site of a procedure: it shows a range of the site that lies over an offset, with the files
 -- of the module's line program, and with the name of the site's id
 pub record IsFrameOf (strings : Strings) (name_of : IdIndex → Option (List ℕ)) (info : ModuleInfo) (p : ModuleProcedure)
-    (x : ℕ) (site : Site) (frame : FrameDescription) : Type 0 where
+    (x : ℕ) (site : Site) (frame : FrameInfo) : Type 0 where
   pub range : InlineRange
   pub of_site : Contains (site_ranges (inlinee_ids info.inlinees.items) (sites_of info p) site) range
   pub over : IsTrue (lies_over (depth site) x range)
   pub program : Lines
   pub read : info.line_program ≡ Ok program
-  pub told : frame ≡ inlined_frame strings program (name_of range.inlinee) range
+  pub shown : frame ≡ inlined_frame strings program (name_of range.inlinee) range
 
 -- two frames are of two sites of a procedure, the first of a site of this level, and the second of one a level deeper,
 -- which lies directly inside that of the first
 pub record AreNestedFrames (strings : Strings) (name_of : IdIndex → Option (List ℕ)) (info : ModuleInfo)
-    (p : ModuleProcedure) (x level : ℕ) (frame under : FrameDescription) : Type 0 where
+    (p : ModuleProcedure) (x level : ℕ) (frame under : FrameInfo) : Type 0 where
   pub outer : Site
   pub inner : Site
   pub outer_level : depth outer ≡ level

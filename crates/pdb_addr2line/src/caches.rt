@@ -9,16 +9,16 @@ ghost use Rattle.pdb_ranges.specs.Pick.{pick};
 ghost use Rattle.pdb_types.specs.Outcomes.{Gives};
 ghost use Rattle.pdb_functions.specs.Lookup.{found_function};
 ghost use Rattle.pdb_documents.specs.BrokenParts.{AddsBroken};
-ghost use Rattle.pdb_documents.specs.Worlds.{formatter_world};
-ghost use Rattle.pdb_frames.specs.CodeCache.{FitsCode};
+ghost use Rattle.pdb_documents.specs.PrintInputs.{formatter_inputs};
+ghost use Rattle.pdb_frames.specs.CodeCache.{IsCodeCache};
 ghost use Rattle.pdb_frames.specs.CodeCaches.{Records};
 ghost use Rattle.pdb_frames.specs.CodeParts.{part_to_blame};
 ghost use Rattle.pdb_frames.specs.Origins.{function_module};
-ghost use Rattle.pdb_descriptions.specs.Frames.{described_frames, failed_by_frames, ButForMemory};
+ghost use Rattle.pdb_function_info.specs.Frames.{info_of_frames, failed_by_frames, ButForMemory};
 
 use crate::context::Tables;
-use pdb_descriptions::{FunctionNames, describe_frames};
 use pdb_frames::{CodeCache, CodePart, FunctionFrames, function_module};
+use pdb_function_info::{FunctionNames, frames_info};
 use pdb_functions::{BasicModuleInfoCache, ProcedureSymbolFunction, PublicOrProcedureSymbol};
 use pdb_records::{AddressMap, Module, ModuleInfo, PdbInternalSectionOffset};
 use pdb_types::{ModuleProvider, Result};
@@ -39,7 +39,7 @@ impl<'a, P: ModuleProvider> Caches<'a, P> {
     /// Nothing yet. It takes no memory.
     pub(crate) fn new(alloc: Global, provider: &'a P) -> Self
         ensures infos { result.infos.provider ≡ provider.now }
-        ensures code { (records : Records) → FitsCode records result.code }
+        ensures code { (records : Records) → IsCodeCache records result.code }
         ensures starts { result.starts ≡ None }
     {
         Caches {
@@ -50,25 +50,25 @@ impl<'a, P: ModuleProvider> Caches<'a, P> {
     }
 }
 
-/// The procedure over a place, of the module at a position.
+/// The procedure over a section offset, of the module at a module index.
 pub(crate) fn procedure_in<'a, P: ModuleProvider>(
     infos: &mut BasicModuleInfoCache<'a, P>,
     modules: &[Module],
     module_index: usize,
-    place: PdbInternalSectionOffset,
+    section_offset: PdbInternalSectionOffset,
 ) -> Result<Option<ProcedureSymbolFunction<'a>>, AllocError>
     ensures found { IfOk result (λ found. option_map module_procedure found
-        ≡ pick (procedure_covers place) (λ p. p.offset.offset)
+        ≡ pick (procedure_covers section_offset) (λ p. p.offset.offset)
         (procedures_of_module (P.info infos.old.provider) modules.now module_index)) }
     ensures provider { infos.new.provider ≡ infos.old.provider }
 {
     match infos.get_basic_module_info(modules, module_index)? {
-        Some(info) => Ok(info.procedure_over(place)),
+        Some(info) => Ok(info.procedure_over(section_offset)),
         None => Ok(None),
     }
 }
 
-/// The records of the module at a position, where there are any that can be read.
+/// The records of the module at a module index, where there are any that can be read.
 pub(crate) fn readable_info<'a, P: ModuleProvider>(
     infos: &mut BasicModuleInfoCache<'a, P>,
     modules: &[Module],
@@ -84,8 +84,8 @@ pub(crate) fn readable_info<'a, P: ModuleProvider>(
     }
 }
 
-/// What is told of a function that was found, and of its frames at an offset, by the records of its module.
-pub(crate) fn describe_frames_by<'a, P: ModuleProvider>(
+/// The frames info of a function that was found, at an offset, by the records of its module.
+pub(crate) fn frames_info_by<'a, P: ModuleProvider>(
     caches: &mut Caches<'a, P>,
     alloc: Global,
     address_map: &AddressMap,
@@ -96,26 +96,26 @@ pub(crate) fn describe_frames_by<'a, P: ModuleProvider>(
     offset: u32,
 ) -> Result<Option<FunctionFrames<'a>>>
     ghost records: { Records }
-    requires named { GoesBySymbol (P.info names.old.provider) names.old.standing.modules (found_function function) }
-    requires code { FitsCode records caches.old.code }
+    requires named { GoesBySymbol (P.info names.old.provider) names.old.type_inputs.modules (found_function function) }
+    requires code { IsCodeCache records caches.old.code }
     requires module_info { IfSome module_info
         (λ info. records (function_module (found_function function)) ≡ Some info.now) }
-    ensures told { Gives (λ f. f) result (described_frames P.info names.old.standing tables.now.file_names
+    ensures shown { Gives (λ f. f) result (info_of_frames P.info names.old.type_inputs tables.now.file_names
         address_map.now tables.now.global_functions (option_copied module_info.entry)
         (found_function function.entry) offset) }
-    ensures standing { names.new.standing ≡ names.old.standing }
+    ensures type_inputs { names.new.type_inputs ≡ names.old.type_inputs }
     ensures provider { names.new.provider ≡ names.old.provider }
-    ensures failed { ButForMemory result (names.new.failed ≡ failed_by_frames P.info names.old.standing
+    ensures failed { ButForMemory result (names.new.failed ≡ failed_by_frames P.info names.old.type_inputs
         address_map.now tables.now.global_functions (option_copied module_info.entry)
         (found_function function.entry) offset names.old.failed) }
     ensures broken { AddsBroken
-        (formatter_world P.info names.old.standing (function_module (found_function function.entry)))
+        (formatter_inputs P.info names.old.type_inputs (function_module (found_function function.entry)))
         names.old.failed names.new.failed }
-    ensures code { FitsCode records caches.new.code }
+    ensures code { IsCodeCache records caches.new.code }
     ensures infos { caches.new.infos.provider ≡ caches.old.infos.provider }
     ensures starts { caches.new.starts ≡ caches.old.starts }
 {
-    describe_frames(
+    frames_info(
         alloc,
         address_map,
         &tables.file_names,
@@ -137,11 +137,11 @@ pub(crate) fn part_blamed_by<'a, P: ModuleProvider>(
 ) -> Result<Option<CodePart>, AllocError>
     ghost records: { Records }
     requires records { records ≡ readable_info (P.info caches.old.infos.provider) modules.now }
-    requires code { FitsCode records caches.old.code }
+    requires code { IsCodeCache records caches.old.code }
     ensures blamed { let found = found_function function.entry in
         IfOk result (λ part. part
         ≡ option_map (λ info. part_to_blame info found) (records (function_module found))) }
-    ensures code { FitsCode records caches.new.code }
+    ensures code { IsCodeCache records caches.new.code }
     ensures infos { caches.new.infos.provider ≡ caches.old.infos.provider }
     ensures starts { caches.new.starts ≡ caches.old.starts }
 {

@@ -2,12 +2,12 @@ ghost use Rattle.std.specs.Prelude.{◌≡◌, [], Ok, length, IfOk};
 ghost use Rattle.std.specs.Option.{option_copied};
 ghost use Rattle.pdb_types.specs.Outcomes.{Gives};
 ghost use Rattle.pdb_functions.specs.Contributions.{merged_contributions};
-ghost use Rattle.pdb_functions.specs.GlobalFunctions.{global_functions as functions_told};
-ghost use Rattle.pdb_addr2line.specs.Sources.{searched_contributions, accepted, global_functions_of};
+ghost use Rattle.pdb_functions.specs.GlobalFunctions.{global_functions as functions_listed};
+ghost use Rattle.pdb_addr2line.specs.ContextInputs.{searched_contributions, accepted, global_functions_of};
 
 use crate::caches::Caches;
-use pdb_descriptions::FunctionNames;
 use pdb_frames::{FailedCodeParts, FileNames};
+use pdb_function_info::FunctionNames;
 use pdb_functions::{
     ContributionTable, GlobalFunctionTable, SectionTable, compute_global_functions,
     compute_section_contributions,
@@ -26,7 +26,7 @@ pub(crate) struct Tables<'a> {
     pub(crate) global_functions: GlobalFunctionTable<'a>,
     pub(crate) file_names: FileNames<'a>,
     /// The sections of addresses.
-    pub(crate) places: SectionTable<'a>,
+    pub(crate) section_offsets: SectionTable<'a>,
 }
 
 /// The tables of these records.
@@ -43,13 +43,13 @@ fn tables_of<'a>(
     ensures sections { IfOk result (λ t. t.sections.items ≡ sections.now) }
     ensures merged { IfOk result (λ t.
         merged_contributions sections.now debug_information.now ≡ Ok t.contributions) }
-    ensures told { IfOk result (λ t. t.global_functions
-        ≡ functions_told sections.now global_symbols.now.symbols.items debug_information.now) }
+    ensures shown { IfOk result (λ t. t.global_functions
+        ≡ functions_listed sections.now global_symbols.now.symbols.items debug_information.now) }
     ensures strings { IfOk result (λ t. t.file_names ≡ option_copied string_table.entry) }
-    ensures places { IfOk result (λ t. t.places ≡ address_map.now) }
+    ensures section_offsets { IfOk result (λ t. t.section_offsets ≡ address_map.now) }
 {
     if let Some(fault) = global_symbols.symbols.fault {
-        return Err(Error::from(pdb_records::Error::Stream(fault)));
+        return Err(Error::from(fault));
     }
     let (merged, starts) = compute_section_contributions(alloc, debug_information, sections)?;
     let symbols = &global_symbols.symbols.items;
@@ -59,16 +59,16 @@ fn tables_of<'a>(
         contributions: ContributionTable::new(alloc, merged)?,
         global_functions,
         file_names: FileNames::new(alloc, string_table)?,
-        places: SectionTable::new(alloc, address_map)?,
+        section_offsets: SectionTable::new(alloc, address_map)?,
     })
 }
 
 /// Answers questions about the functions of a program.
 ///
-/// A context stands on records that it borrows, on a [`ModuleProvider`] for those of each module, and on a
+/// The inputs of a context are records that it borrows, a [`ModuleProvider`] for those of each module, and a
 /// [`TypeFormatter`], by which procedures get their names. What it answers is what a plain scan of the
 /// records would answer. Of what happens between two questions it remembers one thing that later answers
-/// show: which parts of the records it met broken. Such a part tells its own error when it is met first, and
+/// show: which parts of the records it met broken. Such a part answers its own error when it is met first, and
 /// from then on that it failed before.
 #[derive(Drop)]
 pub struct Context<'a, P: ModuleProvider> {
@@ -87,23 +87,23 @@ impl<'a, P: ModuleProvider> Model for Context<'a, P> {
     ghost use Rattle.std.specs.Prelude.{◌≡◌, Ok, IfSome};
     ghost use Rattle.std.specs.Option.{option_copied};
     ghost use Rattle.pdb_functions.specs.Contributions.{merged_contributions};
-    ghost use Rattle.pdb_functions.specs.GlobalFunctions.{global_functions as functions_told};
+    ghost use Rattle.pdb_functions.specs.GlobalFunctions.{global_functions as functions_listed};
     ghost use Rattle.pdb_functions.specs.ModuleInfos.{readable_info};
-    ghost use Rattle.pdb_frames.specs.CodeCache.{FitsCode};
+    ghost use Rattle.pdb_frames.specs.CodeCache.{IsCodeCache};
     ghost use Rattle.pdb_addr2line.specs.Functions.{start_addresses};
-    ghost use Rattle.pdb_addr2line.specs.Sources.{ContextState};
+    ghost use Rattle.pdb_addr2line.specs.ContextInputs.{ContextState};
 
     ghost Value = { ContextState P };
 
     ghost view = { λ c. record {
-      sources = record {
+      inputs = record {
         provider = c.provider.now;
         sections = c.tables.sections.items;
         address_map = c.address_map.now;
         global_symbols = c.global_symbols.now;
         strings = c.tables.file_names;
         debug_information = c.debug_information.now;
-        basis = c.names.standing;
+        type_inputs = c.names.type_inputs;
       };
       failed = c.names.failed;
       code_failed = c.code_failed;
@@ -111,12 +111,12 @@ impl<'a, P: ModuleProvider> Model for Context<'a, P> {
 
     ghost invariant = { λ c. record {
       merged : merged_contributions c.tables.sections.items c.debug_information.now ≡ Ok c.tables.contributions;
-      told : c.tables.global_functions ≡ functions_told
+      shown : c.tables.global_functions ≡ functions_listed
           c.tables.sections.items c.global_symbols.now.symbols.items c.debug_information.now;
-      places : c.tables.places ≡ c.address_map.now;
+      section_offsets : c.tables.section_offsets ≡ c.address_map.now;
       infos : c.caches.infos.provider ≡ c.provider.now;
       named : c.names.provider ≡ c.provider.now;
-      code : FitsCode (readable_info (P.info c.provider.now) c.names.standing.modules) c.caches.code;
+      code : IsCodeCache (readable_info (P.info c.provider.now) c.names.type_inputs.modules) c.caches.code;
       starts : IfSome c.caches.starts (λ v. v.items ≡ start_addresses P.info (record {
         provider = c.provider.now;
         sections = c.tables.sections.items;
@@ -124,15 +124,15 @@ impl<'a, P: ModuleProvider> Model for Context<'a, P> {
         global_symbols = c.global_symbols.now;
         strings = c.tables.file_names;
         debug_information = c.debug_information.now;
-        basis = c.names.standing;
+        type_inputs = c.names.type_inputs;
       }));
     } };
 }
 
 impl<'a, P: ModuleProvider> Context<'a, P> {
     /// A context over these records, with this formatter, for callers who have records that no
-    /// [`ContextPdbData`](crate::ContextPdbData) keeps. Positions of modules are those of the formatter's
-    /// list. What the formatter stands on may be other records than these: names are printed by its own.
+    /// [`ContextPdbData`](crate::ContextPdbData) holds. Module indices are those of the formatter's
+    /// list. The formatter's type inputs may be of other records than these: names are printed by its own.
     ///
     /// # Errors
     ///
@@ -148,14 +148,14 @@ impl<'a, P: ModuleProvider> Context<'a, P> {
         debug_information: &'a DebugInformation,
         formatter: TypeFormatter<'a, P>,
     ) -> Result<Self>
-        ensures sources { Gives (λ c. c.sources) result (accepted (record {
+        ensures inputs { Gives (λ c. c.inputs) result (accepted (record {
           provider = provider.now;
           sections = sections.now;
           address_map = address_map.now;
           global_symbols = global_symbols.now;
           strings = option_copied string_table.entry;
           debug_information = debug_information.now;
-          basis = formatter.entry.standing;
+          type_inputs = formatter.entry.type_inputs;
         })) }
         ensures failed { IfOk result (λ c. c.failed ≡ formatter.entry.failed) }
         ensures code_failed { IfOk result (λ c. c.code_failed ≡ []) }
@@ -183,7 +183,7 @@ impl<'a, P: ModuleProvider> Context<'a, P> {
 
     /// The formatter back, with what it remembers.
     pub fn into_type_formatter(self) -> TypeFormatter<'a, P>
-        ensures standing { result.standing ≡ self.entry.sources.basis }
+        ensures type_inputs { result.type_inputs ≡ self.entry.inputs.type_inputs }
         ensures failed { result.failed ≡ self.entry.failed }
     {
         self.names.into_type_formatter()
@@ -192,7 +192,7 @@ impl<'a, P: ModuleProvider> Context<'a, P> {
     /// How many starts of functions are known from public symbols, contributions and ends of sections.
     /// Starts with no name and ends of sections count too.
     pub fn function_count(&self) -> usize
-        ensures { result ≡ length (global_functions_of self.now.sources) }
+        ensures { result ≡ length (global_functions_of self.now.inputs) }
     {
         self.tables.global_functions.len()
     }

@@ -16,18 +16,18 @@ use std::marker::Model;
 
 /// The records, owned or lent.
 #[derive(Drop)]
-enum Keeper<'p> {
+enum MaybeOwned<'p> {
     Owned(PDB),
     Lent(&'p PDB),
 }
 
-/// Keeps the records of a program, and makes a [`Context`] over them.
+/// Holds the records of a program, and makes a [`Context`] over them.
 ///
 /// What a context answers may borrow from the records, so they have an owner of their own.
 #[derive(Drop)]
 pub struct ContextPdbData<'p> {
     alloc: Global,
-    keeper: Keeper<'p>,
+    maybe_owned: MaybeOwned<'p>,
 }
 
 impl<'p> Model for ContextPdbData<'p> {
@@ -36,12 +36,12 @@ impl<'p> Model for ContextPdbData<'p> {
 
     ghost Value = { Records };
 
-    ghost use Rattle.pdb_addr2line.specs.Keeper.{records};
+    ghost use Rattle.pdb_addr2line.specs.MaybeOwned.{records};
     ghost use Rattle.pdb_addr2line.specs.ContextData.{records_refusal};
 
-    ghost view = { λ d. records d.keeper };
+    ghost view = { λ d. records d.maybe_owned };
 
-    ghost invariant = { λ d. records_refusal (records d.keeper) ≡ None };
+    ghost invariant = { λ d. records_refusal (records d.maybe_owned) ≡ None };
 }
 
 /// The records that are lent, from now on only to be read: they end as they were.
@@ -66,46 +66,46 @@ fn check_streams(pdb: &PDB) -> Result<()>
         .or(pdb.address_map.as_ref().err());
     match failed {
         None => Ok(()),
-        Some(fault) => Err(Error::from(pdb_records::Error::Stream(*fault))),
+        Some(fault) => Err(Error::from(*fault)),
     }
 }
 
 impl<'p> ContextPdbData<'p> {
-    /// Keeps these records.
+    /// Holds these records.
     ///
     /// # Errors
     ///
     /// [`Error::PdbError`] of the first stream that failed, in the order global symbols, debug
     /// information, types, ids, address map. A failed string table counts as absent.
     pub fn try_from_pdb(alloc: Global, pdb: PDB) -> Result<Self>
-        ensures kept { IfOk result (λ d. d ≡ pdb) }
+        ensures same_records { IfOk result (λ d. d ≡ pdb) }
         ensures refused { Refuses result (records_refusal pdb) }
     {
         check_streams(&pdb)?;
         Ok(ContextPdbData {
             alloc,
-            keeper: Keeper::Owned(pdb),
+            maybe_owned: MaybeOwned::Owned(pdb),
         })
     }
 
-    /// Keeps a reference to these records, under the conditions of [`ContextPdbData::try_from_pdb`]. They
+    /// Holds a reference to these records, under the conditions of [`ContextPdbData::try_from_pdb`]. They
     /// are only read, and stay as they are, also where they are refused.
     pub fn try_from_pdb_ref(alloc: Global, pdb: &'p mut PDB) -> Result<Self>
-        ensures kept { IfOk result (λ d. d ≡ pdb.old) }
+        ensures same_records { IfOk result (λ d. d ≡ pdb.old) }
         ensures refused { Refuses result (records_refusal pdb.old) }
     {
         ContextPdbData::over(alloc, shared(pdb))
     }
 
-    /// Keeps a reference to records that are only read.
+    /// Holds a reference to records that are only read.
     fn over(alloc: Global, pdb: &'p PDB) -> Result<Self>
-        ensures kept { IfOk result (λ d. d ≡ pdb.now) }
+        ensures same_records { IfOk result (λ d. d ≡ pdb.now) }
         ensures refused { Refuses result (records_refusal pdb.now) }
     {
         check_streams(pdb)?;
         Ok(ContextPdbData {
             alloc,
-            keeper: Keeper::Lent(pdb),
+            maybe_owned: MaybeOwned::Lent(pdb),
         })
     }
 
@@ -115,7 +115,7 @@ impl<'p> ContextPdbData<'p> {
     ///
     /// As [`ContextPdbData::make_context_with_formatter_flags`].
     pub fn make_context(&self) -> Result<Context<'_, Self>>
-        ensures sources { Gives (λ c. c.sources) result (context_of default_flags self.now) }
+        ensures inputs { Gives (λ c. c.inputs) result (context_of default_flags self.now) }
         ensures none_failed { IfOk result (λ c. (c.failed ≡ []) × (c.code_failed ≡ [])) }
     {
         self.make_context_with_formatter_flags(TypeFormatterFlags::default())
@@ -133,7 +133,7 @@ impl<'p> ContextPdbData<'p> {
         &self,
         flags: TypeFormatterFlags,
     ) -> Result<Context<'_, Self>>
-        ensures sources { Gives (λ c. c.sources) result (context_of flags self.now) }
+        ensures inputs { Gives (λ c. c.inputs) result (context_of flags self.now) }
         ensures none_failed { IfOk result (λ c. (c.failed ≡ []) × (c.code_failed ≡ [])) }
     {
         let formatter = self.make_type_formatter_with_flags(flags)?;
@@ -142,7 +142,7 @@ impl<'p> ContextPdbData<'p> {
 
     /// A context over these records, whose names this formatter prints.
     fn context_with<'c>(&'c self, formatter: TypeFormatter<'c, Self>) -> Result<Context<'c, Self>>
-        ensures sources { Gives (λ c. c.sources) result (context_over self.now formatter.entry.standing) }
+        ensures inputs { Gives (λ c. c.inputs) result (context_over self.now formatter.entry.type_inputs) }
         ensures failed { IfOk result (λ c. c.failed ≡ formatter.entry.failed) }
         ensures code_failed { IfOk result (λ c. c.code_failed ≡ []) }
     {
@@ -174,7 +174,7 @@ impl<'p> ContextPdbData<'p> {
     ///
     /// As [`ContextPdbData::make_type_formatter_with_flags`].
     pub fn make_type_formatter(&self) -> Result<TypeFormatter<'_, Self>>
-        ensures answer { Gives (λ f. f.standing) result (formatter_of default_flags self.now) }
+        ensures answer { Gives (λ f. f.type_inputs) result (formatter_of default_flags self.now) }
         ensures none_failed { IfOk result (λ f. f.failed ≡ []) }
     {
         self.make_type_formatter_with_flags(TypeFormatterFlags::default())
@@ -190,7 +190,7 @@ impl<'p> ContextPdbData<'p> {
         &self,
         flags: TypeFormatterFlags,
     ) -> Result<TypeFormatter<'_, Self>>
-        ensures answer { Gives (λ f. f.standing) result (formatter_of flags self.now) }
+        ensures answer { Gives (λ f. f.type_inputs) result (formatter_of flags self.now) }
         ensures none_failed { IfOk result (λ f. f.failed ≡ []) }
     {
         let pdb = self.pdb();
@@ -221,9 +221,9 @@ impl<'p> ContextPdbData<'p> {
         ensures is { result.now ≡ self.now }
         ensures read { records_refusal self.now ≡ None }
     {
-        match &self.keeper {
-            Keeper::Owned(pdb) => pdb,
-            Keeper::Lent(pdb) => pdb,
+        match &self.maybe_owned {
+            MaybeOwned::Owned(pdb) => pdb,
+            MaybeOwned::Lent(pdb) => pdb,
         }
     }
 }
@@ -233,11 +233,11 @@ fn check_machine(debug: &DebugInformation) -> Result<()>
     ensures { Refuses result (formatter_refusal debug.now) }
 {
     if let Some(fault) = debug.modules.fault {
-        return Err(Error::from(pdb_records::Error::Stream(fault)));
+        return Err(Error::from(fault));
     }
     match debug.machine_type {
         Ok(_) => Ok(()),
-        Err(fault) => Err(Error::from(pdb_records::Error::Stream(fault))),
+        Err(fault) => Err(Error::from(fault)),
     }
 }
 
@@ -248,7 +248,7 @@ fn sections_of(pdb: &PDB) -> Result<&[ImageSectionHeader]>
     match &pdb.sections {
         Ok(Some(sections)) => Ok(sections),
         Ok(None) => Ok(&[]),
-        Err(fault) => Err(Error::from(pdb_records::Error::Stream(*fault))),
+        Err(fault) => Err(Error::from(*fault)),
     }
 }
 
@@ -273,7 +273,7 @@ fn copies_of(alloc: Global, modules: &[Module]) -> Result<Vec<Module>, AllocErro
 impl<'p> ModuleProvider for ContextPdbData<'p> {
     ghost info = { λ records index _. info_at records index };
 
-    /// What the records hold of the module at this position. The module itself isn't looked at.
+    /// What the records hold of the module at this module index. The module itself isn't looked at.
     fn get_module_info(
         &self,
         module_index: usize,

@@ -1,20 +1,20 @@
 ghost use Rattle.std.specs.Prelude.{◌≡◌, [], ◌∷◌, ◌++◌, length, map, option_map, IfOk, OnOk, OnErr, MatchResult};
 ghost use Rattle.pdb_types.specs.declared.error.Error.TheVariants.{OutOfMemory};
-ghost use Rattle.pdb_descriptions.specs.Function.{description};
+ghost use Rattle.pdb_function_info.specs.Function.{function_view};
 ghost use Rattle.pdb_addr2line.specs.Functions.{start_addresses, functions_at, functions_of, after_function};
 ghost use Rattle.pdb_addr2line.specs.Functions.{after_functions, IsCutShort, OnlyGainsBroken};
-ghost use Rattle.pdb_addr2line.specs.FunctionSteps.{untried, lender, TellsNext};
+ghost use Rattle.pdb_addr2line.specs.FunctionSteps.{untried, lender, ContinuesNext};
 ghost use Rattle.pdb_addr2line.specs.Lookups.{function_at};
 
 use crate::context::Context;
-use pdb_descriptions::Function;
+use pdb_function_info::Function;
 use pdb_types::{ModuleProvider, Result};
 use std::vec::IntoIter;
 
 /// The functions of a program one by one, by where they start, as [`Context::functions`] gives them.
 ///
 /// It asks its context about one start address after the other, and passes over those that no function lies
-/// over. An item is an error only for want of memory. Its address isn't tried again: the next item is of a
+/// over. An item is an error only where memory runs out. Its address isn't tried again: the next item is of a
 /// later one.
 #[derive(Drop)]
 pub struct FunctionIter<'c, 'a, P: ModuleProvider> {
@@ -33,19 +33,19 @@ impl<'c, 'a, P: ModuleProvider> FunctionIter<'c, 'a, P> {
 
 impl<'c, 'a, P: ModuleProvider> Iterator for FunctionIter<'c, 'a, P> {
     ghost use Rattle.std.specs.Iterator.{item_count};
-    ghost use Rattle.pdb_addr2line.specs.FunctionSteps.{untried, TellsNext};
+    ghost use Rattle.pdb_addr2line.specs.FunctionSteps.{untried, ContinuesNext};
 
     type Item = Result<Function>;
 
-    ghost next_gives = { TellsNext P.info };
+    ghost next_gives = { ContinuesNext P.info };
 
     ghost remaining = { item_count untried };
 
     fn next(&mut self) -> Option<Result<Function>> {
         while let Some(address) = self.untried.next() {
-            let told = self.context.told_function(address).transpose();
-            if told.is_some() {
-                return told;
+            let shown = self.context.next_function(address).transpose();
+            if shown.is_some() {
+                return shown;
             }
         }
         None
@@ -61,7 +61,7 @@ impl<'a, P: ModuleProvider> Context<'a, P> {
     /// [`Error::OutOfMemory`](crate::Error::OutOfMemory) alone.
     pub fn functions(&mut self) -> Result<FunctionIter<'_, 'a, P>>
         ensures starts { MatchResult result
-            (λ it. untried it ≡ start_addresses P.info self.old.sources)
+            (λ it. untried it ≡ start_addresses P.info self.old.inputs)
             (λ e. e ≡ OutOfMemory) }
         ensures same { IfOk result (λ it. lender it ≡ self.old) }
         ensures same_reference { IfOk result (λ it. it.context.ghost_name ≡ self.entry.ghost_name) }
@@ -80,12 +80,12 @@ impl<'a, P: ModuleProvider> Context<'a, P> {
     /// [`Error::OutOfMemory`](crate::Error::OutOfMemory) alone.
     pub(crate) fn all_functions(&mut self) -> Result<Vec<Function>>
         ensures functions { MatchResult result
-            (λ v. map description v.items ≡ functions_of P.info self.old.sources)
+            (λ v. map function_view v.items ≡ functions_of P.info self.old.inputs)
             (λ e. e ≡ OutOfMemory) }
-        ensures told { OnOk result (self.new
-            ≡ after_functions P.info self.old (start_addresses P.info self.old.sources)) }
+        ensures shown { OnOk result (self.new
+            ≡ after_functions P.info self.old (start_addresses P.info self.old.inputs)) }
         ensures cut_short { OnErr result
-            (IsCutShort P.info self.old self.new (start_addresses P.info self.old.sources)) }
+            (IsCutShort P.info self.old self.new (start_addresses P.info self.old.inputs)) }
         ensures gains { OnErr result (OnlyGainsBroken P.info self.old self.new) }
     {
         let addresses = self.start_addresses()?;
@@ -99,25 +99,25 @@ impl<'a, P: ModuleProvider> Context<'a, P> {
     /// Adds the function over an address, where there is one.
     fn add_function(&mut self, functions: &mut Vec<Function>, address: u32) -> Result<()>
         ensures added { MatchResult result
-            (λ _. map description functions.new.items ≡ map description functions.old.items
-            ++ functions_at P.info self.old.sources (address ∷ []))
+            (λ _. map function_view functions.new.items ≡ map function_view functions.old.items
+            ++ functions_at P.info self.old.inputs (address ∷ []))
             (λ e. e ≡ OutOfMemory) }
-        ensures told { OnOk result (self.new ≡ after_function P.info self.old address) }
+        ensures shown { OnOk result (self.new ≡ after_function P.info self.old address) }
         ensures cut_short { OnErr result (IsCutShort P.info self.old self.new (address ∷ [])) }
         ensures gains { OnlyGainsBroken P.info self.old self.new }
     {
-        if let Some(function) = self.told_function(address)? {
+        if let Some(function) = self.next_function(address)? {
             functions.push(function)?;
         }
         Ok(())
     }
 
     /// The function over an address, by [`Context::find_function`].
-    pub(crate) fn told_function(&mut self, address: u32) -> Result<Option<Function>>
+    pub(crate) fn next_function(&mut self, address: u32) -> Result<Option<Function>>
         ensures answer { MatchResult result
-            (λ found. option_map description found ≡ function_at P.info self.old.sources address)
+            (λ found. option_map function_view found ≡ function_at P.info self.old.inputs address)
             (λ e. e ≡ OutOfMemory) }
-        ensures told { OnOk result (self.new ≡ after_function P.info self.old address) }
+        ensures shown { OnOk result (self.new ≡ after_function P.info self.old address) }
         ensures gains { OnlyGainsBroken P.info self.old self.new }
     {
         self.find_function(address)

@@ -10,14 +10,14 @@ ghost use Rattle.pdb_functions.specs.Lookup.{FoundFunction, found_procedure};
 ghost use Rattle.pdb_functions.specs.Procedures.{ModuleProcedure};
 ghost use Rattle.pdb_inline.specs.InlineStacks.{IsSoleOver};
 ghost use Rattle.pdb_frames.specs.ExtendedInfo.{inlinee_ids};
-ghost use Rattle.pdb_frames.specs.Frame.{FrameDescription, FramesDescription};
+ghost use Rattle.pdb_frames.specs.Frame.{FrameInfo, FramesInfo};
 ghost use Rattle.pdb_addr2line.specs.Calls.{answer_to, answers_to, fresh, successful};
 ghost use Rattle.pdb_addr2line.specs.declared.calls.Call.{Call};
 ghost use Rattle.pdb_addr2line.specs.FrameLaws.{levels_over, sites_of, EndIn, Agree, AreNestedFrames};
-ghost use Rattle.pdb_descriptions.specs.Function.{Description};
+ghost use Rattle.pdb_function_info.specs.Function.{FunctionInfo};
 ghost use Rattle.pdb_addr2line.specs.Lookups.{found_at, function_at, records_of, frames_at};
-ghost use Rattle.pdb_descriptions.specs.Names.{function_name, id_name};
-ghost use Rattle.pdb_addr2line.specs.Sources.{Sources, ContextState, global_functions_of};
+ghost use Rattle.pdb_function_info.specs.Names.{function_name, id_name};
+ghost use Rattle.pdb_addr2line.specs.ContextInputs.{ContextInputs, ContextState, global_functions_of};
 
 pub use crate::function_laws::{start_addresses_are_all_starts, start_addresses_ascend};
 pub use pdb_documents::laws::{
@@ -60,53 +60,55 @@ pub use pdb_types::laws::{
     chains_that_repeat_have_no_size,
 };
 
-/// Where frames are told, there is at least one, and the last is that of the function over the address.
+/// Where frames are answered, there is at least one, and the last is that of the function over the address.
 pub fn frames_end_in_the_function<P: ModuleProvider>()
-    ensures { (s : Sources P) (address : ℕ) (found : FoundFunction) (told : FramesDescription)
+    ensures { (s : ContextInputs P) (address : ℕ) (found : FoundFunction) (shown : FramesInfo)
         → found_at P.info s address ≡ Some found
-        → frames_at P.info s address ≡ Ok (Some told)
-        → EndIn told.frames (function_name P.info s.basis (global_functions_of s) found) }
+        → frames_at P.info s address ≡ Ok (Some shown)
+        → EndIn shown.frames (function_name P.info s.type_inputs (global_functions_of s) found) }
 {}
 
-/// Where frames are told, there is one for each depth at which the rows of inline sites of the function cover
+/// Where frames are answered, there is one for each depth at which the rows of inline sites of the function cover
 /// the address, and one more, that of the function itself. So no inlined body is left out.
 pub fn frames_have_all_levels<P: ModuleProvider>()
-    ensures { (s : Sources P) (address : ℕ) (place : PdbInternalSectionOffset) (found : FoundFunction)
-        (told : FramesDescription)
-        → internal_offset s.address_map (record { 0 = address }) ≡ Some place
+    ensures { (s : ContextInputs P) (address : ℕ) (section_offset : PdbInternalSectionOffset) (found : FoundFunction)
+        (shown : FramesInfo)
+        → internal_offset s.address_map (record { 0 = address }) ≡ Some section_offset
         → found_at P.info s address ≡ Some found
-        → frames_at P.info s address ≡ Ok (Some told)
-        → length told.frames ≡ levels_over (records_of P.info s found) found place.offset + 1 }
+        → frames_at P.info s address ≡ Ok (Some shown)
+        → length shown.frames ≡ levels_over (records_of P.info s found) found section_offset.offset + 1 }
 {}
 
-/// Where both a function and its frames are told of an address, they start and end alike, and the last frame
+/// Where both a function and its frames are answered for an address, they start and end alike, and the last frame
 /// has the name of the function.
 pub fn functions_and_frames_agree<P: ModuleProvider>()
-    ensures { (s : Sources P) (address : ℕ) (function : Description) (told : FramesDescription)
+    ensures { (s : ContextInputs P) (address : ℕ) (function : FunctionInfo) (shown : FramesInfo)
         → function_at P.info s address ≡ Some function
-        → frames_at P.info s address ≡ Ok (Some told)
-        → Agree function told }
+        → frames_at P.info s address ≡ Ok (Some shown)
+        → Agree function shown }
 {}
 
 /// Where for each depth one inline site of a procedure alone has ranges over an address, the site of each
 /// frame lies directly inside that of the next outer one, and is as deep as the frame's level. Frames are
 /// counted from outside here, those of inlined bodies from 1 on.
 pub fn frames_lie_directly_inside<P: ModuleProvider>()
-    ensures { (s : Sources P) (address : ℕ) (place : PdbInternalSectionOffset) (position : ℕ) (p : ModuleProcedure)
-        (info : ModuleInfo) (told : FramesDescription) (level : ℕ) (frame under : FrameDescription)
-        → internal_offset s.address_map (record { 0 = address }) ≡ Some place
-        → found_at P.info s address ≡ Some (found_procedure position p)
-        → records_of P.info s (found_procedure position p) ≡ Some info
-        → frames_at P.info s address ≡ Ok (Some told)
-        → IsSoleOver (inlinee_ids info.inlinees.items) (sites_of info p) place.offset
-        → slice_get (reverse told.frames) (level + 1) ≡ Some frame
-        → slice_get (reverse told.frames) (level + 2) ≡ Some under
-        → AreNestedFrames s.strings (id_name P.info s.basis position) info p place.offset level frame under }
+    ensures { (s : ContextInputs P) (address : ℕ) (section_offset : PdbInternalSectionOffset) (module_index : ℕ)
+        (p : ModuleProcedure)
+        (info : ModuleInfo) (shown : FramesInfo) (level : ℕ) (frame under : FrameInfo)
+        → internal_offset s.address_map (record { 0 = address }) ≡ Some section_offset
+        → found_at P.info s address ≡ Some (found_procedure module_index p)
+        → records_of P.info s (found_procedure module_index p) ≡ Some info
+        → frames_at P.info s address ≡ Ok (Some shown)
+        → IsSoleOver (inlinee_ids info.inlinees.items) (sites_of info p) section_offset.offset
+        → slice_get (reverse shown.frames) (level + 1) ≡ Some frame
+        → slice_get (reverse shown.frames) (level + 2) ≡ Some under
+        → AreNestedFrames s.strings
+        (id_name P.info s.type_inputs module_index) info p section_offset.offset level frame under }
 {}
 
 /// Which parts of the records failed before changes no answer but an error: in any list of calls, an answer is
 /// successful exactly where that of a context of which no part has failed is, and then it is the same.
 pub fn successful_answers_are_those_of_a_fresh_context<P: ModuleProvider>()
     ensures { (c : ContextState P) (calls : List Call) → map successful (answers_to P.info c calls)
-        ≡ map (λ call. successful (answer_to P.info (fresh c.sources) call)) calls }
+        ≡ map (λ call. successful (answer_to P.info (fresh c.inputs) call)) calls }
 {}

@@ -1,7 +1,7 @@
 //! Turns addresses of a Windows program into functions, files, lines and stacks of inlined calls, over the
 //! records of its program database.
 //!
-//! Records come from a reader as a [`pdb::PDB`]. [`ContextPdbData`] keeps them, and makes a [`Context`]
+//! Records come from a reader as a [`pdb::PDB`]. [`ContextPdbData`] holds them, and makes a [`Context`]
 //! that answers questions:
 //!
 //! ```
@@ -37,8 +37,8 @@ pub use calls::{Answer, Call};
 pub use context::Context;
 pub use context_data::ContextPdbData;
 pub use functions::FunctionIter;
-pub use pdb_descriptions::Function;
 pub use pdb_frames::{Frame, FunctionFrames};
+pub use pdb_function_info::Function;
 pub use pdb_functions::ModuleSectionContribution;
 pub use pdb_ranges::RangeSet;
 pub use pdb_signatures::TypeFormatter;

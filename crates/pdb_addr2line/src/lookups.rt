@@ -10,19 +10,19 @@ ghost use Rattle.pdb_functions.specs.Procedures.{module_procedure};
 ghost use Rattle.pdb_functions.specs.Spans.{contribution_covers, procedure_covers};
 ghost use Rattle.pdb_functions.specs.SymbolNames.{GoesBySymbol};
 ghost use Rattle.pdb_ranges.specs.Pick.{pick};
-ghost use Rattle.pdb_descriptions.specs.Names.{GainsBroken};
-ghost use Rattle.pdb_descriptions.specs.Function.{description, described, failed_by_telling};
-ghost use Rattle.pdb_addr2line.specs.Sources.{contributions_of, global_functions_of};
-ghost use Rattle.pdb_descriptions.specs.Frames.{ButForMemory};
+ghost use Rattle.pdb_function_info.specs.Names.{GainsBroken};
+ghost use Rattle.pdb_function_info.specs.Function.{function_view, info_of, failed_after_info};
+ghost use Rattle.pdb_addr2line.specs.ContextInputs.{contributions_of, global_functions_of};
+ghost use Rattle.pdb_function_info.specs.Frames.{ButForMemory};
 ghost use Rattle.pdb_addr2line.specs.Lookups.{contribution_at, found_at, function_at, failed_after};
 ghost use Rattle.pdb_addr2line.specs.Lookups.{frames_of, failed_by_frames_of, failed_after_frames};
-ghost use Rattle.pdb_addr2line.specs.Lookups.{records_of, blamed_for, told_refusal, failed_by_refusal};
-ghost use Rattle.pdb_addr2line.specs.Lookups.{frames_told, code_failed_after, told_error, with_blamed};
+ghost use Rattle.pdb_addr2line.specs.Lookups.{records_of, blamed_for, answered_refusal, failed_by_refusal};
+ghost use Rattle.pdb_addr2line.specs.Lookups.{frames_answered, code_failed_after, answered_error, with_blamed};
 
-use crate::caches::{describe_frames_by, part_blamed_by, procedure_in, readable_info};
+use crate::caches::{frames_info_by, part_blamed_by, procedure_in, readable_info};
 use crate::context::Context;
-use pdb_descriptions::{Function, describe};
 use pdb_frames::{CodePart, FunctionFrames, function_module};
+use pdb_function_info::{Function, function_info};
 use pdb_functions::{
     ContributionTable, GlobalFunctionTable, ModuleSectionContribution, ProcedureSymbolFunction,
     PublicOrProcedureSymbol, global_function_in,
@@ -42,20 +42,20 @@ impl<'a, P: ModuleProvider> Context<'a, P> {
     /// [`Error::OutOfMemory`] alone.
     pub fn find_function(&mut self, address: u32) -> Result<Option<Function>>
         ensures answer { MatchResult result
-            (λ found. option_map description found ≡ function_at P.info self.old.sources address)
+            (λ found. option_map function_view found ≡ function_at P.info self.old.inputs address)
             (λ e. e ≡ OutOfMemory) }
-        ensures sources { self.new.sources ≡ self.old.sources }
+        ensures inputs { self.new.inputs ≡ self.old.inputs }
         ensures failed { OnOk result
-            (self.new.failed ≡ failed_after P.info self.old.sources address self.old.failed) }
+            (self.new.failed ≡ failed_after P.info self.old.inputs address self.old.failed) }
         ensures code_failed { self.new.code_failed ≡ self.old.code_failed }
-        ensures broken { GainsBroken P.info self.old.sources.basis self.old.failed self.new.failed }
+        ensures broken { GainsBroken P.info self.old.inputs.type_inputs self.old.failed self.new.failed }
         // Outside every section and every contribution no memory is needed.
-        ensures outside { contribution_at self.old.sources address ≡ None
+        ensures outside { contribution_at self.old.inputs address ≡ None
             → (result ≡ Ok None) × (self.new ≡ self.old) }
     {
         match self.found(address)? {
             None => Ok(None),
-            Some(found) => self.describe(found),
+            Some(found) => self.function_info(found),
         }
     }
 
@@ -74,80 +74,80 @@ impl<'a, P: ModuleProvider> Context<'a, P> {
     /// [`Error::ExtendedModuleInfoUnsuccessful`] for the first two, and [`Error::ProcedureLinesUnsuccessful`]
     /// for the last.
     pub fn find_frames(&mut self, address: u32) -> Result<Option<FunctionFrames<'a>>>
-        ensures answer { Gives (λ f. f) result (frames_told P.info self.old address) }
-        ensures sources { self.new.sources ≡ self.old.sources }
+        ensures answer { Gives (λ f. f) result (frames_answered P.info self.old address) }
+        ensures inputs { self.new.inputs ≡ self.old.inputs }
         ensures failed { ButForMemory result
-            (self.new.failed ≡ failed_after_frames P.info self.old.sources address self.old.failed) }
+            (self.new.failed ≡ failed_after_frames P.info self.old.inputs address self.old.failed) }
         ensures code_failed { ButForMemory result
             (self.new.code_failed ≡ code_failed_after P.info self.old address) }
-        ensures code_kept { IfErr result (λ e. e ≡ OutOfMemory → self.new.code_failed ≡ self.old.code_failed) }
-        ensures broken { GainsBroken P.info self.old.sources.basis self.old.failed self.new.failed }
+        ensures code_unchanged { IfErr result (λ e. e ≡ OutOfMemory → self.new.code_failed ≡ self.old.code_failed) }
+        ensures broken { GainsBroken P.info self.old.inputs.type_inputs self.old.failed self.new.failed }
         // Outside every section and every contribution no memory is needed.
-        ensures outside { contribution_at self.old.sources address ≡ None
+        ensures outside { contribution_at self.old.inputs address ≡ None
             → (result ≡ Ok None) × (self.new ≡ self.old) }
     {
-        let Some(place) = self.place_of(address) else {
+        let Some(section_offset) = self.section_offset_of(address) else {
             return Ok(None);
         };
-        match self.found_over(place)? {
+        match self.found_over(section_offset)? {
             None => Ok(None),
-            Some(found) => self.tell_frames(found, place.offset),
+            Some(found) => self.frames_answer(found, section_offset.offset),
         }
     }
 
-    /// What is told of the frames of a function that was found, at an offset: a part of the records of code that
+    /// The frames info of a function that was found, at an offset: a part of the records of code that
     /// refuses them is remembered.
-    fn tell_frames(
+    fn frames_answer(
         &mut self,
         found: PublicOrProcedureSymbol<'a>,
         offset: u32,
     ) -> Result<Option<FunctionFrames<'a>>>
-        requires named { GoesBySymbol (P.info self.old.sources.provider) self.old.sources.basis.modules
+        requires named { GoesBySymbol (P.info self.old.inputs.provider) self.old.inputs.type_inputs.modules
             (found_function found) }
-        ensures told { let blamed = blamed_for P.info self.old.sources (found_function found.entry) in
-            Gives (λ f. f) result (told_refusal self.old.code_failed blamed
-            (frames_of P.info self.old.sources offset (found_function found.entry))) }
-        ensures sources { self.new.sources ≡ self.old.sources }
+        ensures shown { let blamed = blamed_for P.info self.old.inputs (found_function found.entry) in
+            Gives (λ f. f) result (answered_refusal self.old.code_failed blamed
+            (frames_of P.info self.old.inputs offset (found_function found.entry))) }
+        ensures inputs { self.new.inputs ≡ self.old.inputs }
         ensures failed { ButForMemory result (self.new.failed
-            ≡ failed_by_frames_of P.info self.old.sources offset self.old.failed (found_function found.entry)) }
-        ensures code_failed { let blamed = blamed_for P.info self.old.sources (found_function found.entry) in
+            ≡ failed_by_frames_of P.info self.old.inputs offset self.old.failed (found_function found.entry)) }
+        ensures code_failed { let blamed = blamed_for P.info self.old.inputs (found_function found.entry) in
             ButForMemory result (self.new.code_failed ≡ failed_by_refusal self.old.code_failed blamed
-            (frames_of P.info self.old.sources offset (found_function found.entry))) }
-        ensures code_kept { IfErr result (λ e. e ≡ OutOfMemory → self.new.code_failed ≡ self.old.code_failed) }
-        ensures broken { GainsBroken P.info self.old.sources.basis self.old.failed self.new.failed }
+            (frames_of P.info self.old.inputs offset (found_function found.entry))) }
+        ensures code_unchanged { IfErr result (λ e. e ≡ OutOfMemory → self.new.code_failed ≡ self.old.code_failed) }
+        ensures broken { GainsBroken P.info self.old.inputs.type_inputs self.old.failed self.new.failed }
     {
         let module_info = self.readable_info(function_module(found))?;
-        self.tell_frames_by(found, module_info, offset)
+        self.frames_answer_by(found, module_info, offset)
     }
 
     /// The same, by the records of the function's module.
-    fn tell_frames_by(
+    fn frames_answer_by(
         &mut self,
         found: PublicOrProcedureSymbol<'a>,
         module_info: Option<&'a ModuleInfo>,
         offset: u32,
     ) -> Result<Option<FunctionFrames<'a>>>
-        requires named { GoesBySymbol (P.info self.old.sources.provider) self.old.sources.basis.modules
+        requires named { GoesBySymbol (P.info self.old.inputs.provider) self.old.inputs.type_inputs.modules
             (found_function found) }
         requires records { option_copied module_info
-            ≡ records_of P.info self.old.sources (found_function found) }
-        ensures told { let blamed = blamed_for P.info self.old.sources (found_function found.entry) in
-            Gives (λ f. f) result (told_refusal self.old.code_failed blamed
-            (frames_of P.info self.old.sources offset (found_function found.entry))) }
-        ensures sources { self.new.sources ≡ self.old.sources }
+            ≡ records_of P.info self.old.inputs (found_function found) }
+        ensures shown { let blamed = blamed_for P.info self.old.inputs (found_function found.entry) in
+            Gives (λ f. f) result (answered_refusal self.old.code_failed blamed
+            (frames_of P.info self.old.inputs offset (found_function found.entry))) }
+        ensures inputs { self.new.inputs ≡ self.old.inputs }
         ensures failed { ButForMemory result (self.new.failed
-            ≡ failed_by_frames_of P.info self.old.sources offset self.old.failed (found_function found.entry)) }
-        ensures code_failed { let blamed = blamed_for P.info self.old.sources (found_function found.entry) in
+            ≡ failed_by_frames_of P.info self.old.inputs offset self.old.failed (found_function found.entry)) }
+        ensures code_failed { let blamed = blamed_for P.info self.old.inputs (found_function found.entry) in
             ButForMemory result (self.new.code_failed ≡ failed_by_refusal self.old.code_failed blamed
-            (frames_of P.info self.old.sources offset (found_function found.entry))) }
-        ensures code_kept { IfErr result (λ e. e ≡ OutOfMemory → self.new.code_failed ≡ self.old.code_failed) }
-        ensures broken { GainsBroken P.info self.old.sources.basis self.old.failed self.new.failed }
+            (frames_of P.info self.old.inputs offset (found_function found.entry))) }
+        ensures code_unchanged { IfErr result (λ e. e ≡ OutOfMemory → self.new.code_failed ≡ self.old.code_failed) }
+        ensures broken { GainsBroken P.info self.old.inputs.type_inputs self.old.failed self.new.failed }
     {
-        match self.describe_frames(found, module_info, offset) {
+        match self.frames_info(found, module_info, offset) {
             Ok(frames) => Ok(frames),
             Err(error) => {
                 let blamed = self.part_blamed(found)?;
-                Err(self.error_told(blamed, error)?)
+                Err(self.error_to_answer(blamed, error)?)
             }
         }
     }
@@ -156,19 +156,19 @@ impl<'a, P: ModuleProvider> Context<'a, P> {
     /// module.
     fn part_blamed(&mut self, found: PublicOrProcedureSymbol<'a>) -> Result<Option<CodePart>>
         ensures blamed { MatchResult result
-            (λ part. part ≡ blamed_for P.info self.old.sources (found_function found.entry))
+            (λ part. part ≡ blamed_for P.info self.old.inputs (found_function found.entry))
             (λ e. e ≡ OutOfMemory) }
-        ensures kept { self.new ≡ self.old }
+        ensures unchanged { self.new ≡ self.old }
     {
         let modules = self.names.modules();
         let blamed = part_blamed_by(&mut self.caches, modules, found)?;
         Ok(blamed)
     }
 
-    /// The error that is told where a part is to blame, which is remembered. Want of memory is no part's.
-    fn error_told(&mut self, blamed: Option<CodePart>, error: Error) -> Result<Error>
+    /// The error that is answered where a part is to blame, which is remembered. Out of memory is no part's.
+    fn error_to_answer(&mut self, blamed: Option<CodePart>, error: Error) -> Result<Error>
         ensures known { IfOk result (λ e. error ≢ OutOfMemory) }
-        ensures told { IfOk result (λ e. e ≡ told_error self.old.code_failed blamed error) }
+        ensures shown { IfOk result (λ e. e ≡ answered_error self.old.code_failed blamed error) }
         ensures added { OnOk result (self.new
             ≡ record self.old { code_failed = with_blamed self.old.code_failed blamed }) }
         ensures refused { IfErr result (λ e. (e ≡ OutOfMemory) × (self.new ≡ self.old)) }
@@ -183,26 +183,26 @@ impl<'a, P: ModuleProvider> Context<'a, P> {
         }
     }
 
-    /// What is told of a function that was found, and of its frames at an offset, by the records of its module.
-    fn describe_frames(
+    /// The frames info of a function that was found, at an offset, by the records of its module.
+    fn frames_info(
         &mut self,
         found: PublicOrProcedureSymbol<'a>,
         module_info: Option<&'a ModuleInfo>,
         offset: u32,
     ) -> Result<Option<FunctionFrames<'a>>>
-        requires named { GoesBySymbol (P.info self.old.sources.provider) self.old.sources.basis.modules
+        requires named { GoesBySymbol (P.info self.old.inputs.provider) self.old.inputs.type_inputs.modules
             (found_function found) }
         requires records { option_copied module_info
-            ≡ records_of P.info self.old.sources (found_function found) }
-        ensures told { Gives (λ f. f) result
-            (frames_of P.info self.old.sources offset (found_function found.entry)) }
-        ensures sources { self.new.sources ≡ self.old.sources }
+            ≡ records_of P.info self.old.inputs (found_function found) }
+        ensures shown { Gives (λ f. f) result
+            (frames_of P.info self.old.inputs offset (found_function found.entry)) }
+        ensures inputs { self.new.inputs ≡ self.old.inputs }
         ensures failed { ButForMemory result (self.new.failed
-            ≡ failed_by_frames_of P.info self.old.sources offset self.old.failed (found_function found.entry)) }
+            ≡ failed_by_frames_of P.info self.old.inputs offset self.old.failed (found_function found.entry)) }
         ensures code_failed { self.new.code_failed ≡ self.old.code_failed }
-        ensures broken { GainsBroken P.info self.old.sources.basis self.old.failed self.new.failed }
+        ensures broken { GainsBroken P.info self.old.inputs.type_inputs self.old.failed self.new.failed }
     {
-        describe_frames_by(
+        frames_info_by(
             &mut self.caches,
             self.alloc,
             self.address_map,
@@ -214,22 +214,22 @@ impl<'a, P: ModuleProvider> Context<'a, P> {
         )
     }
 
-    /// What is told of a function that lies over a place.
-    fn describe(&mut self, found: PublicOrProcedureSymbol<'a>) -> Result<Option<Function>>
-        requires named { GoesBySymbol (P.info self.old.sources.provider) self.old.sources.basis.modules
+    /// The function info of a function that lies over a section offset.
+    fn function_info(&mut self, found: PublicOrProcedureSymbol<'a>) -> Result<Option<Function>>
+        requires named { GoesBySymbol (P.info self.old.inputs.provider) self.old.inputs.type_inputs.modules
             (found_function found) }
-        ensures told { MatchResult result
-            (λ f. option_map description f ≡ described P.info self.old.sources.basis self.old.sources.address_map
-            (global_functions_of self.old.sources) (found_function found.entry))
+        ensures shown { MatchResult result
+            (λ f. option_map function_view f ≡ info_of P.info self.old.inputs.type_inputs self.old.inputs.address_map
+            (global_functions_of self.old.inputs) (found_function found.entry))
             (λ e. e ≡ OutOfMemory) }
-        ensures sources { self.new.sources ≡ self.old.sources }
+        ensures inputs { self.new.inputs ≡ self.old.inputs }
         ensures failed { OnOk result (self.new.failed
-            ≡ failed_by_telling P.info self.old.sources.basis self.old.sources.address_map
-            (global_functions_of self.old.sources) (found_function found.entry) self.old.failed) }
+            ≡ failed_after_info P.info self.old.inputs.type_inputs self.old.inputs.address_map
+            (global_functions_of self.old.inputs) (found_function found.entry) self.old.failed) }
         ensures code_failed { self.new.code_failed ≡ self.old.code_failed }
-        ensures broken { GainsBroken P.info self.old.sources.basis self.old.failed self.new.failed }
+        ensures broken { GainsBroken P.info self.old.inputs.type_inputs self.old.failed self.new.failed }
     {
-        describe(
+        function_info(
             self.alloc,
             self.address_map,
             &self.tables.global_functions,
@@ -238,21 +238,21 @@ impl<'a, P: ModuleProvider> Context<'a, P> {
         )
     }
 
-    /// The place of an address.
-    fn place_of(&self, address: u32) -> Option<PdbInternalSectionOffset>
-        ensures { result ≡ internal_offset self.now.sources.address_map (record { 0 = address }) }
+    /// The section offset of an address.
+    fn section_offset_of(&self, address: u32) -> Option<PdbInternalSectionOffset>
+        ensures { result ≡ internal_offset self.now.inputs.address_map (record { 0 = address }) }
     {
-        self.tables.places.place_of(Rva(address))
+        self.tables.section_offsets.section_offset_of(Rva(address))
     }
 
     fn contributions(&self) -> &ContributionTable
-        ensures { result.now ≡ contributions_of self.now.sources }
+        ensures { result.now ≡ contributions_of self.now.inputs }
     {
         &self.tables.contributions
     }
 
     fn global_functions(&self) -> &GlobalFunctionTable<'a>
-        ensures { result.now ≡ global_functions_of self.now.sources }
+        ensures { result.now ≡ global_functions_of self.now.inputs }
     {
         &self.tables.global_functions
     }
@@ -260,83 +260,88 @@ impl<'a, P: ModuleProvider> Context<'a, P> {
     /// What lies over an address.
     fn found(&mut self, address: u32) -> Result<Option<PublicOrProcedureSymbol<'a>>>
         ensures answer { MatchResult result
-            (λ found. option_map found_function found ≡ found_at P.info self.old.sources address)
+            (λ found. option_map found_function found ≡ found_at P.info self.old.inputs address)
             (λ e. e ≡ OutOfMemory) }
-        ensures kept { self.new ≡ self.old }
-        ensures outside { contribution_at self.old.sources address ≡ None → result ≡ Ok None }
+        ensures unchanged { self.new ≡ self.old }
+        ensures outside { contribution_at self.old.inputs address ≡ None → result ≡ Ok None }
     {
-        match self.place_of(address) {
-            Some(place) => self.found_over(place),
+        match self.section_offset_of(address) {
+            Some(section_offset) => self.found_over(section_offset),
             None => Ok(None),
         }
     }
 
-    /// What lies over a place.
+    /// What lies over a section offset.
     fn found_over(
         &mut self,
-        place: PdbInternalSectionOffset,
+        section_offset: PdbInternalSectionOffset,
     ) -> Result<Option<PublicOrProcedureSymbol<'a>>>
         ensures answer { MatchResult result
             (λ found. option_map found_function found
-            ≡ function_over (P.info self.old.sources.provider) self.old.sources.basis.modules
-            (contributions_of self.old.sources) (global_functions_of self.old.sources) place)
+            ≡ function_over (P.info self.old.inputs.provider) self.old.inputs.type_inputs.modules
+            (contributions_of self.old.inputs) (global_functions_of self.old.inputs) section_offset)
             (λ e. e ≡ OutOfMemory) }
-        ensures kept { self.new ≡ self.old }
-        ensures outside { find (contribution_covers place) (contributions_of self.old.sources) ≡ None
+        ensures unchanged { self.new ≡ self.old }
+        ensures outside { find (contribution_covers section_offset) (contributions_of self.old.inputs) ≡ None
             → result ≡ Ok None }
     {
-        match self.contributions().contribution_over(place) {
-            Some(contribution) => self.function_in(place, contribution),
+        match self.contributions().contribution_over(section_offset) {
+            Some(contribution) => self.function_in(section_offset, contribution),
             None => Ok(None),
         }
     }
 
-    /// What lies over a place in a contribution.
+    /// What lies over a section offset in a contribution.
     fn function_in(
         &mut self,
-        place: PdbInternalSectionOffset,
+        section_offset: PdbInternalSectionOffset,
         contribution: ModuleSectionContribution,
     ) -> Result<Option<PublicOrProcedureSymbol<'a>>>
         ensures answer { MatchResult result
             (λ found. option_map found_function found
-            ≡ function_in_contribution (P.info self.old.sources.provider) self.old.sources.basis.modules
-            (global_functions_of self.old.sources) place contribution)
+            ≡ function_in_contribution (P.info self.old.inputs.provider) self.old.inputs.type_inputs.modules
+            (global_functions_of self.old.inputs) section_offset contribution)
             (λ e. e ≡ OutOfMemory) }
-        ensures kept { self.new ≡ self.old }
+        ensures unchanged { self.new ≡ self.old }
     {
         let module_index = contribution.module_index;
-        if let Some(procedure) = self.procedure_in(place, module_index)? {
+        if let Some(procedure) = self.procedure_in(section_offset, module_index)? {
             return Ok(Some(PublicOrProcedureSymbol::Procedure(module_index, procedure)));
         }
-        let function = self.global_functions().function_over(place);
+        let function = self.global_functions().function_over(section_offset);
         Ok(global_function_in(contribution, function))
     }
 
-    /// The procedure of a module over a place.
+    /// The procedure of a module over a section offset.
     fn procedure_in(
         &mut self,
-        place: PdbInternalSectionOffset,
+        section_offset: PdbInternalSectionOffset,
         module_index: usize,
     ) -> Result<Option<ProcedureSymbolFunction<'a>>>
         ensures answer { MatchResult result
             (λ found. option_map module_procedure found
-            ≡ pick (procedure_covers place) (λ p. p.offset.offset)
-            (procedures_of_module (P.info self.old.sources.provider) self.old.sources.basis.modules module_index))
+            ≡ pick (procedure_covers section_offset) (λ p. p.offset.offset)
+            (procedures_of_module (P.info self.old.inputs.provider) self.old.inputs.type_inputs.modules module_index))
             (λ e. e ≡ OutOfMemory) }
-        ensures kept { self.new ≡ self.old }
+        ensures unchanged { self.new ≡ self.old }
     {
         let modules = self.names.modules();
-        let found = procedure_in(&mut self.caches.infos, modules, module_index, place)?;
+        let found = procedure_in(
+            &mut self.caches.infos,
+            modules,
+            module_index,
+            section_offset,
+        )?;
         Ok(found)
     }
 
-    /// The records of the module at a position, where there are any and its symbols have no fault.
+    /// The records of the module at a module index, where there are any and its symbols have no fault.
     fn readable_info(&mut self, module_index: usize) -> Result<Option<&'a ModuleInfo>>
         ensures answer { MatchResult result
             (λ info. option_copied info
-            ≡ readable_info (P.info self.old.sources.provider) self.old.sources.basis.modules module_index)
+            ≡ readable_info (P.info self.old.inputs.provider) self.old.inputs.type_inputs.modules module_index)
             (λ e. e ≡ OutOfMemory) }
-        ensures kept { self.new ≡ self.old }
+        ensures unchanged { self.new ≡ self.old }
     {
         let modules = self.names.modules();
         let info = readable_info(&mut self.caches.infos, modules, module_index)?;

@@ -3,22 +3,22 @@ ghost use Rattle.pdb_types.specs.FailedParts.{with_met};
 ghost use Rattle.pdb_types.specs.TypeSizes.{size_of};
 ghost use Rattle.pdb_types.specs.declared.error.Error.TheVariants.{OutOfMemory};
 ghost use Rattle.pdb_documents.specs.Printed.{signature_run, id_run};
-ghost use Rattle.pdb_addr2line.specs.Calls.{ToldFunction, ToldFrames, ToldFunctions, ToldSize};
-ghost use Rattle.pdb_addr2line.specs.Calls.{ToldText, told_answer, printed, with_failed, after_frames};
+ghost use Rattle.pdb_addr2line.specs.Calls.{FunctionView, FramesView, FunctionsView, SizeView};
+ghost use Rattle.pdb_addr2line.specs.Calls.{TextView, answer_view, printed, with_failed, after_frames};
 ghost use Rattle.pdb_addr2line.specs.Calls.{Appends, StopsEarly, answer_to, answers_to, after_call, after_calls};
 ghost use Rattle.pdb_addr2line.specs.Functions.{after_function, after_functions, functions_of};
 ghost use Rattle.pdb_addr2line.specs.Functions.{start_addresses, OnlyGainsBroken};
-ghost use Rattle.pdb_addr2line.specs.Lookups.{function_at, frames_told};
+ghost use Rattle.pdb_addr2line.specs.Lookups.{function_at, frames_answered};
 
 use crate::calls::{Answer, Call};
 use crate::context::Context;
 use pdb_records::{IdIndex, TypeIndex};
 use pdb_types::{Error, ModuleProvider, Result};
 
-/// An error that is told in the place of an answer. Want of memory isn't told.
-fn told_error(error: Error) -> Result<Error>
+/// An error that stands in the place of an answer. Out of memory doesn't.
+fn answered_error(error: Error) -> Result<Error>
     ensures { MatchResult result
-        (λ told. (told ≡ error) × (error ≢ OutOfMemory))
+        (λ shown. (shown ≡ error) × (error ≢ OutOfMemory))
         (λ e. (e ≡ OutOfMemory) × (error ≡ OutOfMemory)) }
 {
     match error {
@@ -30,8 +30,8 @@ fn told_error(error: Error) -> Result<Error>
 impl<'a, P: ModuleProvider> Context<'a, P> {
     /// Answers calls, one after the other, and appends an answer for each.
     ///
-    /// An answer is what a plain scan of the records tells, whatever was asked before, save that a part of the
-    /// records that failed before tells its `Unsuccessful` error.
+    /// An answer is what a plain scan of the records shows, whatever was asked before, save that a part of the
+    /// records that failed before answers its `Unsuccessful` error.
     ///
     /// # Errors
     ///
@@ -72,7 +72,7 @@ impl<'a, P: ModuleProvider> Context<'a, P> {
 
     /// The answer to a call.
     fn answer(&mut self, call: Call<'_>) -> Result<Answer<'a>>
-        ensures answer { IfOk result (λ a. told_answer a ≡ answer_to P.info self.old call.entry) }
+        ensures answer { IfOk result (λ a. answer_view a ≡ answer_to P.info self.old call.entry) }
         ensures state { OnOk result (self.new ≡ after_call P.info self.old call.entry) }
         ensures memory { IfErr result (λ e. e ≡ OutOfMemory) }
         ensures not_made { OnErr result (OnlyGainsBroken P.info self.old self.new) }
@@ -92,34 +92,34 @@ impl<'a, P: ModuleProvider> Context<'a, P> {
 
     /// The function over an address.
     fn answer_function(&mut self, address: u32) -> Result<Answer<'a>>
-        ensures answer { IfOk result (λ a. told_answer a
-            ≡ ToldFunction (function_at P.info self.old.sources address)) }
+        ensures answer { IfOk result (λ a. answer_view a
+            ≡ FunctionView (function_at P.info self.old.inputs address)) }
         ensures state { OnOk result (self.new ≡ after_function P.info self.old address) }
         ensures memory { IfErr result (λ e. e ≡ OutOfMemory) }
         ensures not_made { OnErr result (OnlyGainsBroken P.info self.old self.new) }
     {
-        let function = self.told_function(address)?;
+        let function = self.next_function(address)?;
         Ok(Answer::Function(function))
     }
 
     /// The frames over an address, or the error in their place.
     fn answer_frames(&mut self, address: u32) -> Result<Answer<'a>>
-        ensures answer { IfOk result (λ a. told_answer a ≡ ToldFrames (frames_told P.info self.old address)) }
+        ensures answer { IfOk result (λ a. answer_view a ≡ FramesView (frames_answered P.info self.old address)) }
         ensures state { OnOk result (self.new ≡ after_frames P.info self.old address) }
         ensures memory { IfErr result (λ e. e ≡ OutOfMemory) }
         ensures not_made { OnErr result (OnlyGainsBroken P.info self.old self.new) }
     {
         match self.find_frames(address) {
             Ok(frames) => Ok(Answer::Frames(Ok(frames))),
-            Err(error) => Ok(Answer::Frames(Err(told_error(error)?))),
+            Err(error) => Ok(Answer::Frames(Err(answered_error(error)?))),
         }
     }
 
     /// All functions.
     fn answer_functions(&mut self) -> Result<Answer<'a>>
-        ensures answer { IfOk result (λ a. told_answer a ≡ ToldFunctions (functions_of P.info self.old.sources)) }
+        ensures answer { IfOk result (λ a. answer_view a ≡ FunctionsView (functions_of P.info self.old.inputs)) }
         ensures state { OnOk result (self.new
-            ≡ after_functions P.info self.old (start_addresses P.info self.old.sources)) }
+            ≡ after_functions P.info self.old (start_addresses P.info self.old.inputs)) }
         ensures memory { IfErr result (λ e. e ≡ OutOfMemory) }
         ensures not_made { OnErr result (OnlyGainsBroken P.info self.old self.new) }
     {
@@ -129,10 +129,10 @@ impl<'a, P: ModuleProvider> Context<'a, P> {
 
     /// The size of a type.
     fn answer_size(&mut self, module_index: usize, index: TypeIndex) -> Result<Answer<'a>>
-        ensures answer { IfOk result (λ a. told_answer a
-            ≡ ToldSize (size_of P.info self.old.sources.basis module_index index.0).size) }
+        ensures answer { IfOk result (λ a. answer_view a
+            ≡ SizeView (size_of P.info self.old.inputs.type_inputs module_index index.0).size) }
         ensures state { OnOk result (self.new ≡ with_failed self.old
-            (with_met self.old.failed (size_of P.info self.old.sources.basis module_index index.0).met)) }
+            (with_met self.old.failed (size_of P.info self.old.inputs.type_inputs module_index index.0).met)) }
         ensures memory { IfErr result (λ e. e ≡ OutOfMemory) }
         ensures unchanged { OnErr result (self.new ≡ self.old) }
     {
@@ -147,35 +147,35 @@ impl<'a, P: ModuleProvider> Context<'a, P> {
         module_index: usize,
         index: TypeIndex,
     ) -> Result<Answer<'a>>
-        ensures answer { let basis = self.old.sources.basis in
-            let run = signature_run P.info basis module_index name.now index.0 self.old.failed in
-            IfOk result (λ a. told_answer a ≡ ToldText (printed run)) }
-        ensures state { let basis = self.old.sources.basis in
-            let run = signature_run P.info basis module_index name.now index.0 self.old.failed in
+        ensures answer { let type_inputs = self.old.inputs.type_inputs in
+            let run = signature_run P.info type_inputs module_index name.now index.0 self.old.failed in
+            IfOk result (λ a. answer_view a ≡ TextView (printed run)) }
+        ensures state { let type_inputs = self.old.inputs.type_inputs in
+            let run = signature_run P.info type_inputs module_index name.now index.0 self.old.failed in
             OnOk result (self.new ≡ with_failed self.old run.failed) }
         ensures memory { IfErr result (λ e. e ≡ OutOfMemory) }
         ensures not_made { OnErr result (OnlyGainsBroken P.info self.old self.new) }
     {
         match self.names.format_function(name, module_index, index) {
             Ok(text) => Ok(Answer::Text(Ok(text))),
-            Err(error) => Ok(Answer::Text(Err(told_error(error)?))),
+            Err(error) => Ok(Answer::Text(Err(answered_error(error)?))),
         }
     }
 
     /// The text of an id, or the error in its place.
     fn answer_id(&mut self, module_index: usize, index: IdIndex) -> Result<Answer<'a>>
-        ensures answer { let basis = self.old.sources.basis in
-            let run = id_run P.info basis module_index index.0 self.old.failed in
-            IfOk result (λ a. told_answer a ≡ ToldText (printed run)) }
-        ensures state { let basis = self.old.sources.basis in
-            let run = id_run P.info basis module_index index.0 self.old.failed in
+        ensures answer { let type_inputs = self.old.inputs.type_inputs in
+            let run = id_run P.info type_inputs module_index index.0 self.old.failed in
+            IfOk result (λ a. answer_view a ≡ TextView (printed run)) }
+        ensures state { let type_inputs = self.old.inputs.type_inputs in
+            let run = id_run P.info type_inputs module_index index.0 self.old.failed in
             OnOk result (self.new ≡ with_failed self.old run.failed) }
         ensures memory { IfErr result (λ e. e ≡ OutOfMemory) }
         ensures not_made { OnErr result (OnlyGainsBroken P.info self.old self.new) }
     {
         match self.names.format_id(module_index, index) {
             Ok(text) => Ok(Answer::Text(Ok(text))),
-            Err(error) => Ok(Answer::Text(Err(told_error(error)?))),
+            Err(error) => Ok(Answer::Text(Err(answered_error(error)?))),
         }
     }
 }

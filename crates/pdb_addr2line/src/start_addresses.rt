@@ -14,15 +14,15 @@ use pdb_types::{ModuleProvider, Result};
 use std::alloc::{AllocError, Global};
 use std::collections::BTreeSet;
 
-/// Adds the address of a place, where it has one.
+/// Adds the address of a section offset, where it has one.
 fn add_start(
     starts: &mut BTreeSet<u32>,
     address_map: &AddressMap,
-    place: PdbInternalSectionOffset,
+    section_offset: PdbInternalSectionOffset,
 ) -> Result<(), AllocError>
-    ensures { OnOk result (starts.new.keys ≡ with_start address_map.now starts.old.keys place) }
+    ensures { OnOk result (starts.new.keys ≡ with_start address_map.now starts.old.keys section_offset) }
 {
-    if let Some(address) = place.to_rva(address_map) {
+    if let Some(address) = section_offset.to_rva(address_map) {
         starts.insert(address.0)?;
     }
     Ok(())
@@ -58,19 +58,19 @@ fn add_procedure_starts(
     Ok(())
 }
 
-/// Adds where the procedures of the module at a position start.
+/// Adds where the procedures of the module at a module index start.
 fn add_starts_of_module<P: ModuleProvider>(
     starts: &mut BTreeSet<u32>,
     address_map: &AddressMap,
     infos: &mut BasicModuleInfoCache<'_, P>,
     modules: &[Module],
-    position: usize,
+    module_index: usize,
 ) -> Result<(), AllocError>
     ensures added { OnOk result (starts.new.keys ≡ with_starts address_map.now starts.old.keys
-        (map (λ p. p.offset) (procedures_of_module (P.info infos.old.provider) modules.now position))) }
+        (map (λ p. p.offset) (procedures_of_module (P.info infos.old.provider) modules.now module_index))) }
     ensures provider { infos.new.provider ≡ infos.old.provider }
 {
-    match infos.get_basic_module_info(modules, position)? {
+    match infos.get_basic_module_info(modules, module_index)? {
         Some(info) => add_procedure_starts(starts, address_map, info.procedures()),
         None => Ok(()),
     }
@@ -88,8 +88,8 @@ fn add_module_starts<P: ModuleProvider>(
         (map (λ p. p.offset) (procedures_of_modules (P.info infos.old.provider) 0 modules.now))) }
     ensures provider { infos.new.provider ≡ infos.old.provider }
 {
-    for position in 0..modules.len() {
-        add_starts_of_module(starts, address_map, infos, modules, position)?;
+    for module_index in 0..modules.len() {
+        add_starts_of_module(starts, address_map, infos, modules, module_index)?;
     }
     Ok(())
 }
@@ -103,9 +103,9 @@ impl<'a, P: ModuleProvider> Context<'a, P> {
     /// [`Error::OutOfMemory`](crate::Error::OutOfMemory) alone.
     pub fn start_addresses(&mut self) -> Result<Vec<u32>>
         ensures addresses { MatchResult result
-            (λ v. v.items ≡ start_addresses P.info self.old.sources)
+            (λ v. v.items ≡ start_addresses P.info self.old.inputs)
             (λ e. e ≡ OutOfMemory) }
-        ensures kept { self.new ≡ self.old }
+        ensures unchanged { self.new ≡ self.old }
     {
         if let Some(starts) = &self.caches.starts {
             let starts = Vec::from_slice(self.alloc, starts)?;
@@ -120,9 +120,9 @@ impl<'a, P: ModuleProvider> Context<'a, P> {
     #[tactic(auto, using(crate::proofs::StartLemmas::with_starts_append))]
     fn find_start_addresses(&mut self) -> Result<Vec<u32>>
         ensures addresses { MatchResult result
-            (λ v. v.items ≡ start_addresses P.info self.old.sources)
+            (λ v. v.items ≡ start_addresses P.info self.old.inputs)
             (λ e. e ≡ OutOfMemory) }
-        ensures kept { self.new ≡ self.old }
+        ensures unchanged { self.new ≡ self.old }
     {
         let mut starts = BTreeSet::new(self.alloc);
         let functions = self.tables.global_functions.as_slice();

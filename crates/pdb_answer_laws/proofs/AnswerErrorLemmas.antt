@@ -15,7 +15,7 @@ use Rattle.pdb_types.specs.declared.error.Error.{Error}
 use Rattle.pdb_types.specs.declared.error.Error.TheVariants.{PdbError}
 use Rattle.pdb_types.specs.Outcomes.{and_then, unless}
 use Rattle.pdb_types.specs.Resolution.{streamed}
-use Rattle.pdb_types.specs.Standing.{Infos, linked}
+use Rattle.pdb_types.specs.TypeInputs.{ProviderInfos, link_inputs}
 use Rattle.pdb_functions.specs.Lookup.{FoundFunction, found_procedure, found_global}
 use Rattle.pdb_frames.specs.CodeParts.{CodeParts, unsuccessful_code, has_code_failed}
 use Rattle.pdb_frames.specs.declared.code_parts.CodePart.{CodePart}
@@ -29,18 +29,18 @@ use Rattle.pdb_documents.specs.Documents.{Failure, failure_error, Run}
 use Rattle.pdb_documents.specs.Ids.{id_of_index}
 use Rattle.pdb_documents.specs.Printed.{signature_run, id_run}
 use Rattle.pdb_documents.specs.Signatures.{signature}
-use Rattle.pdb_documents.specs.Worlds.{formatter_world}
+use Rattle.pdb_documents.specs.PrintInputs.{formatter_inputs}
 use Rattle.pdb_documents.proofs.DocumentLemmas.{document-unfolds}
-use Rattle.pdb_documents.proofs.UnfoldingLemmas.{world-below}
-use Rattle.pdb_descriptions.specs.Frames.{function_frames}
-use Rattle.pdb_descriptions.specs.Names.{function_name, id_name}
-use Rattle.pdb_addr2line.specs.Calls.{ToldText, answer_to, answers_to, after_call, printed, text_unless}
+use Rattle.pdb_documents.proofs.UnfoldingLemmas.{print_inputs-below}
+use Rattle.pdb_function_info.specs.Frames.{function_frames}
+use Rattle.pdb_function_info.specs.Names.{function_name, id_name}
+use Rattle.pdb_addr2line.specs.Calls.{TextView, answer_to, answers_to, after_call, printed, text_unless}
 use Rattle.pdb_addr2line.specs.declared.calls.Call.{Call}
 use Rattle.pdb_addr2line.specs.declared.calls.Call.TheVariants.{FindFunction, FindFrames, Functions, FunctionCount, TypeSize, FormatFunction, FormatId}
-use Rattle.pdb_addr2line.specs.Lookups.{frames_at, frames_of, found_at, records_of, told_refusal}
-use Rattle.pdb_addr2line.specs.Sources.{Sources, ContextState, global_functions_of}
+use Rattle.pdb_addr2line.specs.Lookups.{frames_at, frames_of, found_at, records_of, answered_refusal}
+use Rattle.pdb_addr2line.specs.ContextInputs.{ContextInputs, ContextState, global_functions_of}
 use Rattle.pdb_laws.specs.PrintErrors.{IsPrintError}
-use Rattle.pdb_laws.proofs.ReadLemmas.{world_is_good}
+use Rattle.pdb_laws.proofs.ReadLemmas.{print_inputs_are_good}
 use Rattle.pdb_laws.proofs.PlanLemmas.{good_signature}
 use Rattle.pdb_laws.proofs.RefusalLemmas.{print_errors, refused_for}
 use Rattle.pdb_answer_laws.specs.AnswerErrors.{IsCodeError, IsRefusedByCode, HoldsErrorOfRecords}
@@ -111,22 +111,22 @@ refused_option : {A B : Type 0} (r : Result B Error) (o : Option A) (next : A �
 refused_option r o next absent is some none = rw is (refused_where_there o next absent some none)
 
 -- the frames of a function that was found
-refused_found : {P : Type 0} (info : P → Infos) (s : Sources P) (x : ℕ) (found : FoundFunction)
+refused_found : {P : Type 0} (info : P → ProviderInfos) (s : ContextInputs P) (x : ℕ) (found : FoundFunction)
     → IsRefusedByCode (frames_of info s x found)
 refused_found info s x found =
-    let name_of = id_name info s.basis (function_module found) in
-    let name = function_name info s.basis (global_functions_of s) found in
+    let name_of = id_name info s.type_inputs (function_module found) in
+    let name = function_name info s.type_inputs (global_functions_of s) found in
     let records = records_of info s found in
     refused_option {A = Rva} (frames_of info s x found) (rva s.address_map (function_start found)) _ (Ok None) refl (λ start.
     refused_in_steps (function_frames s.strings name_of name records found x) _ (refused_frames s.strings name_of name records found x) (λ frames. tt {0})) (tt {0})
 
 -- the frames over an address
-refused_at : {P : Type 0} (info : P → Infos) (s : Sources P) (address : ℕ) → IsRefusedByCode (frames_at info s address)
+refused_at : {P : Type 0} (info : P → ProviderInfos) (s : ContextInputs P) (address : ℕ) → IsRefusedByCode (frames_at info s address)
 refused_at info s address =
-    refused_option {A = PdbInternalSectionOffset} (frames_at info s address) (internal_offset s.address_map (record { 0 = address })) _ (Ok None) refl (λ place.
-    refused_where_there (found_at info s address) (frames_of info s place.offset) (Ok None) (refused_found info s place.offset) (tt {0})) (tt {0})
+    refused_option {A = PdbInternalSectionOffset} (frames_at info s address) (internal_offset s.address_map (record { 0 = address })) _ (Ok None) refl (λ section_offset.
+    refused_where_there (found_at info s address) (frames_of info s section_offset.offset) (Ok None) (refused_found info s section_offset.offset) (tt {0})) (tt {0})
 
--- a part that failed before tells so
+-- a part that failed before says so
 refused_part : (p : CodePart) → IsCodeError (unsuccessful_code p)
 refused_part (part.ExtendedInfo m) = tt
 refused_part (part.Lines m start) = tt
@@ -137,46 +137,46 @@ either_error : (b : Bool) (e e' : Error) → IsCodeError e → IsCodeError e' �
 either_error true e e' one two = one
 either_error false e e' one two = two
 
--- what is told of a refusal
-refused_as_told : {A : Type 0} (failed : CodeParts) (p : Option CodePart) (answer : Result A Error)
-    → IsRefusedByCode answer → IsRefusedByCode (told_refusal failed p answer)
-refused_as_told failed p (Ok answer) refused = tt
-refused_as_told failed None (Err e) refused = refused
-refused_as_told failed (Some p) (Err e) refused =
+-- what is answered for a refusal
+refused_as_shown : {A : Type 0} (failed : CodeParts) (p : Option CodePart) (answer : Result A Error)
+    → IsRefusedByCode answer → IsRefusedByCode (answered_refusal failed p answer)
+refused_as_shown failed p (Ok answer) refused = tt
+refused_as_shown failed None (Err e) refused = refused
+refused_as_shown failed (Some p) (Err e) refused =
     either_error (has_code_failed failed p) (unsuccessful_code p) e (refused_part p) refused
 
 -- a text that was printed, or the error in its place
 printed_or_refused : (r : Run) → ((failure : Failure) → r.fault ≡ Some failure → IsPrintError (failure_error failure))
-    → HoldsErrorOfRecords (ToldText (printed r))
+    → HoldsErrorOfRecords (TextView (printed r))
 printed_or_refused r refused = by_fault r.fault refl where
-  by_fault : (fault : Option Failure) → r.fault ≡ fault → HoldsErrorOfRecords (ToldText (text_unless fault r.text))
+  by_fault : (fault : Option Failure) → r.fault ≡ fault → HoldsErrorOfRecords (TextView (text_unless fault r.text))
   by_fault None is = tt
   by_fault (Some failure) is = refused failure is
 
 -- one answer
-holds_one : {P : Type 0} (info : P → Infos) (c : ContextState P) (call : Call) → HoldsErrorOfRecords (answer_to info c call)
+holds_one : {P : Type 0} (info : P → ProviderInfos) (c : ContextState P) (call : Call) → HoldsErrorOfRecords (answer_to info c call)
 holds_one info c (FindFunction address) = tt
-holds_one info c (FindFrames address) = refused_as_told c.code_failed _ (frames_at info c.sources address) (refused_at info c.sources address)
+holds_one info c (FindFrames address) = refused_as_shown c.code_failed _ (frames_at info c.inputs address) (refused_at info c.inputs address)
 holds_one info c Functions = tt
 holds_one info c FunctionCount = tt
 holds_one info c (TypeSize m index) = tt
 holds_one info c (FormatFunction name m index) =
-    let s = c.sources.basis in
-    let w = formatter_world info s m in
-    let reads = world_is_good IsPrintError print_errors.reading (linked info s) s.types s.ids s.pointer_size s.flags m in
-    let below = world-below (linked info s) s.types s.ids s.pointer_size s.flags m in
+    let s = c.inputs.type_inputs in
+    let w = formatter_inputs info s m in
+    let reads = print_inputs_are_good IsPrintError print_errors.reading (link_inputs info s) s.types s.ids s.pointer_size s.flags m in
+    let below = print_inputs-below (link_inputs info s) s.types s.ids s.pointer_size s.flags m in
     printed_or_refused (signature_run info s m name.now index.0 c.failed) (λ failure is.
     refused_for w reads (document-unfolds w below (signature w name.now index.0)) (good_signature IsPrintError print_errors w reads name.now index.0) c.failed failure is)
 holds_one info c (FormatId m index) =
-    let s = c.sources.basis in
-    let w = formatter_world info s m in
-    let reads = world_is_good IsPrintError print_errors.reading (linked info s) s.types s.ids s.pointer_size s.flags m in
-    let below = world-below (linked info s) s.types s.ids s.pointer_size s.flags m in
+    let s = c.inputs.type_inputs in
+    let w = formatter_inputs info s m in
+    let reads = print_inputs_are_good IsPrintError print_errors.reading (link_inputs info s) s.types s.ids s.pointer_size s.flags m in
+    let below = print_inputs-below (link_inputs info s) s.types s.ids s.pointer_size s.flags m in
     printed_or_refused (id_run info s m index.0 c.failed) (λ failure is.
     refused_for w reads (document-unfolds w below (id_of_index index.0)) tt c.failed failure is)
 
 -- all answers
-pub all_hold : {P : Type 0} (info : P → Infos) (c : ContextState P) (calls : List Call)
+pub all_hold : {P : Type 0} (info : P → ProviderInfos) (c : ContextState P) (calls : List Call)
     → AllByRecursion HoldsErrorOfRecords (answers_to info c calls)
 all_hold info c [] = tt
 all_hold info c (call ∷ calls) = (holds_one info c call, all_hold info (after_call info c call) calls)

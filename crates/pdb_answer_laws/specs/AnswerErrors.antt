@@ -4,7 +4,7 @@ use Rattle.pdb_types.specs.declared.error.Error.{Error}
 use Rattle.pdb_types.specs.declared.error.Error.TheVariants.{PdbError, ExtendedModuleInfoUnsuccessful}
 use Rattle.pdb_types.specs.declared.error.Error.TheVariants.{ProcedureLinesUnsuccessful}
 use Rattle.pdb_types.specs.declared.error.Error.TheVariants.{ProcedureInlineRangesUnsuccessful}
-use Rattle.pdb_addr2line.specs.Calls.{ToldAnswer, ToldFrames, ToldText}
+use Rattle.pdb_addr2line.specs.Calls.{AnswerView, FramesView, TextView}
 use Rattle.pdb_laws.specs.PrintErrors.{IsPrintError}
 
 -- an error of the records of code, or that a part of them failed before
@@ -22,8 +22,8 @@ IsRefusedByCode (Err e) = IsCodeError e
 
 -- in place of frames an answer holds no other error than one of the records of code, and in place of a text no other
 -- than one that printing is refused for
-abbrev pub HoldsErrorOfRecords : ToldAnswer → Type 0
-HoldsErrorOfRecords (ToldFrames frames) = IsRefusedByCode frames
-HoldsErrorOfRecords (ToldText (Ok text)) = ⊤
-HoldsErrorOfRecords (ToldText (Err e)) = IsPrintError e
+abbrev pub HoldsErrorOfRecords : AnswerView → Type 0
+HoldsErrorOfRecords (FramesView frames) = IsRefusedByCode frames
+HoldsErrorOfRecords (TextView (Ok text)) = ⊤
+HoldsErrorOfRecords (TextView (Err e)) = IsPrintError e
 HoldsErrorOfRecords other = ⊤

@@ -17,7 +17,7 @@ use std::alloc::Global;
 use std::rt::{Clock, Files};
 use std::time::Instant;
 use std::{env, fs};
-use steps::{tell_memory, tell_time};
+use steps::{print_memory, print_time};
 
 fn main(rt: HostRuntime) -> Result<()> {
     let words: Vec<String> = env::args(&rt)?.collect(rt.alloc())?;
@@ -57,9 +57,9 @@ fn addresses_of(alloc: Global, text: &str) -> Result<Vec<u32>> {
 fn read_timed<R: Files + Clock + Eprint + AllocGlobal>(rt: &R, path: &str) -> Result<PDB> {
     let start = Instant::now(rt)?;
     let bytes = fs::read(rt, path)?;
-    tell_time(rt, "file read", start)?;
+    print_time(rt, "file read", start)?;
     let read = parse_timed(rt, &bytes);
-    tell_memory(rt)?;
+    print_memory(rt)?;
     read
 }
 
@@ -67,6 +67,6 @@ fn read_timed<R: Files + Clock + Eprint + AllocGlobal>(rt: &R, path: &str) -> Re
 fn parse_timed<R: Clock + Eprint + AllocGlobal>(rt: &R, bytes: &[u8]) -> Result<PDB> {
     let start = Instant::now(rt)?;
     let records = read_records(rt.alloc(), bytes)?;
-    tell_time(rt, "records parsed", start)?;
+    print_time(rt, "records parsed", start)?;
     Ok(records)
 }

@@ -1,13 +1,13 @@
 //! Passes over addresses.
 
-use crate::steps::{tell_memory, tell_time};
+use crate::steps::{print_memory, print_time};
 use anyhow::Result;
 use pdb_addr2line::pdb::PDB;
 use pdb_addr2line::{Context, ContextPdbData, ModuleProvider};
 use std::rt::{Clock, Files};
 use std::time::Instant;
 
-/// The passes over the addresses. The first one reads the records, and the later ones find what is kept of them.
+/// The passes over the addresses. The first one reads the records, and the later ones find what is cached of them.
 const PASSES: [&str; 5] = [
     "first pass",
     "second pass",
@@ -33,7 +33,7 @@ impl Question {
     }
 }
 
-/// Keeps records, and asks for addresses over them.
+/// Holds records, and asks for addresses over them.
 pub(crate) fn measure_records<R: Files + Clock + Print + Eprint + AllocGlobal>(
     rt: &R,
     records: PDB,
@@ -52,7 +52,7 @@ fn measure_data<R: Files + Clock + Print + Eprint + AllocGlobal>(
     println!(rt; "{0} addresses", addresses.len())?;
     measure_question(rt, data, addresses, Question::Function)?;
     measure_question(rt, data, addresses, Question::Frames)?;
-    tell_memory(rt)
+    print_memory(rt)
 }
 
 /// Makes a context, and goes over the addresses.
@@ -75,7 +75,7 @@ fn measure_passes<R: Clock + Print + Eprint, P: ModuleProvider>(
     addresses: &[u32],
     question: Question,
 ) -> Result<()> {
-    tell_time(rt, "context made", begun)?;
+    print_time(rt, "context made", begun)?;
     for pass in PASSES {
         measure_pass(rt, context, pass, addresses, question)?;
     }
@@ -96,7 +96,7 @@ fn measure_pass<R: Clock + Print + Eprint, P: ModuleProvider>(
         Question::Function => count_functions(context, addresses)?,
         Question::Frames => count_frames(context, addresses)?,
     };
-    tell_time(rt, name, start)?;
+    print_time(rt, name, start)?;
     println!(rt; "{pass}: {found} {name}")?;
     Ok(())
 }
@@ -121,8 +121,8 @@ fn count_frames<P: ModuleProvider>(
 ) -> pdb_addr2line::Result<usize> {
     let mut found = 0usize;
     for address in addresses {
-        if let Some(told) = context.find_frames(*address)? {
-            found = found.saturating_add(told.frames.len());
+        if let Some(shown) = context.find_frames(*address)? {
+            found = found.saturating_add(shown.frames.len());
         }
     }
     Ok(found)

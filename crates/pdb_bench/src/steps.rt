@@ -1,22 +1,22 @@
-//! What is told of a step.
+//! What is shown of a step.
 
 use anyhow::Result;
 use std::fs;
 use std::rt::{Clock, Files};
 use std::time::Instant;
 
-/// Where the system tells what it knows of the program.
+/// Where the system shows what it knows of the program.
 const STATUS: &str = "/proc/self/status";
 
 /// Prints how long it is since a step began.
-pub(crate) fn tell_time<R: Clock + Eprint>(rt: &R, step: &str, begun: Instant) -> Result<()> {
+pub(crate) fn print_time<R: Clock + Eprint>(rt: &R, step: &str, begun: Instant) -> Result<()> {
     let time = begun.elapsed(rt)?.as_micros();
     eprintln!(rt; "{step}: {time} us")?;
     Ok(())
 }
 
-/// Prints the most memory that the program had so far, where the system tells it.
-pub(crate) fn tell_memory<R: Files + Eprint + AllocGlobal>(rt: &R) -> Result<()> {
+/// Prints the most memory that the program had so far, where the system shows it.
+pub(crate) fn print_memory<R: Files + Eprint + AllocGlobal>(rt: &R) -> Result<()> {
     let Ok(status) = fs::read_to_string(rt, STATUS) else {
         return Ok(());
     };

@@ -1,1 +1,4 @@
 pub mod TextLemmas
+pub mod OpeningLemmas
+pub mod LooseValues
+pub mod HandleValues

@@ -5,27 +5,27 @@ use Rattle.pdb_records.specs.Records.{Records}
 use Rattle.pdb_types.specs.declared.error.Error.{Error}
 use Rattle.pdb_types.specs.declared.error.Error.TheVariants.{OutOfMemory}
 use Rattle.pdb_types.specs.Outcomes.{and_then, unless}
-use Rattle.pdb_types.specs.Standing.{Infos}
-use Rattle.pdb_addr2line.specs.Sources.{Sources}
+use Rattle.pdb_types.specs.TypeInputs.{ProviderInfos}
+use Rattle.pdb_addr2line.specs.ContextInputs.{ContextInputs}
 use Rattle.pdb_addr2line.specs.ContextData.{records_refusal, info_at, default_flags, context_of}
 use Rattle.pdb_json_values.specs.Faults.{Fault, IsFaultOf}
 use Rattle.pdb_json_values.specs.declared.faults.RecordFault.{RecordFault}
 use Rattle.pdb_json_values.specs.declared.faults.RecordFault.TheVariants as fault
-use Rattle.pdb_reporting.specs.declared.reports.Command.{Command}
-use Rattle.pdb_reporting.specs.declared.reports.Command.TheVariants.{Names, Frames}
-use Rattle.pdb_reporting.specs.declared.reports.Command.TheVariants as wanted
-use Rattle.pdb_reporting.specs.declared.reports.ReportFault.{ReportFault}
-use Rattle.pdb_reporting.specs.declared.reports.ReportFault.TheVariants.{Lookup, Write}
-use Rattle.pdb_reporting.specs.FileReports.{opened, text_over_records, EndsOverRecords}
-use Rattle.pdb_reporting.specs.Sinks.{SinkState}
-use Rattle.pdb_reporting.specs.Reports.{addresses_text, function_text, stack_text, report_text, TakesText, EndsAt}
-use Rattle.pdb_reporting.specs.Reports.{EndsEarly}
+use Rattle.pdb_report_lib.specs.declared.reports.Command.{Command}
+use Rattle.pdb_report_lib.specs.declared.reports.Command.TheVariants.{Names, Frames}
+use Rattle.pdb_report_lib.specs.declared.reports.Command.TheVariants as wanted
+use Rattle.pdb_report_lib.specs.declared.reports.ReportFault.{ReportFault}
+use Rattle.pdb_report_lib.specs.declared.reports.ReportFault.TheVariants.{Lookup, Write}
+use Rattle.pdb_report_lib.specs.FileReports.{opened, text_over_records, EndsOverRecords}
+use Rattle.pdb_report_lib.specs.Sinks.{SinkState}
+use Rattle.pdb_report_lib.specs.Reports.{addresses_text, function_text, stack_text, report_text, TakesText, EndsAt}
+use Rattle.pdb_report_lib.specs.Reports.{EndsEarly}
 use Rattle.pdb_c.specs.declared.refusals.Refusal.{Refusal}
 use Rattle.pdb_c.specs.declared.refusals.Refusal.TheVariants as refusal
 use Rattle.pdb_c.specs.Refusals.{refusal_of, refusal_of_fault, refusal_or_memory, refusal_of_records}
 use Rattle.pdb_c.specs.Refusals.{refusal_of_report}
 use Rattle.std.specs.Result.{IsErrAnd}
-use Rattle.pdb_c.specs.Texts.{told, text_over, Agrees}
+use Rattle.pdb_c.specs.Texts.{with_refusal, text_over, Agrees}
 
 -- two texts in a row, of which the second has an error wherever a part of it is a text
 joined_refused : (first part rest : Result (List ℕ) Error) (error : Error) (texts : List ℕ)
@@ -69,16 +69,16 @@ addresses_refused f addresses before after error other ends =
     taken_text (addresses_text f (take ends.done addresses)) before after ends.taken
     (λ b is. text_refused f addresses ends.done ends.address error b ends.next is (ends.refused other))
 
--- a report that ends early at a look-up, not for want of memory, has that look-up's error for its text
-pub report_refused : {P : Type 0} (info : P → Infos) (sources : Sources P) (command : Command) (addresses : List ℕ)
+-- a report that ends early at a look-up, but not where memory ran out, has that look-up's error for its text
+pub report_refused : {P : Type 0} (info : P → ProviderInfos) (inputs : ContextInputs P) (command : Command) (addresses : List ℕ)
     (before after : SinkState) (error : Error)
-    → error ≢ OutOfMemory → EndsEarly info sources [] command addresses before after (Lookup error)
-    → report_text info sources [] command addresses ≡ Err error
-report_refused info sources Names addresses before after error other ends =
-    addresses_refused (function_text info sources) addresses before after error other ends
-report_refused info sources Frames addresses before after error other ends =
-    addresses_refused (stack_text info sources []) addresses before after error other ends
-report_refused info sources wanted.List addresses before after error other ends = absurd (other ends.memory)
+    → error ≢ OutOfMemory → EndsEarly info inputs [] command addresses before after (Lookup error)
+    → report_text info inputs [] command addresses ≡ Err error
+report_refused info inputs Names addresses before after error other ends =
+    addresses_refused (function_text info inputs) addresses before after error other ends
+report_refused info inputs Frames addresses before after error other ends =
+    addresses_refused (stack_text info inputs []) addresses before after error other ends
+report_refused info inputs wanted.List addresses before after error other ends = absurd (other ends.memory)
 
 -- the text that an empty sink took is what it holds
 pub report_taken : (text : Result (List ℕ) Error) (before after : SinkState) (held : List ℕ)
@@ -89,29 +89,29 @@ report_taken (Ok b) before after held empty is taken =
     ap Ok same
 report_taken (Err e) before after held empty is taken = absurd taken
 
--- an error that is no want of memory is told as this refusal
+-- an error that is not out of memory is answered as this refusal
 pub is_other : (why : Refusal) (error : Error) → error ≢ OutOfMemory → refusal_or_memory why error ≡ why
 is_other why OutOfMemory other = absurd (other refl)
 is_other why error other = refl
 
--- an error that is not told as want of memory is none
+-- an error that is not answered as out of memory is none
 pub not_memory : (why : Refusal) (error : Error)
     → refusal_or_memory why error ≢ refusal.OutOfMemory → error ≢ OutOfMemory
 not_memory why error other is = other (ap (λ e. refusal_or_memory why e) is)
 
--- what a reader's fault in a file is told as
-pub told_fault : {X : Type 0} (given : RecordFault) (read : Result X Fault)
+-- what a reader's fault in a file is answered as
+pub fault_shown : {X : Type 0} (given : RecordFault) (read : Result X Fault)
     → IsFaultOf given read → refusal_of_fault given ≢ refusal.OutOfMemory
-    → told refusal_of read ≡ Err (refusal_of_fault given)
-told_fault fault.NotJson read is other = rw is refl
-told_fault (fault.ModuleFiles wanted given) read is other = rw is refl
-told_fault (fault.Shape path wanted) read is other = rw is refl
-told_fault (fault.NumberOutOfRange path) read is other = rw is refl
-told_fault (fault.ModuleNotJson path) read is other = rw is refl
-told_fault fault.OutOfMemory read is other = absurd (other refl)
+    → with_refusal refusal_of read ≡ Err (refusal_of_fault given)
+fault_shown fault.NotJson read is other = rw is refl
+fault_shown (fault.ModuleFiles wanted given) read is other = rw is refl
+fault_shown (fault.Shape path wanted) read is other = rw is refl
+fault_shown (fault.NumberOutOfRange path) read is other = rw is refl
+fault_shown (fault.ModuleNotJson path) read is other = rw is refl
+fault_shown fault.OutOfMemory read is other = absurd (other refl)
 
 -- records with no context
-pub context_refused : (command : Command) (made : Result (Sources Records) Error) (addresses : List ℕ) (error : Error)
+pub context_refused : (command : Command) (made : Result (ContextInputs Records) Error) (addresses : List ℕ) (error : Error)
     → (error ≢ OutOfMemory → made ≡ Err error) → refusal_of_records error ≢ refusal.OutOfMemory
     → text_over command made addresses ≡ Err (refusal_of_records error)
 context_refused command made addresses error gives other =
@@ -119,48 +119,48 @@ context_refused command made addresses error gives other =
     rw (gives no_memory, is_other refusal.RecordsRefused error no_memory) refl
 
 -- an address that is refused
-pub address_refused : (command : Command) (made : Result (Sources Records) Error) (sources : Sources Records)
+pub address_refused : (command : Command) (made : Result (ContextInputs Records) Error) (inputs : ContextInputs Records)
     (addresses : List ℕ) (before after : SinkState) (why : ReportFault)
-    → made ≡ Ok sources
-    → EndsOverRecords sources command addresses before after why
+    → made ≡ Ok inputs
+    → EndsOverRecords inputs command addresses before after why
     → refusal_of_report why ≢ refusal.OutOfMemory
     → text_over command made addresses ≡ Err (refusal_of_report why)
-address_refused command made sources addresses before after (Lookup error) is ends other =
+address_refused command made inputs addresses before after (Lookup error) is ends other =
     let no_memory = not_memory refusal.AddressRefused error other in
-    let info : Records → Infos = λ records index m. info_at records index in
+    let info : Records → ProviderInfos = λ records index m. info_at records index in
     let refusal_at : Refusal → Result (List ℕ) Refusal = λ why. Err why in
-    let tell : Result (List ℕ) Error → Result (List ℕ) Refusal = told (λ e. refusal.AddressRefused) in
-    let text : text_over_records sources command addresses ≡ Err error =
-    report_refused info sources command addresses before after error no_memory ends in
-    let over : text_over command made addresses ≡ tell (text_over_records sources command addresses) =
+    let convert : Result (List ℕ) Error → Result (List ℕ) Refusal = with_refusal (λ e. refusal.AddressRefused) in
+    let text : text_over_records inputs command addresses ≡ Err error =
+    report_refused info inputs command addresses before after error no_memory ends in
+    let over : text_over command made addresses ≡ convert (text_over_records inputs command addresses) =
     ap (λ m. text_over command m addresses) is in
-    over ∙ (ap tell text ∙ ap refusal_at (sym (is_other refusal.AddressRefused error no_memory)))
-address_refused command made sources addresses before after Write is ends other = absurd (other refl)
+    over ∙ (ap convert text ∙ ap refusal_at (sym (is_other refusal.AddressRefused error no_memory)))
+address_refused command made inputs addresses before after Write is ends other = absurd (other refl)
 
 -- a text that was gathered whole, by a sink that was empty
-pub text_gathered : (command : Command) (made : Result (Sources Records) Error) (sources : Sources Records)
+pub text_gathered : (command : Command) (made : Result (ContextInputs Records) Error) (inputs : ContextInputs Records)
     (addresses : List ℕ) (before after start : SinkState) (held : List ℕ)
-    → made ≡ Ok sources → before ≡ start → start.held ≡ Some [] → Some held ≡ after.held
-    → TakesText (text_over_records sources command addresses) before after
+    → made ≡ Ok inputs → before ≡ start → start.held ≡ Some [] → Some held ≡ after.held
+    → TakesText (text_over_records inputs command addresses) before after
     → text_over command made addresses ≡ Ok held
-text_gathered command made sources addresses before after start held is starts empty holds taken =
+text_gathered command made inputs addresses before after start held is starts empty holds taken =
     let held_of : SinkState → Option (List ℕ) = λ s. s.held in
-    let tell : Result (List ℕ) Error → Result (List ℕ) Refusal = told (λ e. refusal.AddressRefused) in
-    let text : text_over_records sources command addresses ≡ Ok held =
-    report_taken (text_over_records sources command addresses) before after held (ap held_of starts ∙ empty)
+    let convert : Result (List ℕ) Error → Result (List ℕ) Refusal = with_refusal (λ e. refusal.AddressRefused) in
+    let text : text_over_records inputs command addresses ≡ Ok held =
+    report_taken (text_over_records inputs command addresses) before after held (ap held_of starts ∙ empty)
     holds taken in
-    let over : text_over command made addresses ≡ tell (text_over_records sources command addresses) =
+    let over : text_over command made addresses ≡ convert (text_over_records inputs command addresses) =
     ap (λ m. text_over command m addresses) is in
-    over ∙ ap tell text
+    over ∙ ap convert text
 
 -- records of which a stream failed have no context
 pub stream_failed : (records : Records) (error : Error)
     → records_refusal records ≡ Some error → opened records ≡ Err error
 stream_failed records error refused = ap (λ r. unless r (context_of default_flags records)) refused
 
--- a call that ends with what an error is told as
-pub tells : {A B : Type 0} (seen : A → B) (r : Result A Refusal) (why : Refusal) (definition : Result B Refusal)
+-- a call that ends with what an error is answered as
+pub matches : {A B : Type 0} (seen : A → B) (r : Result A Refusal) (why : Refusal) (definition : Result B Refusal)
     → IsErrAnd r (λ given. given ≡ why) → (why ≢ refusal.OutOfMemory → definition ≡ Err why) → Agrees seen r definition
-tells seen (Ok a) why definition is at_why = absurd is
-tells seen (Err given) why definition is at_why =
+matches seen (Ok a) why definition is at_why = absurd is
+matches seen (Err given) why definition is at_why =
     subst (λ w. w ≢ refusal.OutOfMemory → definition ≡ Err w) (sym is) at_why

@@ -1,3 +1,5 @@
 pub mod Refusals
 pub mod Texts
 pub mod Answers
+pub mod Handles
+pub mod Openings

@@ -5,12 +5,12 @@ use Rattle.pdb_types.specs.declared.error.Error.TheVariants as error
 use Rattle.pdb_json_values.specs.declared.faults.RecordFault.{RecordFault}
 use Rattle.pdb_json_values.specs.declared.faults.RecordFault.TheVariants as fault
 use Rattle.pdb_json_values.specs.Faults.{Fault, not_json, module_files, shape, out_of_range, module_not_json}
-use Rattle.pdb_reporting.specs.declared.reports.ReportFault.{ReportFault}
-use Rattle.pdb_reporting.specs.declared.reports.ReportFault.TheVariants.{Lookup, Write}
+use Rattle.pdb_report_lib.specs.declared.reports.ReportFault.{ReportFault}
+use Rattle.pdb_report_lib.specs.declared.reports.ReportFault.TheVariants.{Lookup, Write}
 use Rattle.pdb_c.specs.declared.refusals.Refusal.{Refusal}
 use Rattle.pdb_c.specs.declared.refusals.Refusal.TheVariants.{NoAddresses, NotJson, NoRecords, ModuleFiles}
 use Rattle.pdb_c.specs.declared.refusals.Refusal.TheVariants.{RecordsRefused, AddressRefused}
-use Rattle.pdb_c.specs.declared.refusals.Refusal.TheVariants.{OutOfMemory, BufferTooSmall}
+use Rattle.pdb_c.specs.declared.refusals.Refusal.TheVariants.{OutOfMemory, BufferTooSmall, Closed}
 
 -- the number that a call answers for a refusal
 abbrev pub code : Refusal → ℤ
@@ -22,8 +22,9 @@ code RecordsRefused = neg_ℤ (pos 6)
 code AddressRefused = neg_ℤ (pos 7)
 code OutOfMemory = neg_ℤ (pos 8)
 code BufferTooSmall = neg_ℤ (pos 9)
+code Closed = neg_ℤ (pos 10)
 
--- what a fault in a records file is told as
+-- what a fault in a records file is answered as
 abbrev pub refusal_of : Fault → Refusal
 refusal_of not_json = NotJson
 refusal_of (module_files wanted given) = ModuleFiles
@@ -31,7 +32,7 @@ refusal_of (shape path wanted) = NoRecords
 refusal_of (out_of_range path) = NoRecords
 refusal_of (module_not_json path) = NoRecords
 
--- what a reader's fault is told as
+-- what a reader's fault is answered as
 abbrev pub refusal_of_fault : RecordFault → Refusal
 refusal_of_fault fault.NotJson = NotJson
 refusal_of_fault (fault.ModuleFiles wanted given) = ModuleFiles
@@ -40,16 +41,16 @@ refusal_of_fault (fault.NumberOutOfRange path) = NoRecords
 refusal_of_fault (fault.ModuleNotJson path) = NoRecords
 refusal_of_fault fault.OutOfMemory = OutOfMemory
 
--- this error, but for want of memory, which is told as itself
+-- this error, but for out of memory, which is answered as itself
 abbrev pub refusal_or_memory : Refusal → Error → Refusal
 refusal_or_memory refusal error.OutOfMemory = OutOfMemory
 refusal_or_memory refusal other = refusal
 
--- what an error is told as where the records have no context
+-- what an error is answered as where the records have no context
 abbrev pub refusal_of_records : Error → Refusal
 refusal_of_records error = refusal_or_memory RecordsRefused error
 
--- what is told of a report that ends early, whose text is gathered in memory
+-- what is answered for a report that ends early, whose text is gathered in memory
 abbrev pub refusal_of_report : ReportFault → Refusal
 refusal_of_report (Lookup error) = refusal_or_memory AddressRefused error
 refusal_of_report Write = OutOfMemory

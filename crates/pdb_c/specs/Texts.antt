@@ -3,29 +3,29 @@ use Rattle.std.specs.Prelude.{◌≡◌, ◌≢◌, ℕ, List, [], ◌∷◌, Re
 use Rattle.pdb_records.specs.Records.{Records}
 use Rattle.pdb_types.specs.declared.error.Error.{Error}
 use Rattle.pdb_types.specs.Outcomes.{and_then}
-use Rattle.pdb_addr2line.specs.Sources.{Sources}
+use Rattle.pdb_addr2line.specs.ContextInputs.{ContextInputs}
 use Rattle.pdb_json.specs.RecordsFile.{records_of_files}
-use Rattle.pdb_reporting.specs.declared.reports.Command.{Command}
-use Rattle.pdb_reporting.specs.FileReports.{opened, text_over_records}
+use Rattle.pdb_report_lib.specs.declared.reports.Command.{Command}
+use Rattle.pdb_report_lib.specs.FileReports.{opened, text_over_records}
 use Rattle.pdb_c.specs.declared.refusals.Refusal.{Refusal}
 use Rattle.pdb_c.specs.declared.refusals.Refusal.TheVariants.{NoAddresses, RecordsRefused, AddressRefused}
 use Rattle.pdb_c.specs.declared.refusals.Refusal.TheVariants.{OutOfMemory}
 use Rattle.pdb_c.specs.Refusals.{refusal_of}
 
--- an answer whose error is told as a refusal
-abbrev pub told : {A E : Type 0} → (E → Refusal) → Result A E → Result A Refusal
-told refusal (Ok answer) = Ok answer
-told refusal (Err error) = Err (refusal error)
+-- an answer whose error is shown as a refusal
+abbrev pub with_refusal : {A E : Type 0} → (E → Refusal) → Result A E → Result A Refusal
+with_refusal refusal (Ok answer) = Ok answer
+with_refusal refusal (Err error) = Err (refusal error)
 
--- the records in the bytes of a records file that names no module files, or what its fault is told as
+-- the records in the bytes of a records file that names no module files, or what its fault is answered as
 abbrev pub records_in : List ℕ → Result Records Refusal
-records_in bytes = told refusal_of (records_of_files bytes [])
+records_in bytes = with_refusal refusal_of (records_of_files bytes [])
 
 -- the text of a report over a context: refused where the records have none, or where an address is refused
-abbrev pub text_over : Command → Result (Sources Records) Error → List ℕ → Result (List ℕ) Refusal
+abbrev pub text_over : Command → Result (ContextInputs Records) Error → List ℕ → Result (List ℕ) Refusal
 text_over command made addresses =
-    and_then (told (λ error. RecordsRefused) made) (λ sources.
-    told (λ error. AddressRefused) (text_over_records sources command addresses))
+    and_then (with_refusal (λ error. RecordsRefused) made) (λ inputs.
+    with_refusal (λ error. AddressRefused) (text_over_records inputs command addresses))
 
 -- the text of a report over the bytes of a records file
 abbrev pub text_in : Command → List ℕ → List ℕ → Result (List ℕ) Refusal
@@ -37,7 +37,7 @@ abbrev pub asked_text : Command → List ℕ → List ℕ → Result (List ℕ) 
 asked_text command bytes [] = Err NoAddresses
 asked_text command bytes (address ∷ addresses) = text_in command bytes (address ∷ addresses)
 
--- what is found is the definition's, seen as it is there, and so is a refusal, but for want of memory
+-- what is found is the definition's, seen as it is there, and so is a refusal, but where memory ran out
 abbrev pub Agrees : {A B : Type 0} → (A → B) → Result A Refusal → Result B Refusal → Type 0
 Agrees seen (Ok answer) definition = definition ≡ Ok (seen answer)
 Agrees seen (Err refusal) definition = refusal ≢ OutOfMemory → definition ≡ Err refusal

@@ -3,7 +3,7 @@ ghost use Rattle.pdb_c.specs.Answers.{Answers, gathered};
 
 use crate::refusals::Refusal;
 
-/// Writes a text to the start of the caller's buffer where it fits there, tells its length, and answers it.
+/// Writes a text to the start of the caller's buffer where it fits there, says its length, and answers it.
 fn write_text(text: &[u8], buffer: &mut [u8], wanted: &mut usize) -> i64
     ensures { Answers (Ok text.now) buffer.old buffer.new wanted.new result }
 {

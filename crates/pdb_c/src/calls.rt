@@ -1,10 +1,10 @@
-ghost use Rattle.pdb_reporting.specs.declared.reports.Command.TheVariants.{Names, Frames};
+ghost use Rattle.pdb_report_lib.specs.declared.reports.Command.TheVariants.{Names, Frames};
 ghost use Rattle.pdb_c.specs.Answers.{Ends};
 ghost use Rattle.pdb_c.specs.Texts.{asked_text};
 
 use crate::answers::answer;
 use crate::texts::asked_text;
-use pdb_reporting::Command;
+use pdb_report_lib::Command;
 use std::alloc::Global;
 
 /// Writes the lines of the frames over addresses to the caller's buffer, as `pdb_report RECORDS frames ADDRESS...`

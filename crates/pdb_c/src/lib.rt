@@ -6,8 +6,18 @@
 
 mod answers;
 mod calls;
+mod handle;
+mod handle_calls;
+mod laws;
+mod openings;
 mod refusals;
 mod texts;
 
 pub use calls::{limberlime_frames_unchecked, limberlime_names_unchecked};
+pub use handle::Handle;
+pub use handle_calls::{
+    limberlime_close_unchecked, limberlime_frames_of_unchecked, limberlime_names_of_unchecked,
+    limberlime_open_unchecked,
+};
+pub use laws::a_handle_is_answered_as_its_bytes_are;
 pub use refusals::Refusal;

@@ -3,7 +3,7 @@ ghost use Rattle.pdb_c.specs.Refusals.{code, refusal_of_fault, refusal_of_record
 
 use pdb_addr2line::Error;
 use pdb_json::RecordFault;
-use pdb_reporting::ReportFault;
+use pdb_report_lib::ReportFault;
 
 /// Why a call wrote no text.
 #[derive(Debug, Clone, Copy)]
@@ -24,6 +24,8 @@ pub enum Refusal {
     OutOfMemory,
     /// The text is longer than the buffer.
     BufferTooSmall,
+    /// The handle is closed.
+    Closed,
 }
 
 impl Refusal {
@@ -40,6 +42,7 @@ impl Refusal {
             Refusal::AddressRefused => -7,
             Refusal::OutOfMemory => -8,
             Refusal::BufferTooSmall => -9,
+            Refusal::Closed => -10,
         }
     }
 }
@@ -47,7 +50,7 @@ impl Refusal {
 impl From<Error> for Refusal {
     ghost from_gives = { λ error refusal. refusal ≡ refusal_of_records error };
 
-    /// What a call tells where its records have no context.
+    /// What a call answers where its records have no context.
     fn from(error: Error) -> Refusal {
         match error {
             Error::OutOfMemory => Refusal::OutOfMemory,
@@ -72,7 +75,7 @@ impl From<RecordFault> for Refusal {
 impl From<ReportFault> for Refusal {
     ghost from_gives = { λ fault refusal. refusal ≡ refusal_of_report fault };
 
-    /// What a call tells where a report ends early. The text is gathered in memory, so a refused piece is one that
+    /// What a call answers where a report ends early. The text is gathered in memory, so a refused piece is one that
     /// there was no memory for.
     fn from(fault: ReportFault) -> Refusal {
         match fault {

@@ -1,16 +1,16 @@
 ghost use Rattle.pdb_addr2line.specs.ContextData.{default_flags, context_of};
-ghost use Rattle.pdb_reporting.specs.FileReports.{opened};
+ghost use Rattle.pdb_report_lib.specs.FileReports.{opened};
 ghost use Rattle.pdb_c.specs.Texts.{Agrees, records_in, text_over, text_in, asked_text};
 
 use crate::refusals::Refusal;
 use pdb_addr2line::ContextPdbData;
 use pdb_addr2line::pdb::PDB;
 use pdb_json::read_records;
-use pdb_reporting::{Command, Out, report};
+use pdb_report_lib::{Command, Out, report};
 use std::alloc::Global;
 
 /// The text of a report over records whose streams were read.
-fn text_over(
+pub(crate) fn text_over(
     alloc: Global,
     command: Command,
     context_data: &ContextPdbData<'_>,
@@ -39,7 +39,7 @@ fn text_of_records(
 }
 
 /// The records in the bytes of a records file.
-fn records_in(alloc: Global, bytes: &[u8]) -> Result<PDB, Refusal>
+pub(crate) fn records_in(alloc: Global, bytes: &[u8]) -> Result<PDB, Refusal>
     ensures { Agrees (λ records. records) result (records_in bytes.now) }
 {
     let records = read_records(alloc, bytes)?;

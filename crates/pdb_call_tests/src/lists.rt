@@ -46,7 +46,7 @@ fn hexadecimal(word: Option<&str>) -> Option<u32> {
     u32::from_str_radix(word?, 16).ok()
 }
 
-/// The position of a module.
+/// A module index.
 fn position(word: Option<&str>) -> Option<usize> {
     word?.parse::<usize>().ok()
 }
@@ -141,7 +141,7 @@ fn outcome_over(
     })
 }
 
-/// Has a context answer calls, and tells how often there was no memory for one. That one is made again, and
+/// Has a context answer calls, and answers how often there was no memory for one. That one is made again, and
 /// the ones behind it are made then.
 fn refusals_of<'d>(
     context: &mut Context<'d, ContextPdbData<'_>>,

@@ -7,7 +7,7 @@
 //! `count`, `size MODULE INDEX`, `signature MODULE INDEX NAME` and `id MODULE INDEX`, with addresses and indices
 //! in hexadecimal. In an answer `!` stands before the text of an error.
 //!
-//! `sizes.txt` has a line `MODULE INDEX SIZE` for each size: the position of the module that asks, the index in
+//! `sizes.txt` has a line `MODULE INDEX SIZE` for each size: the module index of the module that asks, the index in
 //! hexadecimal, and the size in bytes. The questions over a file are asked by as many formatters as there are,
 //! each of them another one first.
 //!

@@ -20,7 +20,7 @@ pub(crate) enum Asked<'t> {
 pub(crate) struct PrintedQuestion<'t> {
     /// The bits of the flags.
     pub(crate) flags: u32,
-    /// The position of the module that asks.
+    /// The module index of the module that asks.
     pub(crate) module: usize,
     /// What is to be printed.
     pub(crate) asked: Asked<'t>,
@@ -97,8 +97,8 @@ impl fmt::Write for Narrow {
     }
 }
 
-/// Whether a formatter tells of a writer with this much room that refuses, and wrote a beginning of the text.
-fn tells_of_refusal(
+/// Whether a formatter shows that a writer with this much room refuses, and wrote a beginning of the text.
+fn answers_refusal(
     alloc: Global,
     formatter: &mut TypeFormatter<'_, ContextPdbData<'_>>,
     question: PrintedQuestion<'_>,
@@ -112,28 +112,28 @@ fn tells_of_refusal(
     matches!(outcome, Err(Error::FormatError(_))) && question.text.starts_with(writer.held.as_str())
 }
 
-/// Whether a formatter tells of each writer that has less room than the text takes.
-fn tells_of_each_refusal(
+/// Whether a formatter shows that each writer refuses that has less room than the text takes.
+fn answers_each_refusal(
     alloc: Global,
     formatter: &mut TypeFormatter<'_, ContextPdbData<'_>>,
     question: PrintedQuestion<'_>,
 ) -> bool {
     for room in 0..question.text.len() {
-        if !tells_of_refusal(alloc, formatter, question, room) {
+        if !answers_refusal(alloc, formatter, question, room) {
             return false;
         }
     }
     true
 }
 
-/// Whether a formatter answers a question as is wanted. Where a text is wanted, writers that refuse are told of
+/// Whether a formatter answers a question as is wanted. Where a text is wanted, writers that refuse are tried
 /// first, and the formatter then answers as before.
 pub(crate) fn answers(
     alloc: Global,
     formatter: &mut TypeFormatter<'_, ContextPdbData<'_>>,
     question: PrintedQuestion<'_>,
 ) -> bool {
-    if question.outcome == "ok" && !tells_of_each_refusal(alloc, formatter, question) {
+    if question.outcome == "ok" && !answers_each_refusal(alloc, formatter, question) {
         return false;
     }
     let mut text = String::new(alloc);

@@ -1,7 +1,6 @@
-use crate::bytes::{Bytes, u16_at, u32_at};
-use crate::faults::Fault;
-use crate::names::copy_name;
 use crate::numbers::{take_size, take_variant};
+use pdb_msf::faults::Fault;
+use pdb_msf::{Bytes, copy_name, u16_at, u32_at};
 use pdb_records::{
     ClassKind, ClassType, EnumerateType, EnumerationType, RawString, TypeData, TypeIndex, UnionType,
 };

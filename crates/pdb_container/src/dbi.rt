@@ -1,8 +1,7 @@
 ghost use Rattle.std.specs.Prelude.{◌≡◌, length};
 
-use crate::bytes::{Bytes, u16_at, u32_at};
-use crate::faults::{CUT, Fault, UNKNOWN_VERSION, ended};
-use crate::names::copy_name;
+use pdb_msf::faults::{CUT, Fault, UNKNOWN_VERSION, ended};
+use pdb_msf::{Bytes, copy_name, u16_at, u32_at};
 use pdb_records::{
     MachineType, Module, PdbInternalSectionOffset, Reading, SectionContribution, StreamError,
 };

@@ -1,8 +1,7 @@
-use crate::bytes::{Bytes, u32_at};
-use crate::faults::Fault;
-use crate::names::copy_name;
 use crate::type_records::{ItemFault, TypeRecord, content_of, list_types};
 use crate::types::take_indices;
+use pdb_msf::faults::Fault;
+use pdb_msf::{Bytes, copy_name, u32_at};
 use pdb_records::{
     Error, FunctionId, IdData, IdIndex, IdInformation, Item, ItemInformation, MemberFunctionId,
     Reading, StringId, StringListId, TypeIndex, UnhandledId,
@@ -43,7 +42,7 @@ fn id_data(alloc: Global, record: TypeRecord<'_>) -> Result<IdData, ItemFault> {
         0x1604 => Ok(string_list(alloc, record.content)?),
         0x1605 => Ok(string(alloc, record.content)?),
         0x1606 | 0x1607 => Ok(unhandled(alloc, "UserDefinedTypeSource")?),
-        kind => Err(ItemFault::Unread(Error::UnimplementedTypeKind(kind))),
+        kind => Err(ItemFault::ReadError(Error::UnimplementedTypeKind(kind))),
     }
 }
 

@@ -1,5 +1,5 @@
-use crate::bytes::Bytes;
-use crate::faults::NO_STREAM;
+use pdb_msf::Bytes;
+use pdb_msf::faults::NO_STREAM;
 use pdb_records::StreamError;
 
 /// The bytes before the named streams: version, signature, age and GUID.
@@ -26,7 +26,7 @@ pub fn named_stream(info: &[u8], name: &[u8]) -> Result<u32, StreamError> {
     Err(NO_STREAM)
 }
 
-// Passes over a set of bits, which tells which places of the table hold an entry.
+// Passes over a set of bits, which says which slots of the table hold an entry.
 fn pass_bits(bytes: &mut Bytes<'_>) -> Result<(), StreamError> {
     let words = bytes.u32()?;
     for _ in 0..words {

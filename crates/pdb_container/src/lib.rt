@@ -6,32 +6,18 @@
 #![tactic(auto)]
 
 mod aggregates;
-mod annotations;
-mod bytes;
-mod container_fault;
-mod cross_modules;
 mod dbi;
-pub mod faults;
-mod files;
 mod ids;
 mod info;
-mod inline_rows;
-mod inline_sites;
-mod inlinees;
-mod lines;
 mod modules;
-mod msf;
-mod names;
-mod number_lists;
 mod numbers;
 mod primitives;
 mod records;
 mod sections;
-mod streams;
 mod strings;
 mod symbols;
 mod type_records;
 mod types;
 
-pub use container_fault::ContainerFault;
+pub use pdb_msf::{ContainerFault, faults};
 pub use records::read_pdb;

@@ -1,12 +1,10 @@
-use crate::bytes::Bytes;
-use crate::cross_modules::{read_exports, read_imports};
 use crate::dbi::{ModuleStream, Part, take_part};
-use crate::faults::{Fault, UNKNOWN_VERSION, apart, ended};
-use crate::files::{Files, read_files};
-use crate::inline_sites::CodeRecords;
-use crate::inlinees::read_inlinees;
-use crate::lines::read_lines;
 use crate::symbols::{list_symbols, read_symbols};
+use pdb_codeview::{
+    CodeRecords, Files, read_exports, read_files, read_imports, read_inlinees, read_lines,
+};
+use pdb_msf::Bytes;
+use pdb_msf::faults::{Fault, UNKNOWN_VERSION, apart, ended};
 use pdb_records::{
     CrossModuleExports, CrossModuleImports, LineProgram, ModuleInfo, Reading, StreamError, Symbol,
     SymbolLines,
@@ -62,11 +60,15 @@ impl<'a> Subsections<'a> {
 }
 
 /// What is known of a module, by the bytes of its stream.
-pub fn read_module(alloc: Global, place: ModuleStream, stream: &[u8]) -> Result<ModuleInfo, Fault> {
+pub fn read_module(
+    alloc: Global,
+    module: ModuleStream,
+    stream: &[u8],
+) -> Result<ModuleInfo, Fault> {
     let mut bytes = Bytes::new(stream);
-    let symbols = take_part(&mut bytes, place.symbols);
-    take_part(&mut bytes, place.old_lines);
-    let lines = take_part(&mut bytes, place.lines);
+    let symbols = take_part(&mut bytes, module.symbols);
+    take_part(&mut bytes, module.old_lines);
+    let lines = take_part(&mut bytes, module.lines);
     let subsections = read_subsections(alloc, lines)?;
     let code = read_code(alloc, &subsections)?;
     let symbols = module_symbols(alloc, symbols, &code)?;

@@ -1,11 +1,11 @@
-use crate::bytes::Bytes;
-use crate::faults::BAD_NUMBER;
+use pdb_msf::Bytes;
+use pdb_msf::faults::BAD_NUMBER;
 use pdb_records::{StreamError, Variant};
 
 /// Numbers below this one stand for themselves; others say how wide the number behind them is.
 const FIRST_WIDTH: u16 = 0x8000;
 
-/// The next number of a type's record, which tells its own width.
+/// The next number of a type's record, which says its own width.
 pub fn take_variant(rest: &mut Bytes<'_>) -> Result<Variant, StreamError> {
     let kind = rest.u16()?;
     if kind < FIRST_WIDTH {

@@ -1,4 +1,4 @@
-use crate::faults::Fault;
+use pdb_msf::faults::Fault;
 use pdb_records::{Item, PrimitiveKind, PrimitiveType, TypeData, TypeIndex};
 
 /// The types that the compiler brings, by their numbers.

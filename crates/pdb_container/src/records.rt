@@ -1,16 +1,15 @@
-use crate::container_fault::ContainerFault;
 use crate::dbi::{
     DebugHeader, ModuleStream, more_stream, read_contributions, read_header, read_modules,
 };
-use crate::faults::{Fault, NO_STREAM, REARRANGED, apart};
 use crate::ids::read_ids;
 use crate::info::named_stream;
 use crate::modules::read_module;
-use crate::msf::Container;
 use crate::sections::{map_addresses, read_sections};
 use crate::strings::read_strings;
 use crate::symbols::read_global_symbols;
 use crate::types::read_types;
+use pdb_msf::faults::{Fault, NO_STREAM, REARRANGED, apart};
+use pdb_msf::{Container, ContainerFault};
 use pdb_records::{
     AddressMap, DebugInformation, IdInformation, ImageSectionHeader, ModuleInfo, PDB, StreamError,
     StringTable, SymbolTable, TypeInformation,
@@ -168,7 +167,7 @@ fn section_headers(
     Ok(Some(read_sections(alloc, stream.as_slice())?))
 }
 
-// Where the sections are loaded. It can't be told where addresses were rearranged after linking.
+// Where the sections are loaded. That isn't known if addresses were rearranged after linking.
 fn address_map(
     alloc: Global,
     header: &DebugHeader<'_>,
@@ -205,8 +204,8 @@ fn module_infos(
     streams: &[ModuleStream],
 ) -> Result<Vec<Result<Option<ModuleInfo>, StreamError>>, Fault> {
     let mut infos = Vec::with_capacity(alloc, streams.len())?;
-    for place in streams {
-        infos.push(apart(module_info(alloc, container, *place))?)?;
+    for module in streams {
+        infos.push(apart(module_info(alloc, container, *module))?)?;
     }
     Ok(infos)
 }
@@ -215,11 +214,11 @@ fn module_infos(
 fn module_info(
     alloc: Global,
     container: &mut Container<'_>,
-    place: ModuleStream,
+    module: ModuleStream,
 ) -> Result<Option<ModuleInfo>, Fault> {
-    if place.stream == NO_NUMBER {
+    if module.stream == NO_NUMBER {
         return Ok(None);
     }
-    let stream = container.stream(alloc, u32::from(place.stream))?;
-    Ok(Some(read_module(alloc, place, stream.as_slice())?))
+    let stream = container.stream(alloc, u32::from(module.stream))?;
+    Ok(Some(read_module(alloc, module, stream.as_slice())?))
 }

@@ -1,5 +1,5 @@
-use crate::bytes::{Bytes, u32_at};
-use crate::faults::Fault;
+use pdb_msf::faults::Fault;
+use pdb_msf::{Bytes, u32_at};
 use pdb_records::{AddressMap, AddressRange, ImageSectionHeader};
 use std::alloc::Global;
 

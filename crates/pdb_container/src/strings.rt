@@ -1,6 +1,5 @@
-use crate::bytes::Bytes;
-use crate::faults::{Fault, UNKNOWN_VERSION};
-use crate::names::{copy_name, offset_of};
+use pdb_msf::faults::{Fault, UNKNOWN_VERSION};
+use pdb_msf::{Bytes, copy_name, offset_of};
 use pdb_records::{RawString, StringRef, StringTable};
 use std::alloc::Global;
 

@@ -1,7 +1,6 @@
-use crate::bytes::{Bytes, u16_at, u32_at};
-use crate::faults::{BAD_LENGTH, Fault, apart};
-use crate::inline_sites::{CodeRecords, site_rows};
-use crate::names::{copy_name, offset_of};
+use pdb_codeview::{CodeRecords, site_rows};
+use pdb_msf::faults::{BAD_LENGTH, Fault, apart, ended};
+use pdb_msf::{Bytes, copy_name, offset_of, u16_at, u32_at};
 use pdb_records::{
     IdIndex, InlineSiteSymbol, PdbInternalSectionOffset, ProcedureSymbol, PublicSymbol, RawString,
     Reading, S_GPROC32, S_GPROC32_ID, S_GPROC32_ST, S_INLINESITE, S_INLINESITE2, S_LPROC32,
@@ -14,7 +13,7 @@ use std::alloc::Global;
 /// A record that only fills up to a place.
 const S_ALIGN: u16 = 0x0402;
 
-/// A record that only keeps a place free.
+/// A record that only holds a place free.
 const S_SKIP: u16 = 0x0007;
 
 /// Kinds below this one have names with their lengths in front.
@@ -45,7 +44,7 @@ impl SymbolRecords<'_> {
     }
 }
 
-/// Tells the symbols of a list apart. Records that only fill a place are passed over. `front` bytes stand
+/// Splits a list into its symbols. Records that only fill a place are passed over. `front` bytes stand
 /// before the list in its stream.
 pub fn list_symbols<'a>(
     alloc: Global,
@@ -54,7 +53,7 @@ pub fn list_symbols<'a>(
 ) -> Result<SymbolRecords<'a>, Fault> {
     let mut records = Vec::new(alloc);
     let mut starts = Vec::new(alloc);
-    let fault = crate::faults::ended(fill_records(bytes, front, &mut records, &mut starts))?;
+    let fault = ended(fill_records(bytes, front, &mut records, &mut starts))?;
     Ok(SymbolRecords {
         records,
         starts,

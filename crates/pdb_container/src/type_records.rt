@@ -1,5 +1,5 @@
-use crate::bytes::{Bytes, u32_at};
-use crate::faults::{BAD_LENGTH, Fault, POINTS_NOWHERE, UNKNOWN_VERSION};
+use pdb_msf::faults::{BAD_LENGTH, Fault, POINTS_NOWHERE, UNKNOWN_VERSION, ended};
+use pdb_msf::{Bytes, u32_at};
 use pdb_records::{Error, StreamError};
 use std::alloc::Global;
 
@@ -13,21 +13,21 @@ const VERSION: u32 = 20_040_203;
 #[derive(Clone, Copy)]
 pub enum ItemFault {
     /// It is broken, or of a kind that isn't known.
-    Unread(Error),
+    ReadError(Error),
     /// There was no memory.
     OutOfMemory,
 }
 
 impl From<StreamError> for ItemFault {
     fn from(error: StreamError) -> ItemFault {
-        ItemFault::Unread(Error::Stream(error))
+        ItemFault::ReadError(Error::Stream(error))
     }
 }
 
 impl From<Fault> for ItemFault {
     fn from(fault: Fault) -> ItemFault {
         match fault {
-            Fault::Broken(error) => ItemFault::Unread(Error::Stream(error)),
+            Fault::Broken(error) => ItemFault::ReadError(Error::Stream(error)),
             Fault::OutOfMemory => ItemFault::OutOfMemory,
         }
     }
@@ -37,7 +37,7 @@ impl From<Fault> for ItemFault {
 pub fn content_of<T>(outcome: Result<T, ItemFault>) -> Result<Result<T, Error>, Fault> {
     match outcome {
         Ok(content) => Ok(Ok(content)),
-        Err(ItemFault::Unread(error)) => Ok(Err(error)),
+        Err(ItemFault::ReadError(error)) => Ok(Err(error)),
         Err(ItemFault::OutOfMemory) => Err(Fault::OutOfMemory),
     }
 }
@@ -57,7 +57,7 @@ pub struct TypeRecords<'a> {
     pub fault: Option<StreamError>,
 }
 
-/// Tells the types or ids of a stream apart.
+/// Splits a stream into its types or ids.
 pub fn list_types(alloc: Global, stream: &[u8]) -> Result<TypeRecords<'_>, Fault> {
     let front = Bytes::new(stream).take(HEADER)?;
     if u32_at(front, 0) != VERSION {
@@ -69,7 +69,7 @@ pub fn list_types(alloc: Global, stream: &[u8]) -> Result<TypeRecords<'_>, Fault
     };
     let part = crate::dbi::take_part(&mut bytes, u32_at(front, 16));
     let mut records = Vec::new(alloc);
-    let fault = crate::faults::ended(fill_types(part.bytes, &mut records))?;
+    let fault = ended(fill_types(part.bytes, &mut records))?;
     Ok(TypeRecords {
         first: u32_at(front, 8),
         records,

@@ -1,9 +1,9 @@
 use crate::aggregates::{class, enumerate, enumeration, union};
-use crate::bytes::{Bytes, u16_at, u32_at};
-use crate::faults::{BAD_NUMBER, Fault};
 use crate::numbers::take_size;
 use crate::primitives::put_primitives;
 use crate::type_records::{ItemFault, TypeRecord, content_of, list_types};
+use pdb_msf::faults::{BAD_NUMBER, Fault};
+use pdb_msf::{Bytes, u16_at, u32_at};
 use pdb_records::{
     ArgumentList, ArrayType, ClassKind, Error, Item, ItemInformation, MemberFunctionType,
     ModifierType, PointerMode, PointerType, ProcedureType, Reading, StreamError, TypeData,
@@ -61,7 +61,7 @@ fn other(alloc: Global, kind: u16) -> Result<TypeData, ItemFault> {
         0x1205 => Ok(unhandled(alloc, "Bitfield")?),
         0x1206 => Ok(unhandled(alloc, "MethodList")?),
         0x151d => Ok(unhandled(alloc, "VirtualFunctionTable")?),
-        _ => Err(ItemFault::Unread(Error::UnimplementedTypeKind(kind))),
+        _ => Err(ItemFault::ReadError(Error::UnimplementedTypeKind(kind))),
     }
 }
 
@@ -100,7 +100,7 @@ fn pointer_mode(attributes: u32) -> Result<PointerMode, StreamError> {
     }
 }
 
-// The size that is told, else that of the kind of pointer.
+// The size that the attributes say, else that of the kind of pointer.
 fn pointer_size(attributes: u32) -> u8 {
     let size = attributes / 0x2000 % 64;
     match (size, attributes % 32) {

@@ -112,19 +112,19 @@ pub(crate) fn context_of<'a, P: ModuleProvider>(
 /// Whether a function has this name.
 pub(crate) fn is_named(function: &Function, name: &str) -> bool {
     match &function.name {
-        Some(told) => told.as_str() == name,
+        Some(with_refusal) => with_refusal.as_str() == name,
         None => false,
     }
 }
 
-/// Whether a formatter tells this size of a type.
-pub(crate) fn tells_size<P: ModuleProvider>(
+/// Whether a formatter answers this size of a type.
+pub(crate) fn answers_size<P: ModuleProvider>(
     formatter: &mut TypeFormatter<'_, P>,
     index: u32,
     size: u64,
 ) -> bool {
     match formatter.get_type_size(0, TypeIndex(index)) {
-        Ok(told) => told == size,
+        Ok(with_refusal) => with_refusal == size,
         Err(_) => false,
     }
 }
@@ -137,43 +137,43 @@ fn finds_the_symbol(context: &mut MadeContext<'_, '_>) -> bool {
     }
 }
 
-/// Whether a context finds the public symbol of the program, and its formatter tells the size of the type.
-fn tells_the_program(mut context: MadeContext<'_, '_>) -> bool {
+/// Whether a context finds the public symbol of the program, and its formatter answers the size of the type.
+fn answers_the_program(mut context: MadeContext<'_, '_>) -> bool {
     let found = finds_the_symbol(&mut context);
     let mut formatter = context.into_type_formatter();
-    found && tells_size(&mut formatter, 4096, 10)
+    found && answers_size(&mut formatter, 4096, 10)
 }
 
-/// Whether a context with flags of its own tells what is in the program.
-fn tells_with_flags(data: &ContextPdbData<'_>) -> bool {
+/// Whether a context with flags of its own shows what is in the program.
+fn answers_with_flags(data: &ContextPdbData<'_>) -> bool {
     match data.make_context_with_formatter_flags(TypeFormatterFlags::NO_ARGUMENTS) {
-        Ok(context) => tells_the_program(context),
+        Ok(context) => answers_the_program(context),
         Err(_) => false,
     }
 }
 
 #[test]
 fn a_context_with_flags_of_its_own(rt: HostRuntime) {
-    assert!(rt; holds_over_data(rt.alloc(), PROGRAM, tells_with_flags));
+    assert!(rt; holds_over_data(rt.alloc(), PROGRAM, answers_with_flags));
 }
 
-/// Whether a context of parts tells what is in the program.
-fn tells_by_parts(alloc: Global, data: &ContextPdbData<'_>, records: &PDB) -> bool {
+/// Whether a context of parts shows what is in the program.
+fn answers_by_parts(alloc: Global, data: &ContextPdbData<'_>, records: &PDB) -> bool {
     let Ok(formatter) = data.make_type_formatter() else {
         return false;
     };
     match context_of(alloc, data, records, formatter) {
-        Some(context) => tells_the_program(context),
+        Some(context) => answers_the_program(context),
         None => false,
     }
 }
 
-/// Whether a context of parts tells what is in the program, over records of its own.
-fn tells_over_records_of_its_own(alloc: Global, data: &ContextPdbData<'_>) -> bool {
+/// Whether a context of parts shows what is in the program, over records of its own.
+fn answers_over_records_of_its_own(alloc: Global, data: &ContextPdbData<'_>) -> bool {
     holds_over_records(
         alloc,
         PROGRAM,
-        |records| tells_by_parts(alloc, data, records),
+        |records| answers_by_parts(alloc, data, records),
     )
 }
 
@@ -184,7 +184,7 @@ fn a_context_of_parts(rt: HostRuntime) {
         holds_over_data(
             alloc,
             PROGRAM,
-            |data| tells_over_records_of_its_own(alloc, data)
+            |data| answers_over_records_of_its_own(alloc, data)
         )
     );
 }

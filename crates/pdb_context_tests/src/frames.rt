@@ -31,7 +31,7 @@ fn is_at(frame: &Frame<'_>, wanted: &str, line: u32) -> bool {
     }
 }
 
-/// Whether a frame tells of no file and no line.
+/// Whether a frame shows no file and no line.
 fn is_nowhere(frame: &Frame<'_>) -> bool {
     frame.file.is_none() && frame.line.is_none()
 }
@@ -45,7 +45,7 @@ fn is_of_the_procedure(frame: &Frame<'_>) -> bool {
 }
 
 /// Whether frames are those at 0x1025, from inside to outside: of the two sites, and of the procedure.
-fn are_at_places(frames: &[Frame<'_>]) -> bool {
+fn are_at_section_offsets(frames: &[Frame<'_>]) -> bool {
     let [inner, outer, procedure] = frames else {
         return false;
     };
@@ -55,14 +55,16 @@ fn are_at_places(frames: &[Frame<'_>]) -> bool {
         && is_of_the_procedure(procedure)
 }
 
-/// Whether frames tell of the procedure and the sites at 0x1025.
-fn are_the_frames(told: &FunctionFrames<'_>) -> bool {
-    told.start_rva == 0x1010 && told.end_rva == Some(0x1050) && are_at_places(&told.frames)
+/// Whether frames show the procedure and the sites at 0x1025.
+fn are_the_frames(with_refusal: &FunctionFrames<'_>) -> bool {
+    with_refusal.start_rva == 0x1010
+        && with_refusal.end_rva == Some(0x1050)
+        && are_at_section_offsets(&with_refusal.frames)
 }
 
-/// Whether a clone of frames tells of the procedure and the sites at 0x1025.
-fn are_the_frames_in_a_clone(told: &FunctionFrames<'_>) -> bool {
-    match told.clone() {
+/// Whether a clone of frames shows the procedure and the sites at 0x1025.
+fn are_the_frames_in_a_clone(with_refusal: &FunctionFrames<'_>) -> bool {
+    match with_refusal.clone() {
         Ok(clone) => are_the_frames(&clone),
         Err(_) => false,
     }
@@ -77,7 +79,7 @@ fn finds_none_elsewhere(context: &mut MadeContext<'_, '_>) -> bool {
 }
 
 /// Whether frames, and a clone of them, are those that were found while the context is asked again.
-fn keeps_frames(context: &mut MadeContext<'_, '_>) -> bool {
+fn holds_frames(context: &mut MadeContext<'_, '_>) -> bool {
     let Ok(Some(frames)) = context.find_frames(0x1025) else {
         return false;
     };
@@ -85,8 +87,8 @@ fn keeps_frames(context: &mut MadeContext<'_, '_>) -> bool {
 }
 
 #[test]
-fn frames_are_kept_over_a_later_call(rt: HostRuntime) {
-    assert!(rt; holds_over_context(rt.alloc(), PROGRAM, keeps_frames));
+fn frames_stay_over_a_later_call(rt: HostRuntime) {
+    assert!(rt; holds_over_context(rt.alloc(), PROGRAM, holds_frames));
 }
 
 /// Whether a clone of a function is the procedure.

@@ -26,7 +26,7 @@ static INNER: InlineRange = InlineRange {
     line_start: Some(7),
 };
 
-/// Whether two ranges are of the same code, and told of by the same row.
+/// Whether two ranges are of the same code, and shown by the same row.
 fn are_alike(range: &InlineRange, other: &InlineRange) -> bool {
     range.start_offset == other.start_offset
         && range.end_offset == other.end_offset

@@ -69,7 +69,7 @@ fn lend(alloc: Global, pdb: &mut PDB) -> Result<(), Error> {
 /// Whether lent records are refused for a fault.
 fn are_refused(alloc: Global, pdb: &mut PDB, fault: StreamError) -> bool {
     match lend(alloc, pdb) {
-        Err(Error::PdbError(Stream(told))) => told == fault,
+        Err(Error::PdbError(Stream(with_refusal))) => with_refusal == fault,
         _ => false,
     }
 }

@@ -33,8 +33,8 @@ fn finds_the_procedure(context: &mut MadeContext<'_, '_>) -> bool {
     }
 }
 
-/// Whether a context over lent records tells of the procedure.
-fn tells_the_procedure_when_lent(alloc: Global, records: &mut PDB) -> bool {
+/// Whether a context over lent records answers the procedure.
+fn answers_the_procedure_when_lent(alloc: Global, records: &mut PDB) -> bool {
     match ContextPdbData::try_from_pdb_ref(alloc, records) {
         Ok(data) => holds_over_made(&data, finds_the_procedure),
         Err(_) => false,
@@ -48,7 +48,7 @@ fn contexts_of_owned_and_lent_records(rt: HostRuntime) {
         holds_over_records(
             alloc,
             PROGRAM,
-            |records| tells_the_procedure_when_lent(alloc, records)
+            |records| answers_the_procedure_when_lent(alloc, records)
         )
     );
 }
@@ -83,8 +83,8 @@ fn module_infos_and_procedures(rt: HostRuntime) {
     assert!(rt; holds_over_data(alloc, PROGRAM, |data| has_one_module(alloc, data)));
 }
 
-/// Whether a name is told with a sign in place of the byte that is no text.
-fn is_told_with_a_sign(alloc: Global, name: &RawString) -> Result<bool, AllocError> {
+/// Whether a name is shown with a sign in place of the byte that is no text.
+fn is_written_with_a_sign(alloc: Global, name: &RawString) -> Result<bool, AllocError> {
     let text = name.to_string_lossy(alloc)?.into_owned(alloc)?;
     Ok(text.as_bytes() == [0x66, 0xef, 0xbf, 0xbd].as_slice())
 }
@@ -92,33 +92,34 @@ fn is_told_with_a_sign(alloc: Global, name: &RawString) -> Result<bool, AllocErr
 #[test]
 fn name_that_is_no_text(rt: HostRuntime) -> Result<(), AllocError> {
     let name = RawString([0x66, 0xff].to_vec(rt.alloc())?);
-    assert!(rt; is_told_with_a_sign(rt.alloc(), &name)?);
+    assert!(rt; is_written_with_a_sign(rt.alloc(), &name)?);
     Ok(())
 }
 
-/// A place in a section.
-fn place(section: u16, offset: u32) -> PdbInternalSectionOffset {
+/// A section offset.
+fn section_offset(section: u16, offset: u32) -> PdbInternalSectionOffset {
     PdbInternalSectionOffset { section, offset }
 }
 
-/// Whether a place is that of an address, and the address that of the place.
-fn lies_at(map: &AddressMap, address: Rva, place: PdbInternalSectionOffset) -> bool {
-    address.to_internal_offset(map) == Some(place) && place.to_rva(map) == Some(address)
+/// Whether a section offset is that of an address, and the address that of the section offset.
+fn lies_at(map: &AddressMap, address: Rva, section_offset: PdbInternalSectionOffset) -> bool {
+    address.to_internal_offset(map) == Some(section_offset)
+        && section_offset.to_rva(map) == Some(address)
 }
 
-/// Whether addresses of two sections are told.
-fn tells_places(map: &AddressMap) -> bool {
-    lies_at(map, Rva(0x1000), place(1, 0))
-        && lies_at(map, Rva(0x100f), place(1, 15))
-        && lies_at(map, Rva(0xffff_ffff), place(2, 255))
+/// Whether addresses of two sections are answered.
+fn answers_section_offsets(map: &AddressMap) -> bool {
+    lies_at(map, Rva(0x1000), section_offset(1, 0))
+        && lies_at(map, Rva(0x100f), section_offset(1, 15))
+        && lies_at(map, Rva(0xffff_ffff), section_offset(2, 255))
 }
 
-/// Whether nothing is told of what isn't in the sections.
-fn tells_nothing_else(map: &AddressMap) -> bool {
+/// Whether nothing is answered for what isn't in the sections.
+fn answers_nothing_else(map: &AddressMap) -> bool {
     Rva(0x1010).to_internal_offset(map) == None
-        && place(0, 0).to_rva(map) == None
-        && place(3, 0).to_rva(map) == None
-        && place(2, 256).to_rva(map) == None
+        && section_offset(0, 0).to_rva(map) == None
+        && section_offset(3, 0).to_rva(map) == None
+        && section_offset(2, 256).to_rva(map) == None
 }
 
 /// Where two sections lie. The second would end past the greatest address.
@@ -134,16 +135,16 @@ const SECTIONS: [AddressRange; 2] = [
 ];
 
 #[test]
-fn places_of_addresses(rt: HostRuntime) -> Result<(), AllocError> {
+fn section_offsets_of_addresses(rt: HostRuntime) -> Result<(), AllocError> {
     let map = AddressMap {
         sections: SECTIONS.to_vec(rt.alloc())?,
     };
-    assert!(rt; tells_places(&map) && tells_nothing_else(&map));
+    assert!(rt; answers_section_offsets(&map) && answers_nothing_else(&map));
     Ok(())
 }
 
 /// Where the entries of a line program start.
-const PLACE: PdbInternalSectionOffset = PdbInternalSectionOffset {
+const SECTION_OFFSET: PdbInternalSectionOffset = PdbInternalSectionOffset {
     section: 1,
     offset: 16,
 };
@@ -159,12 +160,12 @@ const ROW: LineInfo = LineInfo {
 fn entry(alloc: Global, rows: &[LineInfo]) -> Result<SymbolLines, AllocError> {
     let items = rows.to_vec(alloc)?;
     Ok(SymbolLines {
-        offset: PLACE,
+        offset: SECTION_OFFSET,
         lines: Reading { items, fault: None },
     })
 }
 
-/// A line program with two entries for one place, of which the first has a row, and a file.
+/// A line program with two entries for one section offset, of which the first has a row, and a file.
 fn line_program(alloc: Global) -> Result<LineProgram, AllocError> {
     let mut entries = Vec::new(alloc);
     for rows in [[ROW].as_slice(), &[]] {
@@ -174,16 +175,16 @@ fn line_program(alloc: Global) -> Result<LineProgram, AllocError> {
     Ok(LineProgram { entries, files })
 }
 
-/// Whether the first entry for a place counts.
+/// Whether the first entry for a section offset counts.
 fn takes_the_first_entry(program: &LineProgram) -> bool {
-    match program.lines_for_symbol(PLACE) {
+    match program.lines_for_symbol(SECTION_OFFSET) {
         Some(rows) => rows.items.len() == 1,
         None => false,
     }
 }
 
-/// Whether the file is told, and no other.
-fn tells_the_file(program: &LineProgram) -> bool {
+/// Whether the file is answered, and no other.
+fn answers_the_file(program: &LineProgram) -> bool {
     match program.get_file_info(FileIndex(0)) {
         Some(file) => file.name == StringRef(5) && program.get_file_info(FileIndex(1)).is_none(),
         None => false,
@@ -193,7 +194,7 @@ fn tells_the_file(program: &LineProgram) -> bool {
 #[test]
 fn lines_and_files(rt: HostRuntime) -> Result<(), AllocError> {
     let program = line_program(rt.alloc())?;
-    assert!(rt; takes_the_first_entry(&program) && tells_the_file(&program));
+    assert!(rt; takes_the_first_entry(&program) && answers_the_file(&program));
     Ok(())
 }
 
@@ -207,8 +208,8 @@ fn string_table(alloc: Global) -> Result<StringTable, AllocError> {
     Ok(StringTable { strings })
 }
 
-/// Whether the first text for a reference is told, and none for another reference.
-fn tells_the_first_text(table: &StringTable) -> bool {
+/// Whether the first text for a reference is answered, and none for another reference.
+fn answers_the_first_text(table: &StringTable) -> bool {
     match table.get(StringRef(5)) {
         Some(text) => {
             text.0.as_slice() == b"first".as_slice() && table.get(StringRef(4)).is_none()
@@ -220,7 +221,7 @@ fn tells_the_first_text(table: &StringTable) -> bool {
 #[test]
 fn strings_by_their_references(rt: HostRuntime) -> Result<(), AllocError> {
     let table = string_table(rt.alloc())?;
-    assert!(rt; tells_the_first_text(&table));
+    assert!(rt; answers_the_first_text(&table));
     Ok(())
 }
 
@@ -239,7 +240,7 @@ fn imports(alloc: Global) -> Result<CrossModuleImports, AllocError> {
 /// Whether an index is that of an index in another module.
 fn is_imported(imports: &CrossModuleImports, index: u32, module: StringRef, local: u32) -> bool {
     match imports.resolve_import(index) {
-        Ok((told_module, told_local)) => told_module == module && told_local == local,
+        Ok((found_module, found_local)) => found_module == module && found_local == local,
         Err(_) => false,
     }
 }
@@ -247,13 +248,13 @@ fn is_imported(imports: &CrossModuleImports, index: u32, module: StringRef, loca
 /// Whether an index is refused as that of no import.
 fn is_not_imported(imports: &CrossModuleImports, index: u32) -> bool {
     match imports.resolve_import(index) {
-        Err(Error::CrossModuleRefNotFound(told)) => told == index,
+        Err(Error::CrossModuleRefNotFound(with_refusal)) => with_refusal == index,
         _ => false,
     }
 }
 
-/// Whether the imports are told, and others are refused.
-fn tells_the_imports(imports: &CrossModuleImports) -> bool {
+/// Whether the imports are answered, and others are refused.
+fn answers_the_imports(imports: &CrossModuleImports) -> bool {
     is_imported(imports, 0x8010_0001, StringRef(9), 71)
         && is_imported(imports, 0x8000_0000, StringRef(8), 70)
         && is_not_imported(imports, 0x8000_0002)
@@ -264,7 +265,7 @@ fn tells_the_imports(imports: &CrossModuleImports) -> bool {
 #[test]
 fn imports_by_their_indices(rt: HostRuntime) -> Result<(), AllocError> {
     let imports = imports(rt.alloc())?;
-    assert!(rt; tells_the_imports(&imports));
+    assert!(rt; answers_the_imports(&imports));
     Ok(())
 }
 

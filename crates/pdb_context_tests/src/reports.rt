@@ -1,5 +1,5 @@
 use crate::contexts::{MadeContext, holds_over_context};
-use pdb_reporting::{Command, Out, ReportFault, Sink, report};
+use pdb_report_lib::{Command, Out, ReportFault, Sink, report};
 use std::alloc::Global;
 use std::io;
 use std::io::BufWriter;
@@ -34,8 +34,8 @@ impl io::Write for Narrow {
 const REPORTED: usize = 44;
 
 /// Whether a report ended as one to a writer with this much room should.
-fn ends_as_it_should(told: &Result<(), ReportFault>, room: usize) -> bool {
-    match told {
+fn ends_as_it_should(with_refusal: &Result<(), ReportFault>, room: usize) -> bool {
+    match with_refusal {
         Ok(()) => room >= REPORTED,
         Err(ReportFault::Write) => room < REPORTED,
         Err(ReportFault::Lookup(_)) => false,
@@ -45,8 +45,8 @@ fn ends_as_it_should(told: &Result<(), ReportFault>, room: usize) -> bool {
 /// Whether a report of two addresses to a writer with this much room is refused if there is too little.
 fn reports_into(alloc: Global, context: &mut MadeContext<'_, '_>, room: usize) -> bool {
     let mut sink = Out::new(Narrow { room });
-    let told = report(alloc, context, Command::Names, &[1, 2], &mut sink);
-    ends_as_it_should(&told, room) && sink.failed() == (room < REPORTED)
+    let with_refusal = report(alloc, context, Command::Names, &[1, 2], &mut sink);
+    ends_as_it_should(&with_refusal, room) && sink.failed() == (room < REPORTED)
 }
 
 /// Whether reports to writers with ever more room are refused until there is enough.
@@ -65,7 +65,7 @@ fn writer_that_refuses(rt: HostRuntime) {
     assert!(rt; holds_over_context(alloc, NOTHING, |context| reports_into_all(alloc, context)));
 }
 
-/// Whether a writer refuses what it kept back, when it is to write it, if there is too little room.
+/// Whether a writer refuses what it held back, when it is to write it, if there is too little room.
 fn is_refused_late(alloc: Global, room: usize, refused: bool) -> io::Result<bool> {
     let mut sink = Out::new(BufWriter::new(alloc, Narrow { room })?);
     let taken = sink.put(b"0x100").is_ok() && !sink.failed();
@@ -73,7 +73,7 @@ fn is_refused_late(alloc: Global, room: usize, refused: bool) -> io::Result<bool
 }
 
 #[test]
-fn writer_that_keeps_back_what_it_can_not_write(rt: HostRuntime) -> io::Result<()> {
+fn writer_that_holds_back_what_it_can_not_write(rt: HostRuntime) -> io::Result<()> {
     assert!(rt; is_refused_late(rt.alloc(), 5, false)?);
     assert!(rt; is_refused_late(rt.alloc(), 4, true)?);
     Ok(())

@@ -3,7 +3,7 @@ use Rattle.std.proofs.Common.{◌≡◌, ℕ, zero, suc, ◌+◌, ◌*◌, ◌^�
 use Rattle.pdb_records.specs.declared.types.TypeData.TheVariants.{Primitive, Class, MemberFunction, Procedure, Pointer, Array, Union, Enumeration, Enumerate, Modifier, ArgumentList, Other}
 use Rattle.pdb_types.specs.FailedParts.{Parts}
 use Rattle.pdb_documents.specs.Documents.{Document, Run, run}
-use Rattle.pdb_documents.specs.Worlds.{World}
+use Rattle.pdb_documents.specs.PrintInputs.{PrintInputs}
 use Rattle.pdb_documents.specs.Plans.{Task, Index, OfType, MethodArguments, Chain, BehindModifier, Modified, Elements, Id, Plan, Done, Later, Seq, Buffered, Catch}
 use Rattle.pdb_documents.specs.Rules.{rule}
 use Rattle.pdb_documents.specs.Unfolding.{Unfolds, done, later, seq, buffered, catch, Runs}
@@ -14,7 +14,7 @@ use Rattle.pdb_documents.proofs.FallLemmas.{rule-each}
 use Rattle.pdb_documents.proofs.UnfoldingLemmas.{each_unit}
 
 -- a plan unfolds to the document that is computed of it, where its tasks do
-pub plan-unfolds : (w : World) (next : List ℕ → Task → Document) (P : List ℕ → Task → Type 0) → ((inside : List ℕ) (task : Task) → P inside task → Unfolds w (Later inside task) (next inside task)) → (p : Plan) → EachTask P p → Unfolds w p (plan_document next p)
+pub plan-unfolds : (w : PrintInputs) (next : List ℕ → Task → Document) (P : List ℕ → Task → Type 0) → ((inside : List ℕ) (task : Task) → P inside task → Unfolds w (Later inside task) (next inside task)) → (p : Plan) → EachTask P p → Unfolds w p (plan_document next p)
 unfolding plan_document
 plan-unfolds w next P some (Done d) each = done
 plan-unfolds w next P some (Later inside task) each = some inside task each
@@ -75,7 +75,7 @@ before-left n inside task inside' task' before = elim before [
 ]
 
 -- a task unfolds to the document that is computed of it, with enough times
-pub task-unfolds : (n : ℕ) (w : World) → IsBelow n w → (times : ℕ) (inside : List ℕ) (task : Task) → times_left n inside task < times → Unfolds w (Later inside task) (task_document w times inside task)
+pub task-unfolds : (n : ℕ) (w : PrintInputs) → IsBelow n w → (times : ℕ) (inside : List ℕ) (task : Task) → times_left n inside task < times → Unfolds w (Later inside task) (task_document w times inside task)
 unfolding task_document
 task-unfolds n w below zero inside task enough = absurd (omega arith)
 task-unfolds n w below (suc times) inside task enough =
@@ -88,14 +88,14 @@ enough-times n inside task =
     omega arith
 
 -- each plan unfolds to the document that is computed of it
-pub document-by : (n : ℕ) (w : World) → IsBelow n w → (p : Plan) → Unfolds w p (plan_document (task_document w (enough_for n)) p)
+pub document-by : (n : ℕ) (w : PrintInputs) → IsBelow n w → (p : Plan) → Unfolds w p (plan_document (task_document w (enough_for n)) p)
 document-by n w below p = plan-unfolds w (task_document w (enough_for n)) (λ inside task. Unit {0}) (λ inside task each. task-unfolds n w below (enough_for n) inside task (enough-times n inside task)) p (each_unit p)
 
 -- each plan unfolds to its document, where only indices of 32 bits lead to types and to ids
-pub document-unfolds : (w : World) → IsBelow (2 ^ 32) w → (p : Plan) → Unfolds w p (document_of w p)
+pub document-unfolds : (w : PrintInputs) → IsBelow (2 ^ 32) w → (p : Plan) → Unfolds w p (document_of w p)
 unfolding document_of
 document-unfolds w below p = document-by (2 ^ 32) w below p
 
 -- what printing a plan does is what printing its document does
-pub document-runs : (w : World) → IsBelow (2 ^ 32) w → (p : Plan) (failed : Parts) (r : Run) → Runs w p failed r → run (document_of w p) failed ≡ r
+pub document-runs : (w : PrintInputs) → IsBelow (2 ^ 32) w → (p : Plan) (failed : Parts) (r : Run) → Runs w p failed r → run (document_of w p) failed ≡ r
 document-runs w below p failed r runs = runs (document_of w p) (document-unfolds w below p)

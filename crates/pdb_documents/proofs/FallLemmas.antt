@@ -6,10 +6,10 @@ use Rattle.std.specs.Ordering.{nat_cmp}
 use Rattle.pdb_documents.specs.Flags.{without_return_type}
 use Rattle.pdb_records.specs.declared.types.TypeData.{TypeData}
 use Rattle.pdb_records.specs.declared.types.TypeData.TheVariants.{Primitive, Class, MemberFunction, Procedure, Pointer, Array, Union, Enumeration, Enumerate, Modifier, ArgumentList, Other}
-use Rattle.pdb_types.specs.declared.unread.Part.{Part}
+use Rattle.pdb_types.specs.declared.read_error.Part.{Part}
 use Rattle.pdb_documents.specs.Wording.{comma}
 use Rattle.pdb_documents.specs.Attributes.{Attribute, attribute_of, with_target}
-use Rattle.pdb_documents.specs.Worlds.{World}
+use Rattle.pdb_documents.specs.PrintInputs.{PrintInputs}
 use Rattle.pdb_documents.specs.Plans.{Task, Index, OfType, MethodArguments, Chain, BehindModifier, Modified, Elements, Id, Plan, Later, circular, is_among, on_read, on_printed, opened, met_before}
 use Rattle.pdb_documents.specs.Ids.{id_by_kind}
 use Rattle.pdb_documents.specs.Rules.{chain_end, behind_modifier, behind_pointer, element, modified, by_kind, rule}
@@ -18,7 +18,7 @@ use Rattle.pdb_documents.proofs.IdLemmas.{id_by_kind-each}
 use Rattle.pdb_documents.proofs.RuleLemmas.{EachTask, IsBelow, Before, room, rank, on_read-each, on_printed-each, opened-each, opening-each, returned-each, types_between-each, method_arguments-each}
 
 -- the end of a chain of pointers
-pub chain_end-each : (n : ℕ) (w : World) (P : List ℕ → Task → Type 0) (attributes : List Attribute) (inside : List ℕ) (type : TypeData) → ((further : List ℕ) (task : Task) → room n further task ≤ free n inside → P further task) → EachTask P (chain_end w attributes inside type)
+pub chain_end-each : (n : ℕ) (w : PrintInputs) (P : List ℕ → Task → Type 0) (attributes : List Attribute) (inside : List ℕ) (type : TypeData) → ((further : List ℕ) (task : Task) → room n further task ≤ free n inside → P further task) → EachTask P (chain_end w attributes inside type)
 chain_end-each n w P attributes inside (MemberFunction m) each =
     (returned-each P inside m.is_constructor (Some m.return_type) (λ i. each inside (Index i) (omega arith)), (tt, (each inside (Index m.class_type.0) (omega arith), (tt, (tt, each inside (MethodArguments m false) (omega arith))))))
 chain_end-each n w P attributes inside (Procedure p) each =
@@ -35,7 +35,7 @@ chain_end-each n w P attributes inside (ArgumentList list) each = each inside (O
 chain_end-each n w P attributes inside (Other kind) each = each inside (OfType (Other kind)) (omega arith)
 
 -- what follows a modifier in a chain of pointers
-pub behind_modifier-each : (n : ℕ) (w : World) (P : List ℕ → Task → Type 0) (attributes : List Attribute) (inside : List ℕ) (type : TypeData) → ((further : List ℕ) (task : Task) → room n further task ≤ free n inside → P further task) → EachTask P (behind_modifier w attributes inside type)
+pub behind_modifier-each : (n : ℕ) (w : PrintInputs) (P : List ℕ → Task → Type 0) (attributes : List Attribute) (inside : List ℕ) (type : TypeData) → ((further : List ℕ) (task : Task) → room n further task ≤ free n inside → P further task) → EachTask P (behind_modifier w attributes inside type)
 behind_modifier-each n w P attributes inside (Pointer p) each = each inside (Chain (attribute_of p false ∷ attributes) p.underlying_type.0) (omega arith)
 behind_modifier-each n w P attributes inside (MemberFunction m) each = chain_end-each n w P attributes inside (MemberFunction m) each
 behind_modifier-each n w P attributes inside (Procedure p) each = chain_end-each n w P attributes inside (Procedure p) each
@@ -50,7 +50,7 @@ behind_modifier-each n w P attributes inside (ArgumentList list) each = each ins
 behind_modifier-each n w P attributes inside (Other kind) each = each inside (OfType (Other kind)) (omega arith)
 
 -- what follows a pointer in a chain of pointers
-pub behind_pointer-each : (n : ℕ) (w : World) (P : List ℕ → Task → Type 0) (attributes : List Attribute) (inside : List ℕ) (type : TypeData) → ((further : List ℕ) (task : Task) → room n further task ≤ free n inside → P further task) → EachTask P (behind_pointer w attributes inside type)
+pub behind_pointer-each : (n : ℕ) (w : PrintInputs) (P : List ℕ → Task → Type 0) (attributes : List Attribute) (inside : List ℕ) (type : TypeData) → ((further : List ℕ) (task : Task) → room n further task ≤ free n inside → P further task) → EachTask P (behind_pointer w attributes inside type)
 behind_pointer-each n w P attributes inside (Pointer p) each = each inside (Chain (attribute_of p false ∷ attributes) p.underlying_type.0) (omega arith)
 behind_pointer-each n w P attributes inside (Modifier m) each = each inside (BehindModifier (with_target m.constant attributes) m.underlying_type.0) (omega arith)
 behind_pointer-each n w P attributes inside (MemberFunction m) each = chain_end-each n w P attributes inside (MemberFunction m) each
@@ -65,7 +65,7 @@ behind_pointer-each n w P attributes inside (ArgumentList list) each = each insi
 behind_pointer-each n w P attributes inside (Other kind) each = each inside (OfType (Other kind)) (omega arith)
 
 -- the target of a modifier
-pub modified-each : (n : ℕ) (w : World) (P : List ℕ → Task → Type 0) (constant : Bool) (inside : List ℕ) (type : TypeData) → ((task : Task) → room n inside task ≤ free n inside → P inside task) → EachTask P (modified w constant inside type)
+pub modified-each : (n : ℕ) (w : PrintInputs) (P : List ℕ → Task → Type 0) (constant : Bool) (inside : List ℕ) (type : TypeData) → ((task : Task) → room n inside task ≤ free n inside → P inside task) → EachTask P (modified w constant inside type)
 modified-each n w P constant inside (Pointer p) each = each (Chain (attribute_of p constant ∷ []) p.underlying_type.0) (omega arith)
 modified-each n w P constant inside (Primitive p) each = tt
 modified-each n w P constant inside (Class c) each = (tt, each (OfType (Class c)) (omega arith))
@@ -85,7 +85,7 @@ met_before-each P None plan each = each
 met_before-each P (Some part) plan each = (tt, each)
 
 -- an element of an array
-pub element-each : (n : ℕ) (w : World) (P : List ℕ → Task → Type 0) (inside elements levels : List ℕ) (index : ℕ) (type : TypeData) → ((task : Task) → room n inside task ≤ free n inside → rank n task < 2 + free n elements → P inside task) → free n (insert_key nat_cmp elements index) < free n elements → EachTask P (element w inside elements levels index type)
+pub element-each : (n : ℕ) (w : PrintInputs) (P : List ℕ → Task → Type 0) (inside elements levels : List ℕ) (index : ℕ) (type : TypeData) → ((task : Task) → room n inside task ≤ free n inside → rank n task < 2 + free n elements → P inside task) → free n (insert_key nat_cmp elements index) < free n elements → EachTask P (element w inside elements levels index type)
 element-each n w P inside elements levels index (Array a) each less = each (Elements (insert_key nat_cmp elements index) (levels ++ a.first ∷ []) a.element_type.0) (omega arith) (omega arith)
 element-each n w P inside elements levels index (Primitive p) each less = met_before-each P (w.size index).met _ (each (OfType (Primitive p)) (omega arith) (omega arith), tt)
 element-each n w P inside elements levels index (Class c) each less = met_before-each P (w.size index).met _ (each (OfType (Class c)) (omega arith) (omega arith), tt)
@@ -100,7 +100,7 @@ element-each n w P inside elements levels index (ArgumentList list) each less = 
 element-each n w P inside elements levels index (Other kind) each less = met_before-each P (w.size index).met _ (each (OfType (Other kind)) (omega arith) (omega arith), tt)
 
 -- a type, by its kind
-pub by_kind-each : (n : ℕ) (w : World) (inside : List ℕ) (type : TypeData) → EachTask (Before n inside (OfType type)) (by_kind w inside type)
+pub by_kind-each : (n : ℕ) (w : PrintInputs) (inside : List ℕ) (type : TypeData) → EachTask (Before n inside (OfType type)) (by_kind w inside type)
 by_kind-each n w inside (Primitive p) = tt
 by_kind-each n w inside (Class c) = tt
 by_kind-each n w inside (Union u) = tt
@@ -117,7 +117,7 @@ by_kind-each n w inside (Modifier m) = inr (omega arith, omega arith)
 by_kind-each n w inside (Other kind) = tt
 
 -- each rule leaves only tasks that come before its own
-pub rule-each : (n : ℕ) (w : World) → IsBelow n w → (inside : List ℕ) (task : Task) → EachTask (Before n inside task) (rule w inside task)
+pub rule-each : (n : ℕ) (w : PrintInputs) → IsBelow n w → (inside : List ℕ) (task : Task) → EachTask (Before n inside task) (rule w inside task)
 rule-each n w below inside (Index i) =
     on_printed-each (Before n inside (Index i)) (w.read i) (λ type. opened inside i (Later (i ∷ inside) (OfType type))) (λ type found. opened-each (Before n inside (Index i)) inside i (Later (i ∷ inside) (OfType type)) (λ absent. inl (free_lt n i inside (below.types i type found) absent)))
 rule-each n w below inside (OfType type) = by_kind-each n w inside type

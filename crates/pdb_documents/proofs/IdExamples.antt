@@ -13,17 +13,17 @@ use Rattle.pdb_records.specs.declared.types.TypeData.{TypeData}
 use Rattle.pdb_records.specs.declared.types.TypeData.TheVariants.{ArgumentList}
 use Rattle.pdb_records.specs.declared.types.PrimitiveKind.TheVariants.{RChar, I32}
 use Rattle.pdb_types.specs.declared.error.Error.TheVariants.{CircularTypeDefinition, PdbError, FunctionIdIsNotProcedureType, MemberFunctionIdIsNotMemberFunctionType}
-use Rattle.pdb_types.specs.declared.unread.Part.TheVariants.{Imports}
+use Rattle.pdb_types.specs.declared.read_error.Part.TheVariants.{Imports}
 use Rattle.pdb_types.specs.Errors.{Plain}
 use Rattle.pdb_types.specs.FailedParts.{with_part}
 use Rattle.pdb_types.specs.TypeSizes.{type_size}
-use Rattle.pdb_documents.specs.Documents.{Failure, Run, Told}
+use Rattle.pdb_documents.specs.Documents.{Failure, Run, OfError}
 use Rattle.pdb_documents.specs.Documents as document
 use Rattle.pdb_documents.specs.Ids.{id_of_index}
-use Rattle.pdb_documents.specs.Worlds.{World, world_of, type_at, id_at}
+use Rattle.pdb_documents.specs.PrintInputs.{PrintInputs, print_inputs_of, type_at, id_at}
 use Rattle.pdb_documents.specs.Unfolding.{Runs}
 use Rattle.pdb_documents.proofs.Expansion.{run-expanded, run-each}
-use Rattle.pdb_documents.proofs.SignatureExamples.{none_failed, at, entry, plain, pointer_to, constant_of, struct, function_of, method_of, linked}
+use Rattle.pdb_documents.proofs.SignatureExamples.{none_failed, at, entry, plain, pointer_to, constant_of, struct, function_of, method_of, link_inputs}
 
 -- the id with this number
 abbrev pub id_at_number : ℕ → IdIndex
@@ -61,23 +61,23 @@ types struct_name =
     ∷ []
 
 -- a program with these types and ids, printed with these flags
-abbrev pub program : ℕ → List ℕ → List (Item IdIndex IdData) → World
-program chosen struct_name items = world_of linked (record { items = types struct_name; fault = None }) (record { items = items; fault = None }) 8 (record { 0 = chosen }) 0
+abbrev pub program : ℕ → List ℕ → List (Item IdIndex IdData) → PrintInputs
+program chosen struct_name items = print_inputs_of link_inputs (record { items = types struct_name; fault = None }) (record { items = items; fault = None }) 8 (record { 0 = chosen }) 0
 
 -- printing the id of this number does this
-pub record PrintingDoes (w : World) (number : ℕ) (r : Run) : Type 0 where
+pub record PrintingDoes (w : PrintInputs) (number : ℕ) (r : Run) : Type 0 where
   pub always : Runs w (id_of_index number) none_failed r
 
 -- the same, by a document of at most this depth
-pub printing-does : {w : World} {number : ℕ} {r : Run} → run-expanded w 12 (id_of_index number) none_failed ≡ Some r → PrintingDoes w number r
+pub printing-does : {w : PrintInputs} {number : ℕ} {r : Run} → run-expanded w 12 (id_of_index number) none_failed ≡ Some r → PrintingDoes w number r
 printing-does {w} {number} {r} is = record { always = run-each w 12 (id_of_index number) none_failed r is }
 
 -- the id 0x1001 is printed as this text
-abbrev pub Prints : World → List ℕ → Type 0
+abbrev pub Prints : PrintInputs → List ℕ → Type 0
 Prints w text = PrintingDoes w 0x1001 (record { text = text; fault = None; failed = none_failed })
 
 -- the id 0x1001 is printed as far as this text, and then printing fails
-abbrev pub Fails : World → List ℕ → Failure → Type 0
+abbrev pub Fails : PrintInputs → List ℕ → Failure → Type 0
 Fails w text failure = PrintingDoes w 0x1001 (record { text = text; fault = Some failure; failed = none_failed })
 
 -- a function in no scope
@@ -131,17 +131,17 @@ unfolding type_at id_at type_size digits
 texts = printing-does refl
 
 -- two functions that are each other's scopes
-pub circular_scopes : (g h : List ℕ) → Fails (program 23 [] (id_entry 0x1001 (function_in (Some (id_at_number 0x1002)) g) ∷ id_entry 0x1002 (function_in (Some (id_at_number 0x1001)) h) ∷ [])) [] (Told (Plain (CircularTypeDefinition 0x1001)))
+pub circular_scopes : (g h : List ℕ) → Fails (program 23 [] (id_entry 0x1001 (function_in (Some (id_at_number 0x1002)) g) ∷ id_entry 0x1002 (function_in (Some (id_at_number 0x1001)) h) ∷ [])) [] (OfError (Plain (CircularTypeDefinition 0x1001)))
 unfolding type_at id_at type_size digits
 circular_scopes g h = printing-does refl
 
 -- a function whose type is a struct
-pub function_of_struct : (g : List ℕ) → Fails (program 23 [] (id_entry 0x1001 (id.Function (record { scope = None; function_type = at 0x1003; name = g })) ∷ [])) [] (Told (Plain FunctionIdIsNotProcedureType))
+pub function_of_struct : (g : List ℕ) → Fails (program 23 [] (id_entry 0x1001 (id.Function (record { scope = None; function_type = at 0x1003; name = g })) ∷ [])) [] (OfError (Plain FunctionIdIsNotProcedureType))
 unfolding type_at id_at type_size digits
 function_of_struct g = printing-does refl
 
 -- a method whose type is a procedure
-pub method_of_procedure : (get : List ℕ) → Fails (program 23 [] (id_entry 0x1001 (method_by 0x1000 get) ∷ [])) [] (Told (Plain MemberFunctionIdIsNotMemberFunctionType))
+pub method_of_procedure : (get : List ℕ) → Fails (program 23 [] (id_entry 0x1001 (method_by 0x1000 get) ∷ [])) [] (OfError (Plain MemberFunctionIdIsNotMemberFunctionType))
 unfolding type_at id_at type_size digits
 method_of_procedure get = printing-does refl
 
@@ -151,6 +151,6 @@ unfolding type_at id_at type_size digits
 function_of_missing_type g = printing-does refl
 
 -- an id of another module, where the imports are broken
-pub broken_imports : PrintingDoes (program 23 [] []) 0x8000_0000 (record { text = []; fault = Some (Told (Plain (PdbError (Stream (record { 0 = 9 }))))); failed = with_part none_failed (Imports 0) })
+pub broken_imports : PrintingDoes (program 23 [] []) 0x8000_0000 (record { text = []; fault = Some (OfError (Plain (PdbError (Stream (record { 0 = 9 }))))); failed = with_part none_failed (Imports 0) })
 unfolding type_at id_at type_size digits
 broken_imports = printing-does refl

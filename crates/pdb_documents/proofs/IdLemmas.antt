@@ -14,17 +14,17 @@ use Rattle.pdb_documents.specs.Flags.{without_return_type, without_arguments}
 use Rattle.pdb_documents.specs.Functions.{function_arguments}
 use Rattle.pdb_documents.specs.Ids.{method_id, scope, function_id, id_by_kind}
 use Rattle.pdb_documents.specs.Plans.{Task, Index, MethodArguments, Id, Later, ◌▸◌, written}
-use Rattle.pdb_documents.specs.Worlds.{World}
+use Rattle.pdb_documents.specs.PrintInputs.{PrintInputs}
 use Rattle.pdb_documents.proofs.FreeLemmas.{free_at_most}
 use Rattle.pdb_documents.proofs.RuleLemmas.{EachTask, room, on_read-each, returned-each, types_between-each}
 
 -- a function's arguments
-function_arguments-each : (P : List ℕ → Task → Type 0) (w : World) (inside : List ℕ) (list : TypeIndex) → P inside (Index list.0) → EachTask P (function_arguments w inside list)
+function_arguments-each : (P : List ℕ → Task → Type 0) (w : PrintInputs) (inside : List ℕ) (list : TypeIndex) → P inside (Index list.0) → EachTask P (function_arguments w inside list)
 function_arguments-each P w inside list each =
     elim (without_arguments w.flags) as (λ b. EachTask P (cond b (written []) (written (codes "(") ▸ Later inside (Index list.0) ▸ written (codes ")")))) [ true ↦ tt | false ↦ (tt, (each, tt)) ]
 
 -- a function of a class
-method_id-each : (P : List ℕ → Task → Type 0) (w : World) (method : MemberFunctionId) (inside : List ℕ) (type : TypeData) → ((i : ℕ) → P inside (Index i)) → ((m : MemberFunctionType) → P inside (MethodArguments m true)) → EachTask P (method_id w method inside type)
+method_id-each : (P : List ℕ → Task → Type 0) (w : PrintInputs) (method : MemberFunctionId) (inside : List ℕ) (type : TypeData) → ((i : ℕ) → P inside (Index i)) → ((m : MemberFunctionType) → P inside (MethodArguments m true)) → EachTask P (method_id w method inside type)
 method_id-each P w method inside (Primitive p) index arguments = tt
 method_id-each P w method inside (Class c) index arguments = tt
 method_id-each P w method inside (MemberFunction m) index arguments =
@@ -45,7 +45,7 @@ scope-each P met inside None each = tt
 scope-each P met inside (Some index) each = (each index.0, tt)
 
 -- a function of no class
-function_id-each : (P : List ℕ → Task → Type 0) (w : World) (met : List ℕ) (function : FunctionId) (inside : List ℕ) (type : TypeData) → ((i : ℕ) → P inside (Index i)) → ((i : ℕ) → P inside (Id met i)) → EachTask P (function_id w met function inside type)
+function_id-each : (P : List ℕ → Task → Type 0) (w : PrintInputs) (met : List ℕ) (function : FunctionId) (inside : List ℕ) (type : TypeData) → ((i : ℕ) → P inside (Index i)) → ((i : ℕ) → P inside (Id met i)) → EachTask P (function_id w met function inside type)
 function_id-each P w met function inside (Primitive p) index id = tt
 function_id-each P w met function inside (Class c) index id = tt
 function_id-each P w met function inside (MemberFunction m) index id = tt
@@ -61,7 +61,7 @@ function_id-each P w met function inside (ArgumentList list) index id = tt
 function_id-each P w met function inside (Other kind) index id = tt
 
 -- an id, by its kind: it leaves types with the room that they have, and its scope, of which these ids were met
-pub id_by_kind-each : (n : ℕ) (w : World) (P : List ℕ → Task → Type 0) (met : List ℕ) (content : IdData) → ((further : List ℕ) (task : Task) → room n further task ≤ n → P further task) → ((further : List ℕ) (i : ℕ) → P further (Id met i)) → EachTask P (id_by_kind w met content)
+pub id_by_kind-each : (n : ℕ) (w : PrintInputs) (P : List ℕ → Task → Type 0) (met : List ℕ) (content : IdData) → ((further : List ℕ) (task : Task) → room n further task ≤ n → P further task) → ((further : List ℕ) (i : ℕ) → P further (Id met i)) → EachTask P (id_by_kind w met content)
 id_by_kind-each n w P met (id.MemberFunction method) type scope =
     let inside = method.function_type.0 ∷ [] in
     on_read-each P (w.read method.function_type.0) (method_id w method inside) (λ found is. method_id-each P w method inside found (λ i. type inside (Index i) (free_at_most n inside)) (λ m. type inside (MethodArguments m true) (free_at_most n inside)))

@@ -7,13 +7,13 @@ use Rattle.std.specs.Ordering.{ordering_reverse}
 use Rattle.std.specs.declared.cmp.Ordering.{Ordering}
 use Rattle.std.specs.declared.cmp.Ordering.TheVariants.{Less, Equal, Greater}
 use Rattle.std.proofs.lemmas.Cmp.{ranked, nat_cmp_total}
-use Rattle.pdb_types.specs.declared.unread.Part.{Part}
-use Rattle.pdb_types.specs.declared.unread.Part.TheVariants.{Imports, Exports}
+use Rattle.pdb_types.specs.declared.read_error.Part.{Part}
+use Rattle.pdb_types.specs.declared.read_error.Part.TheVariants.{Imports, Exports}
 use Rattle.pdb_types.specs.FailedParts.{Parts, part_cmp, with_part}
 use Rattle.pdb_documents.specs.BrokenParts.{with_parts, AddsBroken, Settled}
-use Rattle.pdb_documents.specs.Documents.{Failure, TypeNotFound, Told, Document, Text, Seq, Buffered, Catch, Fail, Ask, Met, Run, run, then_by, buffered_by, caught_by}
+use Rattle.pdb_documents.specs.Documents.{Failure, TypeNotFound, OfError, Document, Text, Seq, Buffered, Catch, Fail, Ask, Met, Run, run, then_by, buffered_by, caught_by}
 use Rattle.pdb_documents.specs.Printed.{AlikeFault}
-use Rattle.pdb_documents.specs.Worlds.{World}
+use Rattle.pdb_documents.specs.PrintInputs.{PrintInputs}
 use Rattle.pdb_documents.proofs.AlikeLemmas.{alike-runs}
 
 -- ---- the order of parts
@@ -135,9 +135,9 @@ met-then None None first second old ps qs alike is next = next first.failed ∙ 
 met-then (Some f) (Some g) first second old ps qs alike is next = is
 met-then None (Some g) first second old ps qs alike is next = absurd alike
 met-then (Some (TypeNotFound i)) None first second old ps qs alike is next = absurd alike
-met-then (Some (Told e)) None first second old ps qs alike is next = absurd alike
+met-then (Some (OfError e)) None first second old ps qs alike is next = absurd alike
 
--- a text that is kept back
+-- a text that is held back
 met-buffered : (f : Option Failure) (a : Run) (u v : List ℕ) → (buffered_by f a u v).failed ≡ a.failed
 met-buffered None a u v = refl
 met-buffered (Some e) a u v = refl
@@ -146,7 +146,7 @@ met-buffered (Some e) a u v = refl
 met-caught : (f : Option Failure) (a : Run) → (caught_by f a).failed ≡ a.failed
 met-caught None a = refl
 met-caught (Some (TypeNotFound i)) a = refl
-met-caught (Some (Told e)) a = refl
+met-caught (Some (OfError e)) a = refl
 
 -- printing a document adds the parts that it meets
 run-met : (d : Document) (failed : Parts) → (run d failed).failed ≡ with_parts failed (met d)
@@ -178,7 +178,7 @@ pub settled-with_part : (d : Document) (failed : Parts) (p : Part) → Settled (
 settled-with_part d failed p settled = settled-more d failed (p ∷ []) settled
 
 -- nor after broken ones were met
-pub settled-broken : (w : World) (d : Document) (old new : Parts) → AddsBroken w old new → Settled (run d) old → Settled (run d) new
+pub settled-broken : (w : PrintInputs) (d : Document) (old new : Parts) → AddsBroken w old new → Settled (run d) old → Settled (run d) new
 settled-broken w d old new adds settled = rw adds.is (settled-more d old adds.added settled)
 
 -- a run that is like one without a failure, and adds no part

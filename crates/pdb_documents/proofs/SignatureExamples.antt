@@ -17,11 +17,11 @@ use Rattle.pdb_records.specs.declared.types.TypeData.TheVariants.{Primitive, Cla
 use Rattle.pdb_types.specs.declared.error.Error.TheVariants.{CircularTypeDefinition, PdbError, ModuleImportsUnsuccessful, ArgumentTypeNotArgumentList}
 use Rattle.pdb_types.specs.FailedParts.{Parts, with_part}
 use Rattle.pdb_types.specs.TypeSizes.{type_size}
-use Rattle.pdb_types.specs.declared.unread.Part.TheVariants.{Imports}
-use Rattle.pdb_types.specs.Errors.{ToldError, Plain}
-use Rattle.pdb_types.specs.Standing.{Linked}
-use Rattle.pdb_documents.specs.Documents.{Run, Told}
-use Rattle.pdb_documents.specs.Worlds.{World, world_of, type_at}
+use Rattle.pdb_types.specs.declared.read_error.Part.TheVariants.{Imports}
+use Rattle.pdb_types.specs.Errors.{ErrorView, Plain}
+use Rattle.pdb_types.specs.TypeInputs.{LinkInputs}
+use Rattle.pdb_documents.specs.Documents.{Run, OfError}
+use Rattle.pdb_documents.specs.PrintInputs.{PrintInputs, print_inputs_of, type_at}
 use Rattle.pdb_documents.specs.Unfolding.{Runs}
 use Rattle.pdb_documents.specs.Signatures.{signature}
 use Rattle.pdb_documents.proofs.Expansion.{run-expanded, run-each}
@@ -83,28 +83,28 @@ abbrev pub method : Option TypeIndex → List TypeIndex → List (Item TypeIndex
 method this list others = entry 0x1000 (method_of this 0x1001) ∷ entry 0x1001 (ArgumentList list) ∷ others
 
 -- one module, whose records can't be read, and no texts
-abbrev pub linked : Linked
-linked = record { info = λ position m. Err (record { 0 = 9 }); modules = record { name = codes "a.obj" } ∷ []; strings = Some [] }
+abbrev pub link_inputs : LinkInputs
+link_inputs = record { info = λ module_index m. Err (record { 0 = 9 }); modules = record { name = codes "a.obj" } ∷ []; strings = Some [] }
 
 -- a program with these types, printed with these flags
-abbrev pub program : ℕ → List (Item TypeIndex TypeData) → World
-program chosen items = world_of linked (record { items = items; fault = None }) (record { items = []; fault = None }) 8 (record { 0 = chosen }) 0
+abbrev pub program : ℕ → List (Item TypeIndex TypeData) → PrintInputs
+program chosen items = print_inputs_of link_inputs (record { items = items; fault = None }) (record { items = []; fault = None }) 8 (record { 0 = chosen }) 0
 
 -- printing the signature of a function with this name and type does this
-pub record PrintingDoes (w : World) (name : List ℕ) (index : ℕ) (failed : Parts) (r : Run) : Type 0 where
+pub record PrintingDoes (w : PrintInputs) (name : List ℕ) (index : ℕ) (failed : Parts) (r : Run) : Type 0 where
   pub always : Runs w (signature w name index) failed r
 
 -- the same, by a document of at most this depth
-pub printing-does : {w : World} {name : List ℕ} {index : ℕ} {failed : Parts} {r : Run} → run-expanded w 12 (signature w name index) failed ≡ Some r → PrintingDoes w name index failed r
+pub printing-does : {w : PrintInputs} {name : List ℕ} {index : ℕ} {failed : Parts} {r : Run} → run-expanded w 12 (signature w name index) failed ≡ Some r → PrintingDoes w name index failed r
 printing-does {w} {name} {index} {failed} {r} is = record { always = run-each w 12 (signature w name index) failed r is }
 
 -- the signature of the type 0x1000 is printed as this text
-abbrev pub Prints : World → List ℕ → List ℕ → Type 0
+abbrev pub Prints : PrintInputs → List ℕ → List ℕ → Type 0
 Prints w name text = PrintingDoes w name 0x1000 none_failed (record { text = text; fault = None; failed = none_failed })
 
 -- the signature of the type 0x1000 is printed as far as this text, and then there is this error
-abbrev pub Fails : World → List ℕ → List ℕ → ToldError → Type 0
-Fails w name text e = PrintingDoes w name 0x1000 none_failed (record { text = text; fault = Some (Told e); failed = none_failed })
+abbrev pub Fails : PrintInputs → List ℕ → List ℕ → ErrorView → Type 0
+Fails w name text e = PrintingDoes w name 0x1000 none_failed (record { text = text; fault = Some (OfError e); failed = none_failed })
 
 -- a pointer to constant characters, and a number
 pub text_and_number : Prints (program 23 (taking (at 0x1002 ∷ at 0x1005 ∷ []) (entry 0x1002 (pointer_to 0x1003) ∷ entry 0x1003 (constant_of 0x1004) ∷ entry 0x1004 (plain RChar) ∷ entry 0x1005 (plain I32) ∷ []))) (codes "f") (codes "f(char const*, int)")
@@ -269,12 +269,12 @@ pub no_function : Prints (program 23 (entry 0x1000 (plain I32) ∷ [])) [] []
 unfolding type_at type_size digits
 no_function = printing-does refl
 
--- a type of another module, where the imports are broken: the first time they tell their own error
-pub broken_imports : PrintingDoes (program 23 []) (codes "f") 0x8000_0000 none_failed (record { text = []; fault = Some (Told (Plain (PdbError (Stream (record { 0 = 9 }))))); failed = with_part none_failed (Imports 0) })
+-- a type of another module, where the imports are broken: the first time they answer their own error
+pub broken_imports : PrintingDoes (program 23 []) (codes "f") 0x8000_0000 none_failed (record { text = []; fault = Some (OfError (Plain (PdbError (Stream (record { 0 = 9 }))))); failed = with_part none_failed (Imports 0) })
 unfolding type_at type_size digits
 broken_imports = printing-does refl
 
 -- the same where they failed before
-pub imports_failed_before : PrintingDoes (program 23 []) (codes "f") 0x8000_0000 (with_part none_failed (Imports 0)) (record { text = []; fault = Some (Told (Plain ModuleImportsUnsuccessful)); failed = with_part (with_part none_failed (Imports 0)) (Imports 0) })
+pub imports_failed_before : PrintingDoes (program 23 []) (codes "f") 0x8000_0000 (with_part none_failed (Imports 0)) (record { text = []; fault = Some (OfError (Plain ModuleImportsUnsuccessful)); failed = with_part (with_part none_failed (Imports 0)) (Imports 0) })
 unfolding type_at type_size digits
 imports_failed_before = printing-does refl

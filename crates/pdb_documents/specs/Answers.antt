@@ -4,16 +4,16 @@ use Rattle.std.specs.Prelude.{Result, Ok, Err, option_map, String, string_bytes}
 use Rattle.std.specs.Global.{Global}
 use Rattle.pdb_types.specs.declared.error.Error.{Error}
 use Rattle.pdb_types.specs.declared.error.Error.TheVariants.{OutOfMemory, FormatError}
-use Rattle.pdb_types.specs.Errors.{told}
+use Rattle.pdb_types.specs.Errors.{error_view}
 use Rattle.pdb_types.specs.FailedParts.{Parts}
 use Rattle.pdb_documents.specs.Documents.{Run, failure_error}
 
 -- a run fails with this error, and these parts have failed by then
 pub record FailsWith (r : Run) (e : Error) (after : Parts) : Type 0 where
-  pub error : option_map failure_error r.fault ≡ Some (told e)
+  pub error : option_map failure_error r.fault ≡ Some (error_view e)
   pub failed : r.failed ≡ after
 
--- a text, or an error in its place, is what a run gives, but for want of memory
+-- a text, or an error in its place, is what a run gives, except where memory runs out
 abbrev pub AnswersText : Run → Result (String Global) Error → Parts → Type 0
 AnswersText r (Ok text) failed = r ≡ record { text = string_bytes text; fault = None; failed = failed }
 AnswersText r (Err e) failed = e ≢ OutOfMemory → FailsWith r e failed
@@ -24,9 +24,9 @@ is_format_error (FormatError e) = true
 is_format_error other = false
 
 -- there was no memory
-abbrev pub is_want_of_memory : Error → Bool
-is_want_of_memory OutOfMemory = true
-is_want_of_memory other = false
+abbrev pub ran_out_of_memory : Error → Bool
+ran_out_of_memory OutOfMemory = true
+ran_out_of_memory other = false
 
 -- what was written before an error: all that the run printed, or nothing where memory ran out; of what a writer that
 -- refuses had taken nothing is said

@@ -1,14 +1,14 @@
 -- The parts of the records that printing meets broken.
 use Rattle.std.specs.Prelude.{◌≡◌, ◌⊎◌, ℕ, List, [], ◌∷◌, Some, Result, Ok, Err}
 use Rattle.std.specs.List.{AllByRecursion}
-use Rattle.pdb_types.specs.declared.unread.Part.{Part}
+use Rattle.pdb_types.specs.declared.read_error.Part.{Part}
 use Rattle.pdb_types.specs.FailedParts.{Parts, with_part}
-use Rattle.pdb_types.specs.Unread.{Trouble, Missing, Unimplemented, Refused, Broken}
+use Rattle.pdb_types.specs.ReadError.{ReadErrorView, Missing, Unimplemented, Refused, Broken}
 use Rattle.pdb_documents.specs.Documents.{Run}
-use Rattle.pdb_documents.specs.Worlds.{World}
+use Rattle.pdb_documents.specs.PrintInputs.{PrintInputs}
 
 -- reading something meets this part broken
-abbrev pub MeetsBroken : {A : Type 0} → Result A Trouble → Part → Type 0
+abbrev pub MeetsBroken : {A : Type 0} → Result A ReadErrorView → Part → Type 0
 MeetsBroken (Ok answer) part = ⊥
 MeetsBroken (Err (Missing index)) part = ⊥
 MeetsBroken (Err (Unimplemented kind)) part = ⊥
@@ -16,7 +16,7 @@ MeetsBroken (Err (Refused e)) part = ⊥
 MeetsBroken (Err (Broken met e)) part = met ≡ part
 
 -- a part is broken: the type of some index can't be read for it, or its size, or the id of some index
-abbrev pub IsBroken : World → Part → Type 0
+abbrev pub IsBroken : PrintInputs → Part → Type 0
 IsBroken w part = (index : ℕ)
     × (MeetsBroken (w.read index) part ⊎ ((w.size index).met ≡ Some part) ⊎ MeetsBroken (w.read_id index) part)
 
@@ -26,7 +26,7 @@ with_parts failed [] = failed
 with_parts failed (part ∷ parts) = with_parts (with_part failed part) parts
 
 -- the parts that failed are those from before and broken ones
-pub record AddsBroken (w : World) (old new : Parts) : Type 0 where
+pub record AddsBroken (w : PrintInputs) (old new : Parts) : Type 0 where
   pub added : List Part
   pub broken : AllByRecursion (IsBroken w) added
   pub is : new ≡ with_parts old added

@@ -3,20 +3,20 @@ use Rattle.std.specs.Prelude.{ℕ, ◌==◌, ◌-◌, ◌||◌, ◌++◌, Bool, 
 use Rattle.std.specs.Prelude.{Option, Some, None, length, slice_get, if◌then◌else◌}
 use Rattle.pdb_records.specs.declared.error.Error.TheVariants as records
 use Rattle.pdb_types.specs.declared.error.Error.TheVariants.{PdbError}
-use Rattle.pdb_types.specs.declared.unread.Part.{Part}
-use Rattle.pdb_types.specs.Errors.{ToldError, Plain}
+use Rattle.pdb_types.specs.declared.read_error.Part.{Part}
+use Rattle.pdb_types.specs.Errors.{ErrorView, Plain}
 use Rattle.pdb_types.specs.FailedParts.{Parts, with_part, part_error}
 use Rattle.pdb_documents.specs.Wording.{missing_text}
 
 -- why printing fails: no type has this number, which a note may stand for, or another error
 pub data Failure : Type 0 where
   TypeNotFound : ℕ → Failure
-  Told : ToldError → Failure
+  OfError : ErrorView → Failure
 
--- the error that a failure is told by
-abbrev pub failure_error : Failure → ToldError
+-- the error that a failure is answered by
+abbrev pub failure_error : Failure → ErrorView
 failure_error (TypeNotFound index) = Plain (PdbError (records.TypeNotFound index))
-failure_error (Told e) = e
+failure_error (OfError e) = e
 
 -- what is to be printed
 pub data Document : Type 0 where
@@ -31,8 +31,8 @@ pub data Document : Type 0 where
   Catch : Document → Document
   -- nothing: this failure
   Fail : Failure → Document
-  -- nothing: this part of the records is broken, and tells this error where it is met for the first time
-  Ask : Part → ToldError → Document
+  -- nothing: this part of the records is broken, and answers this error where it is met for the first time
+  Ask : Part → ErrorView → Document
   -- nothing, and no error: this part of the records was met broken on the way
   Met : Part → Document
 
@@ -71,7 +71,7 @@ abbrev pub caught_by : Option Failure → Run → Run
 caught_by None inner = inner
 caught_by (Some (TypeNotFound index)) inner =
     record { text = inner.text ++ missing_text index; fault = None; failed = inner.failed }
-caught_by (Some (Told e)) inner = inner
+caught_by (Some (OfError e)) inner = inner
 
 -- what printing a document does, where these parts of the records failed before
 abbrev pub run : Document → Parts → Run
@@ -82,5 +82,5 @@ run (Buffered inner after_sigil after_other) failed =
 run (Catch inner) failed = caught_by (run inner failed).fault (run inner failed)
 run (Fail e) failed = record { text = []; fault = Some e; failed = failed }
 run (Ask part e) failed =
-    record { text = []; fault = Some (Told (part_error failed part e)); failed = with_part failed part }
+    record { text = []; fault = Some (OfError (part_error failed part e)); failed = with_part failed part }
 run (Met part) failed = record { text = []; fault = None; failed = with_part failed part }

@@ -3,7 +3,7 @@ use Rattle.std.specs.Prelude.{◌||◌, ℕ, Bool, List, [], ◌∷◌, Option, 
 use Rattle.pdb_records.specs.declared.types.TypeIndex.{TypeIndex}
 use Rattle.pdb_documents.specs.Flags.{without_return_type, without_arguments}
 use Rattle.pdb_documents.specs.Wording.{comma}
-use Rattle.pdb_documents.specs.Worlds.{World}
+use Rattle.pdb_documents.specs.PrintInputs.{PrintInputs}
 use Rattle.pdb_documents.specs.Plans.{Index, Plan, Later, ◌▸◌, written}
 
 -- the type that a function returns, with a space behind it: nothing where it is left out, or where there is none
@@ -14,7 +14,7 @@ returned inside left_out (Some index) =
 
 -- the same, for a function that is printed by itself: left out for a constructor, and where functions are printed
 -- without it
-abbrev pub returned_if_wanted : World → List ℕ → Bool → Option TypeIndex → Plan
+abbrev pub returned_if_wanted : PrintInputs → List ℕ → Bool → Option TypeIndex → Plan
 returned_if_wanted w inside constructor index = returned inside (constructor || without_return_type w.flags) index
 
 -- further types, each behind a separator
@@ -29,11 +29,11 @@ types_between separator inside [] = written []
 types_between separator inside (next ∷ rest) = Later inside (Index next.0) ▸ further_types separator inside rest
 
 -- a list of arguments, with commas between them
-abbrev pub list_of_arguments : World → List ℕ → List TypeIndex → Plan
+abbrev pub list_of_arguments : PrintInputs → List ℕ → List TypeIndex → Plan
 list_of_arguments w inside list = types_between (comma w.flags) inside list
 
 -- a function's arguments in parentheses, unless functions are printed without them
-abbrev pub function_arguments : World → List ℕ → TypeIndex → Plan
+abbrev pub function_arguments : PrintInputs → List ℕ → TypeIndex → Plan
 function_arguments w inside list =
     if without_arguments w.flags then written []
     else written (codes "(") ▸ Later inside (Index list.0) ▸ written (codes ")")

@@ -16,10 +16,10 @@ use Rattle.pdb_documents.specs.Functions.{returned_if_wanted, types_between, fun
 use Rattle.pdb_documents.specs.Namespaces.{namespace_text}
 use Rattle.pdb_documents.specs.Plans.{Index, Id, MethodArguments, Plan, Later, ◌▸◌, written, failing, on_read}
 use Rattle.pdb_documents.specs.Wording.{function_name, static_text, unhandled_scope_text}
-use Rattle.pdb_documents.specs.Worlds.{World}
+use Rattle.pdb_documents.specs.PrintInputs.{PrintInputs}
 
 -- a function of a class, by its type: what it returns, the class, its name and its arguments
-abbrev pub method_id : World → MemberFunctionId → List ℕ → TypeData → Plan
+abbrev pub method_id : PrintInputs → MemberFunctionId → List ℕ → TypeData → Plan
 method_id w method inside (MemberFunction m) =
     written (static_text w.flags m.this_pointer_type)
     ▸ returned_if_wanted w inside m.is_constructor (Some m.return_type)
@@ -36,7 +36,7 @@ scope met inside None = written []
 scope met inside (Some index) = Later inside (Id met index.0) ▸ written (codes "::")
 
 -- a function of no class, by its type: what it returns, its scope, its name and its arguments
-abbrev pub function_id : World → List ℕ → FunctionId → List ℕ → TypeData → Plan
+abbrev pub function_id : PrintInputs → List ℕ → FunctionId → List ℕ → TypeData → Plan
 function_id w met function inside (Procedure p) =
     returned_if_wanted w inside p.is_constructor p.return_type
     ▸ scope met inside function.scope
@@ -45,7 +45,7 @@ function_id w met function inside (Procedure p) =
 function_id w met function inside other = failing (Plain FunctionIdIsNotProcedureType)
 
 -- an id, by its kind; of the indices of types that of a function's type alone is open
-abbrev pub id_by_kind : World → List ℕ → IdData → Plan
+abbrev pub id_by_kind : PrintInputs → List ℕ → IdData → Plan
 id_by_kind w met (id.MemberFunction method) =
     on_read (w.read method.function_type.0) (method_id w method (method.function_type.0 ∷ []))
 id_by_kind w met (id.Function function) =

@@ -4,7 +4,7 @@ pub mod Wording
 pub mod Documents
 pub mod Primitives
 pub mod Attributes
-pub mod Worlds
+pub mod PrintInputs
 pub mod Plans
 pub mod Functions
 pub mod Methods

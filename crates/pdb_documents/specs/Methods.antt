@@ -8,11 +8,11 @@ use Rattle.pdb_records.specs.declared.types.TypeData.TheVariants.{Pointer, Modif
 use Rattle.pdb_types.specs.declared.error.Error.TheVariants.{ArgumentTypeNotArgumentList}
 use Rattle.pdb_types.specs.Errors.{Plain}
 use Rattle.pdb_types.specs.Outcomes.{and_then}
-use Rattle.pdb_types.specs.Unread.{Trouble}
+use Rattle.pdb_types.specs.ReadError.{ReadErrorView}
 use Rattle.pdb_documents.specs.declared.this.This.{This}
 use Rattle.pdb_documents.specs.Flags.{without_arguments}
 use Rattle.pdb_documents.specs.Functions.{list_of_arguments}
-use Rattle.pdb_documents.specs.Worlds.{World}
+use Rattle.pdb_documents.specs.PrintInputs.{PrintInputs}
 use Rattle.pdb_documents.specs.Plans.{Plan, ◌▸◌, written, failing, on_read, opening}
 
 -- a method's `this` that says nothing but that the method is constant or not
@@ -23,23 +23,23 @@ plain_this constant = record { constant = constant; argument = None }
 abbrev pub printed_this : TypeIndex → This
 printed_this this = record { constant = false; argument = Some this }
 
--- what the target of `this` tells: a modifier of the class says whether the method is constant. Else `this` is an
+-- what the target of `this` shows: a modifier of the class says whether the method is constant. Else `this` is an
 -- argument
 abbrev pub this_by_target : TypeIndex → TypeIndex → TypeData → This
 this_by_target class this (Modifier m) =
     if m.underlying_type.0 == class.0 then plain_this m.constant else printed_this this
 this_by_target class this other = printed_this this
 
--- what the type of `this` tells: with a pointer to the class the method is not constant. With another pointer its
+-- what the type of `this` shows: with a pointer to the class the method is not constant. With another pointer its
 -- target decides, and else `this` is an argument
-abbrev pub this_by_type : World → TypeIndex → TypeIndex → TypeData → Result This Trouble
+abbrev pub this_by_type : PrintInputs → TypeIndex → TypeIndex → TypeData → Result This ReadErrorView
 this_by_type w class this (Pointer p) =
     if p.underlying_type.0 == class.0 then Ok (plain_this false)
     else and_then (w.read p.underlying_type.0) (λ target. Ok (this_by_target class this target))
 this_by_type w class this other = Ok (printed_this this)
 
--- what a method's `this` tells, where there is one
-abbrev pub this_of : World → TypeIndex → Option TypeIndex → Result This Trouble
+-- what a method's `this` shows, where there is one
+abbrev pub this_of : PrintInputs → TypeIndex → Option TypeIndex → Result This ReadErrorView
 this_of w class None = Ok (plain_this false)
 this_of w class (Some this) = and_then (w.read this.0) (this_by_type w class this)
 
@@ -49,19 +49,19 @@ arguments_behind None list = list
 arguments_behind (Some this) list = this ∷ list
 
 -- a method's arguments in parentheses, and `const` behind them where the method is constant and that may be said
-abbrev pub method_list : World → List ℕ → Bool → List TypeIndex → This → Plan
+abbrev pub method_list : PrintInputs → List ℕ → Bool → List TypeIndex → This → Plan
 method_list w inside may_say_const list this =
     written (codes "(")
     ▸ list_of_arguments w inside (arguments_behind this.argument list)
     ▸ written (if this.constant && may_say_const then codes ") const" else codes ")")
 
 -- what follows the type of a method's list of arguments
-abbrev pub on_list : World → MemberFunctionType → Bool → List ℕ → TypeData → Plan
+abbrev pub on_list : PrintInputs → MemberFunctionType → Bool → List ℕ → TypeData → Plan
 on_list w m may_say_const inside (ArgumentList list) =
     on_read (this_of w m.class_type m.this_pointer_type) (method_list w inside may_say_const list)
 on_list w m may_say_const inside other = failing (Plain ArgumentTypeNotArgumentList)
 
 -- a method's arguments, unless functions are printed without them; then nothing is read
-abbrev pub method_arguments : World → List ℕ → MemberFunctionType → Bool → Plan
+abbrev pub method_arguments : PrintInputs → List ℕ → MemberFunctionType → Bool → Plan
 method_arguments w inside m may_say_const =
     if without_arguments w.flags then written [] else opening w inside m.argument_list.0 (on_list w m may_say_const)

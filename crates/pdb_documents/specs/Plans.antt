@@ -5,13 +5,13 @@ use Rattle.pdb_records.specs.declared.error.Error.TheVariants.{UnimplementedType
 use Rattle.pdb_records.specs.declared.types.MemberFunctionType.{MemberFunctionType}
 use Rattle.pdb_records.specs.declared.types.TypeData.{TypeData}
 use Rattle.pdb_types.specs.declared.error.Error.TheVariants.{PdbError, CircularTypeDefinition}
-use Rattle.pdb_types.specs.declared.unread.Part.{Part}
-use Rattle.pdb_types.specs.Errors.{ToldError, Plain}
-use Rattle.pdb_types.specs.Unread.{Trouble, Missing, Unimplemented, Refused, Broken}
-use Rattle.pdb_documents.specs.Documents.{Document, TypeNotFound, Told}
+use Rattle.pdb_types.specs.declared.read_error.Part.{Part}
+use Rattle.pdb_types.specs.Errors.{ErrorView, Plain}
+use Rattle.pdb_types.specs.ReadError.{ReadErrorView, Missing, Unimplemented, Refused, Broken}
+use Rattle.pdb_documents.specs.Documents.{Document, TypeNotFound, OfError}
 use Rattle.pdb_documents.specs.Documents as document
 use Rattle.pdb_documents.specs.Attributes.{Attribute}
-use Rattle.pdb_documents.specs.Worlds.{World}
+use Rattle.pdb_documents.specs.PrintInputs.{PrintInputs}
 use Rattle.pdb_documents.specs.Wording.{missing_text, unimplemented_text}
 
 -- what is still to be printed
@@ -42,7 +42,7 @@ pub data Plan : Type 0 where
   Later : List ℕ → Task → Plan
   -- one plan, and then another
   Seq : Plan → Plan → Plan
-  -- a plan whose text is kept back, and one of two texts behind it
+  -- a plan whose text is held back, and one of two texts behind it
   Buffered : Plan → List ℕ → List ℕ → Plan
   -- a plan, with a note where it fails for a type that is missing
   Catch : Plan → Plan
@@ -57,8 +57,8 @@ abbrev pub written : List ℕ → Plan
 written text = Done (document.Text text)
 
 -- this error
-abbrev pub failing : ToldError → Plan
-failing e = Done (document.Fail (Told e))
+abbrev pub failing : ErrorView → Plan
+failing e = Done (document.Fail (OfError e))
 
 -- an index that opens inside itself
 abbrev pub circular : ℕ → Plan
@@ -69,36 +69,36 @@ abbrev pub is_among : ℕ → List ℕ → Bool
 is_among index indices = list_any (λ other. index == other) indices
 
 -- why what is needed can't be read: that is the error
-abbrev pub refusal : Trouble → Document
+abbrev pub refusal : ReadErrorView → Document
 refusal (Missing index) = document.Fail (TypeNotFound index)
-refusal (Unimplemented kind) = document.Fail (Told (Plain (PdbError (UnimplementedTypeKind kind))))
-refusal (Refused e) = document.Fail (Told e)
+refusal (Unimplemented kind) = document.Fail (OfError (Plain (PdbError (UnimplementedTypeKind kind))))
+refusal (Refused e) = document.Fail (OfError e)
 refusal (Broken part e) = document.Ask part e
 
 -- why what is printed where it stands can't be read: a note of what is missing or of a kind that isn't known, else the
 -- error
-abbrev pub note_or_refusal : Trouble → Document
+abbrev pub note_or_refusal : ReadErrorView → Document
 note_or_refusal (Missing index) = document.Text (missing_text index)
 note_or_refusal (Unimplemented kind) = document.Text (unimplemented_text kind)
-note_or_refusal (Refused e) = document.Fail (Told e)
+note_or_refusal (Refused e) = document.Fail (OfError e)
 note_or_refusal (Broken part e) = document.Ask part e
 
 -- what follows what is needed
-abbrev pub on_read : {A : Type 0} → Result A Trouble → (A → Plan) → Plan
+abbrev pub on_read : {A : Type 0} → Result A ReadErrorView → (A → Plan) → Plan
 on_read (Ok answer) next = next answer
-on_read (Err trouble) next = Done (refusal trouble)
+on_read (Err read_error_view) next = Done (refusal read_error_view)
 
 -- what follows what is printed where it stands
-abbrev pub on_printed : {A : Type 0} → Result A Trouble → (A → Plan) → Plan
+abbrev pub on_printed : {A : Type 0} → Result A ReadErrorView → (A → Plan) → Plan
 on_printed (Ok answer) next = next answer
-on_printed (Err trouble) next = Done (note_or_refusal trouble)
+on_printed (Err read_error_view) next = Done (note_or_refusal read_error_view)
 
 -- an index opens: it may not be open already
 abbrev pub opened : List ℕ → ℕ → Plan → Plan
 opened inside index within = if is_among index inside then circular index else within
 
 -- an index opens, and its type is read and needed
-abbrev pub opening : World → List ℕ → ℕ → (List ℕ → TypeData → Plan) → Plan
+abbrev pub opening : PrintInputs → List ℕ → ℕ → (List ℕ → TypeData → Plan) → Plan
 opening w inside index next = opened inside index (on_read (w.read index) (next (index ∷ inside)))
 
 -- a part of the records that is met broken on the way, and then a plan

@@ -1,10 +1,10 @@
--- What printing does, as a function of what it stands on.
+-- What printing does, as a function of the print inputs.
 use Rattle.std.specs.Prelude.{◌≡◌, Option, Some, None, ℕ, zero, suc, ◌+◌, ◌*◌, ◌^◌, List, []}
 use Rattle.pdb_types.specs.FailedParts.{Parts}
-use Rattle.pdb_types.specs.Standing.{Basis, Infos}
-use Rattle.pdb_documents.specs.Documents.{Failure, TypeNotFound, Told, Document, Run, run}
+use Rattle.pdb_types.specs.TypeInputs.{TypeInputs, ProviderInfos}
+use Rattle.pdb_documents.specs.Documents.{Failure, TypeNotFound, OfError, Document, Run, run}
 use Rattle.pdb_documents.specs.Documents as document
-use Rattle.pdb_documents.specs.Worlds.{World, formatter_world}
+use Rattle.pdb_documents.specs.PrintInputs.{PrintInputs, formatter_inputs}
 use Rattle.pdb_documents.specs.Plans.{Task, Plan, Done, Later, Seq, Buffered, Catch}
 use Rattle.pdb_documents.specs.Ids.{id_of_index}
 use Rattle.pdb_documents.specs.Rules.{rule}
@@ -20,7 +20,7 @@ plan_document next (Buffered p after_sigil after_other) =
 plan_document next (Catch p) = document.Catch (plan_document next p)
 
 -- the document of a task, where rules lead to rules at most so many times
-unfoldable pub task_document : World → ℕ → List ℕ → Task → Document
+unfoldable pub task_document : PrintInputs → ℕ → List ℕ → Task → Document
 task_document w zero inside task = document.Text []
 task_document w (suc times) inside task = plan_document (task_document w times) (rule w inside task)
 
@@ -30,30 +30,30 @@ abbrev pub enough_for : ℕ → ℕ
 enough_for indices = (indices + 2) * (indices + 4)
 
 -- the document that a plan unfolds to: the one that the rules give, and no other, as the laws say
-unfoldable pub document_of : World → Plan → Document
+unfoldable pub document_of : PrintInputs → Plan → Document
 document_of w p = plan_document (task_document w (enough_for (2 ^ 32))) p
 
--- what printing the signature of a function does: its name, and the index of its type as the module at a position
+-- what printing the signature of a function does: its name, and the index of its type as the module at a module index
 -- writes it
-abbrev pub signature_run : {P : Type 0} → (P → Infos) → Basis P → ℕ → List ℕ → ℕ → Parts → Run
-signature_run info s position name index =
-    let w = formatter_world info s position in
+abbrev pub signature_run : {P : Type 0} → (P → ProviderInfos) → TypeInputs P → ℕ → List ℕ → ℕ → Parts → Run
+signature_run info s module_index name index =
+    let w = formatter_inputs info s module_index in
     run (document_of w (signature w name index))
 
--- what printing an id does: its index as the module at a position writes it
-abbrev pub id_run : {P : Type 0} → (P → Infos) → Basis P → ℕ → ℕ → Parts → Run
-id_run info s position index = run (document_of (formatter_world info s position) (id_of_index index))
+-- what printing an id does: its index as the module at a module index writes it
+abbrev pub id_run : {P : Type 0} → (P → ProviderInfos) → TypeInputs P → ℕ → ℕ → Parts → Run
+id_run info s module_index index = run (document_of (formatter_inputs info s module_index) (id_of_index index))
 
 -- printing succeeded or failed in two runs alike: with the same text, and for the same missing type or for another
 -- error in both
 abbrev pub AlikeFault : Option Failure → Option Failure → Type 0
 AlikeFault None None = Unit {0}
 AlikeFault (Some (TypeNotFound i)) (Some (TypeNotFound j)) = i ≡ j
-AlikeFault (Some (Told e)) (Some (Told e')) = Unit {0}
+AlikeFault (Some (OfError e)) (Some (OfError e')) = Unit {0}
 AlikeFault None (Some failure) = ⊥
 AlikeFault (Some failure) None = ⊥
-AlikeFault (Some (TypeNotFound i)) (Some (Told e)) = ⊥
-AlikeFault (Some (Told e)) (Some (TypeNotFound j)) = ⊥
+AlikeFault (Some (TypeNotFound i)) (Some (OfError e)) = ⊥
+AlikeFault (Some (OfError e)) (Some (TypeNotFound j)) = ⊥
 
 -- two runs write the same text, and both succeed or both fail
 pub record AlikeRuns (r s : Run) : Type 0 where

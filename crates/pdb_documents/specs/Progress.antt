@@ -8,7 +8,7 @@ use Rattle.pdb_records.specs.declared.error.Error.TheVariants as records
 use Rattle.pdb_types.specs.declared.error.Error.{Error}
 use Rattle.pdb_types.specs.declared.error.Error.TheVariants.{PdbError, CircularTypeDefinition}
 use Rattle.pdb_types.specs.declared.flags.TypeFormatterFlags.{TypeFormatterFlags}
-use Rattle.pdb_types.specs.Errors.{Plain, told}
+use Rattle.pdb_types.specs.Errors.{Plain, error_view}
 use Rattle.pdb_types.specs.FailedParts.{Parts}
 use Rattle.pdb_documents.specs.declared.failures.Failure as code
 use Rattle.pdb_documents.specs.declared.failures.Failure.TheVariants as code_failure
@@ -20,8 +20,8 @@ use Rattle.pdb_documents.specs.declared.progress.Next.{Next}
 use Rattle.pdb_documents.specs.declared.progress.Next.TheVariants as next
 use Rattle.pdb_documents.specs.Attributes.{attributes_text}
 use Rattle.pdb_documents.specs.Wording.{wording_text}
-use Rattle.pdb_documents.specs.Documents.{Failure, TypeNotFound, Told, Run, caught_by, ends_in_sigil}
-use Rattle.pdb_documents.specs.Worlds.{World}
+use Rattle.pdb_documents.specs.Documents.{Failure, TypeNotFound, OfError, Run, caught_by, ends_in_sigil}
+use Rattle.pdb_documents.specs.PrintInputs.{PrintInputs}
 use Rattle.pdb_documents.specs.Plans.{Plan, Index, OfType, MethodArguments, Chain, BehindModifier}
 use Rattle.pdb_documents.specs.Plans.{Modified, Elements, Id, Later, written, is_among}
 use Rattle.pdb_documents.specs.Functions.{returned, further_types, types_between, function_arguments}
@@ -54,12 +54,12 @@ with_failure failure s = record { steps = s.steps; text = s.text; failure = Some
 -- a failure, as the code has it
 abbrev pub failure_of : code.Failure → Failure
 failure_of (code_failure.TypeNotFound index) = TypeNotFound index
-failure_of (code_failure.Told e) = Told (told e)
+failure_of (code_failure.OfError e) = OfError (error_view e)
 
--- the error that a failure is told by, as the code has it
+-- the error that a failure is answered by, as the code has it
 abbrev pub error_of : code.Failure → Error
 error_of (code_failure.TypeNotFound index) = PdbError (records.TypeNotFound index)
-error_of (code_failure.Told e) = e
+error_of (code_failure.OfError e) = e
 
 -- the failure of what failed, where something did
 abbrev pub failure_in : Option code.Failure → Option Failure
@@ -106,7 +106,7 @@ MayBeCut text [] = Unit {0}
 MayBeCut text (mark ∷ earlier) = IsSplitPoint text mark × MayBeCut (take mark text) earlier
 
 -- what is printed of a task, while these indices are open
-abbrev pub task_plan : World → List ℕ → tasks.Task → Plan
+abbrev pub task_plan : PrintInputs → List ℕ → tasks.Task → Plan
 task_plan w inside (task.Written wording) = written (wording_text w.flags wording)
 task_plan w inside (task.Index index) = Later inside (Index index.0)
 task_plan w inside (task.OfType type) = Later inside (OfType type.now)
@@ -142,7 +142,8 @@ released_by None r mark after_sigil after_other =
 abbrev pub Opens : ℕ → Stage → Stage → Bool → Type 0
 Opens index old new true = (is_among index (open_in old.steps) ≡ false) × (new ≡ with_step (Close index) old)
 Opens index old new false =
-    (is_among index (open_in old.steps) ≡ true) × (new ≡ with_failure (Told (Plain (CircularTypeDefinition index))) old)
+    (is_among index (open_in old.steps) ≡ true)
+    × (new ≡ with_failure (OfError (Plain (CircularTypeDefinition index))) old)
 
 -- an id begins, in which this index of a type is open, or none
 abbrev pub OpensAlone : Option ℕ → Stage → Stage → Type 0

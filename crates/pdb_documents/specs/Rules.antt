@@ -12,7 +12,7 @@ use Rattle.pdb_records.specs.declared.types.TypeData.TheVariants.{Enumerate, Mod
 use Rattle.pdb_documents.specs.Primitives.{primitive_text}
 use Rattle.pdb_documents.specs.Attributes.{Attribute, attribute_of, with_target, attributes_text}
 use Rattle.pdb_documents.specs.Wording.{unhandled_text, class_word, declared_text, dimensions_text}
-use Rattle.pdb_documents.specs.Worlds.{World}
+use Rattle.pdb_documents.specs.PrintInputs.{PrintInputs}
 use Rattle.pdb_documents.specs.Plans.{Task, Index, OfType, MethodArguments, Chain, BehindModifier}
 use Rattle.pdb_documents.specs.Plans.{Modified, Elements, Id, Plan, Later, Buffered, Catch, ◌▸◌, written}
 use Rattle.pdb_documents.specs.Plans.{circular, is_among, on_read, on_printed, opened, opening, met_before}
@@ -21,7 +21,7 @@ use Rattle.pdb_documents.specs.Methods.{method_arguments}
 use Rattle.pdb_documents.specs.Ids.{id_by_kind}
 
 -- a pointer to a method: what it returns, the class and the pointers in parentheses, and its arguments
-abbrev pub pointers_to_method : World → List Attribute → List ℕ → MemberFunctionType → Plan
+abbrev pub pointers_to_method : PrintInputs → List Attribute → List ℕ → MemberFunctionType → Plan
 pointers_to_method w attributes inside m =
     returned inside m.is_constructor (Some m.return_type)
     ▸ written (codes "(")
@@ -31,7 +31,7 @@ pointers_to_method w attributes inside m =
     ▸ Later inside (MethodArguments m false)
 
 -- a pointer to a function: what it returns, the pointers in parentheses, and its arguments in parentheses
-abbrev pub pointers_to_function : World → List Attribute → List ℕ → ProcedureType → Plan
+abbrev pub pointers_to_function : PrintInputs → List Attribute → List ℕ → ProcedureType → Plan
 pointers_to_function w attributes inside p =
     returned inside p.is_constructor p.return_type
     ▸ written (codes "(")
@@ -41,7 +41,7 @@ pointers_to_function w attributes inside p =
     ▸ written (codes ")")
 
 -- the end of a chain of pointers: functions are printed around the pointers, and any other type before them
-abbrev pub chain_end : World → List Attribute → List ℕ → TypeData → Plan
+abbrev pub chain_end : PrintInputs → List Attribute → List ℕ → TypeData → Plan
 chain_end w attributes inside (MemberFunction m) = pointers_to_method w attributes inside m
 chain_end w attributes inside (Procedure p) = pointers_to_function w attributes inside p
 chain_end w attributes inside other =
@@ -50,13 +50,13 @@ chain_end w attributes inside other =
     (attributes_text w.flags true false attributes)
 
 -- what follows a modifier in a chain of pointers: a pointer goes on with the chain, all else ends it
-abbrev pub behind_modifier : World → List Attribute → List ℕ → TypeData → Plan
+abbrev pub behind_modifier : PrintInputs → List Attribute → List ℕ → TypeData → Plan
 behind_modifier w attributes inside (Pointer p) =
     Later inside (Chain (attribute_of p false ∷ attributes) p.underlying_type.0)
 behind_modifier w attributes inside other = chain_end w attributes inside other
 
 -- what follows a pointer in a chain of pointers: a pointer or a modifier goes on with the chain, all else ends it
-abbrev pub behind_pointer : World → List Attribute → List ℕ → TypeData → Plan
+abbrev pub behind_pointer : PrintInputs → List Attribute → List ℕ → TypeData → Plan
 behind_pointer w attributes inside (Pointer p) =
     Later inside (Chain (attribute_of p false ∷ attributes) p.underlying_type.0)
 behind_pointer w attributes inside (Modifier m) =
@@ -65,7 +65,7 @@ behind_pointer w attributes inside other = chain_end w attributes inside other
 
 -- an element of an array: an array goes on with one more level, and all else is the base, whose size is asked before it
 -- is printed
-abbrev pub element : World → List ℕ → List ℕ → List ℕ → ℕ → TypeData → Plan
+abbrev pub element : PrintInputs → List ℕ → List ℕ → List ℕ → ℕ → TypeData → Plan
 element w inside elements levels index (Array a) =
     Later inside (Elements (insert_key nat_cmp elements index) (levels ++ a.first ∷ []) a.element_type.0)
 element w inside elements levels index other =
@@ -73,13 +73,13 @@ element w inside elements levels index other =
     (Later inside (OfType other) ▸ written (dimensions_text levels (w.size index).size))
 
 -- the target of a modifier, constant or not
-abbrev pub modified : World → Bool → List ℕ → TypeData → Plan
+abbrev pub modified : PrintInputs → Bool → List ℕ → TypeData → Plan
 modified w constant inside (Pointer p) = Later inside (Chain (attribute_of p constant ∷ []) p.underlying_type.0)
 modified w constant inside (Primitive p) = written (primitive_text w.flags p constant)
 modified w constant inside other = written (if constant then codes "const " else []) ▸ Later inside (OfType other)
 
 -- a type, by its kind
-abbrev pub by_kind : World → List ℕ → TypeData → Plan
+abbrev pub by_kind : PrintInputs → List ℕ → TypeData → Plan
 by_kind w inside (Primitive p) = written (primitive_text w.flags p false)
 by_kind w inside (Class c) = written (declared_text w.flags (class_word c.class_kind) c.name)
 by_kind w inside (Union u) = written (declared_text w.flags (codes "union ") u.name)
@@ -100,7 +100,7 @@ by_kind w inside (Modifier m) = Later inside (Modified m.constant m.underlying_t
 by_kind w inside (Other kind) = written (unhandled_text kind)
 
 -- what the rule of a task gives
-abbrev pub rule : World → List ℕ → Task → Plan
+abbrev pub rule : PrintInputs → List ℕ → Task → Plan
 rule w inside (Index index) =
     on_printed (w.read index) (λ type. opened inside index (Later (index ∷ inside) (OfType type)))
 rule w inside (OfType type) = Catch (by_kind w inside type)

@@ -3,12 +3,12 @@ use Rattle.std.specs.Prelude.{ℕ, ◌==◌, true, List, [], ◌∷◌, Some, if
 use Rattle.pdb_records.specs.declared.types.TypeData.{TypeData}
 use Rattle.pdb_records.specs.declared.types.TypeData.TheVariants.{MemberFunction, Procedure}
 use Rattle.pdb_documents.specs.Wording.{function_name, static_text}
-use Rattle.pdb_documents.specs.Worlds.{World}
+use Rattle.pdb_documents.specs.PrintInputs.{PrintInputs}
 use Rattle.pdb_documents.specs.Plans.{Index, MethodArguments, Plan, Later, ◌▸◌, written, on_read}
 use Rattle.pdb_documents.specs.Functions.{returned_if_wanted, function_arguments}
 
 -- the signature of a function with this name and type; where the type is no function's, the name as it is
-abbrev pub signature_by_type : World → List ℕ → List ℕ → TypeData → Plan
+abbrev pub signature_by_type : PrintInputs → List ℕ → List ℕ → TypeData → Plan
 signature_by_type w name inside (MemberFunction m) =
     written (static_text w.flags m.this_pointer_type)
     ▸ returned_if_wanted w inside m.is_constructor (Some m.return_type)
@@ -22,7 +22,7 @@ signature_by_type w name inside other = written name
 
 -- the signature of a function with this name and the type of this index; index 0 is no type, and then the name stands
 -- alone
-abbrev pub signature : World → List ℕ → ℕ → Plan
+abbrev pub signature : PrintInputs → List ℕ → ℕ → Plan
 signature w name index =
     if index == 0 then written (function_name name) else on_read (w.read index) (signature_by_type w name (index ∷ []))
 

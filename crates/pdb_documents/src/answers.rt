@@ -1,7 +1,7 @@
 ghost use Rattle.std.specs.Prelude.{◌≡◌, ◌≢◌, false, string_bytes};
 ghost use Rattle.pdb_types.specs.declared.error.Error.TheVariants.{OutOfMemory};
 ghost use Rattle.pdb_types.specs.FailedParts.{Parts};
-ghost use Rattle.pdb_documents.specs.Answers.{is_format_error, is_want_of_memory, AnswersText, AnswersWritten};
+ghost use Rattle.pdb_documents.specs.Answers.{is_format_error, ran_out_of_memory, AnswersText, AnswersWritten};
 ghost use Rattle.pdb_documents.specs.Documents.{Run};
 ghost use Rattle.pdb_documents.specs.Progress.{failure_in};
 
@@ -17,8 +17,8 @@ pub struct Printed {
 }
 
 /// Whether there was no memory for an answer.
-fn is_want_of_memory(error: &Error) -> bool
-    ensures { result ≡ is_want_of_memory error.now }
+fn ran_out_of_memory(error: &Error) -> bool
+    ensures { result ≡ ran_out_of_memory error.now }
 {
     match error {
         Error::OutOfMemory => true,
@@ -26,7 +26,7 @@ fn is_want_of_memory(error: &Error) -> bool
     }
 }
 
-/// Writes the text that was printed before an error, but for want of memory, and answers that error, or that
+/// Writes the text that was printed before an error, except where memory runs out, and answers that error, or that
 /// the writer refused.
 fn write_before<W: fmt::Write>(writer: &mut W, text: &str, error: Error) -> Error
     ensures same { is_format_error result ≡ false → result ≡ error }
@@ -34,7 +34,7 @@ fn write_before<W: fmt::Write>(writer: &mut W, text: &str, error: Error) -> Erro
         → W.write_str_gives writer.old text.now writer.new }
     ensures unwritten { result ≡ OutOfMemory → writer.new ≡ writer.old }
 {
-    if is_want_of_memory(&error) {
+    if ran_out_of_memory(&error) {
         return error;
     }
     match writer.write_str(text) {

@@ -45,7 +45,7 @@ pub fn point_to(attributes: &mut Vec<Attribute>, constant: bool)
 ///
 /// # Errors
 ///
-/// Want of memory alone.
+/// Out of memory alone.
 pub fn write_attributes(
     text: &mut String,
     flags: TypeFormatterFlags,

@@ -7,7 +7,7 @@ use std::alloc::AllocError;
 ///
 /// # Errors
 ///
-/// Want of memory alone.
+/// Out of memory alone.
 pub fn write_dimensions(text: &mut String, levels: &[u32], base: u64) -> Result<(), AllocError>
     ensures { OnOk result (string_bytes text.new ≡ string_bytes text.old ++ dimensions_text levels.now base) }
 {

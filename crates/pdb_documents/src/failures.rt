@@ -8,7 +8,7 @@ pub enum Failure {
     /// No type has this number. Where it is part of another type, a note stands for it.
     TypeNotFound(u32),
     /// This error.
-    Told(Error),
+    OfError(Error),
 }
 
 impl From<Failure> for Error {
@@ -19,7 +19,7 @@ impl From<Failure> for Error {
     fn from(failure: Failure) -> Error {
         match failure {
             Failure::TypeNotFound(index) => { Error::from(pdb_records::Error::TypeNotFound(index)) }
-            Failure::Told(error) => error,
+            Failure::OfError(error) => error,
         }
     }
 }

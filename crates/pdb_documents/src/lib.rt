@@ -3,7 +3,7 @@
 //!
 //! A document says what is to be printed. The specs define the document of each type, signature and id, and
 //! [`laws`] says what follows. The functions write the pieces of text that documents are made of, and
-//! [`progress`] keeps what is still to be done, so that no depth of a document is a depth of calls.
+//! [`progress`] holds what is still to be done, so that no depth of a document is a depth of calls.
 #![tactic(auto)]
 
 pub mod answers;

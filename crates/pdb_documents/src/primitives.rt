@@ -62,7 +62,7 @@ pub fn primitive_name(kind: PrimitiveKind) -> &'static str
 ///
 /// # Errors
 ///
-/// Want of memory alone.
+/// Out of memory alone.
 pub fn write_primitive(
     text: &mut String,
     flags: TypeFormatterFlags,

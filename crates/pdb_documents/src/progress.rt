@@ -108,13 +108,13 @@ impl<'s> Progress<'s> {
         self.failure = Some(failure);
     }
 
-    /// Opens an index, until what is next now is next again. Tells whether it could: where it is open
+    /// Opens an index, until what is next now is next again. Answers whether it could: where it is open
     /// already, printing fails.
     pub fn open(&mut self, index: u32) -> Result<bool, AllocError>
         ensures { IfOk result (λ opened. Opens index self.old self.new opened) }
     {
         if !self.open_indices.insert(index)? {
-            self.failure = Some(Failure::Told(Error::CircularTypeDefinition(index)));
+            self.failure = Some(Failure::OfError(Error::CircularTypeDefinition(index)));
             return Ok(false);
         }
         match self.steps.push(Pending::Close(index)) {
@@ -155,7 +155,7 @@ impl<'s> Progress<'s> {
     }
 
     /// The target of these pointers begins, which follow it; where it fails, nothing of it stays.
-    pub fn keep_back(&mut self, attributes: Vec<Attribute>) -> Result<(), AllocError>
+    pub fn hold_back(&mut self, attributes: Vec<Attribute>) -> Result<(), AllocError>
         ensures { OnOk result (self.new ≡ with_step (Pending.EndBuffer (length self.old.text) attributes) self.old) }
     {
         let mark = self.text.len();

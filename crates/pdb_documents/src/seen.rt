@@ -118,7 +118,7 @@ impl<'a> Seen<'a> {
     ///
     /// # Errors
     ///
-    /// [`SeenError::Already`] where the index is there, and else want of memory. The set is then as it was.
+    /// [`SeenError::Already`] where the index is there, and else out of memory. The set is then as it was.
     pub fn insert(&mut self, index: TypeIndex) -> Result<(), SeenError>
         ensures same_reference { self.new.set.ghost_name ≡ self.old.set.ghost_name }
         ensures added { OnOk result ((q : ℕ) → has self.new.set.now q ≡ (has self.old.set.now q || q == index.0)) }
@@ -128,7 +128,7 @@ impl<'a> Seen<'a> {
         ensures unchanged { OnErr result ((q : ℕ) → has self.new.set.now q ≡ has self.old.set.now q) }
         // Whatever the result is, what stood before the level stays.
         ensures remembered { OnOk result (self.new.inserted.items ≡ self.old.inserted.items ++ index ∷ []) }
-        ensures kept { (q : ℕ) → base self.new.set.now self.new.inserted.items q
+        ensures base_unchanged { (q : ℕ) → base self.new.set.now self.new.inserted.items q
             ≡ base self.old.set.now self.old.inserted.items q }
     {
         if self.set.contains(&index) {

@@ -3,7 +3,7 @@ ghost use Rattle.pdb_documents.specs.Methods.{this_by_target};
 
 use pdb_records::{TypeData, TypeIndex};
 
-/// What a method's `this` tells.
+/// What a method's `this` shows.
 #[derive(Clone, Copy)]
 pub struct This {
     /// Whether the method is constant.
@@ -18,7 +18,7 @@ pub const PLAIN_THIS: This = This {
     argument: None,
 };
 
-/// What the target of `this` tells: a modifier of the class says whether the method is constant. Else `this`
+/// What the target of `this` shows: a modifier of the class says whether the method is constant. Else `this`
 /// is an argument.
 pub fn this_by_target(class: TypeIndex, this: TypeIndex, target: &TypeData) -> This
     ensures { result ≡ this_by_target class this target.now }

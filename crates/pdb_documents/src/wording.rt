@@ -45,7 +45,7 @@ pub enum Wording<'s> {
 ///
 /// # Errors
 ///
-/// Want of memory alone.
+/// Out of memory alone.
 pub fn write(
     text: &mut String,
     flags: TypeFormatterFlags,

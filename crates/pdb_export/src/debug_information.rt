@@ -1,6 +1,6 @@
 use crate::faults::ExportFault;
 use crate::members::{ToJson, member};
-use crate::sections::place;
+use crate::sections::section_offset;
 use json::Writer;
 use pdb_records::{DebugInformation, MachineType, Module, SectionContribution};
 
@@ -29,7 +29,7 @@ impl ToJson for Module {
 impl ToJson for SectionContribution {
     fn to_json(&self, text: &mut Writer) -> Result<(), ExportFault> {
         text.begin_object()?;
-        place(text, self.offset)?;
+        section_offset(text, self.offset)?;
         member(text, "size", &self.size)?;
         member(text, "module", &self.module)?;
         Ok(text.end_object()?)

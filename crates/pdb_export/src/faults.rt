@@ -13,7 +13,7 @@ pub enum ExportFault {
     /// The records say what the format has no place for: a position past 32 bits, or of an entry of the types or
     /// ids an error that no reader gives it.
     #[error("records that no records file can hold")]
-    NoPlace,
+    NoRoom,
 }
 
 impl From<AllocError> for ExportFault {

@@ -33,7 +33,7 @@ impl ToJson for Error {
         match self {
             Error::Stream(error) => member(text, "stream", &error.0)?,
             Error::UnimplementedTypeKind(kind) => member(text, "unimplemented", kind)?,
-            _ => return Err(ExportFault::NoPlace),
+            _ => return Err(ExportFault::NoRoom),
         }
         Ok(text.end_object()?)
     }

@@ -1,6 +1,6 @@
 use crate::faults::ExportFault;
 use crate::members::{ToJson, member};
-use crate::sections::place;
+use crate::sections::section_offset;
 use json::Writer;
 use pdb_records::{LineInfo, LineProgram, SymbolLines};
 
@@ -17,7 +17,7 @@ impl ToJson for LineInfo {
 impl ToJson for SymbolLines {
     fn to_json(&self, text: &mut Writer) -> Result<(), ExportFault> {
         text.begin_object()?;
-        place(text, self.offset)?;
+        section_offset(text, self.offset)?;
         member(text, "lines", &self.lines)?;
         Ok(text.end_object()?)
     }

@@ -40,11 +40,11 @@ impl ToJson for i64 {
 }
 
 impl ToJson for usize {
-    /// Writes a position, of which the format keeps 32 bits.
+    /// Writes a position, of which the format holds 32 bits.
     fn to_json(&self, text: &mut Writer) -> Result<(), ExportFault> {
         match u32::try_from(*self) {
             Ok(position) => position.to_json(text),
-            Err(_) => Err(ExportFault::NoPlace),
+            Err(_) => Err(ExportFault::NoRoom),
         }
     }
 }

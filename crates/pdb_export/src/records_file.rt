@@ -7,7 +7,7 @@ use std::io;
 
 /// Writes the records as a records file of version 2.
 ///
-/// What is known of the module at a position stands in the file of the name that `files` has at that position,
+/// What is known of the module at a module index stands in the file of the name that `files` has at that index,
 /// and in the records file itself where it has none. `write_module` writes such a file.
 pub fn write_records<W: io::Write>(
     alloc: Global,
@@ -105,7 +105,7 @@ fn write_value<W: io::Write, T: ToJson>(
     write_bytes(out, text.into_inner().as_slice())
 }
 
-/// Writes the last bytes, and has the writer hand on what it keeps back.
+/// Writes the last bytes, and has the writer hand on what it holds back.
 fn write_end<W: io::Write>(out: &mut W, bytes: &[u8]) -> Result<(), ExportFault> {
     write_bytes(out, bytes)?;
     fault_of(out.flush())

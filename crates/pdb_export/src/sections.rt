@@ -3,10 +3,13 @@ use crate::members::{ToJson, member};
 use json::Writer;
 use pdb_records::{AddressMap, AddressRange, ImageSectionHeader, PdbInternalSectionOffset};
 
-/// Writes the two members of a place.
-pub(crate) fn place(text: &mut Writer, place: PdbInternalSectionOffset) -> Result<(), ExportFault> {
-    member(text, "section", &place.section)?;
-    member(text, "offset", &place.offset)
+/// Writes the two members of a section offset.
+pub(crate) fn section_offset(
+    text: &mut Writer,
+    section_offset: PdbInternalSectionOffset,
+) -> Result<(), ExportFault> {
+    member(text, "section", &section_offset.section)?;
+    member(text, "offset", &section_offset.offset)
 }
 
 impl ToJson for ImageSectionHeader {

@@ -1,6 +1,6 @@
 use crate::faults::ExportFault;
 use crate::members::{ToJson, member, optional};
-use crate::sections::place;
+use crate::sections::section_offset;
 use json::Writer;
 use pdb_records::{
     InlineRow, InlineSiteSymbol, ProcedureSymbol, PublicSymbol, SeparatedCodeSymbol, Symbol,
@@ -40,14 +40,14 @@ impl ToJson for SymbolData {
 /// Writes the members of a name that is visible outside its module.
 fn public(text: &mut Writer, symbol: &PublicSymbol) -> Result<(), ExportFault> {
     member(text, "kind", &"Public")?;
-    place(text, symbol.offset)?;
+    section_offset(text, symbol.offset)?;
     member(text, "name", &symbol.name)
 }
 
 /// Writes the members of a procedure.
 fn procedure(text: &mut Writer, symbol: &ProcedureSymbol) -> Result<(), ExportFault> {
     member(text, "kind", &"Procedure")?;
-    place(text, symbol.offset)?;
+    section_offset(text, symbol.offset)?;
     member(text, "len", &symbol.len)?;
     member(text, "name", &symbol.name)?;
     member(text, "end", &symbol.end)?;
@@ -57,7 +57,7 @@ fn procedure(text: &mut Writer, symbol: &ProcedureSymbol) -> Result<(), ExportFa
 /// Writes the members of code that stands apart from its procedure's body.
 fn separated_code(text: &mut Writer, symbol: &SeparatedCodeSymbol) -> Result<(), ExportFault> {
     member(text, "kind", &"SeparatedCode")?;
-    place(text, symbol.offset)?;
+    section_offset(text, symbol.offset)?;
     member(text, "len", &symbol.len)?;
     member(text, "parent_section", &symbol.parent_offset.section)?;
     member(text, "parent_offset", &symbol.parent_offset.offset)?;
@@ -67,7 +67,7 @@ fn separated_code(text: &mut Writer, symbol: &SeparatedCodeSymbol) -> Result<(),
 /// Writes the members of a short piece of code that leads to a procedure.
 fn thunk(text: &mut Writer, symbol: &ThunkSymbol) -> Result<(), ExportFault> {
     member(text, "kind", &"Thunk")?;
-    place(text, symbol.offset)?;
+    section_offset(text, symbol.offset)?;
     member(text, "len", &symbol.len)?;
     member(text, "name", &symbol.name)?;
     member(text, "end", &symbol.end)

@@ -11,24 +11,24 @@ use Rattle.pdb_frames.specs.FileNames.{Strings, text_under, KnowsNames, IsLent, 
 use Rattle.pdb_frames.specs.declared.lent_names.LentName.{LentName}
 
 -- no name is lent
-pub lent_none : (strings : Strings) (places : List (Option LentName)) → places ≡ [] → AreLent strings places
+pub lent_none : (strings : Strings) (slots : List (Option LentName)) → slots ≡ [] → AreLent strings slots
 unfolding AreLent
-lent_none strings places empty = All-same (IsLent strings) places [] empty (All-nil (IsLent strings))
+lent_none strings slots empty = All-same (IsLent strings) slots [] empty (All-nil (IsLent strings))
 
--- one more place without a name
-pub lent_nowhere : (strings : Strings) (places : List (Option LentName)) → AreLent strings places → AreLent strings (places ++ None ∷ [])
+-- one more slot without a name
+pub lent_nowhere : (strings : Strings) (slots : List (Option LentName)) → AreLent strings slots → AreLent strings (slots ++ None ∷ [])
 unfolding AreLent
-lent_nowhere strings places are = All-push (IsLent strings) places None are tt
+lent_nowhere strings slots are = All-push (IsLent strings) slots None are tt
 
 -- one more name that is lent
-pub lent_put : {Z : Type 0} (strings : Strings) (names : BTreeMap ℕ (CowStr Z)) (places : List (Option LentName)) (place : ℕ) (lent : LentName) → KnowsNames strings names → option_map cow_str_bytes (get nat_cmp names lent.number) ≡ Some lent.name.now → AreLent strings places → AreLent strings (slice_set places place (Some lent))
+pub lent_put : {Z : Type 0} (strings : Strings) (names : BTreeMap ℕ (CowStr Z)) (slots : List (Option LentName)) (slot : ℕ) (lent : LentName) → KnowsNames strings names → option_map cow_str_bytes (get nat_cmp names lent.number) ≡ Some lent.name.now → AreLent strings slots → AreLent strings (slice_set slots slot (Some lent))
 unfolding AreLent
-lent_put strings names places place lent knows got are = All-set (IsLent strings) places place (Some lent) (sym (knows lent.number) ∙ got) are
+lent_put strings names slots slot lent knows got are = All-set (IsLent strings) slots slot (Some lent) (sym (knows lent.number) ∙ got) are
 
--- a name at a place is lent
-pub lent_at : (strings : Strings) (places : List (Option LentName)) (place : ℕ) (lent : LentName) → AreLent strings places → Some (Some lent) ≡ slice_get places place → text_under strings lent.number ≡ Some lent.name.now
+-- a name at a slot is lent
+pub lent_at : (strings : Strings) (slots : List (Option LentName)) (slot : ℕ) (lent : LentName) → AreLent strings slots → Some (Some lent) ≡ slice_get slots slot → text_under strings lent.number ≡ Some lent.name.now
 unfolding AreLent
-lent_at strings places place lent are got =
-    let within = slice_get_within places place (Some lent) (sym got) in
-    let is = get_or_from_slice_get places place (Some lent) (Some lent) (sym got) in
-    subst (λ x. IsLent strings x) is (All-get_or (IsLent strings) places place (Some lent) within are)
+lent_at strings slots slot lent are got =
+    let within = slice_get_within slots slot (Some lent) (sym got) in
+    let is = get_or_from_slice_get slots slot (Some lent) (Some lent) (sym got) in
+    subst (λ x. IsLent strings x) is (All-get_or (IsLent strings) slots slot (Some lent) within are)

@@ -1,33 +1,19 @@
 -- Where code comes from, step by step.
-use Rattle.std.proofs.Common.{◌≡◌, ◌∙◌, ℕ, List, [], Option, Some, refl, ap}
-use Rattle.std.specs.Prelude.{Result, Ok, Err, option_map}
+use Rattle.std.proofs.Common.{◌≡◌, ◌∙◌, ℕ, List, [], Option, refl}
+use Rattle.std.specs.Prelude.{Result, Ok, Err}
 use Rattle.pdb_records.specs.LinePrograms.{Lines}
 use Rattle.pdb_records.specs.declared.lines.LineInfo.{LineInfo}
-use Rattle.pdb_records.specs.declared.modules.Inlinee.{Inlinee}
 use Rattle.pdb_records.specs.declared.modules.ModuleInfo.{ModuleInfo}
 use Rattle.pdb_types.specs.Outcomes.{and_then}
-use Rattle.pdb_types.specs.Resolution.{streamed}
 use Rattle.pdb_types.specs.declared.error.Error.{Error}
 use Rattle.pdb_functions.specs.Lookup.{FoundFunction, found_procedure, found_global}
 use Rattle.pdb_inline.specs.InlineRanges.{procedure_inline_ranges}
 use Rattle.pdb_inline.specs.InlineStacks.{inline_stack}
 use Rattle.pdb_inline.specs.declared.inline_ranges.InlineRange.{InlineRange}
-use Rattle.pdb_frames.specs.CodeCaches.{Records, HasProgram, function_stack}
-use Rattle.pdb_frames.specs.ExtendedInfo.{ExtendedInfo, extended_info, inlinee_ids}
-use Rattle.pdb_frames.specs.Lines.{read_whole, function_row}
+use Rattle.pdb_frames.specs.CodeCaches.{function_stack}
+use Rattle.pdb_frames.specs.ExtendedInfo.{ExtendedInfo, extended_info}
+use Rattle.pdb_frames.specs.Lines.{function_row}
 use Rattle.pdb_frames.specs.Origins.{Origin, function_start, origin}
-
--- a line program that is known could be read
-program_read : (lines : Result Lines Error) (inlinees : Result (List Inlinee) Error) (program : Lines) → and_then {B = Lines} (and_then {B = ExtendedInfo} lines (λ l. and_then {B = ExtendedInfo} inlinees (λ i. Ok (record { line_program = l; inlinees = inlinee_ids i })))) (λ known. Ok known.line_program) ≡ Ok program → lines ≡ Ok program
-program_read (Ok l) (Ok i) program known = known
-program_read (Ok l) (Err e) program known = cc
-program_read (Err e) inlinees program known = cc
-
--- the line program that a cache answers is that of the module
-pub has_program : (records : Records) (position : ℕ) (info : ModuleInfo) (program : Lines) → records position ≡ Some info → and_then {B = Lines} (extended_info info) (λ known. Ok known.line_program) ≡ Ok program → HasProgram records position program
-has_program records position info program there known =
-    ap (λ o. option_map (λ info. streamed info.line_program) o) there
-    ∙ ap (λ r. Some r) (program_read (streamed info.line_program) (read_whole info.inlinees) program known)
 
 -- where code comes from, by these parts
 abbrev made : Lines → Option LineInfo → List InlineRange → Origin

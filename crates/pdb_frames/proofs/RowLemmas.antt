@@ -109,8 +109,8 @@ row_over-firsts x [] = refl
 row_over-firsts x (row ∷ rows) = pick_first x row rows
 
 -- so the first of each offset, in order, have the same row over an offset
-pub row_over_kept : (x : ℕ) (rows : List LineInfo) → row_over (first_rows_after None (in_order row_before rows)) x ≡ row_over rows x
-row_over_kept x rows = row_over-firsts x (in_order row_before rows) ∙ row_over-in_order x rows
+pub row_over_firsts : (x : ℕ) (rows : List LineInfo) → row_over (first_rows_after None (in_order row_before rows)) x ≡ row_over rows x
+row_over_firsts x rows = row_over-firsts x (in_order row_before rows) ∙ row_over-in_order x rows
 
 -- what stands above one offset stands above a lower one
 all_above : (a b : ℕ) (rows : List LineInfo) → a < b → AllByRecursion (λ row. b < row.offset) rows → AllByRecursion (λ row. a < row.offset) rows
@@ -138,9 +138,9 @@ ascend_behind offset (row ∷ rows) behind up =
         let first : offset < row.offset = grind (arith, nat_tests, is, not_below) in
         ((first, all_above offset row.offset (from row.offset) first next.0), next)
 
--- the rows that are kept ascend
-pub kept_ascend : (rows : List LineInfo) → OffsetsAscend (first_rows_after None (in_order row_before rows))
-kept_ascend rows = of_order (in_order row_before rows) (rises_in_order rows_rank rows) where
+-- the rows that stay ascend
+pub firsts_ascend : (rows : List LineInfo) → OffsetsAscend (first_rows_after None (in_order row_before rows))
+firsts_ascend rows = of_order (in_order row_before rows) (rises_in_order rows_rank rows) where
   of_order : (sorted : List LineInfo) → Rises row_before sorted → OffsetsAscend (first_rows_after None sorted)
   of_order [] up = tt
   of_order (row ∷ sorted) up = ascend_behind row.offset sorted up.0 up.1

@@ -1,4 +1,4 @@
--- What is kept of modules' code, and that it is what the records say.
+-- What is cached of modules' code, and that it is what the records say.
 use Rattle.std.specs.Prelude.{◌≡◌, ℕ, List, [], Option, Some, Result, Ok, option_map}
 use Rattle.std.specs.BTreeMap.{BTreeMap, get}
 use Rattle.std.specs.Ordering.{nat_cmp, ordering_then}
@@ -14,50 +14,51 @@ use Rattle.pdb_functions.specs.Lookup.{FoundFunction, found_procedure, found_glo
 use Rattle.pdb_inline.specs.InlineRanges.{procedure_inline_ranges}
 use Rattle.pdb_inline.specs.InlineStacks.{inline_stack}
 use Rattle.pdb_inline.specs.declared.inline_ranges.InlineRange.{InlineRange}
-use Rattle.pdb_frames.specs.ExtendedInfo.{kept_info, extended_info}
+use Rattle.pdb_frames.specs.ExtendedInfo.{extended_info_view, extended_info}
 use Rattle.pdb_frames.specs.FunctionRows.{row_in}
 use Rattle.pdb_frames.specs.Lines.{function_row}
 use Rattle.pdb_frames.specs.declared.extended_info.ExtendedModuleInfo.{ExtendedModuleInfo}
 use Rattle.pdb_frames.specs.declared.code_keys.FunctionKey.{FunctionKey}
 use Rattle.pdb_frames.specs.declared.code_keys.ProcedureKey.{ProcedureKey}
 
--- the records of modules that can be read, by the modules' positions
+-- the records of modules that can be read, by module index
 abbrev pub Records : Type 0
 Records = ℕ → Option ModuleInfo
 
--- what is kept at a position is what is known of the code of the module there
-unfoldable pub FitsInfos : Records → BTreeMap ℕ ExtendedModuleInfo → Type 0
-FitsInfos records kept =
-    (position : ℕ) (known : ExtendedModuleInfo) → get nat_cmp kept position ≡ Some known
-    → option_map extended_info (records position) ≡ Some (Ok (kept_info known))
+-- what is cached at a module index is what is known of the code of the module there
+unfoldable pub IsExtendedInfoCache : Records → BTreeMap ℕ ExtendedModuleInfo → Type 0
+IsExtendedInfoCache records cached =
+    (module_index : ℕ) (known : ExtendedModuleInfo) → get nat_cmp cached module_index ≡ Some known
+    → option_map extended_info (records module_index) ≡ Some (Ok (extended_info_view known))
 
 -- the order of functions: by module, section and offset
 abbrev pub function_cmp : FunctionKey → FunctionKey → Ordering
 function_cmp a b =
-    ordering_then (nat_cmp a.position b.position) (
+    ordering_then (nat_cmp a.module_index b.module_index) (
     ordering_then (nat_cmp a.section b.section) (nat_cmp a.offset b.offset))
 
--- the line program of the module at a position is this one
+-- the line program of the module at a module index is this one
 abbrev pub HasProgram : Records → ℕ → Lines → Type 0
-HasProgram records position program =
-    option_map (λ info. streamed info.line_program) (records position) ≡ Some (Ok program)
+HasProgram records module_index program =
+    option_map (λ info. streamed info.line_program) (records module_index) ≡ Some (Ok program)
 
--- the line program that is kept at a position is that of the module there
-unfoldable pub FitsEntries : Records → BTreeMap ℕ Lines → Type 0
-FitsEntries records kept =
-    (position : ℕ) (program : Lines) → get nat_cmp kept position ≡ Some program → HasProgram records position program
+-- the line program that is cached at a module index is that of the module there
+unfoldable pub IsEntryCache : Records → BTreeMap ℕ Lines → Type 0
+IsEntryCache records cached =
+    (module_index : ℕ) (program : Lines) → get nat_cmp cached module_index ≡ Some program
+    → HasProgram records module_index program
 
--- the rows that are kept of a function give over each offset what its module's line program gives
-unfoldable pub FitsLines : Records → BTreeMap FunctionKey (Read LineInfo) → Type 0
-FitsLines records kept =
-    (key : FunctionKey) (rows : Read LineInfo) → get function_cmp kept key ≡ Some rows
-    → (program : Lines) → HasProgram records key.position program
+-- the rows that are cached of a function give over each offset what its module's line program gives
+unfoldable pub IsLineCache : Records → BTreeMap FunctionKey (Read LineInfo) → Type 0
+IsLineCache records cached =
+    (key : FunctionKey) (rows : Read LineInfo) → get function_cmp cached key ≡ Some rows
+    → (program : Lines) → HasProgram records key.module_index program
     → (x : ℕ) → row_in rows x ≡ function_row program (record { section = key.section; offset = key.offset }) x
 
 -- the order of procedures: by module and symbols
 abbrev pub procedure_cmp : ProcedureKey → ProcedureKey → Ordering
 procedure_cmp a b =
-    ordering_then (nat_cmp a.position b.position) (
+    ordering_then (nat_cmp a.module_index b.module_index) (
     ordering_then (nat_cmp a.symbol b.symbol) (nat_cmp a.end b.end))
 
 -- the ranges of a procedure's code that came from inlined bodies, by the records of its module: refused for what is
@@ -75,8 +76,8 @@ abbrev pub function_stack : ModuleInfo → FoundFunction → ℕ → Result (Lis
 function_stack info (found_global m f) x = Ok []
 function_stack info (found_procedure m p) x = procedure_stack info p.symbol_index.0 p.end_symbol_index.0 x
 
--- the ranges that are kept of a procedure are those of its module's records
-unfoldable pub FitsRanges : Records → BTreeMap ProcedureKey (List InlineRange) → Type 0
-FitsRanges records kept =
-    (key : ProcedureKey) (ranges : List InlineRange) → get procedure_cmp kept key ≡ Some ranges
-    → option_map (λ info. procedure_ranges info key.symbol key.end) (records key.position) ≡ Some (Ok ranges)
+-- the ranges that are cached of a procedure are those of its module's records
+unfoldable pub IsRangeCache : Records → BTreeMap ProcedureKey (List InlineRange) → Type 0
+IsRangeCache records cached =
+    (key : ProcedureKey) (ranges : List InlineRange) → get procedure_cmp cached key ≡ Some ranges
+    → option_map (λ info. procedure_ranges info key.symbol key.end) (records key.module_index) ≡ Some (Ok ranges)

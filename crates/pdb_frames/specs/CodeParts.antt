@@ -20,15 +20,15 @@ use Rattle.pdb_frames.specs.Origins.{function_module, function_start}
 use Rattle.pdb_frames.specs.declared.code_parts.CodePart.{CodePart}
 use Rattle.pdb_frames.specs.declared.code_parts.CodePart.TheVariants as part
 
--- the order of places: by section, and then by offset
-abbrev pub place_cmp : PdbInternalSectionOffset → PdbInternalSectionOffset → Ordering
-place_cmp a b = ordering_then (nat_cmp a.section b.section) (nat_cmp a.offset b.offset)
+-- the order of section offsets: by section, and then by offset
+abbrev pub section_offset_cmp : PdbInternalSectionOffset → PdbInternalSectionOffset → Ordering
+section_offset_cmp a b = ordering_then (nat_cmp a.section b.section) (nat_cmp a.offset b.offset)
 
--- the order of functions: by the position of the module, and then by the start
+-- the order of functions: by module index, and then by the start
 abbrev pub function_cmp : ℕ → PdbInternalSectionOffset → ℕ → PdbInternalSectionOffset → Ordering
-function_cmp m a n b = ordering_then (nat_cmp m n) (place_cmp a b)
+function_cmp m a n b = ordering_then (nat_cmp m n) (section_offset_cmp a b)
 
--- the order that parts are kept in: extended infos, then lines, then inline ranges
+-- the order of parts: extended infos, then lines, then inline ranges
 abbrev pub code_part_cmp : CodePart → CodePart → Ordering
 code_part_cmp (part.ExtendedInfo m) (part.ExtendedInfo n) = nat_cmp m n
 code_part_cmp (part.ExtendedInfo m) (part.Lines n b) = Less
@@ -58,7 +58,7 @@ unsuccessful_code (part.ExtendedInfo m) = ExtendedModuleInfoUnsuccessful
 unsuccessful_code (part.Lines m start) = ProcedureLinesUnsuccessful
 unsuccessful_code (part.InlineRanges m start) = ProcedureInlineRangesUnsuccessful
 
--- what a part tells that is met broken: that it failed before, where it did, else its own error
+-- what a part answers that is met broken: that it failed before, where it did, else its own error
 abbrev pub code_part_error : CodeParts → CodePart → Error → Error
 code_part_error failed p e = if has_code_failed failed p then unsuccessful_code p else e
 

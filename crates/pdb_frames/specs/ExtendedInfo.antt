@@ -18,9 +18,9 @@ pub record ExtendedInfo : Type 0 where
   pub line_program : Lines
   pub inlinees : List IdIndex
 
--- the same, as the code keeps it
-abbrev pub kept_info : ExtendedModuleInfo → ExtendedInfo
-kept_info e = record { line_program = e.line_program.now; inlinees = e.inlinees.keys }
+-- the same, as the code holds it
+abbrev pub extended_info_view : ExtendedModuleInfo → ExtendedInfo
+extended_info_view e = record { line_program = e.line_program.now; inlinees = e.inlinees.keys }
 
 -- the order of ids: by their numbers
 abbrev pub id_cmp : IdIndex → IdIndex → Ordering

@@ -26,8 +26,8 @@ KnowsNames strings names =
 
 -- a name that is lent is the text under its number
 abbrev pub IsLent : Strings → Option LentName → Type 0
-IsLent strings place = IfSome place (λ lent. text_under strings lent.number ≡ Some lent.name.now)
+IsLent strings slot = IfSome slot (λ lent. text_under strings lent.number ≡ Some lent.name.now)
 
 -- so is each of these
 unfoldable pub AreLent : Strings → List (Option LentName) → Type 0
-AreLent strings places = All (IsLent strings) places
+AreLent strings slots = All (IsLent strings) slots

@@ -1,15 +1,15 @@
 -- Frames, as contracts see them.
 use Rattle.std.specs.Prelude.{ℕ, List, Option}
 
--- what is told of one frame: the function's name, and the name of the source file and the line in it that the code
+-- what is shown of one frame: the function's name, and the name of the source file and the line in it that the code
 -- comes from, each as far as it is known
-pub record FrameDescription : Type 0 where
+pub record FrameInfo : Type 0 where
   pub function : Option (List ℕ)
   pub file : Option (List ℕ)
   pub line : Option ℕ
 
 -- a function's addresses, as far as they are known, and its frames at an address
-pub record FramesDescription : Type 0 where
+pub record FramesInfo : Type 0 where
   pub start_rva : ℕ
   pub end_rva : Option ℕ
-  pub frames : List FrameDescription
+  pub frames : List FrameInfo

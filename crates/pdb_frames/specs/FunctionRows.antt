@@ -1,4 +1,4 @@
--- The line rows of a function, as they are kept to be searched.
+-- The line rows of a function, as they are cached to be searched.
 use Rattle.std.specs.Prelude.{◌<◌, ◌==◌, ⊤, ℕ, Bool, false, List, [], ◌∷◌}
 use Rattle.std.specs.Prelude.{Option, Some, None, Result, Ok, if◌then◌else◌}
 use Rattle.std.specs.List.{AllByRecursion}

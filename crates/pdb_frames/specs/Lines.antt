@@ -20,8 +20,8 @@ use Rattle.pdb_ranges.specs.Pick.{pick}
 abbrev pub read_whole : {T : Type 0} → Read T → Result (List T) Error
 read_whole list = unless (option_map (λ fault. PdbError (Stream fault)) list.fault) (Ok list.items)
 
--- the line rows of the function that starts at a place, in the order in which they are read: none where the line
--- program has no entry for the place, else those of the first one, refused for the fault of their list
+-- the line rows of the function that starts at a section offset, in the order in which they are read: none where the
+-- line program has no entry for the section offset, else those of the first one, refused for the fault of their list
 abbrev pub function_rows : Lines → PdbInternalSectionOffset → Result (List LineInfo) Error
 function_rows program start = rows_of_entry (lines_at start program.entries) where
   rows_of_entry : Option (Read LineInfo) → Result (List LineInfo) Error
@@ -32,7 +32,7 @@ function_rows program start = rows_of_entry (lines_at start program.entries) whe
 abbrev pub row_over : List LineInfo → ℕ → Option LineInfo
 row_over rows x = pick (λ row. nat_le row.offset x) (λ row. row.offset) rows
 
--- the row over an offset in the function that starts at a place; refused as the function's rows are
+-- the row over an offset in the function that starts at a section offset; refused as the function's rows are
 abbrev pub function_row : Lines → PdbInternalSectionOffset → ℕ → Result (Option LineInfo) Error
 function_row program start x = and_then (function_rows program start) (λ rows. Ok (row_over rows x))
 

@@ -22,11 +22,11 @@ pub record Origin : Type 0 where
   pub row : Option LineInfo
   pub stack : List InlineRange
 
--- the same, as the code keeps it
-abbrev pub kept_origin : code.Origin → Origin
-kept_origin o = record { line_program = o.line_program.now; row = o.row; stack = o.stack.items }
+-- the same, as the code holds it
+abbrev pub origin_view : code.Origin → Origin
+origin_view o = record { line_program = o.line_program.now; row = o.row; stack = o.stack.items }
 
--- the position of the module that a function was found in
+-- the module index of the module that a function was found in
 abbrev pub function_module : FoundFunction → ℕ
 function_module (found_procedure m p) = m
 function_module (found_global m f) = m

@@ -4,9 +4,9 @@ ghost use Rattle.pdb_functions.specs.Lookup.{found_function};
 ghost use Rattle.pdb_frames.specs.ExtendedInfo.{extended_info};
 ghost use Rattle.pdb_frames.specs.Lines.{function_row};
 ghost use Rattle.pdb_frames.specs.CodeCaches.{Records, HasProgram, function_stack};
-ghost use Rattle.pdb_frames.specs.CodeCache.{FitsCode};
+ghost use Rattle.pdb_frames.specs.CodeCache.{IsCodeCache};
 ghost use Rattle.pdb_frames.specs.CodeParts.{blame_behind, part_to_blame};
-ghost use Rattle.pdb_frames.specs.Origins.{kept_origin, function_module, origin};
+ghost use Rattle.pdb_frames.specs.Origins.{origin_view, function_module, origin};
 
 use crate::code_parts::CodePart;
 use crate::extended_infos::ExtendedInfos;
@@ -21,7 +21,7 @@ use std::alloc::{AllocError, Global};
 
 /// What was found of modules' code so far. It grows, and is asked before the records are read again.
 ///
-/// It tells in three steps where code comes from: the line program of its module, the line row over it,
+/// It answers in three steps where code comes from: the line program of its module, the line row over it,
 /// and the inlined bodies over it.
 pub struct CodeCache<'a> {
     pub(crate) alloc: Global,
@@ -44,7 +44,7 @@ impl Drop for CodeCache<'_> {
 impl<'a> CodeCache<'a> {
     /// Nothing yet. It takes no memory.
     pub fn new(alloc: Global) -> Self
-        ensures { (records : Records) → FitsCode records result }
+        ensures { (records : Records) → IsCodeCache records result }
     {
         CodeCache {
             alloc,
@@ -68,14 +68,14 @@ impl<'a> CodeCache<'a> {
         offset: u32,
     ) -> Result<Origin<'a>>
         ghost records: { Records }
-        requires fits { FitsCode records self.old }
+        requires is_cache { IsCodeCache records self.old }
         requires module_info { records (function_module (found_function function)) ≡ Some module_info.now }
-        ensures origin { Gives kept_origin result (origin module_info.now (found_function function.entry) offset) }
-        ensures fits { FitsCode records self.new }
+        ensures origin { Gives origin_view result (origin module_info.now (found_function function.entry) offset) }
+        ensures is_cache { IsCodeCache records self.new }
     {
-        let position = function_module(function);
-        let line_program = self.line_program(position, module_info)?;
-        let row = self.row(position, line_program, function_start(function), offset)?;
+        let module_index = function_module(function);
+        let line_program = self.line_program(module_index, module_info)?;
+        let row = self.row(module_index, line_program, function_start(function), offset)?;
         let stack = self.stack(module_info, function, offset)?;
         Ok(Origin {
             line_program,
@@ -97,72 +97,72 @@ impl<'a> CodeCache<'a> {
         function: PublicOrProcedureSymbol<'_>,
     ) -> Result<CodePart, AllocError>
         ghost records: { Records }
-        requires fits { FitsCode records self.old }
+        requires is_cache { IsCodeCache records self.old }
         requires module_info { records (function_module (found_function function)) ≡ Some module_info.now }
         ensures blamed { IfOk result (λ part. part ≡ part_to_blame module_info.now (found_function function.entry)) }
-        ensures fits { FitsCode records self.new }
+        ensures is_cache { IsCodeCache records self.new }
     {
-        let position = function_module(function);
+        let module_index = function_module(function);
         let start = function_start(function);
-        match self.line_program(position, module_info) {
-            Ok(line_program) => self.blame_behind(position, line_program, start),
+        match self.line_program(module_index, module_info) {
+            Ok(line_program) => self.blame_behind(module_index, line_program, start),
             Err(Error::OutOfMemory) => Err(AllocError),
-            Err(_) => Ok(CodePart::ExtendedInfo(position)),
+            Err(_) => Ok(CodePart::ExtendedInfo(module_index)),
         }
     }
 
     /// The same, once it is known what is known of the module's code.
     fn blame_behind(
         &mut self,
-        position: usize,
+        module_index: usize,
         line_program: &'a LineProgram,
         start: PdbInternalSectionOffset,
     ) -> Result<CodePart, AllocError>
         ghost records: { Records }
-        requires fits { FitsCode records self.old }
-        requires line_program { HasProgram records position line_program.now }
-        ensures blamed { IfOk result (λ part. part ≡ blame_behind position start (Ok line_program.now)) }
-        ensures fits { FitsCode records self.new }
+        requires is_cache { IsCodeCache records self.old }
+        requires line_program { HasProgram records module_index line_program.now }
+        ensures blamed { IfOk result (λ part. part ≡ blame_behind module_index start (Ok line_program.now)) }
+        ensures is_cache { IsCodeCache records self.new }
     {
-        match self.row(position, line_program, start, 0) {
-            Ok(_) => Ok(CodePart::InlineRanges(position, start)),
+        match self.row(module_index, line_program, start, 0) {
+            Ok(_) => Ok(CodePart::InlineRanges(module_index, start)),
             Err(Error::OutOfMemory) => Err(AllocError),
-            Err(_) => Ok(CodePart::Lines(position, start)),
+            Err(_) => Ok(CodePart::Lines(module_index, start)),
         }
     }
 
-    /// The line program of the module at a position, once all is known of its code that can be.
+    /// The line program of the module at a module index, once all is known of its code that can be.
     fn line_program(
         &mut self,
-        position: usize,
+        module_index: usize,
         module_info: &'a ModuleInfo,
     ) -> Result<&'a LineProgram>
         ghost records: { Records }
-        requires fits { FitsCode records self.old }
-        requires module_info { records position ≡ Some module_info.now }
+        requires is_cache { IsCodeCache records self.old }
+        requires module_info { records module_index ≡ Some module_info.now }
         ensures known { Gives (λ p. p.now) result
             (and_then (extended_info module_info.now) (λ known. Ok known.line_program)) }
-        ensures fits { FitsCode records self.new }
+        ensures is_cache { IsCodeCache records self.new }
     {
-        self.infos.line_program(position, module_info)
+        self.infos.line_program(module_index, module_info)
     }
 
-    /// The line row over an offset in the function that starts at a place, by the line program of the
-    /// module at a position.
+    /// The line row over an offset in the function that starts at a section offset, by the line program of the
+    /// module at a module index.
     fn row(
         &mut self,
-        position: usize,
+        module_index: usize,
         line_program: &'a LineProgram,
         start: PdbInternalSectionOffset,
         offset: u32,
     ) -> Result<Option<LineInfo>>
         ghost records: { Records }
-        requires fits { FitsCode records self.old }
-        requires line_program { HasProgram records position line_program.now }
+        requires is_cache { IsCodeCache records self.old }
+        requires line_program { HasProgram records module_index line_program.now }
         ensures row { Gives (λ row. row) result (function_row line_program.now start offset) }
-        ensures fits { FitsCode records self.new }
+        ensures is_cache { IsCodeCache records self.new }
     {
-        self.lines.row(position, line_program, start, offset)
+        self.lines.row(module_index, line_program, start, offset)
     }
 
     /// The inlined bodies over an offset of a function, the outermost first, by the records of its module. A
@@ -174,17 +174,17 @@ impl<'a> CodeCache<'a> {
         offset: u32,
     ) -> Result<Vec<InlineRange>>
         ghost records: { Records }
-        requires fits { FitsCode records self.old }
+        requires is_cache { IsCodeCache records self.old }
         requires module_info { records (function_module (found_function function)) ≡ Some module_info.now }
         ensures stack { Gives (λ v. v.items) result
             (function_stack module_info.now (found_function function.entry) offset) }
-        ensures fits { FitsCode records self.new }
+        ensures is_cache { IsCodeCache records self.new }
     {
         match function {
             PublicOrProcedureSymbol::Public(_, _) => Ok(Vec::new(self.alloc)),
-            PublicOrProcedureSymbol::Procedure(position, procedure) => {
+            PublicOrProcedureSymbol::Procedure(module_index, procedure) => {
                 self.ranges
-                    .stack(&self.infos, position, module_info, &procedure, offset)
+                    .stack(&self.infos, module_index, module_info, &procedure, offset)
             }
         }
     }

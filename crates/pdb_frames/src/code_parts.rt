@@ -7,7 +7,7 @@ use std::alloc::{AllocError, Global};
 use std::collections::BTreeSet;
 use std::marker::Model;
 
-/// A part of the records of code that may be broken by itself: by the position of its module, and by the
+/// A part of the records of code that may be broken by itself: by module index, and by the
 /// start of its function where it is a function's.
 #[derive(Clone, Copy, PartialEq, Eq, PartialOrd, Ord)]
 pub enum CodePart {
@@ -55,10 +55,10 @@ impl FailedCodeParts {
         }
     }
 
-    /// What a part that is met broken tells: its own error where it is new, and then it is remembered,
+    /// What a part that is met broken answers: its own error where it is new, and then it is remembered,
     /// else that it failed before. Where there is no memory to remember it, nothing changes.
     pub fn ask(&mut self, part: CodePart, error: Error) -> Result<Error, AllocError>
-        ensures told { IfOk result (λ e. e ≡ code_part_error self.old part error) }
+        ensures shown { IfOk result (λ e. e ≡ code_part_error self.old part error) }
         ensures added { OnOk result (self.new ≡ with_code_part self.old part) }
         ensures refused { OnErr result (self.new ≡ self.old) }
     {

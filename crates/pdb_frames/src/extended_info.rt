@@ -1,7 +1,7 @@
 ghost use Rattle.std.specs.Prelude.{◌≡◌, IfOk, OnOk};
 ghost use Rattle.std.specs.BTreeSet.{insert_key};
 ghost use Rattle.pdb_types.specs.Outcomes.{Gives};
-ghost use Rattle.pdb_frames.specs.ExtendedInfo.{kept_info, id_cmp, inlinee_ids, extended_info};
+ghost use Rattle.pdb_frames.specs.ExtendedInfo.{extended_info_view, id_cmp, inlinee_ids, extended_info};
 
 use pdb_records::{IdIndex, Inlinee, LineProgram, ModuleInfo};
 use pdb_types::{Error, Result};
@@ -46,14 +46,14 @@ pub fn compute_extended_module_info(
     alloc: Global,
     module_info: &ModuleInfo,
 ) -> Result<ExtendedModuleInfo<'_>>
-    ensures { Gives kept_info result (extended_info module_info.now) }
+    ensures { Gives extended_info_view result (extended_info module_info.now) }
 {
     let line_program = match &module_info.line_program {
         Ok(line_program) => line_program,
-        Err(fault) => return Err(Error::from(pdb_records::Error::Stream(*fault))),
+        Err(fault) => return Err(Error::from(*fault)),
     };
     if let Some(fault) = module_info.inlinees.fault {
-        return Err(Error::from(pdb_records::Error::Stream(fault)));
+        return Err(Error::from(fault));
     }
     let inlinees = inlinee_ids(alloc, &module_info.inlinees.items)?;
     Ok(ExtendedModuleInfo {

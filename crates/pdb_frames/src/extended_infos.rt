@@ -3,7 +3,7 @@ ghost use Rattle.pdb_types.specs.Outcomes.{Gives, and_then};
 ghost use Rattle.pdb_types.specs.Resolution.{streamed};
 ghost use Rattle.pdb_inline.specs.InlineRanges.{procedure_inline_ranges};
 ghost use Rattle.pdb_frames.specs.ExtendedInfo.{extended_info};
-ghost use Rattle.pdb_frames.specs.CodeCaches.{Records, FitsInfos, procedure_ranges};
+ghost use Rattle.pdb_frames.specs.CodeCaches.{Records, IsExtendedInfoCache, procedure_ranges};
 
 use crate::extended_info::{ExtendedModuleInfo, compute_extended_module_info};
 use crate::inline_ranges::compute_procedure_inline_ranges;
@@ -14,25 +14,25 @@ use pdb_types::{Error, Result};
 use std::alloc::Global;
 use std::collections::BTreeMap;
 
-/// What is known of modules' code, beside their procedures, by the modules' positions. It is read once.
+/// What is known of modules' code, beside their procedures, by module index. It is read once.
 #[derive(Drop)]
 pub struct ExtendedInfos<'a> {
     pub(crate) alloc: Global,
-    pub(crate) kept: BTreeMap<usize, ExtendedModuleInfo<'a>>,
+    pub(crate) cached: BTreeMap<usize, ExtendedModuleInfo<'a>>,
 }
 
 impl<'a> ExtendedInfos<'a> {
     /// Nothing yet. It takes no memory.
     pub fn new(alloc: Global) -> Self
-        ensures { (records : Records) → FitsInfos records result.kept }
+        ensures { (records : Records) → IsExtendedInfoCache records result.cached }
     {
         ExtendedInfos {
             alloc,
-            kept: BTreeMap::new(alloc),
+            cached: BTreeMap::new(alloc),
         }
     }
 
-    /// The line program of the module at a position, once all is known of its code that can be.
+    /// The line program of the module at a module index, once all is known of its code that can be.
     ///
     /// # Errors
     ///
@@ -40,22 +40,22 @@ impl<'a> ExtendedInfos<'a> {
     /// inlinees.
     pub fn line_program(
         &mut self,
-        position: usize,
+        module_index: usize,
         module_info: &'a ModuleInfo,
     ) -> Result<&'a LineProgram>
         ghost records: { Records }
-        requires fits { FitsInfos records self.old.kept }
-        requires module_info { records position ≡ Some module_info.now }
+        requires is_cache { IsExtendedInfoCache records self.old.cached }
+        requires module_info { records module_index ≡ Some module_info.now }
         ensures known { Gives (λ p. p.now) result
             (and_then (extended_info module_info.now) (λ known. Ok known.line_program)) }
-        ensures fits { FitsInfos records self.new.kept }
+        ensures is_cache { IsExtendedInfoCache records self.new.cached }
     {
-        if let Some(known) = self.kept.get(&position) {
+        if let Some(known) = self.cached.get(&module_index) {
             return Ok(known.line_program);
         }
         let known = compute_extended_module_info(self.alloc, module_info)?;
         let line_program = known.line_program;
-        match self.kept.insert(position, known) {
+        match self.cached.insert(module_index, known) {
             Ok(_) => Ok(line_program),
             Err(_) => Err(Error::OutOfMemory),
         }
@@ -68,17 +68,17 @@ impl<'a> ExtendedInfos<'a> {
     /// As of [`ExtendedInfos::line_program`], and then as of [`compute_procedure_inline_ranges`].
     pub fn inline_ranges(
         &self,
-        position: usize,
+        module_index: usize,
         module_info: &ModuleInfo,
         procedure: &ProcedureSymbolFunction<'_>,
     ) -> Result<Vec<InlineRange>>
         ghost records: { Records }
-        requires fits { FitsInfos records self.now.kept }
-        requires module_info { records position ≡ Some module_info.now }
+        requires is_cache { IsExtendedInfoCache records self.now.cached }
+        requires module_info { records module_index ≡ Some module_info.now }
         ensures { Gives (λ v. v.items) result (procedure_ranges module_info.now
             procedure.now.symbol_index.0 procedure.now.end_symbol_index.0) }
     {
-        if let Some(known) = self.kept.get(&position) {
+        if let Some(known) = self.cached.get(&module_index) {
             return compute_procedure_inline_ranges(
                 self.alloc,
                 module_info,

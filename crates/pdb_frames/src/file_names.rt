@@ -15,7 +15,7 @@ use std::collections::BTreeMap;
 use std::marker::Model;
 
 /// Remembers a text by the number of its reference, unless an earlier one has the number.
-fn keep_first<'a>(
+fn insert_first<'a>(
     alloc: Global,
     names: &mut BTreeMap<u32, CowStr<'a>>,
     number: u32,
@@ -41,7 +41,7 @@ fn names_of(alloc: Global, table: &StringTable) -> Result<BTreeMap<u32, CowStr<'
 {
     let mut names = BTreeMap::new(alloc);
     for (reference, text) in &table.strings {
-        keep_first(alloc, &mut names, reference.0, text)?;
+        insert_first(alloc, &mut names, reference.0, text)?;
     }
     Ok(names)
 }
@@ -69,7 +69,7 @@ impl<'a> Model for FileNames<'a> {
 
     ghost invariant = { λ f. record {
       names : KnowsNames (option_copied f.strings) f.names;
-      lent : AreLent (option_copied f.strings) f.lent.places.items;
+      lent : AreLent (option_copied f.strings) f.lent.slots.items;
     } };
 }
 

@@ -20,9 +20,9 @@ pub struct Frame<'a> {
 impl<'a> Model for Frame<'a> {
     ghost use Rattle.std.specs.Prelude.{option_map, string_bytes};
     ghost use Rattle.std.specs.Cow.{cow_str_bytes};
-    ghost use Rattle.pdb_frames.specs.Frame.{FrameDescription};
+    ghost use Rattle.pdb_frames.specs.Frame.{FrameInfo};
 
-    ghost Value = { FrameDescription };
+    ghost Value = { FrameInfo };
 
     ghost view = { λ f. record {
       function = option_map string_bytes f.function;
@@ -43,9 +43,9 @@ pub struct FunctionFrames<'a> {
 }
 
 impl<'a> Model for FunctionFrames<'a> {
-    ghost use Rattle.pdb_frames.specs.Frame.{FramesDescription};
+    ghost use Rattle.pdb_frames.specs.Frame.{FramesInfo};
 
-    ghost Value = { FramesDescription };
+    ghost Value = { FramesInfo };
 
     ghost view = { λ f. record { start_rva = f.start_rva; end_rva = f.end_rva; frames = f.frames.items } };
 }

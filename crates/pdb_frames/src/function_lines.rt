@@ -1,6 +1,6 @@
 ghost use Rattle.pdb_types.specs.Outcomes.{Gives};
 ghost use Rattle.pdb_frames.specs.Lines.{function_row};
-ghost use Rattle.pdb_frames.specs.CodeCaches.{Records, HasProgram, FitsEntries, FitsLines};
+ghost use Rattle.pdb_frames.specs.CodeCaches.{Records, HasProgram, IsEntryCache, IsLineCache};
 
 use crate::code_keys::{FunctionKey, function_key};
 use crate::function_rows::FunctionRows;
@@ -10,57 +10,57 @@ use pdb_types::{Error, Result};
 use std::alloc::Global;
 use std::collections::BTreeMap;
 
-/// The line rows of functions, by their modules' positions and where they start. The rows of a function are
+/// The line rows of functions, by module index and where they start. The rows of a function are
 /// looked up and sorted once.
 #[derive(Drop)]
 pub struct FunctionLines<'a> {
     pub(crate) alloc: Global,
     pub(crate) entries: ProgramEntries<'a>,
-    pub(crate) kept: BTreeMap<FunctionKey, FunctionRows>,
+    pub(crate) cached: BTreeMap<FunctionKey, FunctionRows>,
 }
 
 impl<'a> FunctionLines<'a> {
     /// Nothing yet. It takes no memory.
     pub fn new(alloc: Global) -> Self
-        ensures entries { (records : Records) → FitsEntries records result.entries.kept }
-        ensures fits { (records : Records) → FitsLines records result.kept }
+        ensures entries { (records : Records) → IsEntryCache records result.entries.cached }
+        ensures is_cache { (records : Records) → IsLineCache records result.cached }
     {
         FunctionLines {
             alloc,
             entries: ProgramEntries::new(alloc),
-            kept: BTreeMap::new(alloc),
+            cached: BTreeMap::new(alloc),
         }
     }
 
-    /// The line row over an offset in the function that starts at a place, by the line program of the
-    /// module at a position.
+    /// The line row over an offset in the function that starts at a section offset, by the line program of the
+    /// module at a module index.
     ///
     /// # Errors
     ///
     /// [`Error::PdbError`] for the fault of the function's rows.
     pub fn row(
         &mut self,
-        position: usize,
+        module_index: usize,
         line_program: &'a LineProgram,
         start: PdbInternalSectionOffset,
         offset: u32,
     ) -> Result<Option<LineInfo>>
         ghost records: { Records }
-        requires entries { FitsEntries records self.old.entries.kept }
-        requires fits { FitsLines records self.old.kept }
-        requires line_program { HasProgram records position line_program.now }
+        requires entries { IsEntryCache records self.old.entries.cached }
+        requires is_cache { IsLineCache records self.old.cached }
+        requires line_program { HasProgram records module_index line_program.now }
         ensures row { Gives (λ row. row) result (function_row line_program.now start offset) }
-        ensures entries { FitsEntries records self.new.entries.kept }
-        ensures fits { FitsLines records self.new.kept }
+        ensures entries { IsEntryCache records self.new.entries.cached }
+        ensures is_cache { IsLineCache records self.new.cached }
     {
-        let key = function_key(position, start);
-        if let Some(rows) = self.kept.get(&key) {
+        let key = function_key(module_index, start);
+        if let Some(rows) = self.cached.get(&key) {
             return rows.row(offset);
         }
-        let read = self.entries.rows_at(position, line_program, start)?;
+        let read = self.entries.rows_at(module_index, line_program, start)?;
         let rows = FunctionRows::new(self.alloc, read)?;
         let row = rows.row(offset);
-        match self.kept.insert(key, rows) {
+        match self.cached.insert(key, rows) {
             Ok(_) => row,
             Err(_) => Err(Error::OutOfMemory),
         }

@@ -27,27 +27,27 @@ fn sort_by_offset(rows: &mut Vec<LineInfo>) -> Result<(), AllocError>
 fn first_neighbours(alloc: Global, rows: &[LineInfo]) -> Result<Vec<LineInfo>, AllocError>
     ensures { IfOk result (λ v. v.items ≡ first_rows_after None rows.now) }
 {
-    let mut kept: Vec<LineInfo> = Vec::new(alloc);
+    let mut counted: Vec<LineInfo> = Vec::new(alloc);
     let mut before = None;
     for row in rows {
         if before != Some(row.offset) {
-            kept.push(*row)?;
+            counted.push(*row)?;
             before = Some(row.offset);
         }
     }
-    Ok(kept)
+    Ok(counted)
 }
 
 /// The rows by offset, of each offset the first that is read.
-#[tactic(auto, using(crate::proofs::RowLemmas::kept_ascend, crate::proofs::RowLemmas::row_over_kept))]
+#[tactic(auto, using(crate::proofs::RowLemmas::firsts_ascend, crate::proofs::RowLemmas::row_over_firsts))]
 fn first_of_each_offset(alloc: Global, rows: &[LineInfo]) -> Result<Vec<LineInfo>, AllocError>
     ensures ascend { IfOk result (λ v. OffsetsAscend v.items) }
     ensures over { IfOk result (λ v. (x : ℕ) → row_over v.items x ≡ row_over rows.now x) }
 {
     let mut sorted = Vec::from_slice(alloc, rows)?;
     sort_by_offset(&mut sorted)?;
-    let kept = first_neighbours(alloc, &sorted)?;
-    Ok(kept)
+    let counted = first_neighbours(alloc, &sorted)?;
+    Ok(counted)
 }
 
 /// The position of the first row above an offset, or the number of rows where none is. Each row that is
@@ -94,11 +94,11 @@ impl Model for FunctionRows {
 
 impl FunctionRows {
     /// The rows that a line program has for a function, if it has any. Where they have a fault, no row is
-    /// kept.
+    /// counted.
     pub(crate) fn new(alloc: Global, read: Option<&Reading<LineInfo>>) -> Result<Self, AllocError>
-        ensures { IfOk result (λ kept. (program : Lines) (start : PdbInternalSectionOffset)
+        ensures { IfOk result (λ counted. (program : Lines) (start : PdbInternalSectionOffset)
             → lines_at start program.entries ≡ option_copied read.entry
-            → (x : ℕ) → row_in kept x ≡ function_row program start x) }
+            → (x : ℕ) → row_in counted x ≡ function_row program start x) }
     {
         let Some(read) = read else {
             return Ok(FunctionRows {
@@ -139,7 +139,7 @@ impl FunctionRows {
         ensures { result ≡ row_in self.now offset }
     {
         if let Some(fault) = self.fault {
-            return Err(Error::from(pdb_records::Error::Stream(fault)));
+            return Err(Error::from(fault));
         }
         Ok(self.search(offset, &mut Probes::new()))
     }

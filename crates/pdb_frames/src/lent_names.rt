@@ -16,16 +16,16 @@ pub(crate) struct LentName<'a> {
     pub(crate) name: &'a str,
 }
 
-/// Names that the records lend, to be found at once. References share places, and a place has the name of one of
+/// Names that the records lend, to be found at once. References share slots, and a slot has the name of one of
 /// them.
 #[derive(Drop)]
 pub(crate) struct LentNames<'a> {
-    pub(crate) places: Vec<Option<LentName<'a>>>,
+    pub(crate) slots: Vec<Option<LentName<'a>>>,
 }
 
-/// The place of a reference's number among so many, which are a power of two.
-fn place_of(number: u32, places: usize) -> usize {
-    number as usize & places.wrapping_sub(1)
+/// The slot of a reference's number among so many, which are a power of two.
+fn slot_of(number: u32, slots: usize) -> usize {
+    number as usize & slots.wrapping_sub(1)
 }
 
 /// The name of this number, if the records lend it.
@@ -38,24 +38,24 @@ fn lent<'a>(names: &BTreeMap<u32, CowStr<'a>>, number: u32) -> Option<&'a str>
     }
 }
 
-/// So many places without a name.
+/// So many slots without a name.
 fn no_names<'a>(alloc: Global, count: usize) -> Result<Vec<Option<LentName<'a>>>, AllocError>
-    ensures { IfOk result (λ places. (strings : Strings) → AreLent strings places.items) }
+    ensures { IfOk result (λ slots. (strings : Strings) → AreLent strings slots.items) }
 {
-    let mut places = Vec::with_capacity(alloc, count)?;
+    let mut slots = Vec::with_capacity(alloc, count)?;
     for _ in 0..count {
-        places.push(None)?;
+        slots.push(None)?;
     }
-    Ok(places)
+    Ok(slots)
 }
 
 impl<'a> LentNames<'a> {
     /// No names. It takes no memory.
     pub(crate) fn none(alloc: Global) -> Self
-        ensures { (strings : Strings) → AreLent strings result.places.items }
+        ensures { (strings : Strings) → AreLent strings result.slots.items }
     {
         LentNames {
-            places: Vec::new(alloc),
+            slots: Vec::new(alloc),
         }
     }
 
@@ -66,37 +66,37 @@ impl<'a> LentNames<'a> {
         names: &BTreeMap<u32, CowStr<'a>>,
     ) -> Result<Self, AllocError>
         ensures { IfOk result (λ lent. (strings : Strings) → KnowsNames strings names.now
-            → AreLent strings lent.places.items) }
+            → AreLent strings lent.slots.items) }
     {
         let count = table.strings.len().min(usize::MAX / 4);
-        let places = no_names(alloc, (2 * count).next_power_of_two())?;
-        let mut lent = LentNames { places };
+        let slots = no_names(alloc, (2 * count).next_power_of_two())?;
+        let mut lent = LentNames { slots };
         for (reference, _) in &table.strings {
             lent.put(names, reference.0);
         }
         Ok(lent)
     }
 
-    /// Puts the name of this number at its place, if the records lend it.
+    /// Puts the name of this number at its slot, if the records lend it.
     fn put(&mut self, names: &BTreeMap<u32, CowStr<'a>>, number: u32)
         ensures { (strings : Strings) → KnowsNames strings names.now
-            → AreLent strings self.old.places.items → AreLent strings self.new.places.items }
+            → AreLent strings self.old.slots.items → AreLent strings self.new.slots.items }
     {
-        let place = place_of(number, self.places.len());
+        let slot = slot_of(number, self.slots.len());
         if let Some(name) = lent(names, number) {
-            if let Some(here) = self.places.get_mut(place) {
+            if let Some(here) = self.slots.get_mut(slot) {
                 *here = Some(LentName { number, name });
             }
         }
     }
 
-    /// The name of this number, if it is at its place.
+    /// The name of this number, if it is at its slot.
     pub(crate) fn name(&self, number: u32) -> Option<&'a str>
-        ensures { IfSome result (λ name. (strings : Strings) → AreLent strings self.now.places.items
+        ensures { IfSome result (λ name. (strings : Strings) → AreLent strings self.now.slots.items
             → text_under strings number ≡ Some name.now) }
     {
-        let place = place_of(number, self.places.len());
-        match self.places.get(place)? {
+        let slot = slot_of(number, self.slots.len());
+        match self.slots.get(slot)? {
             Some(lent) if lent.number == number => Some(lent.name),
             _ => None,
         }

@@ -1,37 +1,37 @@
 ghost use Rattle.std.specs.Prelude.{◌≡◌, Some, None, IfOk, OnOk, if◌then◌else◌};
 ghost use Rattle.std.specs.BTreeMap.{get};
 ghost use Rattle.std.specs.Option.{option_copied, option_or};
-ghost use Rattle.pdb_records.specs.Addresses.{is_same_place};
+ghost use Rattle.pdb_records.specs.Addresses.{is_same_section_offset};
 ghost use Rattle.pdb_records.specs.Lines.{lines_at};
 ghost use Rattle.pdb_records.specs.declared.addresses.PdbInternalSectionOffset.{PdbInternalSectionOffset};
-ghost use Rattle.pdb_frames.specs.CodeCaches.{Records, HasProgram, FitsEntries};
-ghost use Rattle.pdb_frames.specs.CodeParts.{place_cmp};
+ghost use Rattle.pdb_frames.specs.CodeCaches.{Records, HasProgram, IsEntryCache};
+ghost use Rattle.pdb_frames.specs.CodeParts.{section_offset_cmp};
 
 use pdb_records::{LineInfo, LineProgram, PdbInternalSectionOffset, Reading};
 use std::alloc::{AllocError, Global};
 use std::collections::BTreeMap;
 use std::marker::Model;
 
-/// Remembers the rows of a place, unless an earlier entry has the place.
-fn keep_first<'a>(
+/// Remembers the rows of a section offset, unless an earlier entry has the section offset.
+fn insert_first<'a>(
     known: &mut BTreeMap<PdbInternalSectionOffset, &'a Reading<LineInfo>>,
-    place: PdbInternalSectionOffset,
+    section_offset: PdbInternalSectionOffset,
     rows: &'a Reading<LineInfo>,
 ) -> Result<(), AllocError>
-    ensures { OnOk result ((asked : PdbInternalSectionOffset) → option_copied (get place_cmp known.new asked)
-        ≡ option_or (option_copied (get place_cmp known.old asked))
-        (if is_same_place place asked then Some rows.now else None)) }
+    ensures { OnOk result ((asked : PdbInternalSectionOffset) → option_copied (get section_offset_cmp known.new asked)
+        ≡ option_or (option_copied (get section_offset_cmp known.old asked))
+        (if is_same_section_offset section_offset asked then Some rows.now else None)) }
 {
-    if known.contains_key(&place) {
+    if known.contains_key(&section_offset) {
         return Ok(());
     }
-    match known.insert(place, rows) {
+    match known.insert(section_offset, rows) {
         Ok(_) => Ok(()),
         Err(_) => Err(AllocError),
     }
 }
 
-/// The line rows of one line program, those of each function found by its place in a table that is made
+/// The line rows of one line program, those of each function found by its section offset in a table that is made
 /// once.
 #[derive(Drop)]
 pub(crate) struct LineEntries<'a> {
@@ -47,14 +47,15 @@ impl<'a> Model for LineEntries<'a> {
     ghost use Rattle.pdb_records.specs.LinePrograms.{Lines};
     ghost use Rattle.pdb_records.specs.Lines.{lines_at};
     ghost use Rattle.pdb_records.specs.declared.addresses.PdbInternalSectionOffset.{PdbInternalSectionOffset};
-    ghost use Rattle.pdb_frames.specs.CodeParts.{place_cmp};
+    ghost use Rattle.pdb_frames.specs.CodeParts.{section_offset_cmp};
 
     ghost Value = { Lines };
 
     ghost view = { λ e. e.program.now };
 
-    ghost invariant = { λ e. (place : PdbInternalSectionOffset)
-        → option_copied (get place_cmp e.known place) ≡ lines_at place e.program.now.entries };
+    ghost invariant = { λ e. (section_offset : PdbInternalSectionOffset)
+        → option_copied (get section_offset_cmp e.known section_offset)
+        ≡ lines_at section_offset e.program.now.entries };
 }
 
 impl<'a> LineEntries<'a> {
@@ -64,59 +65,62 @@ impl<'a> LineEntries<'a> {
     {
         let mut known = BTreeMap::new(alloc);
         for entry in &program.entries {
-            keep_first(&mut known, entry.offset, &entry.lines)?;
+            insert_first(&mut known, entry.offset, &entry.lines)?;
         }
         Ok(LineEntries { program, known })
     }
 
-    /// The rows of the function that starts at a place, of the first entry for it.
-    pub(crate) fn rows_at(&self, place: PdbInternalSectionOffset) -> Option<&'a Reading<LineInfo>>
-        ensures { option_copied result ≡ lines_at place self.now.entries }
+    /// The rows of the function that starts at a section offset, of the first entry for it.
+    pub(crate) fn rows_at(
+        &self,
+        section_offset: PdbInternalSectionOffset,
+    ) -> Option<&'a Reading<LineInfo>>
+        ensures { option_copied result ≡ lines_at section_offset self.now.entries }
     {
-        match self.known.get(&place) {
+        match self.known.get(&section_offset) {
             Some(rows) => Some(*rows),
             None => None,
         }
     }
 }
 
-/// The line rows of modules' line programs, by the modules' positions. Each line program is walked once.
+/// The line rows of modules' line programs, by module index. Each line program is walked once.
 #[derive(Drop)]
 pub struct ProgramEntries<'a> {
     pub(crate) alloc: Global,
-    pub(crate) kept: BTreeMap<usize, LineEntries<'a>>,
+    pub(crate) cached: BTreeMap<usize, LineEntries<'a>>,
 }
 
 impl<'a> ProgramEntries<'a> {
     /// Nothing yet. It takes no memory.
     pub(crate) fn new(alloc: Global) -> Self
-        ensures { (records : Records) → FitsEntries records result.kept }
+        ensures { (records : Records) → IsEntryCache records result.cached }
     {
         ProgramEntries {
             alloc,
-            kept: BTreeMap::new(alloc),
+            cached: BTreeMap::new(alloc),
         }
     }
 
-    /// The rows of the function that starts at a place, by the line program of the module at a position.
+    /// The rows of the function that starts at a section offset, by the line program of the module at a module index.
     pub(crate) fn rows_at(
         &mut self,
-        position: usize,
+        module_index: usize,
         line_program: &'a LineProgram,
-        place: PdbInternalSectionOffset,
+        section_offset: PdbInternalSectionOffset,
     ) -> Result<Option<&'a Reading<LineInfo>>, AllocError>
         ghost records: { Records }
-        requires fits { FitsEntries records self.old.kept }
-        requires line_program { HasProgram records position line_program.now }
-        ensures rows { IfOk result (λ rows. option_copied rows ≡ lines_at place line_program.now.entries) }
-        ensures fits { FitsEntries records self.new.kept }
+        requires is_cache { IsEntryCache records self.old.cached }
+        requires line_program { HasProgram records module_index line_program.now }
+        ensures rows { IfOk result (λ rows. option_copied rows ≡ lines_at section_offset line_program.now.entries) }
+        ensures is_cache { IsEntryCache records self.new.cached }
     {
-        if let Some(entries) = self.kept.get(&position) {
-            return Ok(entries.rows_at(place));
+        if let Some(entries) = self.cached.get(&module_index) {
+            return Ok(entries.rows_at(section_offset));
         }
         let entries = LineEntries::new(self.alloc, line_program)?;
-        let rows = entries.rows_at(place);
-        match self.kept.insert(position, entries) {
+        let rows = entries.rows_at(section_offset);
+        match self.cached.insert(module_index, entries) {
             Ok(_) => Ok(rows),
             Err(_) => Err(AllocError),
         }

@@ -17,7 +17,7 @@ pub struct Origin<'a> {
     pub stack: Vec<InlineRange>,
 }
 
-/// The position of the module that a function was found in.
+/// The module index of the module that a function was found in.
 pub fn function_module(function: PublicOrProcedureSymbol<'_>) -> usize
     ensures { result ≡ function_module (found_function function.entry) }
 {

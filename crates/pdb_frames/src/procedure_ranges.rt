@@ -1,6 +1,6 @@
 ghost use Rattle.std.specs.Prelude.{◌≡◌, Some};
 ghost use Rattle.pdb_types.specs.Outcomes.{Gives};
-ghost use Rattle.pdb_frames.specs.CodeCaches.{Records, FitsInfos, FitsRanges, procedure_stack};
+ghost use Rattle.pdb_frames.specs.CodeCaches.{Records, IsExtendedInfoCache, IsRangeCache, procedure_stack};
 
 use crate::code_keys::{ProcedureKey, procedure_key};
 use crate::extended_infos::ExtendedInfos;
@@ -11,27 +11,27 @@ use pdb_types::{Error, Result};
 use std::alloc::Global;
 use std::collections::BTreeMap;
 
-/// The ranges of procedures' code that came from inlined bodies, by their modules' positions and their
+/// The ranges of procedures' code that came from inlined bodies, by module index and their
 /// symbols. A procedure's symbols are walked once, and its ranges are put in a table once.
 #[derive(Drop)]
 pub struct ProcedureRanges {
     pub(crate) alloc: Global,
-    pub(crate) kept: BTreeMap<ProcedureKey, ProcedureStacks>,
+    pub(crate) cached: BTreeMap<ProcedureKey, ProcedureStacks>,
 }
 
 impl ProcedureRanges {
     /// Nothing yet. It takes no memory.
     pub fn new(alloc: Global) -> Self
-        ensures { (records : Records) → FitsRanges records result.kept }
+        ensures { (records : Records) → IsRangeCache records result.cached }
     {
         ProcedureRanges {
             alloc,
-            kept: BTreeMap::new(alloc),
+            cached: BTreeMap::new(alloc),
         }
     }
 
     /// The inlined bodies over an offset of a procedure, the outermost first, by the records of the module
-    /// at a position.
+    /// at a module index.
     ///
     /// # Errors
     ///
@@ -39,27 +39,27 @@ impl ProcedureRanges {
     pub fn stack(
         &mut self,
         infos: &ExtendedInfos<'_>,
-        position: usize,
+        module_index: usize,
         module_info: &ModuleInfo,
         procedure: &ProcedureSymbolFunction<'_>,
         offset: u32,
     ) -> Result<Vec<InlineRange>>
         ghost records: { Records }
-        requires infos { FitsInfos records infos.now.kept }
-        requires fits { FitsRanges records self.old.kept }
-        requires module_info { records position ≡ Some module_info.now }
+        requires infos { IsExtendedInfoCache records infos.now.cached }
+        requires is_cache { IsRangeCache records self.old.cached }
+        requires module_info { records module_index ≡ Some module_info.now }
         ensures stack { Gives (λ v. v.items) result (procedure_stack module_info.now
             procedure.now.symbol_index.0 procedure.now.end_symbol_index.0 offset) }
-        ensures fits { FitsRanges records self.new.kept }
+        ensures is_cache { IsRangeCache records self.new.cached }
     {
-        let key = procedure_key(position, procedure);
-        if let Some(stacks) = self.kept.get(&key) {
+        let key = procedure_key(module_index, procedure);
+        if let Some(stacks) = self.cached.get(&key) {
             return Ok(stacks.stack(self.alloc, u64::from(offset))?);
         }
-        let ranges = infos.inline_ranges(position, module_info, procedure)?;
+        let ranges = infos.inline_ranges(module_index, module_info, procedure)?;
         let stacks = ProcedureStacks::new(self.alloc, ranges)?;
         let stack = stacks.stack(self.alloc, u64::from(offset))?;
-        match self.kept.insert(key, stacks) {
+        match self.cached.insert(key, stacks) {
             Ok(_) => Ok(stack),
             Err(_) => Err(Error::OutOfMemory),
         }

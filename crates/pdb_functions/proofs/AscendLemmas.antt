@@ -1,22 +1,22 @@
--- What is kept by section and start ascends.
+-- What stays by section and start ascends.
 use Rattle.std.proofs.Common.{◌≡◌, ℕ, ◌<◌, Bool, true, false, cond, List, [], ◌∷◌, Some, None, refl, sym, inl, inr, arith}
 use Rattle.std.specs.List.{AllByRecursion}
 use Rattle.std.specs.Ordering.{nat_cmp, MatchOrdering}
 use Rattle.std.specs.declared.cmp.Ordering.{Ordering}
 use Rattle.std.specs.declared.cmp.Ordering.TheVariants.{Less, Equal, Greater}
 use Rattle.std.proofs.lemmas.Cmp.{ranked}
-use Rattle.pdb_records.specs.Addresses.{is_same_place}
+use Rattle.pdb_records.specs.Addresses.{is_same_section_offset}
 use Rattle.pdb_records.specs.declared.addresses.PdbInternalSectionOffset.{PdbInternalSectionOffset}
 use Rattle.pdb_ranges.specs.InOrder.{in_order}
 use Rattle.pdb_ranges.proofs.LastLemmas.{Climbs}
 use Rattle.pdb_ranges.proofs.NumberLemmas.{eqb_same}
 use Rattle.pdb_ranges.proofs.SortLemmas.{Rises, rises_in_order}
 use Rattle.pdb_functions.specs.Starts.{starts_before, firsts_after, first_of_each_start, StandsBefore, StartsAscend}
-use Rattle.pdb_functions.proofs.PlaceLemmas.{starts_rank}
+use Rattle.pdb_functions.proofs.SectionOffsetLemmas.{starts_rank}
 
--- a place that doesn't come before another, and isn't it, stands behind it
+-- a section offset that doesn't come before another, and isn't it, stands behind it
 stands_before_from : (a b : PdbInternalSectionOffset) → starts_before (λ (p : PdbInternalSectionOffset). p) b a ≡ false
-    → is_same_place a b ≡ false → StandsBefore a b
+    → is_same_section_offset a b ≡ false → StandsBefore a b
 stands_before_from a b behind other =
     by_order (nat_cmp b.section a.section) refl (nat_cmp b.offset a.offset) refl (ranked b.section a.section (nat_cmp b.section a.section) refl)
     (ranked b.offset a.offset (nat_cmp b.offset a.offset) refl)
@@ -30,9 +30,9 @@ stands_before_from a b behind other =
     by_order Equal is Greater was fact rest = let h : b.section ≡ a.section = rw is at fact in inr (sym h, rw was at rest)
     by_order Equal is Equal was fact rest =
         let h : b.section ≡ a.section = rw is at fact in let k : b.offset ≡ a.offset = rw was at rest in
-        let e : is_same_place a b ≡ true = rw (h, k, eqb_same a.section, eqb_same a.offset) refl in absurd (cc)
+        let e : is_same_section_offset a b ≡ true = rw (h, k, eqb_same a.section, eqb_same a.offset) refl in absurd (cc)
 
--- what stands before a place stands before all that stands behind it
+-- what stands before a section offset stands before all that stands behind it
 pub stands_before_trans : (a b c : PdbInternalSectionOffset) → StandsBefore a b → StandsBefore b c → StandsBefore a c
 stands_before_trans a b c (inl p) (inl q) = inl (omega arith)
 stands_before_trans a b c (inl p) (inr q) = inl (omega arith)
@@ -45,35 +45,35 @@ pub all_behind : {T : Type 0} (start : T → PdbInternalSectionOffset) (a b : Pd
 all_behind start a b [] first others = tt
 all_behind start a b (x ∷ xs) first others = (stands_before_trans a b (start x) first others.0, all_behind start a b xs first others.1)
 
--- behind a place, starts in order of which doubles are dropped ascend
-starts_ascend_behind : {T : Type 0} (start : T → PdbInternalSectionOffset) (place : PdbInternalSectionOffset) (xs : List T)
-    → AllByRecursion (λ x. starts_before (λ (p : PdbInternalSectionOffset). p) (start x) place ≡ false) xs → Rises (starts_before start) xs
-    → AllByRecursion (λ x. StandsBefore place (start x)) (firsts_after start (Some place) xs) × StartsAscend start (firsts_after start (Some place) xs)
-starts_ascend_behind start place [] behind up = (tt, tt)
-starts_ascend_behind {T = T} start place (x ∷ xs) behind up =
-    by_test (is_same_place place (start x)) refl (starts_ascend_behind start place xs behind.1 up.1) (starts_ascend_behind start (start x) xs up.0 up.1)
+-- behind a section offset, starts in order of which doubles are dropped ascend
+starts_ascend_behind : {T : Type 0} (start : T → PdbInternalSectionOffset) (section_offset : PdbInternalSectionOffset) (xs : List T)
+    → AllByRecursion (λ x. starts_before (λ (p : PdbInternalSectionOffset). p) (start x) section_offset ≡ false) xs → Rises (starts_before start) xs
+    → AllByRecursion (λ x. StandsBefore section_offset (start x)) (firsts_after start (Some section_offset) xs) × StartsAscend start (firsts_after start (Some section_offset) xs)
+starts_ascend_behind start section_offset [] behind up = (tt, tt)
+starts_ascend_behind {T = T} start section_offset (x ∷ xs) behind up =
+    by_test (is_same_section_offset section_offset (start x)) refl (starts_ascend_behind start section_offset xs behind.1 up.1) (starts_ascend_behind start (start x) xs up.0 up.1)
   where
     here_on : PdbInternalSectionOffset → List T
     here_on before = firsts_after start (Some before) xs
 
-    by_test : (t : Bool) → is_same_place place (start x) ≡ t
-        → AllByRecursion (λ y. StandsBefore place (start y)) (here_on place) × StartsAscend start (here_on place)
+    by_test : (t : Bool) → is_same_section_offset section_offset (start x) ≡ t
+        → AllByRecursion (λ y. StandsBefore section_offset (start y)) (here_on section_offset) × StartsAscend start (here_on section_offset)
         → AllByRecursion (λ y. StandsBefore (start x) (start y)) (here_on (start x)) × StartsAscend start (here_on (start x))
-        → AllByRecursion (λ y. StandsBefore place (start y)) (cond t (here_on place) (x ∷ here_on (start x)))
-        × StartsAscend start (cond t (here_on place) (x ∷ here_on (start x)))
+        → AllByRecursion (λ y. StandsBefore section_offset (start y)) (cond t (here_on section_offset) (x ∷ here_on (start x)))
+        × StartsAscend start (cond t (here_on section_offset) (x ∷ here_on (start x)))
     by_test true here rest next = rest
     by_test false apart rest next =
-        let first : StandsBefore place (start x) = stands_before_from place (start x) behind.0 apart in
-        ((first, all_behind start place (start x) (here_on (start x)) first next.0), next)
+        let first : StandsBefore section_offset (start x) = stands_before_from section_offset (start x) behind.0 apart in
+        ((first, all_behind start section_offset (start x) (here_on (start x)) first next.0), next)
 
--- the starts that are kept ascend
-pub kept_ascend : {T : Type 0} (start : T → PdbInternalSectionOffset) (xs : List T) → StartsAscend start (first_of_each_start start xs)
-kept_ascend {T = T} start xs = of_order (in_order (starts_before start) xs) (rises_in_order (starts_rank start) xs) where
+-- the starts that stay ascend
+pub firsts_ascend : {T : Type 0} (start : T → PdbInternalSectionOffset) (xs : List T) → StartsAscend start (first_of_each_start start xs)
+firsts_ascend {T = T} start xs = of_order (in_order (starts_before start) xs) (rises_in_order (starts_rank start) xs) where
   of_order : (ys : List T) → Rises (starts_before start) ys → StartsAscend start (firsts_after start None ys)
   of_order [] up = tt
   of_order (y ∷ ys) up = starts_ascend_behind start (start y) ys up.0 up.1
 
--- of what ascends, those that lie over places of one section climb
+-- of what ascends, those that lie over section offsets of one section climb
 pub climbs_in_section : {T : Type 0} (over : T → Bool) (start : T → PdbInternalSectionOffset) (section : ℕ)
     → ((x : T) → over x ≡ true → (start x).section ≡ section) → (xs : List T) → StartsAscend start xs → Climbs over (λ x. (start x).offset) xs
 climbs_in_section over start section within [] up = tt

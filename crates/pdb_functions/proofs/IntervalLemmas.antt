@@ -13,7 +13,7 @@ use Rattle.pdb_types.specs.declared.error.Error.TheVariants.{OverlappingSectionC
 use Rattle.pdb_types.specs.Outcomes.{first_refusal}
 use Rattle.pdb_functions.specs.declared.contributions.ModuleSectionContribution.{ModuleSectionContribution}
 use Rattle.pdb_functions.specs.Contributions.{is_same_module, contribution_before, intervals_with, intervals_of, refused_overlap, overlap_after}
-use Rattle.pdb_functions.specs.Laws.{IsFilled, LiesBefore, AreApart, lies_in, LiesInOneOf, BeginsWithOneOf, EndsWithOneOf, IsApartFrom, NeighboursDiffer, HasByteOf, TellsOverlap}
+use Rattle.pdb_functions.specs.Laws.{IsFilled, LiesBefore, AreApart, lies_in, LiesInOneOf, BeginsWithOneOf, EndsWithOneOf, IsApartFrom, NeighboursDiffer, HasByteOf, IsOverlap}
 use Rattle.pdb_ranges.proofs.NumberLemmas.{cases_lt, cases_le, le-leb, eqb_same}
 use Rattle.pdb_ranges.proofs.SortLemmas.{Rises}
 use Rattle.pdb_functions.proofs.OrderLemmas.{all_weaker}
@@ -317,16 +317,16 @@ first_bytes (m ∷ ms) filled = with_first (intervals_of ms) (first_bytes ms fil
     by_test true = (own, more is rest.1)
     by_test false = (own, more (i ∷ is) rest)
 
--- an overlap of neighbours tells of a byte that claims of two modules have
-pub overlap_told : (claims : List ModuleSectionContribution) (m : ModuleSectionContribution) (is : List ModuleSectionContribution) → AllByRecursion (HasFirstByteOf claims) is → IsReached claims (m ∷ is) → NeighboursDiffer (m ∷ is) → (e : Error) → overlap_after (Some m) is ≡ Some e → TellsOverlap claims e
-overlap_told claims m [] first reached differ e refused = absurd (cc)
-overlap_told claims m (i ∷ is) first reached differ e refused = by_tests (m.section_index == i.section_index) refl (nat_lt i.start_offset m.end_offset) refl (λ later. overlap_told claims i is first.1 reached.1 differ.1 e later) where
-  told : m.section_index ≡ i.section_index → i.start_offset < m.end_offset → TellsOverlap claims (OverlappingSectionContributions i.section_index m.module_index i.module_index)
-  told one below = (λ same. let h : is_same_module m i ≡ true = rw (one, same, eqb_same i.section_index, eqb_same i.module_index) refl in absurd (cc differ.0), (i.start_offset, (rw (← one) (reached.0 one below), first.0)))
+-- an overlap of neighbours shows a byte that claims of two modules have
+pub overlap_shown : (claims : List ModuleSectionContribution) (m : ModuleSectionContribution) (is : List ModuleSectionContribution) → AllByRecursion (HasFirstByteOf claims) is → IsReached claims (m ∷ is) → NeighboursDiffer (m ∷ is) → (e : Error) → overlap_after (Some m) is ≡ Some e → IsOverlap claims e
+overlap_shown claims m [] first reached differ e refused = absurd (cc)
+overlap_shown claims m (i ∷ is) first reached differ e refused = by_tests (m.section_index == i.section_index) refl (nat_lt i.start_offset m.end_offset) refl (λ later. overlap_shown claims i is first.1 reached.1 differ.1 e later) where
+  shown : m.section_index ≡ i.section_index → i.start_offset < m.end_offset → IsOverlap claims (OverlappingSectionContributions i.section_index m.module_index i.module_index)
+  shown one below = (λ same. let h : is_same_module m i ≡ true = rw (one, same, eqb_same i.section_index, eqb_same i.module_index) refl in absurd (cc differ.0), (i.start_offset, (rw (← one) (reached.0 one below), first.0)))
 
-  by_tests : (t : Bool) → (m.section_index == i.section_index) ≡ t → (u : Bool) → nat_lt i.start_offset m.end_offset ≡ u → (overlap_after (Some i) is ≡ Some e → TellsOverlap claims e) → TellsOverlap claims e
+  by_tests : (t : Bool) → (m.section_index == i.section_index) ≡ t → (u : Bool) → nat_lt i.start_offset m.end_offset ≡ u → (overlap_after (Some i) is ≡ Some e → IsOverlap claims e) → IsOverlap claims e
   by_tests true one true below rest =
       let is_e : OverlappingSectionContributions i.section_index m.module_index i.module_index ≡ e = (let h = rw (one, below) at refused in cc) in
-      subst (TellsOverlap claims) is_e (told (grind (arith, nat_tests)) (grind (arith, nat_tests)))
+      subst (IsOverlap claims) is_e (shown (grind (arith, nat_tests)) (grind (arith, nat_tests)))
   by_tests true one false beyond rest = rest (rw (one, beyond) at refused)
   by_tests false other u below rest = rest (rw other at refused)

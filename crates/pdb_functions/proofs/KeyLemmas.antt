@@ -1,4 +1,4 @@
--- Keys of places.
+-- Keys of section offsets.
 use Rattle.std.proofs.Common.{◌≡◌, ◌∙◌, ℕ, ◌+◌, ◌*◌, ◌^◌, ◌≤◌, Bool, inl, inr, arith}
 use Rattle.std.specs.Prelude.{◌==◌, ◌&&◌, nat_le, nat_lt}
 use Rattle.std.proofs.lemmas.Bool.{cases_lt}
@@ -7,18 +7,18 @@ use Rattle.pdb_records.specs.declared.addresses.PdbInternalSectionOffset.{PdbInt
 use Rattle.pdb_ranges.proofs.HasLemmas.{within_below, within_above}
 use Rattle.pdb_functions.specs.Keys.{key, HasKeys}
 
--- the places of a section from a start up to an end
-abbrev pub places : ℕ → ℕ → ℕ → PdbInternalSectionOffset → Bool
-places section start end place = (section == place.section) && nat_le start place.offset && nat_lt place.offset end
+-- the section offsets of a section from a start up to an end
+abbrev pub section_offsets : ℕ → ℕ → ℕ → PdbInternalSectionOffset → Bool
+section_offsets section start end section_offset = (section == section_offset.section) && nat_le start section_offset.offset && nat_lt section_offset.offset end
 
--- the keys from that of a start up to that of an end are those of the places from the one up to the other
-pub places_have_keys : (lo hi section start end : ℕ) → lo ≡ section * 2 ^ 34 + start → hi ≡ section * 2 ^ 34 + end → end ≤ 2 ^ 34
-    → HasKeys lo hi (places section start end)
-places_have_keys lo hi section start end low high room place fits =
-    elim (cases_lt section place.section) [
-      | inl below ↦ within_above lo hi (key place) (omega arith) ∙ grind (arith, nat_tests)
-      | inr from ↦ elim (cases_lt place.section section) [
-        | inl above ↦ within_below lo hi (key place) (omega arith) ∙ grind (arith, nat_tests)
-        | inr to ↦ let same : section ≡ place.section = omega arith in grind (arith, nat_tests)
+-- the keys from that of a start up to that of an end are those of the section offsets from the one up to the other
+pub section_offsets_have_keys : (lo hi section start end : ℕ) → lo ≡ section * 2 ^ 34 + start → hi ≡ section * 2 ^ 34 + end → end ≤ 2 ^ 34
+    → HasKeys lo hi (section_offsets section start end)
+section_offsets_have_keys lo hi section start end low high room section_offset fits =
+    elim (cases_lt section section_offset.section) [
+      | inl below ↦ within_above lo hi (key section_offset) (omega arith) ∙ grind (arith, nat_tests)
+      | inr from ↦ elim (cases_lt section_offset.section section) [
+        | inl above ↦ within_below lo hi (key section_offset) (omega arith) ∙ grind (arith, nat_tests)
+        | inr to ↦ let same : section ≡ section_offset.section = omega arith in grind (arith, nat_tests)
       ]
     ]

@@ -1,4 +1,4 @@
-pub mod PlaceLemmas
+pub mod SectionOffsetLemmas
 pub mod KeyLemmas
 pub mod AscendLemmas
 pub mod ContributionLemmas

@@ -13,26 +13,26 @@ use Rattle.pdb_types.specs.declared.error.Error.TheVariants.{PdbError, SectionCo
 use Rattle.pdb_types.specs.Outcomes.{first_refusal, unless}
 use Rattle.pdb_functions.specs.declared.contributions.ModuleSectionContribution.{ModuleSectionContribution}
 use Rattle.pdb_ranges.specs.InOrder.{put, in_order}
-use Rattle.pdb_functions.specs.Contributions.{is_kept, claimed, claims, is_same_module, refused_end, refused_ends, reading_refusal, contribution_before, ordered_claims, intervals_of, overlap_after, merged_contributions}
-use Rattle.pdb_functions.specs.Laws.{IsFilled, AreApart, lies_in, LiesInOneOf, BeginsWithOneOf, EndsWithOneOf, IsApartFrom, NeighboursDiffer, HasByteOf, TellsOverlap}
+use Rattle.pdb_functions.specs.Contributions.{is_counted, claimed, claims, is_same_module, refused_end, refused_ends, reading_refusal, contribution_before, ordered_claims, intervals_of, overlap_after, merged_contributions}
+use Rattle.pdb_functions.specs.Laws.{IsFilled, AreApart, lies_in, LiesInOneOf, BeginsWithOneOf, EndsWithOneOf, IsApartFrom, NeighboursDiffer, HasByteOf, IsOverlap}
 use Rattle.pdb_ranges.proofs.NumberLemmas.{cases_lt}
 use Rattle.pdb_ranges.proofs.SortLemmas.{Rises, all_put, rises_in_order}
 use Rattle.pdb_functions.proofs.ContributionLemmas.{contributions_rank, both_accepted}
 use Rattle.pdb_functions.proofs.OrderLemmas.{all_in_order, all_of_order, any-in_order, all_weaker, all_pairs}
-use Rattle.pdb_functions.proofs.IntervalLemmas.{StartsRise, starts_rise, intervals_filled, intervals_rise, apart_from_starts, claims_lie_in_intervals, intervals_begin, intervals_end, intervals_differ, apart_from_others, IsReached, intervals_reached, HasFirstByteOf, first_bytes, overlap_told}
+use Rattle.pdb_functions.proofs.IntervalLemmas.{StartsRise, starts_rise, intervals_filled, intervals_rise, apart_from_starts, claims_lie_in_intervals, intervals_begin, intervals_end, intervals_differ, apart_from_others, IsReached, intervals_reached, HasFirstByteOf, first_bytes, overlap_shown}
 
 -- a contribution that counts claims a byte
 pub claims_filled : (sections : List ImageSectionHeader) (cs : List SectionContribution) → AllByRecursion IsFilled (claims sections cs)
 claims_filled sections [] = tt
-claims_filled sections (c ∷ cs) = by_test (is_kept sections c) refl (claims_filled sections cs) where
-  by_size : (is_kept sections c) ≡ true → c.offset.offset < c.offset.offset + c.size
-  by_size kept = by_number (cases_lt 0 c.size) where
+claims_filled sections (c ∷ cs) = by_test (is_counted sections c) refl (claims_filled sections cs) where
+  by_size : (is_counted sections c) ≡ true → c.offset.offset < c.offset.offset + c.size
+  by_size counted = by_number (cases_lt 0 c.size) where
     by_number : ((nat_lt 0 c.size ≡ true) × (0 < c.size)) ⊎ ((nat_lt 0 c.size ≡ false) × (c.size ≤ 0)) → c.offset.offset < c.offset.offset + c.size
     by_number (inl some) = let h : 0 < c.size = some.1 in omega arith
-    by_number (inr none) = let e = rw none.0 at kept in absurd (cc)
+    by_number (inr none) = let e = rw none.0 at counted in absurd (cc)
 
-  by_test : (t : Bool) → is_kept sections c ≡ t → AllByRecursion IsFilled (claims sections cs) → AllByRecursion IsFilled (map claimed (cond t (c ∷ filter (is_kept sections) cs) (filter (is_kept sections) cs)))
-  by_test true kept rest = (by_size kept, rest)
+  by_test : (t : Bool) → is_counted sections c ≡ t → AllByRecursion IsFilled (claims sections cs) → AllByRecursion IsFilled (map claimed (cond t (c ∷ filter (is_counted sections) cs) (filter (is_counted sections) cs)))
+  by_test true counted rest = (by_size counted, rest)
   by_test false dropped rest = rest
 
 -- what is merged was read without a refusal, does not overlap, and is the intervals of the claims in order
@@ -140,19 +140,19 @@ unless_refused None value e is = absurd (cc)
 unless_refused (Some f) value e is = cc
 
 -- a byte of a claim in order is one of a claim
-told_of_order : (cs : List ModuleSectionContribution) (e : Error) → TellsOverlap (in_order contribution_before cs) e → TellsOverlap cs e
-told_of_order cs (OverlappingSectionContributions section before module_index) told =
+shown_of_order : (cs : List ModuleSectionContribution) (e : Error) → IsOverlap (in_order contribution_before cs) e → IsOverlap cs e
+shown_of_order cs (OverlappingSectionContributions section before module_index) shown =
     let has_byte = λ (k offset : ℕ) (c : ModuleSectionContribution). (c.section_index == section) && (c.module_index == k) && nat_le c.start_offset offset && nat_lt offset c.end_offset in
-    (told.0, (told.1.0, (sym (any-in_order contribution_before (has_byte before told.1.0) cs) ∙ told.1.1.0, sym (any-in_order contribution_before (has_byte module_index told.1.0) cs) ∙ told.1.1.1)))
-told_of_order cs other told = absurd told
+    (shown.0, (shown.1.0, (sym (any-in_order contribution_before (has_byte before shown.1.0) cs) ∙ shown.1.1.0, sym (any-in_order contribution_before (has_byte module_index shown.1.0) cs) ∙ shown.1.1.1)))
+shown_of_order cs other shown = absurd shown
 
 -- the last refusal is of a byte that two modules claim
-pub refused_for_overlap : (sections : List ImageSectionHeader) (debug : DebugInformation) (e : Error) → find (λ c. nat_le (2 ^ 32) c.end_offset) (claims sections debug.section_contributions.items) ≡ None → debug.section_contributions.fault ≡ None → merged_contributions sections debug ≡ Err e → TellsOverlap (claims sections debug.section_contributions.items) e
+pub refused_for_overlap : (sections : List ImageSectionHeader) (debug : DebugInformation) (e : Error) → find (λ c. nat_le (2 ^ 32) c.end_offset) (claims sections debug.section_contributions.items) ≡ None → debug.section_contributions.fault ≡ None → merged_contributions sections debug ≡ Err e → IsOverlap (claims sections debug.section_contributions.items) e
 refused_for_overlap sections debug e is no_fault refused =
     let cs = ordered_claims sections debug.section_contributions.items in
     let only : unless (overlap_after None (intervals_of cs)) (Ok (intervals_of cs)) ≡ Err e = rw (ends_accepted (claims sections debug.section_contributions.items) is, no_fault) at refused in
-    told_of_order (claims sections debug.section_contributions.items) e (of_intervals (intervals_of cs) (first_bytes cs (ordered_filled sections debug.section_contributions.items)) (intervals_reached cs (ordered_rise sections debug.section_contributions.items)) (intervals_differ cs) (unless_refused (overlap_after None (intervals_of cs)) (intervals_of cs) e only))
+    shown_of_order (claims sections debug.section_contributions.items) e (of_intervals (intervals_of cs) (first_bytes cs (ordered_filled sections debug.section_contributions.items)) (intervals_reached cs (ordered_rise sections debug.section_contributions.items)) (intervals_differ cs) (unless_refused (overlap_after None (intervals_of cs)) (intervals_of cs) e only))
   where
-    of_intervals : (is : List ModuleSectionContribution) → AllByRecursion (HasFirstByteOf (ordered_claims sections debug.section_contributions.items)) is → IsReached (ordered_claims sections debug.section_contributions.items) is → NeighboursDiffer is → overlap_after None is ≡ Some e → TellsOverlap (ordered_claims sections debug.section_contributions.items) e
+    of_intervals : (is : List ModuleSectionContribution) → AllByRecursion (HasFirstByteOf (ordered_claims sections debug.section_contributions.items)) is → IsReached (ordered_claims sections debug.section_contributions.items) is → NeighboursDiffer is → overlap_after None is ≡ Some e → IsOverlap (ordered_claims sections debug.section_contributions.items) e
     of_intervals [] first reached differ refused = absurd (cc)
-    of_intervals (i ∷ is) first reached differ refused = overlap_told (ordered_claims sections debug.section_contributions.items) i is first.1 reached differ e refused
+    of_intervals (i ∷ is) first reached differ refused = overlap_shown (ordered_claims sections debug.section_contributions.items) i is first.1 reached differ e refused

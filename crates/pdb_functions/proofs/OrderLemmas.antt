@@ -35,7 +35,7 @@ or_swap true false c = refl
 or_swap false true c = refl
 or_swap false false c = refl
 
--- putting an element in its place keeps it in the list
+-- putting an element in its place leaves it in the list
 pub any-put : {T : Type 0} (before : T → T → Bool) (p : T → Bool) (x : T) (ys : List T) → list_any p (put before x ys) ≡ (p x || list_any p ys)
 any-put before p x [] = refl
 any-put before p x (y ∷ ys) = by_test (before y x) (any-put before p x ys) where
@@ -58,7 +58,7 @@ all_both : {T : Type 0} (P Q : T → Type 0) (xs : List T) → AllByRecursion P 
 all_both P Q [] first second = tt
 all_both P Q (x ∷ xs) first second = ((first.0, second.0), all_both P Q xs first.1 second.1)
 
--- what holds of each pair of two lists may be told from either list
+-- what holds of each pair of two lists may be shown from either list
 pub all_pairs : {S T : Type 0} (R : S → T → Type 0) (xs : List S) (ys : List T) → AllByRecursion (λ y. AllByRecursion (λ x. R x y) xs) ys → AllByRecursion (λ x. AllByRecursion (R x) ys) xs
 all_pairs R xs [] all = all_tt xs
 all_pairs R xs (y ∷ ys) all = all_both (λ x. R x y) (λ x. AllByRecursion (R x) ys) xs all.0 (all_pairs R xs ys all.1)

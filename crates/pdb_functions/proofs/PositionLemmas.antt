@@ -97,7 +97,7 @@ map-StartsAscend {A = A} {B = B} f start (x ∷ xs) up = (all_map xs up.0, map-S
   all_map [] all = tt
   all_map (y ∷ ys) all = (all.0, all_map ys all.1)
 
--- a place comes before another by numbers
+-- a section offset comes before another by numbers
 pub is_before_test : (a b : PdbInternalSectionOffset)
     → is_before a b ≡ (nat_lt a.section b.section || ((a.section == b.section) && nat_lt a.offset b.offset))
 is_before_test a b =
@@ -117,46 +117,46 @@ is_before_test a b =
     by_order Equal is Greater was fact rest =
         let h : a.section ≡ b.section = rw is at fact in let k : b.offset < a.offset = rw was at rest in rw (is, was) (grind (arith, nat_tests))
 
--- what stands behind a place that comes behind another comes behind that one
-pub before_later : (place a b : PdbInternalSectionOffset) → StandsBefore a b → is_before place a ≡ true → is_before place b ≡ true
-before_later place a b (inl p) before =
-    let h = rw (is_before_test place a) at before in rw (is_before_test place b) (grind (arith, nat_tests))
-before_later place a b (inr p) before =
-    let h = rw (is_before_test place a) at before in rw (is_before_test place b) (grind (arith, nat_tests))
+-- what stands behind a section offset that comes behind another comes behind that one
+pub before_later : (section_offset a b : PdbInternalSectionOffset) → StandsBefore a b → is_before section_offset a ≡ true → is_before section_offset b ≡ true
+before_later section_offset a b (inl p) before =
+    let h = rw (is_before_test section_offset a) at before in rw (is_before_test section_offset b) (grind (arith, nat_tests))
+before_later section_offset a b (inr p) before =
+    let h = rw (is_before_test section_offset a) at before in rw (is_before_test section_offset b) (grind (arith, nat_tests))
 
--- where starts ascend, all from the first on that comes behind a place come behind it
-pub ascend_goes_on : {T : Type 0} (start : T → PdbInternalSectionOffset) (place : PdbInternalSectionOffset) (xs : List T)
-    → StartsAscend start xs → GoesOn (λ x. is_before place (start x)) xs
-ascend_goes_on start place [] up = tt
-ascend_goes_on {T = T} start place (x ∷ xs) up = (λ before. all_later before xs up.0, ascend_goes_on start place xs up.1) where
-  all_later : is_before place (start x) ≡ true → (ys : List T) → AllByRecursion (λ y. StandsBefore (start x) (start y)) ys
-      → AllByRecursion (λ y. is_before place (start y) ≡ true) ys
+-- where starts ascend, all from the first on that comes behind a section offset come behind it
+pub ascend_goes_on : {T : Type 0} (start : T → PdbInternalSectionOffset) (section_offset : PdbInternalSectionOffset) (xs : List T)
+    → StartsAscend start xs → GoesOn (λ x. is_before section_offset (start x)) xs
+ascend_goes_on start section_offset [] up = tt
+ascend_goes_on {T = T} start section_offset (x ∷ xs) up = (λ before. all_later before xs up.0, ascend_goes_on start section_offset xs up.1) where
+  all_later : is_before section_offset (start x) ≡ true → (ys : List T) → AllByRecursion (λ y. StandsBefore (start x) (start y)) ys
+      → AllByRecursion (λ y. is_before section_offset (start y) ≡ true) ys
   all_later before [] all = tt
-  all_later before (y ∷ ys) all = (before_later place (start x) (start y) all.0 before, all_later before ys all.1)
+  all_later before (y ∷ ys) all = (before_later section_offset (start x) (start y) all.0 before, all_later before ys all.1)
 
--- an entry that a place comes before is at the first such one or behind it
-pub behind_up_to : {T : Type 0} (start : T → PdbInternalSectionOffset) (place : PdbInternalSectionOffset) (xs : List T) (k : ℕ) (x : T)
-    → x ≡ get_or xs k x → is_before place (start x) ≡ true → position_or_len (λ y. is_before place (start y)) xs ≤ k
-behind_up_to start place xs k x is before =
-    position_up_to (λ y. is_before place (start y)) xs k x (ap (λ y. is_before place (start y)) (sym is) ∙ before)
+-- an entry that a section offset comes before is at the first such one or behind it
+pub behind_up_to : {T : Type 0} (start : T → PdbInternalSectionOffset) (section_offset : PdbInternalSectionOffset) (xs : List T) (k : ℕ) (x : T)
+    → x ≡ get_or xs k x → is_before section_offset (start x) ≡ true → position_or_len (λ y. is_before section_offset (start y)) xs ≤ k
+behind_up_to start section_offset xs k x is before =
+    position_up_to (λ y. is_before section_offset (start y)) xs k x (ap (λ y. is_before section_offset (start y)) (sym is) ∙ before)
 
--- an entry that a place doesn't come before is ahead of the first such one
-pub behind_past : {T : Type 0} (start : T → PdbInternalSectionOffset) (place : PdbInternalSectionOffset) (xs : List T) (k : ℕ) (x : T)
-    → StartsAscend start xs → k < length xs → x ≡ get_or xs k x → is_before place (start x) ≡ false
-    → k < position_or_len (λ y. is_before place (start y)) xs
-behind_past start place xs k x up within is not_before =
-    position_past (λ y. is_before place (start y)) xs k x (ascend_goes_on start place xs up) within
-    (ap (λ y. is_before place (start y)) (sym is) ∙ not_before)
+-- an entry that a section offset doesn't come before is ahead of the first such one
+pub behind_past : {T : Type 0} (start : T → PdbInternalSectionOffset) (section_offset : PdbInternalSectionOffset) (xs : List T) (k : ℕ) (x : T)
+    → StartsAscend start xs → k < length xs → x ≡ get_or xs k x → is_before section_offset (start x) ≡ false
+    → k < position_or_len (λ y. is_before section_offset (start y)) xs
+behind_past start section_offset xs k x up within is not_before =
+    position_past (λ y. is_before section_offset (start y)) xs k x (ascend_goes_on start section_offset xs up) within
+    (ap (λ y. is_before section_offset (start y)) (sym is) ∙ not_before)
 
--- where a place comes before the first entry, none is last of those that it doesn't come before
-pub none_up_to : {T : Type 0} (start : T → PdbInternalSectionOffset) (place : PdbInternalSectionOffset) (xs : List T) → StartsAscend start xs
-    → position_or_len (λ y. is_before place (start y)) xs ≡ 0 → last_over (λ y. not (is_before place (start y))) None xs ≡ None
-none_up_to start place xs up is =
-    last_ahead (λ y. is_before place (start y)) None xs (ascend_goes_on start place xs up) ∙ ap (ahead_of None xs) is
+-- where a section offset comes before the first entry, none is last of those that it doesn't come before
+pub none_up_to : {T : Type 0} (start : T → PdbInternalSectionOffset) (section_offset : PdbInternalSectionOffset) (xs : List T) → StartsAscend start xs
+    → position_or_len (λ y. is_before section_offset (start y)) xs ≡ 0 → last_over (λ y. not (is_before section_offset (start y))) None xs ≡ None
+none_up_to start section_offset xs up is =
+    last_ahead (λ y. is_before section_offset (start y)) None xs (ascend_goes_on start section_offset xs up) ∙ ap (ahead_of None xs) is
 
 -- else it is the one ahead of the first such one
-pub last_up_to : {T : Type 0} (start : T → PdbInternalSectionOffset) (place : PdbInternalSectionOffset) (xs : List T) (k : ℕ) → StartsAscend start xs
-    → position_or_len (λ y. is_before place (start y)) xs ≡ suc k
-    → last_over (λ y. not (is_before place (start y))) None xs ≡ slice_get xs k
-last_up_to start place xs k up is =
-    last_ahead (λ y. is_before place (start y)) None xs (ascend_goes_on start place xs up) ∙ ap (ahead_of None xs) is
+pub last_up_to : {T : Type 0} (start : T → PdbInternalSectionOffset) (section_offset : PdbInternalSectionOffset) (xs : List T) (k : ℕ) → StartsAscend start xs
+    → position_or_len (λ y. is_before section_offset (start y)) xs ≡ suc k
+    → last_over (λ y. not (is_before section_offset (start y))) None xs ≡ slice_get xs k
+last_up_to start section_offset xs k up is =
+    last_ahead (λ y. is_before section_offset (start y)) None xs (ascend_goes_on start section_offset xs up) ∙ ap (ahead_of None xs) is

@@ -10,7 +10,7 @@ use Rattle.pdb_types.specs.declared.error.Error.{Error}
 use Rattle.pdb_functions.specs.declared.contributions.ModuleSectionContribution.{ModuleSectionContribution}
 use Rattle.pdb_ranges.specs.InOrder.{in_order}
 use Rattle.pdb_types.specs.Outcomes.{first_refusal, unless}
-use Rattle.pdb_functions.specs.Contributions.{is_kept, claimed, claims, is_same_module, refused_end, refused_ends}
+use Rattle.pdb_functions.specs.Contributions.{is_counted, claimed, claims, is_same_module, refused_end, refused_ends}
 use Rattle.pdb_functions.specs.Contributions.{intervals_with, intervals_of}
 use Rattle.pdb_functions.specs.ContributionRuns.{run_with, runs_after, refused_order, refusal_after, StartsNeverFall}
 use Rattle.pdb_functions.specs.Laws.{IsFilled}

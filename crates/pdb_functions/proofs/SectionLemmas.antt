@@ -6,7 +6,7 @@ use Rattle.pdb_records.specs.Addresses.{holds, offset_from}
 use Rattle.pdb_records.specs.declared.addresses.AddressRange.{AddressRange}
 use Rattle.pdb_ranges.specs.Segments.{value_at, painted_in_turn}
 use Rattle.pdb_ranges.proofs.TurnLemmas.{painted_in_turn-last}
-use Rattle.pdb_functions.specs.SectionTables.{place_in, section_segments}
+use Rattle.pdb_functions.specs.SectionTables.{section_offset_in, section_segments}
 use Rattle.pdb_functions.specs.declared.section_table.SectionStart.{SectionStart}
 
 -- there are as many segments as sections
@@ -20,7 +20,7 @@ count ranges = length-reverse (section_segments 0 ranges) ∙ length-section_seg
 
 -- the first segment over an address is that of the first section that holds it
 first_section : (index : ℕ) (ranges : List AddressRange) (x : ℕ)
-    → option_and_then (place_in x) (value_at (section_segments index ranges) x) ≡ offset_from (index + 1) ranges x
+    → option_and_then (section_offset_in x) (value_at (section_segments index ranges) x) ≡ offset_from (index + 1) ranges x
 first_section index [] x = refl
 first_section index (range ∷ ranges) x = by_test (holds x range) (first_section (index + 1) ranges x) where
   here : SectionStart
@@ -29,15 +29,15 @@ first_section index (range ∷ ranges) x = by_test (holds x range) (first_sectio
   later : Option SectionStart
   later = value_at (section_segments (index + 1) ranges) x
 
-  by_test : (t : Bool) → option_and_then (place_in x) later ≡ offset_from (index + 1 + 1) ranges x
-      → option_and_then (place_in x) (cond t (Some here) later) ≡ cond t (place_in x here) (offset_from (index + 1 + 1) ranges x)
+  by_test : (t : Bool) → option_and_then (section_offset_in x) later ≡ offset_from (index + 1 + 1) ranges x
+      → option_and_then (section_offset_in x) (cond t (Some here) later) ≡ cond t (section_offset_in x here) (offset_from (index + 1 + 1) ranges x)
   by_test true rest = refl
   by_test false rest = rest
 
 -- so it is where the segments are painted from the last to the first
 pub section_of_painted : (ranges : List AddressRange) (x : ℕ)
-    → option_and_then (place_in x) (painted_in_turn (reverse (section_segments 0 ranges)) None x) ≡ offset_from 1 ranges x
+    → option_and_then (section_offset_in x) (painted_in_turn (reverse (section_segments 0 ranges)) None x) ≡ offset_from 1 ranges x
 section_of_painted ranges x =
-    ap (option_and_then (place_in x))
+    ap (option_and_then (section_offset_in x))
     (painted_in_turn-last (reverse (section_segments 0 ranges)) x ∙ ap (λ ss. value_at ss x) (reverse-reverse (section_segments 0 ranges)))
     ∙ first_section 0 ranges x

@@ -1,8 +1,8 @@
--- Each symbol tells of at most one procedure, so a procedure that was found goes by its symbol's name.
+-- Each symbol shows at most one procedure, so a procedure that was found goes by its symbol's name.
 use Rattle.std.proofs.Common.{◌≡◌, ◌∙◌, ℕ, ◌+◌, ◌≤◌, Bool, true, false, cond, List, [], ◌∷◌, ◌++◌, Option, Some, None, refl, sym, ap, subst, arith}
 use Rattle.std.specs.Prelude.{⊤, ◌==◌, IfSome, Result, Ok, Err, find, nat_le, nat_lt, slice_get, option_map, option_and_then, option_to_list, if◌then◌else◌}
 use Rattle.std.specs.List.{AllByRecursion}
-use Rattle.pdb_records.specs.Addresses.{is_same_place}
+use Rattle.pdb_records.specs.Addresses.{is_same_section_offset}
 use Rattle.pdb_records.specs.SymbolKinds.{is_code_kind}
 use Rattle.pdb_records.specs.declared.addresses.PdbInternalSectionOffset.{PdbInternalSectionOffset}
 use Rattle.pdb_records.specs.declared.debug_information.Module.{Module}
@@ -17,14 +17,15 @@ use Rattle.pdb_ranges.proofs.PickLemmas.{pick_is_picked}
 use Rattle.pdb_ranges.proofs.SortLemmas.{all_put}
 use Rattle.pdb_functions.specs.declared.contributions.ModuleSectionContribution.{ModuleSectionContribution}
 use Rattle.pdb_functions.specs.GlobalFunctions.{GlobalFunction}
-use Rattle.pdb_functions.specs.Lookup.{Infos, procedures_of_module, FoundFunction, found_procedure, found_global, global_in, found_or_global, function_in_contribution, function_over}
-use Rattle.pdb_functions.specs.Procedures.{ModuleProcedure, unless_empty, procedure_data, procedure_at, last_kept, procedures_from, symbol_procedures, info_procedures, provided_procedures}
+use Rattle.pdb_types.specs.TypeInputs.{ProviderInfos}
+use Rattle.pdb_functions.specs.Lookup.{procedures_of_module, FoundFunction, found_procedure, found_global, global_in, found_or_global, function_in_contribution, function_over}
+use Rattle.pdb_functions.specs.Procedures.{ModuleProcedure, unless_empty, procedure_data, procedure_at, last_counted, procedures_from, symbol_procedures, info_procedures, provided_procedures}
 use Rattle.pdb_functions.specs.Spans.{contribution_covers, procedure_covers, global_function_covers}
 use Rattle.pdb_functions.specs.Starts.{is_at, starts_before, firsts_after}
 use Rattle.pdb_functions.specs.SymbolNames.{name_by_symbol, GoesBySymbol}
 use Rattle.pdb_functions.proofs.OrderLemmas.{all_in_order}
 
--- ---- what one symbol tells of
+-- ---- what one symbol shows
 
 -- a procedure is the one of the symbol at a position
 abbrev IsOf : ℕ → ModuleProcedure → Type 0
@@ -40,7 +41,7 @@ unless_empty_of at p is = by_test (nat_lt 0 p.len) where
 -- what a symbol holds is of that symbol
 data_of : (at : ℕ) (last : Option ModuleProcedure) (content : Option SymbolData) → IfSome (procedure_data at last content) (IsOf at)
 data_of at last (Some (Procedure s)) = unless_empty_of at _ refl
-data_of at (Some parent) (Some (SeparatedCode s)) = by_test (is_same_place parent.offset s.parent_offset) where
+data_of at (Some parent) (Some (SeparatedCode s)) = by_test (is_same_section_offset parent.offset s.parent_offset) where
   code : ModuleProcedure
   code = record { offset = s.offset; len = s.len; name = parent.name; symbol_index = record { 0 = at }; end_symbol_index = s.end; type_index = parent.type_index }
 
@@ -54,14 +55,14 @@ data_of at last (Some (InlineSite s)) = tt
 data_of at last (Some Other) = tt
 data_of at last None = tt
 
--- what a symbol tells of is of that symbol
-told_of : (at : ℕ) (last : Option ModuleProcedure) (symbol : Symbol) → IfSome (procedure_at at last symbol) (IsOf at)
-told_of at last symbol = by_test (is_code_kind symbol.raw_kind) where
+-- what a symbol shows is of that symbol
+shown_of : (at : ℕ) (last : Option ModuleProcedure) (symbol : Symbol) → IfSome (procedure_at at last symbol) (IsOf at)
+shown_of at last symbol = by_test (is_code_kind symbol.raw_kind) where
   by_test : (t : Bool) → IfSome (cond t (procedure_data at last symbol.content) None) (IsOf at)
   by_test true = data_of at last symbol.content
   by_test false = tt
 
--- ---- what all symbols tell of
+-- ---- what all symbols show
 
 -- a procedure is of a symbol at a position or behind it
 abbrev IsFrom : ℕ → ModuleProcedure → Type 0
@@ -86,7 +87,7 @@ others_differ p at (q ∷ ps) is all = (grind (arith, is, all.0), others_differ 
 all_from : (at : ℕ) (last : Option ModuleProcedure) (symbols : List Symbol) → AllByRecursion (IsFrom at) (procedures_from at last symbols)
 all_from at last [] = tt
 all_from at last (symbol ∷ symbols) =
-    with_first (procedure_at at last symbol) (procedures_from (at + 1) (last_kept last (procedure_at at last symbol)) symbols) (told_of at last symbol) (all_from (at + 1) (last_kept last (procedure_at at last symbol)) symbols)
+    with_first (procedure_at at last symbol) (procedures_from (at + 1) (last_counted last (procedure_at at last symbol)) symbols) (shown_of at last symbol) (all_from (at + 1) (last_counted last (procedure_at at last symbol)) symbols)
   where
     with_first : (first : Option ModuleProcedure) (ps : List ModuleProcedure) → IfSome first (IsOf at) → AllByRecursion (IsFrom (at + 1)) ps → AllByRecursion (IsFrom at) (option_to_list first ++ ps)
     with_first None ps is others = from_earlier at ps others
@@ -96,7 +97,7 @@ all_from at last (symbol ∷ symbols) =
 all_differ : (at : ℕ) (last : Option ModuleProcedure) (symbols : List Symbol) → SymbolsDiffer (procedures_from at last symbols)
 all_differ at last [] = tt
 all_differ at last (symbol ∷ symbols) =
-    with_first (procedure_at at last symbol) (procedures_from (at + 1) (last_kept last (procedure_at at last symbol)) symbols) (told_of at last symbol) (all_from (at + 1) (last_kept last (procedure_at at last symbol)) symbols) (all_differ (at + 1) (last_kept last (procedure_at at last symbol)) symbols)
+    with_first (procedure_at at last symbol) (procedures_from (at + 1) (last_counted last (procedure_at at last symbol)) symbols) (shown_of at last symbol) (all_from (at + 1) (last_counted last (procedure_at at last symbol)) symbols) (all_differ (at + 1) (last_counted last (procedure_at at last symbol)) symbols)
   where
     with_first : (first : Option ModuleProcedure) (ps : List ModuleProcedure) → IfSome first (IsOf at) → AllByRecursion (IsFrom (at + 1)) ps → SymbolsDiffer ps → SymbolsDiffer (option_to_list first ++ ps)
     with_first None ps is others differ = differ
@@ -123,18 +124,18 @@ differ_in_order before (x ∷ xs) differ =
     differ_put before x (in_order before xs) (all_in_order before (λ q. (x.symbol_index.0 == q.symbol_index.0) ≡ false) xs differ.0) (differ_in_order before xs differ.1)
 
 -- what holds of all holds of the first of each start
-all_firsts : (start : ModuleProcedure → PdbInternalSectionOffset) (P : ModuleProcedure → Type 0) (place : Option PdbInternalSectionOffset) (xs : List ModuleProcedure) → AllByRecursion P xs → AllByRecursion P (firsts_after start place xs)
-all_firsts start P place [] all = tt
-all_firsts start P place (x ∷ xs) all = by_test (is_at place (start x)) (all_firsts start P place xs all.1) (all_firsts start P (Some (start x)) xs all.1) where
-  by_test : (t : Bool) → AllByRecursion P (firsts_after start place xs) → AllByRecursion P (firsts_after start (Some (start x)) xs) → AllByRecursion P (cond t (firsts_after start place xs) (x ∷ firsts_after start (Some (start x)) xs))
+all_firsts : (start : ModuleProcedure → PdbInternalSectionOffset) (P : ModuleProcedure → Type 0) (section_offset : Option PdbInternalSectionOffset) (xs : List ModuleProcedure) → AllByRecursion P xs → AllByRecursion P (firsts_after start section_offset xs)
+all_firsts start P section_offset [] all = tt
+all_firsts start P section_offset (x ∷ xs) all = by_test (is_at section_offset (start x)) (all_firsts start P section_offset xs all.1) (all_firsts start P (Some (start x)) xs all.1) where
+  by_test : (t : Bool) → AllByRecursion P (firsts_after start section_offset xs) → AllByRecursion P (firsts_after start (Some (start x)) xs) → AllByRecursion P (cond t (firsts_after start section_offset xs) (x ∷ firsts_after start (Some (start x)) xs))
   by_test true same other = same
   by_test false same other = (all.0, other)
 
 -- and the first of each start are of different symbols
-differ_firsts : (start : ModuleProcedure → PdbInternalSectionOffset) (place : Option PdbInternalSectionOffset) (xs : List ModuleProcedure) → SymbolsDiffer xs → SymbolsDiffer (firsts_after start place xs)
-differ_firsts start place [] differ = tt
-differ_firsts start place (x ∷ xs) differ = by_test (is_at place (start x)) (differ_firsts start place xs differ.1) (differ_firsts start (Some (start x)) xs differ.1) where
-  by_test : (t : Bool) → SymbolsDiffer (firsts_after start place xs) → SymbolsDiffer (firsts_after start (Some (start x)) xs) → SymbolsDiffer (cond t (firsts_after start place xs) (x ∷ firsts_after start (Some (start x)) xs))
+differ_firsts : (start : ModuleProcedure → PdbInternalSectionOffset) (section_offset : Option PdbInternalSectionOffset) (xs : List ModuleProcedure) → SymbolsDiffer xs → SymbolsDiffer (firsts_after start section_offset xs)
+differ_firsts start section_offset [] differ = tt
+differ_firsts start section_offset (x ∷ xs) differ = by_test (is_at section_offset (start x)) (differ_firsts start section_offset xs differ.1) (differ_firsts start (Some (start x)) xs differ.1) where
+  by_test : (t : Bool) → SymbolsDiffer (firsts_after start section_offset xs) → SymbolsDiffer (firsts_after start (Some (start x)) xs) → SymbolsDiffer (cond t (firsts_after start section_offset xs) (x ∷ firsts_after start (Some (start x)) xs))
   by_test true same other = same
   by_test false same other = (all_firsts start (λ q. (x.symbol_index.0 == q.symbol_index.0) ≡ false) (Some (start x)) xs differ.0, other)
 
@@ -156,8 +157,8 @@ provided_differ (Ok (Some info)) = info_differ info
 provided_differ (Ok None) = tt
 provided_differ (Err fault) = tt
 
--- those of the module at a position
-pub procedures_differ : (infos : Infos) (modules : List Module) (m : ℕ) → SymbolsDiffer (procedures_of_module infos modules m)
+-- those of the module at a module index
+pub procedures_differ : (infos : ProviderInfos) (modules : List Module) (m : ℕ) → SymbolsDiffer (procedures_of_module infos modules m)
 procedures_differ infos modules m = by_module (slice_get modules m) refl where
   by_module : (there : Option Module) → slice_get modules m ≡ there → SymbolsDiffer (procedures_of_module infos modules m)
   by_module None is = rw is tt
@@ -182,8 +183,8 @@ picked_by_symbol over start ps p differ picked =
     let there = found_by_symbol picked.ahead p picked.behind (rw picked.split at differ) in
     ap (option_map (λ q. q.name)) (ap (find (λ q. q.symbol_index.0 == p.symbol_index.0)) picked.split ∙ there)
 
--- what lies over a place in a contribution goes by its symbol's name
-in_contribution : (infos : Infos) (modules : List Module) (c : ModuleSectionContribution) (global : Option GlobalFunction) (over : ModuleProcedure → Bool) (start : ModuleProcedure → ℕ)
+-- what lies over a section offset in a contribution goes by its symbol's name
+in_contribution : (infos : ProviderInfos) (modules : List Module) (c : ModuleSectionContribution) (global : Option GlobalFunction) (over : ModuleProcedure → Bool) (start : ModuleProcedure → ℕ)
     → (picked : Option ModuleProcedure) → IsPicked over start (procedures_of_module infos modules c.module_index) picked
     → IfSome (found_or_global c global picked) (GoesBySymbol infos modules)
 in_contribution infos modules c global over start (Some p) picked = picked_by_symbol over start (procedures_of_module infos modules c.module_index) p (procedures_differ infos modules c.module_index) picked
@@ -193,13 +194,13 @@ in_contribution infos modules c (Some f) over start None picked = by_test (nat_l
   by_test true = tt
   by_test false = tt
 
--- what lies over a place goes by its symbol's name
-pub over_by_symbol : (infos : Infos) (modules : List Module) (contributions : List ModuleSectionContribution) (globals : List GlobalFunction) (place : PdbInternalSectionOffset)
-    → IfSome (function_over infos modules contributions globals place) (GoesBySymbol infos modules)
-over_by_symbol infos modules contributions globals place = of_contribution (find (contribution_covers place) contributions) where
-  of_contribution : (c : Option ModuleSectionContribution) → IfSome (option_and_then (function_in_contribution infos modules globals place) c) (GoesBySymbol infos modules)
+-- what lies over a section offset goes by its symbol's name
+pub over_by_symbol : (infos : ProviderInfos) (modules : List Module) (contributions : List ModuleSectionContribution) (globals : List GlobalFunction) (section_offset : PdbInternalSectionOffset)
+    → IfSome (function_over infos modules contributions globals section_offset) (GoesBySymbol infos modules)
+over_by_symbol infos modules contributions globals section_offset = of_contribution (find (contribution_covers section_offset) contributions) where
+  of_contribution : (c : Option ModuleSectionContribution) → IfSome (option_and_then (function_in_contribution infos modules globals section_offset) c) (GoesBySymbol infos modules)
   of_contribution None = tt
   of_contribution (Some c) =
       let procedures = procedures_of_module infos modules c.module_index in
-      in_contribution infos modules c (pick (global_function_covers place) (λ f. f.start.offset) globals) (procedure_covers place) (λ p. p.offset.offset)
-      (pick (procedure_covers place) (λ p. p.offset.offset) procedures) (pick_is_picked (procedure_covers place) (λ p. p.offset.offset) procedures)
+      in_contribution infos modules c (pick (global_function_covers section_offset) (λ f. f.start.offset) globals) (procedure_covers section_offset) (λ p. p.offset.offset)
+      (pick (procedure_covers section_offset) (λ p. p.offset.offset) procedures) (pick_is_picked (procedure_covers section_offset) (λ p. p.offset.offset) procedures)

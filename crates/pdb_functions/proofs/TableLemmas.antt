@@ -26,40 +26,40 @@ pub painted_position : {T : Type 0} (spans : List T) (position : ℕ) (span : T)
 painted_position spans position span true before got = got
 painted_position spans position span false before got = refl
 
--- of procedures that ascend the last one over a place starts last
-pub last_procedure : (place : PdbInternalSectionOffset) (ps : List ProcedureSymbolFunction) → StartsAscend (λ p. p.offset) ps
-    → option_map module_procedure (last_over (λ p. procedure_covers place (module_procedure p)) None ps)
-    ≡ pick (procedure_covers place) (λ p. p.offset.offset) (map module_procedure ps)
-last_procedure place ps up =
-    let over = λ (p : ProcedureSymbolFunction). procedure_covers place (module_procedure p) in
-    let climbs = climbs_in_section over (λ p. p.offset) place.section within ps up in
+-- of procedures that ascend the last one over a section offset starts last
+pub last_procedure : (section_offset : PdbInternalSectionOffset) (ps : List ProcedureSymbolFunction) → StartsAscend (λ p. p.offset) ps
+    → option_map module_procedure (last_over (λ p. procedure_covers section_offset (module_procedure p)) None ps)
+    ≡ pick (procedure_covers section_offset) (λ p. p.offset.offset) (map module_procedure ps)
+last_procedure section_offset ps up =
+    let over = λ (p : ProcedureSymbolFunction). procedure_covers section_offset (module_procedure p) in
+    let climbs = climbs_in_section over (λ p. p.offset) section_offset.section within ps up in
     ap (λ o. option_map module_procedure o) (sym (pick-last over (λ p. p.offset.offset) ps climbs))
-    ∙ map-pick module_procedure (procedure_covers place) (λ p. p.offset.offset) ps
+    ∙ map-pick module_procedure (procedure_covers section_offset) (λ p. p.offset.offset) ps
   where
-    within : (p : ProcedureSymbolFunction) → procedure_covers place (module_procedure p) ≡ true → p.offset.section ≡ place.section
+    within : (p : ProcedureSymbolFunction) → procedure_covers section_offset (module_procedure p) ≡ true → p.offset.section ≡ section_offset.section
     within p covers = grind (arith, nat_tests)
 
--- where a place comes before the first of the global functions, none is up to it
-pub no_function_up_to : (place : PdbInternalSectionOffset) (fs : List PublicSymbolFunctionOrPlaceholder) → StartsAscend (λ f. f.start_offset) fs
-    → position_or_len (λ f. is_before place f.start_offset) fs ≡ 0
-    → None ≡ last_over (λ f. not (is_before place f.start)) None (map global_function fs)
-no_function_up_to place fs up is =
-    ap (λ o. option_map global_function o) (sym (none_up_to (λ f. f.start_offset) place fs up is))
-    ∙ map-last_over global_function (λ f. not (is_before place f.start)) None fs
+-- where a section offset comes before the first of the global functions, none is up to it
+pub no_function_up_to : (section_offset : PdbInternalSectionOffset) (fs : List PublicSymbolFunctionOrPlaceholder) → StartsAscend (λ f. f.start_offset) fs
+    → position_or_len (λ f. is_before section_offset f.start_offset) fs ≡ 0
+    → None ≡ last_over (λ f. not (is_before section_offset f.start)) None (map global_function fs)
+no_function_up_to section_offset fs up is =
+    ap (λ o. option_map global_function o) (sym (none_up_to (λ f. f.start_offset) section_offset fs up is))
+    ∙ map-last_over global_function (λ f. not (is_before section_offset f.start)) None fs
 
 -- else the one ahead of the first that it comes before is the last up to it
-pub last_function_up_to : (place : PdbInternalSectionOffset) (fs : List PublicSymbolFunctionOrPlaceholder) (k : ℕ)
+pub last_function_up_to : (section_offset : PdbInternalSectionOffset) (fs : List PublicSymbolFunctionOrPlaceholder) (k : ℕ)
     (f : PublicSymbolFunctionOrPlaceholder) → StartsAscend (λ g. g.start_offset) fs
-    → position_or_len (λ g. is_before place g.start_offset) fs ≡ suc k → slice_get fs k ≡ Some f
-    → Some (global_function f) ≡ last_over (λ g. not (is_before place g.start)) None (map global_function fs)
-last_function_up_to place fs k f up is got =
-    ap (λ o. option_map global_function o) (sym (last_up_to (λ g. g.start_offset) place fs k up is ∙ got))
-    ∙ map-last_over global_function (λ g. not (is_before place g.start)) None fs
+    → position_or_len (λ g. is_before section_offset g.start_offset) fs ≡ suc k → slice_get fs k ≡ Some f
+    → Some (global_function f) ≡ last_over (λ g. not (is_before section_offset g.start)) None (map global_function fs)
+last_function_up_to section_offset fs k f up is got =
+    ap (λ o. option_map global_function o) (sym (last_up_to (λ g. g.start_offset) section_offset fs k up is ∙ got))
+    ∙ map-last_over global_function (λ g. not (is_before section_offset g.start)) None fs
 
--- the first global function that a place comes before is at the position
-pub first_function_behind : (place : PdbInternalSectionOffset) (fs : List PublicSymbolFunctionOrPlaceholder)
-    → option_map global_function (slice_get fs (position_or_len (λ f. is_before place f.start_offset) fs))
-    ≡ find (λ f. is_before place f.start) (map global_function fs)
-first_function_behind place fs =
-    ap (λ o. option_map global_function o) (sym (find_at (λ f. is_before place f.start_offset) fs))
-    ∙ map-find global_function (λ f. is_before place f.start) fs
+-- the first global function that a section offset comes before is at the position
+pub first_function_behind : (section_offset : PdbInternalSectionOffset) (fs : List PublicSymbolFunctionOrPlaceholder)
+    → option_map global_function (slice_get fs (position_or_len (λ f. is_before section_offset f.start_offset) fs))
+    ≡ find (λ f. is_before section_offset f.start) (map global_function fs)
+first_function_behind section_offset fs =
+    ap (λ o. option_map global_function o) (sym (find_at (λ f. is_before section_offset f.start_offset) fs))
+    ∙ map-find global_function (λ f. is_before section_offset f.start) fs

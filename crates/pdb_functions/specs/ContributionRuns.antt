@@ -57,7 +57,7 @@ run_refusal sections debug =
 abbrev pub ordered_runs : List ImageSectionHeader → List SectionContribution → List ModuleSectionContribution
 ordered_runs sections cs = in_order contribution_before (runs_after None (claims sections cs))
 
--- which module each part of the program came from, where runs are joined in reading order, or why that can't be told
+-- which module each part of the program came from, where runs are joined in reading order, or why that has no answer
 abbrev pub merged_by_runs : List ImageSectionHeader → DebugInformation
     → Result (List ModuleSectionContribution) Error
 merged_by_runs sections debug =

@@ -17,8 +17,8 @@ use Rattle.pdb_types.specs.Outcomes.{first_refusal, unless}
 use Rattle.pdb_functions.specs.Sections.{is_executable}
 
 -- a contribution counts where it isn't empty and its section holds code
-abbrev pub is_kept : List ImageSectionHeader → SectionContribution → Bool
-is_kept sections c = nat_lt 0 c.size && is_executable sections c.offset.section
+abbrev pub is_counted : List ImageSectionHeader → SectionContribution → Bool
+is_counted sections c = nat_lt 0 c.size && is_executable sections c.offset.section
 
 -- the bytes that a contribution claims for its module
 abbrev pub claimed : SectionContribution → ModuleSectionContribution
@@ -31,7 +31,7 @@ claimed c = record {
 
 -- what the contributions that count claim, in reading order
 abbrev pub claims : List ImageSectionHeader → List SectionContribution → List ModuleSectionContribution
-claims sections cs = map claimed (filter (is_kept sections) cs)
+claims sections cs = map claimed (filter (is_counted sections) cs)
 
 -- two belong to one module and section
 abbrev pub is_same_module : ModuleSectionContribution → ModuleSectionContribution → Bool
@@ -99,7 +99,7 @@ overlap_after before [] = None
 overlap_after before (interval ∷ intervals) =
     first_refusal (refused_overlap before interval) (overlap_after (Some interval) intervals)
 
--- which module each part of the program came from, or why that can't be told
+-- which module each part of the program came from, or why that has no answer
 abbrev pub merged_contributions : List ImageSectionHeader → DebugInformation
     → Result (List ModuleSectionContribution) Error
 merged_contributions sections debug =
@@ -108,4 +108,4 @@ merged_contributions sections debug =
 
 -- where the contributions that count start, in reading order
 abbrev pub contribution_starts : List ImageSectionHeader → List SectionContribution → List PdbInternalSectionOffset
-contribution_starts sections cs = map (λ c. c.offset) (filter (is_kept sections) cs)
+contribution_starts sections cs = map (λ c. c.offset) (filter (is_counted sections) cs)

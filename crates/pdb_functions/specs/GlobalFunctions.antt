@@ -1,4 +1,4 @@
--- The functions that the whole program's symbols tell of.
+-- The functions that the whole program's symbols show.
 use Rattle.std.specs.Prelude.{ℕ, List, ◌++◌, Option, Some, None, map, if◌then◌else◌}
 use Rattle.std.specs.Option.{option_copied}
 use Rattle.std.specs.List.{filter_map}
@@ -20,7 +20,7 @@ pub record GlobalFunction : Type 0 where
   pub start : PdbInternalSectionOffset
   pub name : Option (List ℕ)
 
--- the same, as the code keeps it
+-- the same, as the code holds it
 abbrev pub global_function : PublicSymbolFunctionOrPlaceholder → GlobalFunction
 global_function f = record { start = f.start_offset; name = option_copied f.name }
 
@@ -37,7 +37,7 @@ public_data sections (Some (InlineSite symbol)) = None
 public_data sections (Some Other) = None
 public_data sections None = None
 
--- the function that a symbol tells of, where it is a public one
+-- the function that a symbol shows, where it is a public one
 abbrev pub public_function : List ImageSectionHeader → Symbol → Option GlobalFunction
 public_function sections symbol = if is_public_kind symbol.raw_kind then public_data sections symbol.content else None
 
@@ -45,12 +45,12 @@ public_function sections symbol = if is_public_kind symbol.raw_kind then public_
 abbrev pub placeholder : PdbInternalSectionOffset → GlobalFunction
 placeholder start = record { start = start; name = None }
 
--- all starts that are told of: public symbols first, then contributions that count, then ends of sections
-abbrev pub told_functions : List ImageSectionHeader → List Symbol → DebugInformation → List GlobalFunction
-told_functions sections symbols debug =
+-- all starts that are shown: public symbols first, then contributions that count, then ends of sections
+abbrev pub listed_functions : List ImageSectionHeader → List Symbol → DebugInformation → List GlobalFunction
+listed_functions sections symbols debug =
     filter_map (public_function sections) symbols
     ++ map placeholder (contribution_starts sections debug.section_contributions.items ++ section_ends sections)
 
--- by section and start, of each start the first that is told: the first public symbol, else one with no name
+-- by section and start, of each start the first that is shown: the first public symbol, else one with no name
 abbrev pub global_functions : List ImageSectionHeader → List Symbol → DebugInformation → List GlobalFunction
-global_functions sections symbols debug = first_of_each_start (λ f. f.start) (told_functions sections symbols debug)
+global_functions sections symbols debug = first_of_each_start (λ f. f.start) (listed_functions sections symbols debug)

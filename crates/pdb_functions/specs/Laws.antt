@@ -2,7 +2,7 @@
 use Rattle.std.specs.Prelude.{◌≡◌, ◌≢◌, ◌<◌, ◌≤◌, ℕ, Bool, true, false, List, [], ◌∷◌, ⊤, ◌&&◌, ◌==◌, nat_le, nat_lt}
 use Rattle.std.specs.Prelude.{◌⊎◌, Option, Some, None, find}
 use Rattle.std.specs.List.{AllByRecursion, list_any}
-use Rattle.pdb_records.specs.Addresses.{is_same_place}
+use Rattle.pdb_records.specs.Addresses.{is_same_section_offset}
 use Rattle.pdb_records.specs.declared.addresses.PdbInternalSectionOffset.{PdbInternalSectionOffset}
 use Rattle.pdb_types.specs.declared.error.Error.{Error}
 use Rattle.pdb_types.specs.declared.error.Error.TheVariants.{OverlappingSectionContributions}
@@ -63,16 +63,16 @@ HasByteOf claims section module_index offset =
     list_any (λ claim. (claim.section_index == section) && (claim.module_index == module_index)
     && nat_le claim.start_offset offset && nat_lt offset claim.end_offset) claims ≡ true
 
--- an error tells of a byte that contributions of two modules claim
-abbrev pub TellsOverlap : List ModuleSectionContribution → Error → Type 0
-TellsOverlap claims (OverlappingSectionContributions section before module_index) =
+-- an error shows a byte that contributions of two modules claim
+abbrev pub IsOverlap : List ModuleSectionContribution → Error → Type 0
+IsOverlap claims (OverlappingSectionContributions section before module_index) =
     (before ≢ module_index)
     × ((offset : ℕ) × (HasByteOf claims section before offset × HasByteOf claims section module_index offset))
-TellsOverlap claims other = ⊥
+IsOverlap claims other = ⊥
 
--- the first procedure of a list that starts at a place
+-- the first procedure of a list that starts at a section offset
 abbrev pub procedure_starting_at : PdbInternalSectionOffset → List ModuleProcedure → Option ModuleProcedure
-procedure_starting_at place procedures = find (λ p. is_same_place p.offset place) procedures
+procedure_starting_at section_offset procedures = find (λ p. is_same_section_offset p.offset section_offset) procedures
 
 -- the last procedure of a list
 abbrev pub last_procedure : List ModuleProcedure → Option ModuleProcedure

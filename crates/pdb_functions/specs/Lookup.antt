@@ -1,11 +1,9 @@
--- The function over a place of the program.
-use Rattle.std.specs.Prelude.{ℕ, List, [], Option, Some, None, Result, slice_get, find}
+-- The function over a section offset of the program.
+use Rattle.std.specs.Prelude.{ℕ, List, [], Option, Some, None, slice_get, find}
 use Rattle.std.specs.Prelude.{nat_le, nat_lt, ◌==◌, ◌&&◌, option_and_then, if◌then◌else◌}
-use Rattle.pdb_records.specs.Addresses.{is_same_place}
+use Rattle.pdb_records.specs.Addresses.{is_same_section_offset}
 use Rattle.pdb_records.specs.declared.addresses.PdbInternalSectionOffset.{PdbInternalSectionOffset}
 use Rattle.pdb_records.specs.declared.debug_information.Module.{Module}
-use Rattle.pdb_records.specs.declared.error.StreamError.{StreamError}
-use Rattle.pdb_records.specs.declared.modules.ModuleInfo.{ModuleInfo}
 use Rattle.pdb_functions.specs.declared.contributions.ModuleSectionContribution.{ModuleSectionContribution}
 use Rattle.pdb_functions.specs.GlobalFunctions.{GlobalFunction}
 use Rattle.pdb_functions.specs.Procedures.{ModuleProcedure, provided_procedures}
@@ -15,19 +13,16 @@ use Rattle.pdb_functions.specs.declared.lookup.PublicOrProcedureSymbol.{PublicOr
 use Rattle.pdb_functions.specs.declared.lookup.PublicOrProcedureSymbol.TheVariants as code
 use Rattle.pdb_functions.specs.GlobalFunctions.{global_function}
 use Rattle.pdb_functions.specs.Procedures.{module_procedure}
+use Rattle.pdb_types.specs.TypeInputs.{ProviderInfos}
 
--- what a provider answers for a position and a module
-abbrev pub Infos : Type 0
-Infos = ℕ → Module → Result (Option ModuleInfo) StreamError
-
--- the procedures of the module at a position
-abbrev pub procedures_of_module : Infos → List Module → ℕ → List ModuleProcedure
+-- the procedures of the module at a module index
+abbrev pub procedures_of_module : ProviderInfos → List Module → ℕ → List ModuleProcedure
 procedures_of_module infos modules index = provided_of (slice_get modules index) where
   provided_of : Option Module → List ModuleProcedure
   provided_of None = []
   provided_of (Some m) = provided_procedures (infos index m)
 
--- what lies over a place: a procedure of the module at a position, or a global function
+-- what lies over a section offset: a procedure of the module at a module index, or a global function
 pub data FoundFunction : Type 0 where
   found_procedure : ℕ → ModuleProcedure → FoundFunction
   found_global : ℕ → GlobalFunction → FoundFunction
@@ -48,27 +43,27 @@ abbrev pub found_or_global : ModuleSectionContribution → Option GlobalFunction
 found_or_global c global (Some p) = Some (found_procedure c.module_index p)
 found_or_global c global None = global_in c global
 
--- what lies over a place in a contribution: of the procedures of its module over the place the one of greatest start,
+-- what lies over a section offset in a contribution: of its module's procedures over it the one of greatest start,
 -- else the global function of greatest start at or below it in the section
-abbrev pub function_in_contribution : Infos → List Module → List GlobalFunction → PdbInternalSectionOffset
+abbrev pub function_in_contribution : ProviderInfos → List Module → List GlobalFunction → PdbInternalSectionOffset
     → ModuleSectionContribution → Option FoundFunction
-function_in_contribution infos modules globals place c =
+function_in_contribution infos modules globals section_offset c =
     found_or_global c
-    (pick (global_function_covers place) (λ f. f.start.offset) globals)
-    (pick (procedure_covers place) (λ p. p.offset.offset) (procedures_of_module infos modules c.module_index))
+    (pick (global_function_covers section_offset) (λ f. f.start.offset) globals)
+    (pick (procedure_covers section_offset) (λ p. p.offset.offset) (procedures_of_module infos modules c.module_index))
 
--- what lies over a place: nothing outside the contributions
-abbrev pub function_over : Infos → List Module → List ModuleSectionContribution → List GlobalFunction
+-- what lies over a section offset: nothing outside the contributions
+abbrev pub function_over : ProviderInfos → List Module → List ModuleSectionContribution → List GlobalFunction
     → PdbInternalSectionOffset → Option FoundFunction
-function_over infos modules contributions globals place =
-    let contribution = find (contribution_covers place) contributions in
-    option_and_then (function_in_contribution infos modules globals place) contribution
+function_over infos modules contributions globals section_offset =
+    let contribution = find (contribution_covers section_offset) contributions in
+    option_and_then (function_in_contribution infos modules globals section_offset) contribution
 
--- the first global function of a list that starts at a place
+-- the first global function of a list that starts at a section offset
 abbrev pub global_at : PdbInternalSectionOffset → List GlobalFunction → Option GlobalFunction
-global_at place globals = find (λ f. is_same_place f.start place) globals
+global_at section_offset globals = find (λ f. is_same_section_offset f.start section_offset) globals
 
 -- the next global function of a section behind an offset, in a list that ascends
 abbrev pub next_global : PdbInternalSectionOffset → List GlobalFunction → Option GlobalFunction
-next_global place globals =
-    find (λ f. (f.start.section == place.section) && nat_lt place.offset f.start.offset) globals
+next_global section_offset globals =
+    find (λ f. (f.start.section == section_offset.section) && nat_lt section_offset.offset f.start.offset) globals

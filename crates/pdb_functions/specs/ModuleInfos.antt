@@ -1,35 +1,37 @@
--- The records of modules that can be read, and what is kept of them.
+-- The records of modules that can be read, and what is cached of them.
 use Rattle.std.specs.Prelude.{◌≡◌, ℕ, List, Option, Some, None, is_none, slice_get}
 use Rattle.std.specs.Prelude.{option_map, option_and_then, if◌then◌else◌}
 use Rattle.std.specs.Result.{result_unwrap_or}
 use Rattle.pdb_records.specs.declared.debug_information.Module.{Module}
 use Rattle.pdb_records.specs.declared.modules.ModuleInfo.{ModuleInfo}
-use Rattle.pdb_functions.specs.Lookup.{Infos}
+use Rattle.pdb_types.specs.TypeInputs.{ProviderInfos}
 use Rattle.pdb_functions.specs.declared.named_info.NamedInfo.{NamedInfo}
 
--- the records of the module at a position, if the provider has them and its symbols were read to their end
-abbrev pub readable_info : Infos → List Module → ℕ → Option ModuleInfo
-readable_info infos modules position =
+-- the records of the module at a module index, if the provider has them and its symbols were read to their end
+abbrev pub readable_info : ProviderInfos → List Module → ℕ → Option ModuleInfo
+readable_info infos modules module_index =
     let whole = λ (info : ModuleInfo). if is_none info.symbols.fault then Some info else None in
-    let of_module = λ (m : Module). option_and_then whole (result_unwrap_or (infos position m) None) in
-    option_and_then of_module (slice_get modules position)
+    let of_module = λ (m : Module). option_and_then whole (result_unwrap_or (infos module_index m) None) in
+    option_and_then of_module (slice_get modules module_index)
 
--- what is kept at a position
-abbrev pub what_is_kept : List (Option NamedInfo) → ℕ → Option NamedInfo
-what_is_kept kept position = option_and_then (λ (entry : Option NamedInfo). entry) (slice_get kept position)
+-- what is cached at a module index
+abbrev pub cached_info_at : List (Option NamedInfo) → ℕ → Option NamedInfo
+cached_info_at cached module_index =
+    option_and_then (λ (entry : Option NamedInfo). entry) (slice_get cached module_index)
 
--- what is kept at a position is what can be read there, wherever the module there has the name that it is kept with
-unfoldable pub FitsInfos : Infos → List (Option NamedInfo) → Type 0
-FitsInfos infos kept =
-    (position : ℕ) (entry : NamedInfo) → slice_get kept position ≡ Some (Some entry)
-    → (modules : List Module) → slice_get modules position ≡ Some (record { name = entry.name })
-    → entry.info ≡ readable_info infos modules position
+-- what is cached at a module index is what can be read there, wherever the module has the name that it is cached with
+unfoldable pub IsModuleInfoCache : ProviderInfos → List (Option NamedInfo) → Type 0
+IsModuleInfoCache infos cached =
+    (module_index : ℕ) (entry : NamedInfo) → slice_get cached module_index ≡ Some (Some entry)
+    → (modules : List Module) → slice_get modules module_index ≡ Some (record { name = entry.name })
+    → entry.info ≡ readable_info infos modules module_index
 
--- something is kept at a position, with this name
-abbrev pub IsKept : List (Option NamedInfo) → ℕ → List ℕ → Type 0
-IsKept kept position name = option_map (λ (entry : NamedInfo). entry.name) (what_is_kept kept position) ≡ Some name
+-- something is cached at a module index, with this name
+abbrev pub IsCachedInfo : List (Option NamedInfo) → ℕ → List ℕ → Type 0
+IsCachedInfo cached module_index name =
+    option_map (λ (entry : NamedInfo). entry.name) (cached_info_at cached module_index) ≡ Some name
 
--- a cache of what can be read of modules: the provider of their records, and what is kept by the modules' positions
+-- a cache of what can be read of modules: the provider of their records, and what is cached by module index
 pub record InfoCache (P : Type 0) : Type 0 where
   pub provider : P
-  pub kept : List (Option NamedInfo)
+  pub cached : List (Option NamedInfo)

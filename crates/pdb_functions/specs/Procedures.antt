@@ -1,7 +1,7 @@
 -- The procedures of a module.
 use Rattle.std.specs.Prelude.{ℕ, ◌+◌, List, [], ◌∷◌, ◌++◌, Option, Some, None, Result, Ok}
 use Rattle.std.specs.Prelude.{Err, nat_lt, option_and_then, option_to_list, if◌then◌else◌}
-use Rattle.pdb_records.specs.Addresses.{is_same_place}
+use Rattle.pdb_records.specs.Addresses.{is_same_section_offset}
 use Rattle.pdb_records.specs.SymbolKinds.{is_code_kind}
 use Rattle.pdb_records.specs.declared.addresses.PdbInternalSectionOffset.{PdbInternalSectionOffset}
 use Rattle.pdb_records.specs.declared.error.StreamError.{StreamError}
@@ -24,7 +24,7 @@ pub record ModuleProcedure : Type 0 where
   pub end_symbol_index : SymbolIndex
   pub type_index : TypeIndex
 
--- the same, as the code keeps it
+-- the same, as the code holds it
 abbrev pub module_procedure : ProcedureSymbolFunction → ModuleProcedure
 module_procedure p = record {
   offset = p.offset;
@@ -39,8 +39,8 @@ module_procedure p = record {
 abbrev pub unless_empty : ModuleProcedure → Option ModuleProcedure
 unless_empty procedure = if nat_lt 0 procedure.len then Some procedure else None
 
--- what a symbol holds, as a procedure behind the last one kept: code apart from its body takes the name and the type
--- of that one, where it starts at the parent's place
+-- what a symbol holds, as a procedure behind the last one that counts: code apart from its body takes the name and the
+-- type of that one, where it starts at the parent's section offset
 abbrev pub procedure_data : ℕ → Option ModuleProcedure → Option SymbolData → Option ModuleProcedure
 procedure_data at last (Some (Procedure s)) =
     unless_empty (record {
@@ -52,7 +52,7 @@ procedure_data at last (Some (Procedure s)) =
       type_index = s.type_index;
     })
 procedure_data at last (Some (SeparatedCode s)) = option_and_then (λ parent.
-    if is_same_place parent.offset s.parent_offset
+    if is_same_section_offset parent.offset s.parent_offset
     then unless_empty (record {
       offset = s.offset;
       len = s.len;
@@ -76,23 +76,23 @@ procedure_data at last (Some (InlineSite s)) = None
 procedure_data at last (Some Other) = None
 procedure_data at last None = None
 
--- the procedure that a symbol at a position tells of, behind the last one kept
+-- the procedure that a symbol at a position shows, behind the last one that counts
 abbrev pub procedure_at : ℕ → Option ModuleProcedure → Symbol → Option ModuleProcedure
 procedure_at at last symbol = if is_code_kind symbol.raw_kind then procedure_data at last symbol.content else None
 
--- the last procedure kept, after one that may be there
-abbrev pub last_kept : Option ModuleProcedure → Option ModuleProcedure → Option ModuleProcedure
-last_kept last None = last
-last_kept last (Some procedure) = Some procedure
+-- the last procedure that counts, after one that may be there
+abbrev pub last_counted : Option ModuleProcedure → Option ModuleProcedure → Option ModuleProcedure
+last_counted last None = last
+last_counted last (Some procedure) = Some procedure
 
--- the procedures that symbols from a position on tell of, in reading order, behind the last one kept
+-- the procedures that symbols from a position on show, in reading order, behind the last one that counts
 abbrev pub procedures_from : ℕ → Option ModuleProcedure → List Symbol → List ModuleProcedure
 procedures_from at last [] = []
 procedures_from at last (symbol ∷ symbols) =
     option_to_list (procedure_at at last symbol)
-    ++ procedures_from (at + 1) (last_kept last (procedure_at at last symbol)) symbols
+    ++ procedures_from (at + 1) (last_counted last (procedure_at at last symbol)) symbols
 
--- the procedures that symbols tell of, by section and start, of each start the first
+-- the procedures that symbols show, by section and start, of each start the first
 abbrev pub symbol_procedures : List Symbol → List ModuleProcedure
 symbol_procedures symbols = first_of_each_start (λ p. p.offset) (procedures_from 0 None symbols)
 

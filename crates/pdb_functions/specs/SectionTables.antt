@@ -6,9 +6,9 @@ use Rattle.pdb_records.specs.declared.addresses.AddressRange.{AddressRange}
 use Rattle.pdb_ranges.specs.declared.segment.Segment.{Segment}
 use Rattle.pdb_functions.specs.declared.section_table.SectionStart.{SectionStart}
 
--- the place of an address in a section, which is numbered from 1 by its position in the list
-abbrev pub place_in : ℕ → SectionStart → Option PdbInternalSectionOffset
-place_in address section = numbered (section.index + 1) (address - section.start)
+-- the section offset of an address in a section, which is numbered from 1 by its position in the list
+abbrev pub section_offset_in : ℕ → SectionStart → Option PdbInternalSectionOffset
+section_offset_in address section = numbered (section.index + 1) (address - section.start)
 
 -- the addresses of each section, of sections that stand in the list from this position on
 abbrev pub section_segments : ℕ → List AddressRange → List (Segment SectionStart)

@@ -3,14 +3,14 @@ ghost use Rattle.pdb_ranges.specs.Probes.{digits};
 ghost use Rattle.pdb_functions.specs.Spans.{contribution_covers};
 
 use crate::contributions::ModuleSectionContribution;
-use crate::placed::{Keys, Placed, find, key, segments_of};
+use crate::span_table::{Keys, Span, find, key, segments_of};
 use pdb_ranges::{Probes, Segments};
 use pdb_records::PdbInternalSectionOffset;
 use std::alloc::{AllocError, Global};
 use std::marker::Model;
 
-impl Placed for ModuleSectionContribution {
-    ghost is_over = { λ place c. contribution_covers place c };
+impl Span for ModuleSectionContribution {
+    ghost is_over = { λ section_offset c. contribution_covers section_offset c };
 
     fn keys(&self) -> Keys {
         let section = self.section_index;
@@ -29,7 +29,7 @@ impl Placed for ModuleSectionContribution {
     }
 }
 
-/// A list of contributions, with a table of the position of the first one that lies over each place.
+/// A list of contributions, with a table of the position of the first one that lies over each section offset.
 #[derive(Drop)]
 pub struct ContributionTable {
     last_first: Vec<ModuleSectionContribution>,
@@ -51,9 +51,9 @@ impl Model for ContributionTable {
     ghost view = { λ t. reverse t.last_first.items };
 
     ghost invariant = { λ t. record {
-      firsts : (place : PdbInternalSectionOffset) → place.offset < 2 ^ 32
-          → option_and_then (slice_get t.last_first.items) (value_at t.segments (key place))
-          ≡ find (contribution_covers place) (reverse t.last_first.items);
+      firsts : (section_offset : PdbInternalSectionOffset) → section_offset.offset < 2 ^ 32
+          → option_and_then (slice_get t.last_first.items) (value_at t.segments (key section_offset))
+          ≡ find (contribution_covers section_offset) (reverse t.last_first.items);
       at_most_two_each : length t.segments ≤ 2 * length t.last_first.items;
     } };
 }
@@ -76,25 +76,25 @@ impl ContributionTable {
         })
     }
 
-    /// The first contribution over a place. Each entry of the table that is looked at counts.
+    /// The first contribution over a section offset. Each entry of the table that is looked at counts.
     fn search(
         &self,
-        place: PdbInternalSectionOffset,
+        section_offset: PdbInternalSectionOffset,
         probes: &mut Probes,
     ) -> Option<ModuleSectionContribution>
-        ensures found { result ≡ find (contribution_covers place) self.now }
+        ensures found { result ≡ find (contribution_covers section_offset) self.now }
         ensures few { probes.new ≤ probes.old + digits (2 * length self.now) }
     {
-        find(&self.last_first, &self.segments, place, probes)
+        find(&self.last_first, &self.segments, section_offset, probes)
     }
 
-    /// The first contribution of the list over a place. It is found by a binary search.
+    /// The first contribution of the list over a section offset. It is found by a binary search.
     pub fn contribution_over(
         &self,
-        place: PdbInternalSectionOffset,
+        section_offset: PdbInternalSectionOffset,
     ) -> Option<ModuleSectionContribution>
-        ensures { result ≡ find (contribution_covers place) self.now }
+        ensures { result ≡ find (contribution_covers section_offset) self.now }
     {
-        self.search(place, &mut Probes::new())
+        self.search(section_offset, &mut Probes::new())
     }
 }

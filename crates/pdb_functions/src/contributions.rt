@@ -2,7 +2,7 @@ ghost use Rattle.std.specs.Prelude.{◌≡◌, ◌≢◌, None, Some, IfOk, OnOk
 ghost use Rattle.pdb_types.specs.declared.error.Error.TheVariants.{OutOfMemory};
 ghost use Rattle.pdb_ranges.specs.InOrder.{in_order};
 ghost use Rattle.pdb_types.specs.Outcomes.{Gives, Refuses};
-ghost use Rattle.pdb_functions.specs.Contributions.{is_kept, claimed, claims, is_same_module};
+ghost use Rattle.pdb_functions.specs.Contributions.{is_counted, claimed, claims, is_same_module};
 ghost use Rattle.pdb_functions.specs.Contributions.{refused_end, refused_ends, contribution_before};
 ghost use Rattle.pdb_functions.specs.Contributions.{intervals_of, overlap_after};
 ghost use Rattle.pdb_functions.specs.Contributions.{merged_contributions, contribution_starts};
@@ -23,13 +23,13 @@ pub struct ModuleSectionContribution {
     pub start_offset: u32,
     /// Where they end: the offset of the first byte behind them.
     pub end_offset: u32,
-    /// The module's position in the list of modules.
+    /// The module index, in the list of modules.
     pub module_index: usize,
 }
 
 /// Whether a contribution counts: it isn't empty, and its section holds code.
 fn counts(sections: &[ImageSectionHeader], contribution: &SectionContribution) -> bool
-    ensures { result ≡ is_kept sections.now contribution.now }
+    ensures { result ≡ is_counted sections.now contribution.now }
 {
     contribution.size > 0 && is_executable_section(sections, contribution.offset.section)
 }
@@ -183,7 +183,7 @@ pub fn compute_section_contributions(
     let contributions = &debug_information.section_contributions;
     let mut claims = claims(alloc, sections, &contributions.items)?;
     if let Some(fault) = contributions.fault {
-        return Err(Error::from(pdb_records::Error::Stream(fault)));
+        return Err(Error::from(fault));
     }
     sort(&mut claims)?;
     let merged = intervals(alloc, &claims)?;

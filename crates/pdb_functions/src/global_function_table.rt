@@ -55,53 +55,55 @@ impl<'a> GlobalFunctionTable<'a> {
         self.functions.len()
     }
 
-    /// The last function that starts at a place or ahead of it. Each entry that is looked at counts.
+    /// The last function that starts at a section offset or ahead of it. Each entry that is looked at counts.
     fn last_up_to(
         &self,
-        place: PdbInternalSectionOffset,
+        section_offset: PdbInternalSectionOffset,
         probes: &mut Probes,
     ) -> Option<PublicSymbolFunctionOrPlaceholder<'a>>
         ensures found { option_map global_function result
-            ≡ last_over (λ f. not (is_before place f.start)) None self.now }
+            ≡ last_over (λ f. not (is_before section_offset f.start)) None self.now }
         ensures ascend { StartsAscend (λ f. f.start) self.now }
         ensures few { probes.new ≤ probes.old + digits (length self.now) }
     {
-        let behind = position_behind(&self.functions, place, probes);
+        let behind = position_behind(&self.functions, section_offset, probes);
         if behind == 0 {
             return None;
         }
         Some(self.functions[behind - 1])
     }
 
-    /// The first function that starts behind a place. Each entry that is looked at counts.
+    /// The first function that starts behind a section offset. Each entry that is looked at counts.
     fn first_behind(
         &self,
-        place: PdbInternalSectionOffset,
+        section_offset: PdbInternalSectionOffset,
         probes: &mut Probes,
     ) -> Option<PublicSymbolFunctionOrPlaceholder<'a>>
-        ensures found { option_map global_function result ≡ find (λ f. is_before place f.start) self.now }
+        ensures found { option_map global_function result ≡ find (λ f. is_before section_offset f.start) self.now }
         ensures ascend { StartsAscend (λ f. f.start) self.now }
         ensures few { probes.new ≤ probes.old + digits (length self.now) }
     {
-        let behind = position_behind(&self.functions, place, probes);
+        let behind = position_behind(&self.functions, section_offset, probes);
         self.functions.get(behind).copied()
     }
 
-    /// The last function that starts at or below a place in its section. It is found by a binary search.
+    /// The last function that starts at or below a section offset in its section. It is found by a binary search.
     pub fn function_over(
         &self,
-        place: PdbInternalSectionOffset,
+        section_offset: PdbInternalSectionOffset,
     ) -> Option<PublicSymbolFunctionOrPlaceholder<'a>>
         ensures { option_map global_function result
-            ≡ pick (global_function_covers place) (λ f. f.start.offset) self.now }
+            ≡ pick (global_function_covers section_offset) (λ f. f.start.offset) self.now }
     {
-        match self.last_up_to(place, &mut Probes::new()) {
-            Some(function) if function.start_offset.section == place.section => Some(function),
+        match self.last_up_to(section_offset, &mut Probes::new()) {
+            Some(function) if function.start_offset.section == section_offset.section => Some(
+                function,
+            ),
             _ => None,
         }
     }
 
-    /// The function that starts at a place. It is found by a binary search.
+    /// The function that starts at a section offset. It is found by a binary search.
     pub fn function_at(
         &self,
         start: PdbInternalSectionOffset,
@@ -117,12 +119,12 @@ impl<'a> GlobalFunctionTable<'a> {
     /// The next function of a section behind an offset. It is found by a binary search.
     pub fn next_function(
         &self,
-        place: PdbInternalSectionOffset,
+        section_offset: PdbInternalSectionOffset,
     ) -> Option<PublicSymbolFunctionOrPlaceholder<'a>>
-        ensures { option_map global_function result ≡ next_global place self.now }
+        ensures { option_map global_function result ≡ next_global section_offset self.now }
     {
-        match self.first_behind(place, &mut Probes::new()) {
-            Some(next) if next.start_offset.section == place.section => Some(next),
+        match self.first_behind(section_offset, &mut Probes::new()) {
+            Some(next) if next.start_offset.section == section_offset.section => Some(next),
             _ => None,
         }
     }

@@ -12,7 +12,7 @@ use pdb_records::{
 };
 use std::alloc::{AllocError, Global};
 
-/// Where a function starts, as the whole program's symbols and contributions tell it.
+/// Where a function starts, as the whole program's symbols and contributions show it.
 #[derive(Clone, Copy)]
 pub struct PublicSymbolFunctionOrPlaceholder<'a> {
     /// Where it starts.
@@ -29,7 +29,7 @@ impl HasStart for PublicSymbolFunctionOrPlaceholder<'_> {
     }
 }
 
-/// The function that a symbol tells of, where it is a public one in a section that holds code.
+/// The function that a symbol shows, where it is a public one in a section that holds code.
 fn public_symbol_function<'a>(
     sections: &[ImageSectionHeader],
     symbol: &'a Symbol,
@@ -51,7 +51,7 @@ fn public_symbol_function<'a>(
     }
 }
 
-/// The functions that public symbols tell of, in reading order.
+/// The functions that public symbols show, in reading order.
 fn public_symbol_functions<'a>(
     alloc: Global,
     sections: &[ImageSectionHeader],
@@ -68,7 +68,7 @@ fn public_symbol_functions<'a>(
     Ok(functions)
 }
 
-/// Adds a start with no name for each place.
+/// Adds a start with no name for each section offset.
 fn add_placeholders(
     functions: &mut Vec<PublicSymbolFunctionOrPlaceholder<'_>>,
     starts: &[PdbInternalSectionOffset],
@@ -85,7 +85,7 @@ fn add_placeholders(
     Ok(())
 }
 
-/// The functions that the whole program's symbols and contributions tell of, by section and start. Of
+/// The functions that the whole program's symbols and contributions show, by section and start. Of
 /// each start the first public symbol stays, else one placeholder. The end of each section that holds
 /// code is there too, as where its last function ends.
 ///
@@ -105,6 +105,6 @@ pub fn compute_global_functions<'a>(
     add_placeholders(&mut functions, contribution_starts)?;
     let ends = executable_section_ends(alloc, sections)?;
     add_placeholders(&mut functions, &ends)?;
-    let kept = first_of_each_start(alloc, functions)?;
-    Ok(GlobalFunctionTable::new(kept))
+    let counted = first_of_each_start(alloc, functions)?;
+    Ok(GlobalFunctionTable::new(counted))
 }

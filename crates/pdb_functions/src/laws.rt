@@ -17,7 +17,7 @@ ghost use Rattle.pdb_types.specs.declared.error.Error.{Error};
 ghost use Rattle.pdb_types.specs.declared.error.Error.TheVariants.{PdbError, SectionContributionEndTooLarge};
 ghost use Rattle.pdb_functions.specs.declared.contributions.ModuleSectionContribution.{ModuleSectionContribution};
 ghost use Rattle.pdb_functions.specs.Contributions.{claims, merged_contributions};
-ghost use Rattle.pdb_functions.specs.GlobalFunctions.{told_functions, global_functions};
+ghost use Rattle.pdb_functions.specs.GlobalFunctions.{listed_functions, global_functions};
 ghost use Rattle.pdb_functions.specs.Procedures.{ModuleProcedure, procedure_at, procedures_from};
 ghost use Rattle.pdb_functions.specs.Procedures.{symbol_procedures, info_procedures};
 ghost use Rattle.pdb_functions.specs.Lookup.{global_at};
@@ -25,7 +25,7 @@ ghost use Rattle.pdb_ranges.specs.Pick.{pick, IsPicked};
 ghost use Rattle.pdb_functions.specs.Spans.{procedure_covers};
 ghost use Rattle.pdb_functions.specs.ContributionRuns.{runs_after, merged_by_runs, AreOnly, StartsNeverFall};
 ghost use Rattle.pdb_functions.specs.Laws.{AreApart, LiesInOneOf, BeginsWithOneOf, EndsWithOneOf};
-ghost use Rattle.pdb_functions.specs.Laws.{IsApartFrom, NeighboursDiffer, TellsOverlap};
+ghost use Rattle.pdb_functions.specs.Laws.{IsApartFrom, NeighboursDiffer, IsOverlap};
 ghost use Rattle.pdb_functions.specs.Laws.{procedure_starting_at, last_procedure};
 ghost use Rattle.pdb_functions.specs.Starts.{StartsAscend};
 
@@ -83,10 +83,10 @@ pub fn contributions_are_refused_for()
     ensures overlap { (sections : List ImageSectionHeader) (debug : DebugInformation) (error : Error)
         → find (λ c. nat_le (2 ^ 32) c.end_offset) (claims sections debug.section_contributions.items) ≡ None
         → debug.section_contributions.fault ≡ None → merged_contributions sections debug ≡ Err error
-        → TellsOverlap (claims sections debug.section_contributions.items) error }
+        → IsOverlap (claims sections debug.section_contributions.items) error }
 {}
 
-/// Contributions that can be joined in reading order keep their intervals: where no module comes back
+/// Contributions that can be joined in reading order leave their intervals unchanged: where no module comes back
 /// in a section, and in each of its runs neither starts nor ends fall, joining the runs of neighbours
 /// in reading order gives just the merged ones.
 ///
@@ -100,27 +100,27 @@ pub fn contributions_in_reading_order_stay()
         → merged_contributions sections debug ≡ Ok table }
 {}
 
-/// Global functions stand by section and start, each start once. At each start the first that is told
-/// is kept. Public symbols are told before all starts with no name, so that is the first public symbol
+/// Global functions stand by section and start, each start once. At each start the first that is shown
+/// stays. Public symbols are shown before all starts with no name, so that is the first public symbol
 /// of the start where there is one.
 pub fn first_global_function_of_each_start_is_kept()
     ensures ascend { (sections : List ImageSectionHeader) (symbols : List Symbol) (debug : DebugInformation)
         → StartsAscend (λ f. f.start) (global_functions sections symbols debug) }
     ensures first { (sections : List ImageSectionHeader) (symbols : List Symbol) (debug : DebugInformation)
-        (place : PdbInternalSectionOffset)
-        → global_at place (global_functions sections symbols debug)
-        ≡ global_at place (told_functions sections symbols debug) }
+        (section_offset : PdbInternalSectionOffset)
+        → global_at section_offset (global_functions sections symbols debug)
+        ≡ global_at section_offset (listed_functions sections symbols debug) }
 {}
 
 /// Procedures of a module stand by section and start, each start once. At each start the first that
-/// symbols tell of, in reading order, is kept. A symbol looks at the last procedure that those before it
-/// tell of, whose name and type code apart from its body takes, whether or not that one is kept. A fault
+/// symbols show, in reading order, stays. A symbol looks at the last procedure that those before it
+/// show, whose name and type code apart from its body takes, whether or not that one stays. A fault
 /// behind the symbols leaves none.
 pub fn first_procedure_of_each_start_is_kept()
     ensures ascend { (symbols : List Symbol) → StartsAscend (λ p. p.offset) (symbol_procedures symbols) }
-    ensures first { (symbols : List Symbol) (place : PdbInternalSectionOffset)
-        → procedure_starting_at place (symbol_procedures symbols)
-        ≡ procedure_starting_at place (procedures_from 0 None symbols) }
+    ensures first { (symbols : List Symbol) (section_offset : PdbInternalSectionOffset)
+        → procedure_starting_at section_offset (symbol_procedures symbols)
+        ≡ procedure_starting_at section_offset (procedures_from 0 None symbols) }
     ensures behind { (symbols : List Symbol) (symbol : Symbol)
         → procedures_from 0 None (symbols ++ symbol ∷ [])
         ≡ procedures_from 0 None symbols ++ option_to_list
@@ -129,10 +129,10 @@ pub fn first_procedure_of_each_start_is_kept()
         → info.symbols.fault ≡ Some fault → info_procedures info ≡ [] }
 {}
 
-/// The procedure that is picked for a place covers it. No other over the place has a greater start, and
-/// of those with an equal start it is the first. None is picked only where none covers the place.
+/// The procedure that is picked for a section offset covers it. No other over it has a greater start, and
+/// of those with an equal start it is the first. None is picked only where none covers the section offset.
 pub fn pick_covers_with_greatest_start()
-    ensures { (place : PdbInternalSectionOffset) (procedures : List ModuleProcedure)
-        → IsPicked (procedure_covers place) (λ p. p.offset.offset) procedures
-        (pick (procedure_covers place) (λ p. p.offset.offset) procedures) }
+    ensures { (section_offset : PdbInternalSectionOffset) (procedures : List ModuleProcedure)
+        → IsPicked (procedure_covers section_offset) (λ p. p.offset.offset) procedures
+        (pick (procedure_covers section_offset) (λ p. p.offset.offset) procedures) }
 {}

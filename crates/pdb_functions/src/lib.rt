@@ -1,4 +1,4 @@
-//! Which functions a program has, and which of them lies over a place.
+//! Which functions a program has, and which of them lies over a section offset.
 //!
 //! Sections, contributions of modules, public symbols and the procedures of modules come from records;
 //! the tables that are made of them hold what a plain scan of the records would find.
@@ -13,11 +13,11 @@ mod lookup;
 mod module_info;
 mod module_infos;
 mod named_info;
-mod placed;
 mod procedure_table;
 mod procedures;
 mod section_table;
 mod sections;
+mod span_table;
 mod starts;
 
 pub use contribution_table::ContributionTable;

@@ -6,7 +6,7 @@ use crate::contributions::ModuleSectionContribution;
 use crate::global_functions::PublicSymbolFunctionOrPlaceholder;
 use crate::procedures::ProcedureSymbolFunction;
 
-/// What lies over a place, with the position of the module that the place belongs to.
+/// What lies over a section offset, with the module index of the module that it belongs to.
 #[derive(Clone, Copy)]
 pub enum PublicOrProcedureSymbol<'a> {
     /// A global function.

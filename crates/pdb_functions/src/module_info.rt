@@ -12,7 +12,7 @@ use pdb_types::{Error, Result};
 use std::alloc::Global;
 use std::marker::Model;
 
-/// The records of a module, and the procedures that its symbols tell of.
+/// The records of a module, and the procedures that its symbols show.
 #[derive(Drop)]
 pub struct BasicModuleInfo<'a> {
     module_info: &'a ModuleInfo,
@@ -47,7 +47,7 @@ impl<'a> BasicModuleInfo<'a> {
             → option_map (λ fault. PdbError (Stream fault)) module_info.now.symbols.fault ≡ Some e) }
     {
         if let Some(fault) = module_info.symbols.fault {
-            return Err(Error::from(pdb_records::Error::Stream(fault)));
+            return Err(Error::from(fault));
         }
         let procedures = compute_procedures(alloc, &module_info.symbols.items)?;
         Ok(BasicModuleInfo {
@@ -63,15 +63,15 @@ impl<'a> BasicModuleInfo<'a> {
         self.procedures.as_slice()
     }
 
-    /// Of the module's procedures over a place the one that starts last. It is found by a binary search.
+    /// Of the module's procedures over a section offset the one that starts last. It is found by a binary search.
     pub fn procedure_over(
         &self,
-        place: PdbInternalSectionOffset,
+        section_offset: PdbInternalSectionOffset,
     ) -> Option<ProcedureSymbolFunction<'a>>
         ensures { option_map module_procedure result
-            ≡ pick (procedure_covers place) (λ p. p.offset.offset) (info_procedures self.now) }
+            ≡ pick (procedure_covers section_offset) (λ p. p.offset.offset) (info_procedures self.now) }
     {
-        self.procedures.procedure_over(place)
+        self.procedures.procedure_over(section_offset)
     }
 
     /// The records that were read.

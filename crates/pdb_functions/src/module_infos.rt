@@ -2,9 +2,10 @@ ghost use Rattle.std.specs.Prelude.{◌≡◌, ◌<◌, [], true, Some, IfSome, 
 ghost use Rattle.std.specs.Borrow.{sem};
 ghost use Rattle.std.specs.Io.BufRead.{Rests};
 ghost use Rattle.std.specs.Option.{option_copied, option_map_or};
-ghost use Rattle.pdb_functions.specs.Lookup.{Infos, procedures_of_module};
+ghost use Rattle.pdb_types.specs.TypeInputs.{ProviderInfos};
+ghost use Rattle.pdb_functions.specs.Lookup.{procedures_of_module};
 ghost use Rattle.pdb_functions.specs.Procedures.{info_procedures};
-ghost use Rattle.pdb_functions.specs.ModuleInfos.{readable_info, FitsInfos, what_is_kept, IsKept};
+ghost use Rattle.pdb_functions.specs.ModuleInfos.{readable_info, IsModuleInfoCache, cached_info_at, IsCachedInfo};
 ghost use mir.Syntax.{named};
 
 use crate::module_info::BasicModuleInfo;
@@ -21,8 +22,8 @@ use std::marker::Model;
 pub struct BasicModuleInfoCache<'a, P: ModuleProvider> {
     alloc: Global,
     provider: &'a P,
-    /// What was made of modules, by their positions.
-    kept: Vec<Option<NamedInfo<'a>>>,
+    /// What was made of modules, by module index.
+    cached: Vec<Option<NamedInfo<'a>>>,
 }
 
 impl<P: ModuleProvider> Drop for BasicModuleInfoCache<'_, P> {
@@ -30,23 +31,23 @@ impl<P: ModuleProvider> Drop for BasicModuleInfoCache<'_, P> {
         let BasicModuleInfoCache {
             alloc: _,
             provider: _,
-            kept: _,
+            cached: _,
         } = self;
     }
 }
 
-// Clauses see the provider, on which alone all answers stand, and what is remembered.
+// Clauses see the provider, from which alone all answers are computed, and what is remembered.
 impl<'a, P: ModuleProvider> Model for BasicModuleInfoCache<'a, P> {
-    ghost use Rattle.pdb_functions.specs.ModuleInfos.{InfoCache, FitsInfos};
+    ghost use Rattle.pdb_functions.specs.ModuleInfos.{InfoCache, IsModuleInfoCache};
 
     ghost Value = { InfoCache P };
 
-    ghost view = { λ c. record { provider = c.provider.now; kept = c.kept.items } };
+    ghost view = { λ c. record { provider = c.provider.now; cached = c.cached.items } };
 
-    ghost invariant = { λ c. FitsInfos (P.info c.provider.now) c.kept.items };
+    ghost invariant = { λ c. IsModuleInfoCache (P.info c.provider.now) c.cached.items };
 }
 
-/// The procedures of the module at a position, where it has records that can be read.
+/// The procedures of the module at a module index, where it has records that can be read.
 fn read_info<'a, P: ModuleProvider>(
     alloc: Global,
     provider: &'a P,
@@ -68,81 +69,82 @@ fn read_info<'a, P: ModuleProvider>(
     }
 }
 
-/// What is kept at a position.
-fn kept_at<'k, 'a>(
-    kept: &'k [Option<NamedInfo<'a>>],
+/// What is cached at a module index.
+fn cached_at<'k, 'a>(
+    cached: &'k [Option<NamedInfo<'a>>],
     module_index: usize,
 ) -> Option<&'k NamedInfo<'a>>
-    ensures { option_copied result ≡ what_is_kept kept.now module_index }
+    ensures { option_copied result ≡ cached_info_at cached.now module_index }
 {
-    match kept.get(module_index) {
+    match cached.get(module_index) {
         Some(entry) => entry.as_ref(),
         None => None,
     }
 }
 
-/// Whether something is kept at a position, with this name.
-fn serves(kept: &[Option<NamedInfo<'_>>], module_index: usize, name: &RawString) -> bool
-    ensures { result ≡ true → IsKept kept.now module_index name.now }
+/// Whether something is cached at a module index, with this name.
+fn serves(cached: &[Option<NamedInfo<'_>>], module_index: usize, name: &RawString) -> bool
+    ensures { result ≡ true → IsCachedInfo cached.now module_index name.now }
 {
-    match kept_at(kept, module_index) {
+    match cached_at(cached, module_index) {
         Some(entry) => entry.name.0 == name.0,
         None => false,
     }
 }
 
-/// Makes a place for what is kept at a position.
-fn make_place(kept: &mut Vec<Option<NamedInfo<'_>>>, module_index: usize) -> Result<(), AllocError>
-    ensures fits { (infos : Infos) → FitsInfos infos kept.old.items → FitsInfos infos kept.new.items }
-    ensures place { OnOk result (module_index < length kept.new.items) }
+/// Makes a place for what is cached at a module index.
+fn make_slot(cached: &mut Vec<Option<NamedInfo<'_>>>, module_index: usize) -> Result<(), AllocError>
+    ensures is_cache { (infos : ProviderInfos) → IsModuleInfoCache infos cached.old.items
+        → IsModuleInfoCache infos cached.new.items }
+    ensures section_offset { OnOk result (module_index < length cached.new.items) }
 {
-    while kept.len() <= module_index {
-        kept.push(None)?;
+    while cached.len() <= module_index {
+        cached.push(None)?;
     }
     Ok(())
 }
 
-/// Keeps what was made of the module at a position, in the place of what was kept there.
-fn keep<'a, P: ModuleProvider>(
+/// Caches what was made of the module at a module index, in the place of what was cached there.
+fn cache_info<'a, P: ModuleProvider>(
     provider: &'a P,
-    kept: &mut Vec<Option<NamedInfo<'a>>>,
+    cached: &mut Vec<Option<NamedInfo<'a>>>,
     modules: &[Module],
     module_index: usize,
     entry: NamedInfo<'a>,
 ) -> Result<(), AllocError>
-    requires fits { FitsInfos (P.info provider.now) kept.old.items }
+    requires is_cache { IsModuleInfoCache (P.info provider.now) cached.old.items }
     requires module_there { slice_get modules.now module_index ≡ Some (record { name = entry.name }) }
     requires info { entry.info ≡ readable_info (P.info provider.now) modules.now module_index }
-    ensures fits { FitsInfos (P.info provider.now) kept.new.items }
-    ensures kept { OnOk result (IsKept kept.new.items module_index entry.entry.name) }
+    ensures is_cache { IsModuleInfoCache (P.info provider.now) cached.new.items }
+    ensures cached { OnOk result (IsCachedInfo cached.new.items module_index entry.entry.name) }
 {
-    make_place(kept, module_index)?;
-    kept[module_index] = Some(entry);
+    make_slot(cached, module_index)?;
+    cached[module_index] = Some(entry);
     Ok(())
 }
 
-/// Makes sure that what can be read of a module is kept.
-fn keep_info_of<'a, P: ModuleProvider>(
+/// Makes sure that what can be read of a module is cached.
+fn cache_info_of<'a, P: ModuleProvider>(
     alloc: Global,
     provider: &'a P,
-    kept: &mut Vec<Option<NamedInfo<'a>>>,
+    cached: &mut Vec<Option<NamedInfo<'a>>>,
     modules: &[Module],
     module_index: usize,
     name: &RawString,
 ) -> Result<(), AllocError>
-    requires fits { FitsInfos (P.info provider.now) kept.old.items }
+    requires is_cache { IsModuleInfoCache (P.info provider.now) cached.old.items }
     requires module_there { slice_get modules.now module_index ≡ Some (record { name = name.now }) }
-    ensures fits { FitsInfos (P.info provider.now) kept.new.items }
-    ensures kept { OnOk result (IsKept kept.new.items module_index name.now) }
+    ensures is_cache { IsModuleInfoCache (P.info provider.now) cached.new.items }
+    ensures cached { OnOk result (IsCachedInfo cached.new.items module_index name.now) }
 {
-    if serves(kept, module_index, name) {
+    if serves(cached, module_index, name) {
         return Ok(());
     }
     let info = read_info(alloc, provider, modules, module_index)?;
     let name = name.clone()?;
-    keep(
+    cache_info(
         provider,
-        kept,
+        cached,
         modules,
         module_index,
         NamedInfo { name, info },
@@ -159,48 +161,48 @@ impl<'a, P: ModuleProvider> BasicModuleInfoCache<'a, P> {
         BasicModuleInfoCache {
             alloc,
             provider,
-            kept: Vec::new(alloc),
+            cached: Vec::new(alloc),
         }
     }
 
-    /// Makes sure that what can be read of the module at a position is kept, where there is one.
+    /// Makes sure that what can be read of the module at a module index is cached, where there is one.
     fn learn(&mut self, modules: &[Module], module_index: usize) -> Result<(), AllocError>
         ensures provider { self.new.provider ≡ self.old.provider }
-        ensures kept { OnOk result (IfSome (slice_get modules.now module_index)
-            (λ m. IsKept self.new.kept module_index m.name)) }
+        ensures cached { OnOk result (IfSome (slice_get modules.now module_index)
+            (λ m. IsCachedInfo self.new.cached module_index m.name)) }
     {
         let Some(module) = modules.get(module_index) else {
             return Ok(());
         };
         let provider = self.provider;
-        keep_info_of(
+        cache_info_of(
             self.alloc,
             provider,
-            &mut self.kept,
+            &mut self.cached,
             modules,
             module_index,
             &module.name,
         )
     }
 
-    /// What is kept of the module at a position, where there is one.
+    /// What is cached of the module at a module index, where there is one.
     fn look_up(&self, modules: &[Module], module_index: usize) -> Option<&BasicModuleInfo<'a>>
-        requires kept { IfSome (slice_get modules.now module_index)
-            (λ m. IsKept self.now.kept module_index m.name) }
+        requires cached { IfSome (slice_get modules.now module_index)
+            (λ m. IsCachedInfo self.now.cached module_index m.name) }
         ensures { option_copied result ≡ readable_info (P.info self.now.provider) modules.now module_index }
     {
         if module_index >= modules.len() {
             return None;
         }
-        match kept_at(&self.kept, module_index) {
+        match cached_at(&self.cached, module_index) {
             Some(entry) => entry.info.as_ref(),
             None => None,
         }
     }
 
-    /// The procedures of the module at a position of a list.
+    /// The procedures of the module at a module index of a list.
     ///
-    /// `None` where the position is past the list, where the provider has no records of the module or
+    /// `None` where the module index is past the list, where the provider has no records of the module or
     /// answers a fault, or where the list of the module's symbols has one.
     ///
     /// # Errors

@@ -5,15 +5,15 @@ ghost use Rattle.pdb_functions.specs.Procedures.{module_procedure};
 ghost use Rattle.pdb_functions.specs.Spans.{procedure_covers};
 ghost use Rattle.pdb_functions.specs.Starts.{StartsAscend};
 
-use crate::placed::{Keys, Placed, find, key, segments_of};
 use crate::procedures::ProcedureSymbolFunction;
+use crate::span_table::{Keys, Span, find, key, segments_of};
 use pdb_ranges::{Probes, Segments};
 use pdb_records::PdbInternalSectionOffset;
 use std::alloc::{AllocError, Global};
 use std::marker::Model;
 
-impl Placed for ProcedureSymbolFunction<'_> {
-    ghost is_over = { λ place p. procedure_covers place (module_procedure p) };
+impl Span for ProcedureSymbolFunction<'_> {
+    ghost is_over = { λ section_offset p. procedure_covers section_offset (module_procedure p) };
 
     fn keys(&self) -> Keys {
         let start = key(self.offset);
@@ -24,7 +24,7 @@ impl Placed for ProcedureSymbolFunction<'_> {
     }
 }
 
-/// The procedures of a module by section and start, with a table of the positions of those that lie over places.
+/// The procedures of a module by section and start, with a table of the positions of those over section offsets.
 #[derive(Drop)]
 pub(crate) struct ProcedureTable<'a> {
     procedures: Vec<ProcedureSymbolFunction<'a>>,
@@ -47,10 +47,10 @@ impl<'a> Model for ProcedureTable<'a> {
     ghost view = { λ t. map module_procedure t.procedures.items };
 
     ghost invariant = { λ t. record {
-      picks : (place : PdbInternalSectionOffset) → place.offset < 2 ^ 32
+      picks : (section_offset : PdbInternalSectionOffset) → section_offset.offset < 2 ^ 32
           → option_map module_procedure
-          (option_and_then (slice_get t.procedures.items) (value_at t.segments (key place)))
-          ≡ pick (procedure_covers place) (λ p. p.offset.offset) (map module_procedure t.procedures.items);
+          (option_and_then (slice_get t.procedures.items) (value_at t.segments (key section_offset)))
+          ≡ pick (procedure_covers section_offset) (λ p. p.offset.offset) (map module_procedure t.procedures.items);
       at_most_two_each : length t.segments ≤ 2 * length t.procedures.items;
     } };
 }
@@ -78,27 +78,27 @@ impl<'a> ProcedureTable<'a> {
         &self.procedures
     }
 
-    /// Of the procedures over a place the one that starts last. Each entry of the table that is looked at counts.
+    /// Of the procedures over a section offset the one that starts last. Each table entry that is looked at counts.
     fn search(
         &self,
-        place: PdbInternalSectionOffset,
+        section_offset: PdbInternalSectionOffset,
         probes: &mut Probes,
     ) -> Option<ProcedureSymbolFunction<'a>>
         ensures found { option_map module_procedure result
-            ≡ pick (procedure_covers place) (λ p. p.offset.offset) self.now }
+            ≡ pick (procedure_covers section_offset) (λ p. p.offset.offset) self.now }
         ensures few { probes.new ≤ probes.old + digits (2 * length self.now) }
     {
-        find(&self.procedures, &self.segments, place, probes)
+        find(&self.procedures, &self.segments, section_offset, probes)
     }
 
-    /// Of the procedures over a place the one that starts last.
+    /// Of the procedures over a section offset the one that starts last.
     pub(crate) fn procedure_over(
         &self,
-        place: PdbInternalSectionOffset,
+        section_offset: PdbInternalSectionOffset,
     ) -> Option<ProcedureSymbolFunction<'a>>
         ensures { option_map module_procedure result
-            ≡ pick (procedure_covers place) (λ p. p.offset.offset) self.now }
+            ≡ pick (procedure_covers section_offset) (λ p. p.offset.offset) self.now }
     {
-        self.search(place, &mut Probes::new())
+        self.search(section_offset, &mut Probes::new())
     }
 }

@@ -98,8 +98,8 @@ fn of_thunk(at: usize, symbol: &ThunkSymbol) -> Option<ProcedureSymbolFunction<'
     })
 }
 
-/// The procedure that the symbol at a position tells of, where it does. Code apart from its body looks
-/// at the last procedure that was kept.
+/// The procedure that the symbol at a position shows, where it does. Code apart from its body looks
+/// at the last procedure that counts.
 fn procedure_of<'a>(
     at: usize,
     last: Option<ProcedureSymbolFunction<'a>>,
@@ -119,7 +119,7 @@ fn procedure_of<'a>(
     }
 }
 
-/// The procedures that symbols tell of, in reading order.
+/// The procedures that symbols show, in reading order.
 fn procedures_in_reading_order(
     alloc: Global,
     symbols: &[Symbol],
@@ -137,16 +137,16 @@ fn procedures_in_reading_order(
     Ok(procedures)
 }
 
-/// The procedures that symbols tell of, by section and start. Of each start the first in reading order
+/// The procedures that symbols show, by section and start. Of each start the first in reading order
 /// stays.
 pub(crate) fn compute_procedures(
     alloc: Global,
     symbols: &[Symbol],
 ) -> Result<Vec<ProcedureSymbolFunction<'_>>, AllocError>
-    ensures kept { IfOk result (λ v. map module_procedure v.items ≡ symbol_procedures symbols.now) }
+    ensures counted { IfOk result (λ v. map module_procedure v.items ≡ symbol_procedures symbols.now) }
     ensures ascend { IfOk result (λ v. StartsAscend (λ p. p.offset) v.items) }
 {
     let procedures = procedures_in_reading_order(alloc, symbols)?;
-    let kept = first_of_each_start(alloc, procedures)?;
-    Ok(kept)
+    let counted = first_of_each_start(alloc, procedures)?;
+    Ok(counted)
 }

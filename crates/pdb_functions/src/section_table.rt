@@ -1,7 +1,7 @@
 ghost use Rattle.std.specs.Prelude.{◌≡◌, ◌+◌, ◌*◌, ◌≤◌, length, option_and_then, IfOk};
 ghost use Rattle.pdb_records.specs.Addresses.{internal_offset};
 ghost use Rattle.pdb_ranges.specs.Probes.{digits};
-ghost use Rattle.pdb_functions.specs.SectionTables.{place_in, section_segments};
+ghost use Rattle.pdb_functions.specs.SectionTables.{section_offset_in, section_segments};
 
 use pdb_ranges::{Probes, Segment, Segments};
 use pdb_records::{AddressMap, AddressRange, PdbInternalSectionOffset, Rva};
@@ -34,10 +34,10 @@ fn segments_of(
     Ok(segments)
 }
 
-/// The place of an address in a section that starts at it or below. `None` where the section has a number
+/// The section offset of an address in a section that starts at it or below. `None` where the section has a number
 /// past 65535.
-fn place_in(address: u32, section: SectionStart) -> Option<PdbInternalSectionOffset>
-    ensures { result ≡ place_in address section }
+fn section_offset_in(address: u32, section: SectionStart) -> Option<PdbInternalSectionOffset>
+    ensures { result ≡ section_offset_in address section }
 {
     if section.index >= usize::from(u16::MAX) {
         return None;
@@ -61,14 +61,14 @@ impl<'a> Model for SectionTable<'a> {
     ghost use Rattle.pdb_records.specs.Addresses.{offset_from};
     ghost use Rattle.pdb_records.specs.declared.addresses.AddressRange.{AddressRange};
     ghost use Rattle.pdb_ranges.specs.Segments.{value_at};
-    ghost use Rattle.pdb_functions.specs.SectionTables.{place_in};
+    ghost use Rattle.pdb_functions.specs.SectionTables.{section_offset_in};
 
     ghost Value = { List AddressRange };
 
     ghost view = { λ t. t.address_map.now };
 
     ghost invariant = { λ t. record {
-      firsts : (x : ℕ) → option_and_then (place_in x) (value_at t.segments x)
+      firsts : (x : ℕ) → option_and_then (section_offset_in x) (value_at t.segments x)
           ≡ offset_from 1 t.address_map.now x;
       at_most_two_each : length t.segments ≤ 2 * length t.address_map.now;
     } };
@@ -90,20 +90,20 @@ impl<'a> SectionTable<'a> {
         })
     }
 
-    /// The place of an address in the first section that holds it. Each entry of the table that is looked
+    /// The section offset of an address in the first section that holds it. Each entry of the table that is looked
     /// at counts.
     fn search(&self, address: Rva, probes: &mut Probes) -> Option<PdbInternalSectionOffset>
         ensures found { result ≡ internal_offset self.now address }
         ensures few { probes.new ≤ probes.old + digits (2 * length self.now) }
     {
         let section = self.segments.find(u64::from(address.0), probes)?;
-        place_in(address.0, section)
+        section_offset_in(address.0, section)
     }
 
-    /// The place of an address: the first section in order that holds it, and the bytes from that section's
+    /// The section offset of an address: the first section in order that holds it, and the bytes from that section's
     /// start. `None` where no section holds it, or the first that does has a number past 65535. It is found
     /// by a binary search.
-    pub fn place_of(&self, address: Rva) -> Option<PdbInternalSectionOffset>
+    pub fn section_offset_of(&self, address: Rva) -> Option<PdbInternalSectionOffset>
         ensures { result ≡ internal_offset self.now address }
     {
         self.search(address, &mut Probes::new())

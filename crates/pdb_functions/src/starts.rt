@@ -9,9 +9,9 @@ use pdb_ranges::Probes;
 use pdb_records::PdbInternalSectionOffset;
 use std::alloc::{AllocError, Global};
 
-/// What starts at a place of the program.
+/// What starts at a section offset of the program.
 pub(crate) trait HasStart: Copy {
-    /// The place.
+    /// The section offset.
     ghost start_of: { Self → PdbInternalSectionOffset };
 
     fn start(&self) -> PdbInternalSectionOffset
@@ -31,16 +31,16 @@ fn sort_by_start<T: HasStart>(entries: &mut Vec<T>) -> Result<(), AllocError>
 fn first_neighbours<T: HasStart>(alloc: Global, entries: &[T]) -> Result<Vec<T>, AllocError>
     ensures { IfOk result (λ v. v.items ≡ firsts_after T.start_of None entries.now) }
 {
-    let mut kept: Vec<T> = Vec::new(alloc);
+    let mut counted: Vec<T> = Vec::new(alloc);
     let mut before = None;
     for entry in entries {
         let start = entry.start();
         if before != Some(start) {
-            kept.push(*entry)?;
+            counted.push(*entry)?;
             before = Some(start);
         }
     }
-    Ok(kept)
+    Ok(counted)
 }
 
 /// The entries by section and start, of each start the first.
@@ -54,15 +54,15 @@ pub(crate) fn first_of_each_start<T: HasStart>(
     first_neighbours(alloc, &entries)
 }
 
-/// The position of the first entry that starts behind a place, or the number of entries where none does. Each entry
-/// that is looked at counts.
+/// The position of the first entry that starts behind a section offset, or the number of entries where none does. Each
+/// entry that is looked at counts.
 pub(crate) fn position_behind<T: HasStart>(
     entries: &[T],
-    place: PdbInternalSectionOffset,
+    section_offset: PdbInternalSectionOffset,
     probes: &mut Probes,
 ) -> usize
     requires { StartsAscend T.start_of entries.now }
-    ensures position { result ≡ position_or_len (λ entry. is_before place (T.start_of entry)) entries.now }
+    ensures position { result ≡ position_or_len (λ entry. is_before section_offset (T.start_of entry)) entries.now }
     ensures within { result ≤ length entries.now }
     ensures few { probes.new ≤ probes.old + digits (length entries.now) }
 {
@@ -71,7 +71,7 @@ pub(crate) fn position_behind<T: HasStart>(
     while from < to {
         let middle = from + (to - from) / 2;
         probes.tick();
-        if place < entries[middle].start() {
+        if section_offset < entries[middle].start() {
             to = middle;
         } else {
             from = middle + 1;

@@ -13,7 +13,7 @@ use Rattle.pdb_records.specs.declared.symbols.InlineRow.{InlineRow}
 use Rattle.pdb_records.specs.declared.symbols.InlineSiteSymbol.{InlineSiteSymbol}
 use Rattle.pdb_ranges.specs.InOrder.{put, in_order}
 use Rattle.pdb_inline.specs.Sites.{Site, SiteAtDepth, at_depth, depth}
-use Rattle.pdb_inline.specs.InlineRows.{row_range, row_ranges, kept_rows}
+use Rattle.pdb_inline.specs.InlineRows.{row_range, row_ranges, counted_rows}
 use Rattle.pdb_inline.specs.InlineRanges.{own_range, own_ranges, added_range, added_ranges, range_before, inline_ranges}
 use Rattle.pdb_ranges.specs.Runs.{missing_runs}
 use Rattle.pdb_inline.specs.CoveredRuns.{deeper_ranges, added_by_depth}
@@ -91,7 +91,7 @@ is_ranged-cons inlinees site sites d x =
     rw (
       list_any-append (lies_over d x) (own_ranges inlinees site.depth site.symbol) (flat_map (λ s. own_ranges inlinees s.depth s.symbol) sites),
       list_any-append (lies_over d x) (added_ranges inlinees site.depth site.symbol runs) (added_by_depth inlinees sites),
-      over_own d x site.depth site.symbol (kept_rows inlinees site.symbol),
+      over_own d x site.depth site.symbol (counted_rows inlinees site.symbol),
       over_added d x site.depth site.symbol _ runs,
       has-missing_runs (deeper_ranges inlinees site.depth sites) (row_ranges inlinees site.symbol) x,
     )

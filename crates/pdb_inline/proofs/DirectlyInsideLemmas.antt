@@ -12,7 +12,7 @@ use Rattle.pdb_records.specs.declared.ids.IdIndex.{IdIndex}
 use Rattle.pdb_inline.specs.declared.inline_ranges.InlineRange.{InlineRange}
 use Rattle.pdb_ranges.specs.Pick.{pick, later_start}
 use Rattle.pdb_inline.specs.Sites.{Site, depth}
-use Rattle.pdb_inline.specs.InlineRows.{row_ranges, kept_rows}
+use Rattle.pdb_inline.specs.InlineRows.{row_ranges, counted_rows}
 use Rattle.pdb_inline.specs.InlineRanges.{is_inside, inner_ranges, missing, own_ranges, added_ranges, read_ranges, range_before, inline_ranges}
 use Rattle.pdb_ranges.specs.InOrder.{put, in_order}
 use Rattle.pdb_inline.specs.InlineStacks.{lies_over, has_range_over, depths, with_outer, stack_from, inline_stack, site_ranges, is_over, IsSoleOver, IsDirectlyInside}
@@ -47,13 +47,13 @@ outer_is_site from outer (site ∷ sites) inner k p rest nested there stands =
       )
       | inr later ↦ elim (outer_is_site (site.position + 1) (site.position ∷ site.outer) sites inner k p rest nested.2 later stands) [
         | inl found ↦ inl (found.0, contains_later site found.0 sites found.1, found.2, found.3)
-        | inr before ↦ by_place before.0 before.1
+        | inr before ↦ by_slot before.0 before.1
       ]
     ]
   where
-    by_place : (n : ℕ) → drop n (site.position ∷ site.outer) ≡ p ∷ rest → SiteAt (site ∷ sites) p rest ⊎ ((m : ℕ) × (drop m outer ≡ p ∷ rest))
-    by_place zero is = inl (site, contains_first site sites, cc, cc)
-    by_place (suc n) is = inr (nested.1.0 + n, sym (drop-drop n nested.1.0 outer) ∙ (ap (λ (ps : List ℕ). drop n ps) (sym nested.1.1) ∙ is))
+    by_slot : (n : ℕ) → drop n (site.position ∷ site.outer) ≡ p ∷ rest → SiteAt (site ∷ sites) p rest ⊎ ((m : ℕ) × (drop m outer ≡ p ∷ rest))
+    by_slot zero is = inl (site, contains_first site sites, cc, cc)
+    by_slot (suc n) is = inr (nested.1.0 + n, sym (drop-drop n nested.1.0 outer) ∙ (ap (λ (ps : List ℕ). drop n ps) (sym nested.1.1) ∙ is))
 
 -- no position stands in nothing
 drop_nothing : (n p : ℕ) (rest : List ℕ) → drop n [] ≡ p ∷ rest → ⊥
@@ -91,30 +91,30 @@ same_site from outer (site ∷ sites) a b nested one other same =
     ]
 
 -- a position that is among others stands at a place of them
-pub place_among : (q : ℕ) (ps : List ℕ) → is_among q ps ≡ true → (k : ℕ) × (rest : List ℕ) × (drop k ps ≡ q ∷ rest)
-place_among q [] among = absurd cc
-place_among q (p ∷ ps) among =
+pub slot_among : (q : ℕ) (ps : List ℕ) → is_among q ps ≡ true → (k : ℕ) × (rest : List ℕ) × (drop k ps ≡ q ∷ rest)
+slot_among q [] among = absurd cc
+slot_among q (p ∷ ps) among =
     elim (or_cases (eqb p q) (is_among q ps) among) [
       | inl here ↦ (zero, ps, ap (λ (n : ℕ). n ∷ ps) (eqb-true p q here))
-      | inr later ↦ let found = place_among q ps later in (suc found.0, found.1, found.2)
+      | inr later ↦ let found = slot_among q ps later in (suc found.0, found.1, found.2)
     ]
 
 -- a position at a place of some is among them, and so is each that is among those behind it
-pub among_from_place : (q k p : ℕ) (rest ps : List ℕ) → drop k ps ≡ p ∷ rest → is_among q (p ∷ rest) ≡ true → is_among q ps ≡ true
-among_from_place q zero p rest ps stands among = rw stands among
-among_from_place q (suc k) p rest [] stands among = absurd cc
-among_from_place q (suc k) p rest (n ∷ ps) stands among = or_right (eqb n q) (is_among q ps) (among_from_place q k p rest ps stands among)
+pub among_from_slot : (q k p : ℕ) (rest ps : List ℕ) → drop k ps ≡ p ∷ rest → is_among q (p ∷ rest) ≡ true → is_among q ps ≡ true
+among_from_slot q zero p rest ps stands among = rw stands among
+among_from_slot q (suc k) p rest [] stands among = absurd cc
+among_from_slot q (suc k) p rest (n ∷ ps) stands among = or_right (eqb n q) (is_among q ps) (among_from_slot q k p rest ps stands among)
 
 -- a site inside one that is inside another is inside that
 pub inside_inside : (sites : List Site) (outer middle inner : Site) → AreNested 0 [] sites → Contains sites middle → Contains sites inner
     → is_inside outer middle ≡ true → is_inside middle inner ≡ true → is_inside outer inner ≡ true
 inside_inside sites outer middle inner nested one other first second =
-    let place = place_among middle.position inner.outer second in
-    let found = site_at_outer sites inner place.0 middle.position place.1 nested other place.2 in
+    let slot = slot_among middle.position inner.outer second in
+    let found = site_at_outer sites inner slot.0 middle.position slot.1 nested other slot.2 in
     let same : found.0 ≡ middle = same_site 0 [] sites found.0 middle nested found.1 one found.2 in
-    let behind : middle.outer ≡ place.1 = ap (λ (s : Site). s.outer) (sym same) ∙ found.3 in
-    among_from_place outer.position place.0 middle.position place.1 inner.outer place.2
-    (or_right (eqb middle.position outer.position) (is_among outer.position place.1) (rw behind at first))
+    let behind : middle.outer ≡ slot.1 = ap (λ (s : Site). s.outer) (sym same) ∙ found.3 in
+    among_from_slot outer.position slot.0 middle.position slot.1 inner.outer slot.2
+    (or_right (eqb middle.position outer.position) (is_among outer.position slot.1) (rw behind at first))
 
 -- a site has a range over what its rows cover, and over what the rows of sites inside it cover
 pub is_over_is : (inlinees : List IdIndex) (sites : List Site) (x : ℕ) (site : Site)
@@ -122,7 +122,7 @@ pub is_over_is : (inlinees : List IdIndex) (sites : List Site) (x : ℕ) (site :
 is_over_is inlinees sites x site =
     rw (
       list_any-append (lies_over (depth site) x) (own_ranges inlinees (depth site) site.symbol) (added_ranges inlinees (depth site) site.symbol (missing inlinees sites site)),
-      over_own (depth site) x (depth site) site.symbol (kept_rows inlinees site.symbol),
+      over_own (depth site) x (depth site) site.symbol (counted_rows inlinees site.symbol),
       over_added (depth site) x (depth site) site.symbol _ (missing inlinees sites site),
       eq-eqb (depth site) (depth site) refl,
       has-missing_runs (inner_ranges inlinees sites site) (row_ranges inlinees site.symbol) x,
@@ -211,7 +211,7 @@ over_from_range inlinees sites site range d x lies there =
     elim (or_cases (has_range_over (own_ranges inlinees (depth site) site.symbol) d x)
     (has_range_over (added_ranges inlinees (depth site) site.symbol (missing inlinees sites site)) d x) split) [
       | inl own ↦ eqb-true (depth site) d (and_parts (eqb (depth site) d) (has (row_ranges inlinees site.symbol) x)
-          (sym (over_own d x (depth site) site.symbol (kept_rows inlinees site.symbol)) ∙ own)).0
+          (sym (over_own d x (depth site) site.symbol (counted_rows inlinees site.symbol)) ∙ own)).0
       | inr added ↦ eqb-true (depth site) d (and_parts (eqb (depth site) d) (has (missing inlinees sites site) x)
           (sym (over_added d x (depth site) site.symbol _ (missing inlinees sites site)) ∙ added)).0
     ]
@@ -277,7 +277,7 @@ directly_inside inlinees sites x outer inner nested sole one other deeper over u
   by_outer [] is = absurd (omega (arith, ap length is))
   by_outer (p ∷ rest) is =
       let found = site_at_outer sites inner 0 p rest nested other is in
-      let inside : is_inside found.0 inner ≡ true = among_from_place found.0.position 0 p rest inner.outer is
+      let inside : is_inside found.0 inner ≡ true = among_from_slot found.0.position 0 p rest inner.outer is
       (or_left (eqb p found.0.position) (is_among found.0.position rest) (eq-eqb p found.0.position (sym found.2))) in
       let also : is_over inlinees sites x found.0 ≡ true = over_outer inlinees sites found.0 inner x nested other inside under in
       let level : depth found.0 ≡ depth outer = omega (arith, ap length is, ap length found.3) in

@@ -8,7 +8,7 @@ pub mod InlineStackLemmas
 pub mod WellNestedLemmas
 pub mod DirectlyInsideLemmas
 pub mod PickedLemmas
-pub mod PickedPlaceLemmas
+pub mod PickedSlotLemmas
 pub mod LastPickedLemmas
 pub mod DepthTableLemmas
 pub mod RangeBoundLemmas

@@ -85,7 +85,7 @@ begun fault end symbols position next limit is within some fits =
     jumped fault end symbols position position next [] (omega arith) (omega arith) (omega arith)
     (elim (cases_lt position limit) [ inl below ↦ inl (omega arith) | inr above ↦ inr (omega arith) ])
 
--- the walk goes on behind a symbol, or behind the end of the procedure that it tells of
+-- the walk goes on behind a symbol, or behind the end of the procedure that it shows
 pub gone_on : (fault : Option StreamError) (end : ℕ) (symbols : List Symbol) (at next limit : ℕ) (outer : List OpenSite) (inner_end : Option ℕ)
     → next ≡ min (through_after at inner_end at + 1) limit → at < length symbols → length symbols ≤ limit
     → walk_from fault end (drop (at + 1) symbols) (at + 1) (through_after at inner_end 0) outer

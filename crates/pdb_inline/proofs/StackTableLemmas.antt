@@ -13,7 +13,7 @@ use Rattle.pdb_inline.specs.StackTable.{with_stacks, LiesIn, or_empty, stack_ove
 
 -- the stack that stands at a place of a list
 abbrev pub stack_at : List ℕ → ℕ × ℕ → List ℕ
-stack_at positions place = slice_range positions place.0 place.1
+stack_at positions slot = slice_range positions slot.0 slot.1
 
 -- the value of a number is the stack at its place
 pub value_at-with_stacks : (positions : List ℕ) (segments : List (Segment (ℕ × ℕ))) (x : ℕ)
@@ -57,7 +57,7 @@ painted_stack old more new before after lo hi from to x grown begins ends lies i
         → or_empty (option_map (stack_at new) (cond t (Some (from, to)) v)) ≡ cond t more (or_empty (option_map (stack_at old) v))
     by_test true v lies = rw (begins, ends, grown) (range_added old more)
     by_test false None lies = refl
-    by_test false (Some place) lies = rw grown (range_grown place.0 place.1 old more lies.0 lies.1)
+    by_test false (Some slot) lies = rw grown (range_grown slot.0 slot.1 old more lies.0 lies.1)
 
 -- a search in a table of ranges takes no more probes than one in four segments for each range
 pub few_segments : (ranges : List InlineRange) (table : List (Segment (List ℕ))) → IsTableOf ranges table

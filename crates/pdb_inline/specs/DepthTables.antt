@@ -6,7 +6,7 @@ use Rattle.pdb_ranges.specs.Segments.{value_at}
 use Rattle.pdb_inline.specs.declared.inline_ranges.InlineRange.{InlineRange}
 use Rattle.pdb_inline.specs.ListedRanges.{picked_position}
 
--- the segments that are kept at a depth
+-- the segments that are held at a depth
 abbrev pub segments_at : List (Vec (Segment ℕ)) → ℕ → List (Segment ℕ)
 segments_at [] depth = []
 segments_at (list ∷ lists) zero = list.items

@@ -11,7 +11,7 @@ use Rattle.pdb_records.specs.declared.symbols.InlineSiteSymbol.{InlineSiteSymbol
 use Rattle.pdb_types.specs.declared.error.Error.{Error}
 use Rattle.pdb_inline.specs.declared.inline_ranges.InlineRange.{InlineRange}
 use Rattle.pdb_ranges.specs.InOrder.{in_order}
-use Rattle.pdb_inline.specs.InlineRows.{kept_rows, row_end, row_ranges}
+use Rattle.pdb_inline.specs.InlineRows.{counted_rows, row_end, row_ranges}
 use Rattle.pdb_ranges.specs.Runs.{missing_runs}
 use Rattle.pdb_inline.specs.Sites.{Site, depth, walk, unless_met}
 
@@ -28,11 +28,11 @@ own_range depth symbol row = record {
 
 -- the ranges of a site's own rows
 abbrev pub own_ranges : List IdIndex → ℕ → InlineSiteSymbol → List InlineRange
-own_ranges inlinees depth symbol = map (own_range depth symbol) (kept_rows inlinees symbol)
+own_ranges inlinees depth symbol = map (own_range depth symbol) (counted_rows inlinees symbol)
 
 -- the file of the first row of a site, where one counts
 abbrev pub first_file : List IdIndex → InlineSiteSymbol → Option FileIndex
-first_file inlinees symbol = option_map (λ row. row.file_index) (slice_get (kept_rows inlinees symbol) 0)
+first_file inlinees symbol = option_map (λ row. row.file_index) (slice_get (counted_rows inlinees symbol) 0)
 
 -- the range of a run that no row of a site covers, though it lies inside the site
 abbrev pub added_range : ℕ → InlineSiteSymbol → Option FileIndex → ℕ × ℕ → InlineRange

@@ -23,8 +23,8 @@ rows_with_code rows = filter (λ row. nat_lt 0 (row_length row)) rows
 
 -- the rows of a site that count: those with code, read before their fault, and none where the site's id isn't among
 -- the inlinees
-abbrev pub kept_rows : List IdIndex → InlineSiteSymbol → List InlineRow
-kept_rows inlinees symbol = if has_id inlinees symbol.inlinee then rows_with_code symbol.rows.items else []
+abbrev pub counted_rows : List IdIndex → InlineSiteSymbol → List InlineRow
+counted_rows inlinees symbol = if has_id inlinees symbol.inlinee then rows_with_code symbol.rows.items else []
 
 -- a row's code, from its first byte to the one past its last
 abbrev pub row_range : InlineRow → ℕ × ℕ
@@ -32,4 +32,4 @@ row_range row = (row.offset, row_end row)
 
 -- the code of the rows of a site that count
 abbrev pub row_ranges : List IdIndex → InlineSiteSymbol → List (ℕ × ℕ)
-row_ranges inlinees symbol = map row_range (kept_rows inlinees symbol)
+row_ranges inlinees symbol = map row_range (counted_rows inlinees symbol)

@@ -2,7 +2,7 @@ pub mod Sites
 pub mod InlineRows
 pub mod InlineRanges
 pub mod InlineStacks
-pub mod PickedPlaces
+pub mod PickedSlots
 pub mod WellNested
 pub mod CoveredRuns
 pub mod ListedRanges

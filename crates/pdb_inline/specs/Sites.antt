@@ -38,7 +38,7 @@ procedure_data_end (Some (Public s)) = None
 procedure_data_end (Some Other) = None
 procedure_data_end None = None
 
--- the position of the symbol that closes the procedure that a symbol tells of, where it tells of one
+-- the position of the symbol that closes the procedure that a symbol shows, where it shows one
 abbrev pub nested_end : Symbol → Option ℕ
 nested_end symbol = if is_site_kind symbol.raw_kind then procedure_data_end symbol.content else None
 
@@ -124,10 +124,10 @@ pub record SiteAtDepth : Type 0 where
 abbrev pub at_depth : Site → SiteAtDepth
 at_depth site = record { position = site.position; depth = depth site; symbol = site.symbol }
 
--- the same, as the code keeps it
-abbrev pub kept_site : code.Site → SiteAtDepth
-kept_site site = record { position = site.position; depth = site.depth; symbol = site.symbol.now }
+-- the same, as the code holds it
+abbrev pub site_view : code.Site → SiteAtDepth
+site_view site = record { position = site.position; depth = site.depth; symbol = site.symbol.now }
 
--- a site that is open, as the code keeps it
+-- a site that is open, as the code holds it
 abbrev pub open_site : code.Site → OpenSite
 open_site site = record { position = site.position; end = site.symbol.now.end.0 }

@@ -4,9 +4,9 @@ ghost use Rattle.pdb_ranges.specs.InOrder.{in_order};
 ghost use Rattle.pdb_types.specs.Outcomes.{Gives};
 ghost use Rattle.pdb_inline.specs.CoveredRuns.{read_by_depth, ranges_by_depth};
 ghost use Rattle.pdb_inline.specs.InlineRanges.{own_range, own_ranges, range_before, procedure_inline_ranges};
-ghost use Rattle.pdb_inline.specs.Sites.{kept_site};
+ghost use Rattle.pdb_inline.specs.Sites.{site_view};
 
-use crate::inline_rows::{kept_rows, row_end};
+use crate::inline_rows::{counted_rows, row_end};
 use crate::missing_rows::ranges_added_to_sites;
 use crate::sites::{Site, procedure_sites};
 use pdb_records::{FileIndex, IdIndex, InlineRow, ModuleInfo, SymbolIndex};
@@ -60,11 +60,11 @@ fn own_ranges_of_sites(
     sites: &[Site<'_>],
 ) -> Result<Vec<InlineRange>, AllocError>
     ensures { IfOk result (λ v. v.items
-        ≡ flat_map (λ site. own_ranges inlinees.now.keys site.depth site.symbol) (map kept_site sites.now)) }
+        ≡ flat_map (λ site. own_ranges inlinees.now.keys site.depth site.symbol) (map site_view sites.now)) }
 {
     let mut ranges = Vec::new(alloc);
     for site in sites {
-        let rows = kept_rows(alloc, inlinees, site.symbol)?;
+        let rows = counted_rows(alloc, inlinees, site.symbol)?;
         push_own(&mut ranges, *site, &rows)?;
     }
     Ok(ranges)
@@ -85,7 +85,7 @@ fn read_ranges(
     inlinees: &BTreeSet<IdIndex>,
     sites: &[Site<'_>],
 ) -> Result<Vec<InlineRange>, AllocError>
-    ensures { IfOk result (λ v. v.items ≡ read_by_depth inlinees.now.keys (map kept_site sites.now)) }
+    ensures { IfOk result (λ v. v.items ≡ read_by_depth inlinees.now.keys (map site_view sites.now)) }
 {
     let mut ranges = own_ranges_of_sites(alloc, inlinees, sites)?;
     let added = ranges_added_to_sites(alloc, inlinees, sites)?;
@@ -99,7 +99,7 @@ fn ranges_of_sites(
     inlinees: &BTreeSet<IdIndex>,
     sites: &[Site<'_>],
 ) -> Result<Vec<InlineRange>, AllocError>
-    ensures { IfOk result (λ v. v.items ≡ ranges_by_depth inlinees.now.keys (map kept_site sites.now)) }
+    ensures { IfOk result (λ v. v.items ≡ ranges_by_depth inlinees.now.keys (map site_view sites.now)) }
 {
     let mut ranges = read_ranges(alloc, inlinees, sites)?;
     sort(&mut ranges)?;

@@ -1,5 +1,5 @@
 ghost use Rattle.std.specs.Prelude.{◌≡◌, map, IfOk};
-ghost use Rattle.pdb_inline.specs.InlineRows.{has_id, row_length, row_end, rows_with_code, kept_rows, row_range};
+ghost use Rattle.pdb_inline.specs.InlineRows.{has_id, row_length, row_end, rows_with_code, counted_rows, row_range};
 
 use pdb_records::{IdIndex, InlineRow, InlineSiteSymbol};
 use std::alloc::{AllocError, Global};
@@ -30,22 +30,22 @@ pub(crate) fn row_end(row: &InlineRow) -> u64
 fn rows_with_code(alloc: Global, rows: &[InlineRow]) -> Result<Vec<InlineRow>, AllocError>
     ensures { IfOk result (λ v. v.items ≡ rows_with_code rows.now) }
 {
-    let mut kept = Vec::new(alloc);
+    let mut counted = Vec::new(alloc);
     for row in rows {
         if row_length(row) > 0 {
-            kept.push(*row)?;
+            counted.push(*row)?;
         }
     }
-    Ok(kept)
+    Ok(counted)
 }
 
 /// The rows of a site that count: none where its id is not among the inlinees.
-pub(crate) fn kept_rows(
+pub(crate) fn counted_rows(
     alloc: Global,
     inlinees: &BTreeSet<IdIndex>,
     symbol: &InlineSiteSymbol,
 ) -> Result<Vec<InlineRow>, AllocError>
-    ensures { IfOk result (λ v. v.items ≡ kept_rows inlinees.now.keys symbol.now) }
+    ensures { IfOk result (λ v. v.items ≡ counted_rows inlinees.now.keys symbol.now) }
 {
     if !is_inlinee(inlinees, symbol.inlinee) {
         return Ok(Vec::new(alloc));

@@ -3,7 +3,7 @@ ghost use Rattle.std.specs.Option.{option_copied};
 ghost use Rattle.pdb_ranges.specs.Pick.{pick, later_start};
 ghost use Rattle.pdb_ranges.specs.RangeSet.{is_within};
 ghost use Rattle.pdb_inline.specs.InlineStacks.{lies_over, inline_stack};
-ghost use Rattle.pdb_inline.specs.PickedPlaces.{picked_at};
+ghost use Rattle.pdb_inline.specs.PickedSlots.{picked_at};
 
 use crate::inline_ranges::InlineRange;
 use std::alloc::{AllocError, Global};
@@ -19,9 +19,9 @@ fn later<'r>(picked: Option<&'r InlineRange>, range: &'r InlineRange) -> &'r Inl
 }
 
 /// Makes a place for what is picked at a depth.
-fn make_place(picked: &mut Vec<Option<&InlineRange>>, depth: usize) -> Result<(), AllocError>
+fn make_slot(picked: &mut Vec<Option<&InlineRange>>, depth: usize) -> Result<(), AllocError>
     ensures same { (other : ℕ) → picked_at picked.new.items other ≡ picked_at picked.old.items other }
-    ensures place { OnOk result (depth < length picked.new.items) }
+    ensures slot { OnOk result (depth < length picked.new.items) }
 {
     while picked.len() <= depth {
         picked.push(None)?;
@@ -39,7 +39,7 @@ fn pick_at_depth<'r>(
         (if range.now.call_depth == depth then Some range.now else None)) }
 {
     let depth = range.call_depth;
-    make_place(picked, depth)?;
+    make_slot(picked, depth)?;
     picked[depth] = Some(later(picked[depth], range));
     Ok(())
 }

@@ -5,10 +5,10 @@ ghost use Rattle.pdb_inline.specs.CoveredRuns.{is_on_stack, added_by_depth};
 ghost use Rattle.pdb_inline.specs.InlineRanges.{added_range, added_ranges};
 ghost use Rattle.pdb_inline.specs.InlineRows.{row_ranges};
 ghost use Rattle.pdb_ranges.specs.Runs.{missing_runs};
-ghost use Rattle.pdb_inline.specs.Sites.{kept_site};
+ghost use Rattle.pdb_inline.specs.Sites.{site_view};
 
 use crate::inline_ranges::InlineRange;
-use crate::inline_rows::{kept_rows, ranges_of_rows};
+use crate::inline_rows::{counted_rows, ranges_of_rows};
 use crate::sites::Site;
 use pdb_ranges::RangeSet;
 use pdb_records::{FileIndex, IdIndex, InlineRow};
@@ -135,7 +135,7 @@ fn add_missing(
         ≡ (nat_lt d site.entry.depth
         && (has (row_ranges inlinees.now.keys site.entry.symbol.now) x || is_on_stack d stack.old.items x))) }
 {
-    let rows = kept_rows(alloc, inlinees, site.symbol)?;
+    let rows = counted_rows(alloc, inlinees, site.symbol)?;
     let own = ranges_of_rows(alloc, &rows)?;
     let missing = missing_in(alloc, site.depth, &own, stack)?;
     push_added(added, site, first_file(&rows), missing.runs())
@@ -147,7 +147,7 @@ pub(crate) fn ranges_added_to_sites(
     inlinees: &BTreeSet<IdIndex>,
     sites: &[Site<'_>],
 ) -> Result<Vec<InlineRange>, AllocError>
-    ensures { IfOk result (λ v. v.items ≡ added_by_depth inlinees.now.keys (map kept_site sites.now)) }
+    ensures { IfOk result (λ v. v.items ≡ added_by_depth inlinees.now.keys (map site_view sites.now)) }
 {
     let mut added = Vec::new(alloc);
     let mut stack = Vec::new(alloc);

@@ -11,13 +11,13 @@ use pdb_ranges::Probes;
 use std::alloc::{AllocError, Global};
 use std::marker::Model;
 
-/// How many positions a table may keep for each range. A range has one for each bound of a range that lies in it, and
-/// there are two bounds for each range, so tables are kept where bounds lie in at most 32 ranges on average. Compilers
+/// How many positions a table may hold for each range. A range has one for each bound of a range that lies in it, and
+/// there are two bounds for each range, so tables are made where bounds lie in at most 32 ranges on average. Compilers
 /// stop at much smaller depths, since the code that they put in grows with each; but a list of ranges can be made
 /// whose stacks grow with the square of its length, and these must not fill the memory.
 const POSITIONS_FOR_EACH: usize = 64;
 
-/// Whether the stacks of ranges take little enough memory to be kept.
+/// Whether the stacks of ranges take little enough memory to be held.
 fn are_stacks_small(alloc: Global, ranges: &[InlineRange]) -> Result<bool, AllocError> {
     let bounds = sorted_bounds(alloc, ranges)?;
     let mut count: usize = 0;

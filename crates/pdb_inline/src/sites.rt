@@ -3,7 +3,7 @@ ghost use Rattle.std.specs.Prelude.{reverse, option_map, option_to_list, Option,
 ghost use Rattle.std.specs.Option.{option_copied};
 ghost use Rattle.pdb_types.specs.Outcomes.{Gives};
 ghost use Rattle.pdb_inline.specs.Sites.{site_of, nested_end, innermost_end, through_after, open_after};
-ghost use Rattle.pdb_inline.specs.Sites.{opened_at, walk, unless_met, at_depth, kept_site, open_site};
+ghost use Rattle.pdb_inline.specs.Sites.{opened_at, walk, unless_met, at_depth, site_view, open_site};
 
 use pdb_records::{InlineSiteSymbol, StreamError, Symbol, SymbolData, SymbolIndex, is_site_kind};
 use pdb_types::{Error, Result};
@@ -33,7 +33,7 @@ fn site_symbol(symbol: &Symbol) -> Option<&InlineSiteSymbol>
     }
 }
 
-/// The end of the procedure that a symbol tells of, where it tells of one.
+/// The end of the procedure that a symbol shows, where it shows one.
 fn procedure_end(symbol: &Symbol) -> Option<SymbolIndex>
     ensures { option_map (λ end. end.0) result ≡ nested_end symbol.now }
 {
@@ -46,7 +46,7 @@ fn procedure_end(symbol: &Symbol) -> Option<SymbolIndex>
     }
 }
 
-/// Where the walk goes on after the symbol at a position: behind the end of a procedure that it tells of.
+/// Where the walk goes on after the symbol at a position: behind the end of a procedure that it shows.
 fn position_after(at: usize, symbol: &Symbol) -> usize
     ensures { result ≡ min (through_after at (nested_end symbol.now) at + 1) (2 ^ 64 - 1) }
 {
@@ -74,7 +74,7 @@ fn open_at<'a>(
     sites: &mut Vec<Site<'a>>,
     outer: &mut Vec<Site<'a>>,
 ) -> Result<(), AllocError>
-    ensures found { OnOk result (map kept_site sites.new.items ≡ map kept_site sites.old.items
+    ensures found { OnOk result (map site_view sites.new.items ≡ map site_view sites.old.items
         ++ option_to_list (option_map
         (λ s. at_depth (opened_at at (reverse (map open_site outer.old.items)) s)) (site_of symbol.now))) }
     ensures opened { OnOk result (reverse (map open_site outer.new.items)
@@ -109,7 +109,7 @@ pub(crate) fn procedure_sites(
     position: usize,
     end: usize,
 ) -> Result<Vec<Site<'_>>>
-    ensures { Gives (λ v. map kept_site v.items) result
+    ensures { Gives (λ v. map site_view v.items) result
         (unless_met (walk symbols.now fault position end) (map at_depth (walk symbols.now fault position end).sites)) }
 {
     let mut sites = Vec::new(alloc);
@@ -128,7 +128,7 @@ pub(crate) fn procedure_sites(
         }
     }
     match fault {
-        Some(fault) => Err(Error::from(pdb_records::Error::Stream(fault))),
+        Some(fault) => Err(Error::from(fault)),
         None => Ok(sites),
     }
 }

@@ -14,7 +14,7 @@ use std::marker::Model;
 
 /// A table of the inlined bodies over each offset, by their positions in a list of ranges.
 ///
-/// It keeps a whole stack of positions for each piece of code that has one stack.
+/// It holds a whole stack of positions for each piece of code that has one stack.
 #[derive(Drop)]
 pub struct StackTable {
     // Where the stack of a number begins and ends among the positions.
@@ -22,7 +22,7 @@ pub struct StackTable {
     positions: Vec<usize>,
 }
 
-// Clauses see a table as its segments, which tell the positions over each number.
+// Clauses see a table as its segments, which show the positions over each number.
 impl Model for StackTable {
     ghost use Rattle.std.specs.Prelude.{ℕ, List, length};
     ghost use Rattle.pdb_ranges.specs.declared.segment.Segment.{Segment};

@@ -47,7 +47,7 @@ wanted_files_of d = do
   version ← file_version_of file
   file_names_of version file
 
--- the names of the module files that a file wants, in the order in which they are read, or the first fault that keeps
--- them from being told
+-- the names of the module files that a file wants, in the order in which they are read, or the first fault where
+-- they can't be answered
 unfoldable pub module_files_of : List ℕ → Result (List (List ℕ)) Fault
 module_files_of bytes = in_json wanted_files_of (json_of bytes)

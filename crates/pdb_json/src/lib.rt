@@ -1,6 +1,6 @@
 //! The records file: all records of a program as one JSON text, or as one and a text for each module.
 //!
-//! [`read_records`] and [`read_records_with`] read versions 1 and 2 of the format, and [`module_files`] tells
+//! [`read_records`] and [`read_records_with`] read versions 1 and 2 of the format, and [`module_files`] answers
 //! which module files a file names. What texts mean is a definition, `records_of_files` in
 //! `specs/RecordsFile.antt`: the records, or the first fault with its path. What the file is made of is read by
 //! `pdb_json_records`, and values and faults are those of `pdb_json_values`. What follows from the definitions

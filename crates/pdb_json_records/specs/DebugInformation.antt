@@ -11,7 +11,7 @@ use Rattle.pdb_json_values.specs.Values.{object_of, text_of}
 use Rattle.pdb_json_values.specs.Numbers.{u32_of}
 use Rattle.pdb_json_records.specs.Names.{name_of, variant_named}
 use Rattle.pdb_json_records.specs.Members.{member_of, reading_of, stream_of}
-use Rattle.pdb_json_records.specs.Sections.{place_of}
+use Rattle.pdb_json_records.specs.Sections.{section_offset_of}
 
 -- the processors that have names
 abbrev pub machines : List (List ℕ × MachineType)
@@ -32,15 +32,15 @@ machine_of d = do
 -- a file that was linked into the program
 unfoldable pub module_of : ℕ → Data → Result Module Fault
 module_of version d = do
-  linked ← object_of d
-  name ← member_of (codes "name") (name_of version) linked
+  link_inputs ← object_of d
+  name ← member_of (codes "name") (name_of version) link_inputs
   Ok (record { name = name })
 
 -- a run of a section that came from one module
 unfoldable pub contribution_of : Data → Result SectionContribution Fault
 contribution_of d = do
   contribution ← object_of d
-  offset ← place_of (codes "section") (codes "offset") contribution
+  offset ← section_offset_of (codes "section") (codes "offset") contribution
   size ← member_of (codes "size") u32_of contribution
   from ← member_of (codes "module") u32_of contribution
   Ok (record { offset = offset; size = size; «module» = from })

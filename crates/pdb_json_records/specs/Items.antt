@@ -17,8 +17,8 @@ failed_stream_of d = do
   Ok (Stream fault)
 
 -- a kind that was not read
-unfoldable pub unread_kind_of : Data → Result Error Fault
-unread_kind_of d = do
+unfoldable pub unimplemented_kind_of : Data → Result Error Fault
+unimplemented_kind_of d = do
   kind ← member_of (codes "unimplemented") u16_of d
   Ok (UnimplementedTypeKind kind)
 
@@ -29,7 +29,7 @@ error_of d = do
   if has (codes "stream") error
       then failed_stream_of error
       else if has (codes "unimplemented") error
-      then unread_kind_of error
+      then unimplemented_kind_of error
       else Err (shape [] (codes "kind"))
 
 -- what an entry says, or with a member `error` why it could not be read

@@ -9,7 +9,7 @@ use Rattle.pdb_json_values.specs.Faults.{Fault, ◌>>=◌}
 use Rattle.pdb_json_values.specs.Values.{object_of}
 use Rattle.pdb_json_values.specs.Numbers.{u32_of}
 use Rattle.pdb_json_records.specs.Members.{member_of, list_of, reading_of}
-use Rattle.pdb_json_records.specs.Sections.{place_of}
+use Rattle.pdb_json_records.specs.Sections.{section_offset_of}
 use Rattle.pdb_json_records.specs.Symbols.{file_index_of}
 use Rattle.pdb_json_records.specs.Strings.{string_ref_of}
 
@@ -22,11 +22,11 @@ line_of d = do
   line_start ← member_of (codes "line_start") u32_of line
   Ok (record { offset = offset; file_index = file_index; line_start = line_start })
 
--- the line rows of the function that starts at a place
+-- the line rows of the function that starts at a section offset
 unfoldable pub entry_of : Data → Result SymbolLines Fault
 entry_of d = do
   entry ← object_of d
-  offset ← place_of (codes "section") (codes "offset") entry
+  offset ← section_offset_of (codes "section") (codes "offset") entry
   lines ← member_of (codes "lines") (reading_of line_of) entry
   Ok (record { offset = offset; lines = lines })
 

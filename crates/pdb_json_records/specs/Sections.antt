@@ -26,9 +26,9 @@ range_of d = do
   size ← member_of (codes "virtual_size") u32_of range
   Ok (record { virtual_address = address; virtual_size = size })
 
--- a place in a section, whose parts stand under two names of an object
-unfoldable pub place_of : (section offset : List ℕ) → Data → Result PdbInternalSectionOffset Fault
-place_of section offset d = do
+-- a section offset, whose parts stand under two names of an object
+unfoldable pub section_offset_of : (section offset : List ℕ) → Data → Result PdbInternalSectionOffset Fault
+section_offset_of section offset d = do
   number ← member_of section u16_of d
   bytes ← member_of offset u32_of d
   Ok (record { section = number; offset = bytes })

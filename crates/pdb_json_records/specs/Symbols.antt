@@ -20,7 +20,7 @@ use Rattle.pdb_json_values.specs.Values.{object_of, text_of}
 use Rattle.pdb_json_values.specs.Numbers.{u16_of, u32_of}
 use Rattle.pdb_json_records.specs.Names.{name_of, unknown_kind, is_name}
 use Rattle.pdb_json_records.specs.Members.{member_of, optional_of, reading_of}
-use Rattle.pdb_json_records.specs.Sections.{place_of}
+use Rattle.pdb_json_records.specs.Sections.{section_offset_of}
 
 -- the number of a type
 unfoldable pub type_index_of : Data → Result TypeIndex Fault
@@ -49,14 +49,14 @@ position_of d = do
 -- a name that is visible outside its module
 unfoldable pub public_of : ℕ → Data → Result PublicSymbol Fault
 public_of version d = do
-  offset ← place_of (codes "section") (codes "offset") d
+  offset ← section_offset_of (codes "section") (codes "offset") d
   name ← member_of (codes "name") (name_of version) d
   Ok (record { offset = offset; name = name })
 
 -- a procedure
 unfoldable pub procedure_of : ℕ → Data → Result ProcedureSymbol Fault
 procedure_of version d = do
-  offset ← place_of (codes "section") (codes "offset") d
+  offset ← section_offset_of (codes "section") (codes "offset") d
   len ← member_of (codes "len") u32_of d
   name ← member_of (codes "name") (name_of version) d
   end ← member_of (codes "end") position_of d
@@ -66,16 +66,16 @@ procedure_of version d = do
 -- code of a procedure that stands apart from its body
 unfoldable pub separated_code_of : Data → Result SeparatedCodeSymbol Fault
 separated_code_of d = do
-  offset ← place_of (codes "section") (codes "offset") d
+  offset ← section_offset_of (codes "section") (codes "offset") d
   len ← member_of (codes "len") u32_of d
-  parent_offset ← place_of (codes "parent_section") (codes "parent_offset") d
+  parent_offset ← section_offset_of (codes "parent_section") (codes "parent_offset") d
   end ← member_of (codes "end") position_of d
   Ok (record { offset = offset; len = len; parent_offset = parent_offset; end = end })
 
 -- a short piece of code that leads to a procedure
 unfoldable pub thunk_of : ℕ → Data → Result ThunkSymbol Fault
 thunk_of version d = do
-  offset ← place_of (codes "section") (codes "offset") d
+  offset ← section_offset_of (codes "section") (codes "offset") d
   len ← member_of (codes "len") u16_of d
   name ← member_of (codes "name") (name_of version) d
   end ← member_of (codes "end") position_of d

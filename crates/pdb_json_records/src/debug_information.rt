@@ -3,7 +3,7 @@ ghost use Rattle.pdb_json_records.specs.DebugInformation.{debug_information_of};
 
 use crate::members::{FromJson, member};
 use crate::names::named;
-use crate::sections::place;
+use crate::sections::section_offset;
 use pdb_json_values::{Reader, RecordFault, object, text};
 use pdb_records::{DebugInformation, MachineType, Module, SectionContribution};
 use serde_json::Value;
@@ -48,7 +48,7 @@ impl FromJson for SectionContribution {
     ) -> Result<SectionContribution, RecordFault> {
         let contribution = object(reader, value)?;
         Ok(SectionContribution {
-            offset: place(reader, contribution, "section", "offset")?,
+            offset: section_offset(reader, contribution, "section", "offset")?,
             size: member(reader, contribution, "size")?,
             module: member(reader, contribution, "module")?,
         })

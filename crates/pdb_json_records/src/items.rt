@@ -1,6 +1,6 @@
 ghost use Rattle.serde_json.specs.View.{view};
 ghost use Rattle.pdb_json_values.specs.Faults.{Agrees};
-ghost use Rattle.pdb_json_records.specs.Items.{failed_stream_of, unread_kind_of, error_of, content_of};
+ghost use Rattle.pdb_json_records.specs.Items.{failed_stream_of, unimplemented_kind_of, error_of, content_of};
 ghost use Rattle.pdb_json_records.specs.Items.{item_of, items_of};
 
 use crate::members::{FromJson, member};
@@ -17,9 +17,9 @@ fn failed_stream(reader: Reader, object: &Value) -> Result<Error, RecordFault>
 }
 
 /// Reads the number of a kind that was not read.
-#[tactic(auto, unfolding(crate::specs::Items::unread_kind_of))]
-fn unread_kind(reader: Reader, object: &Value) -> Result<Error, RecordFault>
-    ensures { Agrees result (unread_kind_of (view object.now)) }
+#[tactic(auto, unfolding(crate::specs::Items::unimplemented_kind_of))]
+fn unimplemented_kind(reader: Reader, object: &Value) -> Result<Error, RecordFault>
+    ensures { Agrees result (unimplemented_kind_of (view object.now)) }
 {
     Ok(Error::UnimplementedTypeKind(member(reader, object, "unimplemented")?))
 }
@@ -33,7 +33,7 @@ impl FromJson for Error {
         if error.get("stream").is_some() {
             failed_stream(reader, error)
         } else if error.get("unimplemented").is_some() {
-            unread_kind(reader, error)
+            unimplemented_kind(reader, error)
         } else {
             wanted(reader.alloc, "kind")
         }

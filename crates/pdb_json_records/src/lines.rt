@@ -1,7 +1,7 @@
 ghost use Rattle.pdb_json_records.specs.Lines.{line_of, entry_of, file_of, lines_of};
 
 use crate::members::{Elements, FromJson, member};
-use crate::sections::place;
+use crate::sections::section_offset;
 use pdb_json_values::{Reader, RecordFault, object};
 use pdb_records::{FileInfo, LineInfo, LineProgram, SymbolLines};
 use serde_json::Value;
@@ -27,7 +27,7 @@ impl FromJson for SymbolLines {
     fn from_json(reader: Reader, value: Option<&Value>) -> Result<SymbolLines, RecordFault> {
         let entry = object(reader, value)?;
         Ok(SymbolLines {
-            offset: place(reader, entry, "section", "offset")?,
+            offset: section_offset(reader, entry, "section", "offset")?,
             lines: member(reader, entry, "lines")?,
         })
     }

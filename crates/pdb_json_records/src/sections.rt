@@ -2,7 +2,7 @@ ghost use Rattle.std.specs.Prelude.{◌≡◌};
 ghost use Rattle.serde_json.specs.View.{view};
 ghost use Rattle.pdb_json_values.specs.Faults.{Agrees};
 ghost use Rattle.pdb_json_records.specs.Members.{list_of};
-ghost use Rattle.pdb_json_records.specs.Sections.{section_of, range_of, place_of};
+ghost use Rattle.pdb_json_records.specs.Sections.{section_of, range_of, section_offset_of};
 
 use crate::members::{Elements, FromJson, member};
 use pdb_json_values::{Reader, RecordFault, object};
@@ -47,15 +47,15 @@ impl FromJson for AddressMap {
     }
 }
 
-/// Reads a place, whose section and offset the object has under these names.
-#[tactic(auto, unfolding(crate::specs::Sections::place_of))]
-pub(crate) fn place(
+/// Reads a section offset, whose section and offset the object has under these names.
+#[tactic(auto, unfolding(crate::specs::Sections::section_offset_of))]
+pub(crate) fn section_offset(
     reader: Reader,
     object: &Value,
     section: &str,
     offset: &str,
 ) -> Result<PdbInternalSectionOffset, RecordFault>
-    ensures { Agrees result (place_of section.now offset.now (view object.now)) }
+    ensures { Agrees result (section_offset_of section.now offset.now (view object.now)) }
 {
     Ok(PdbInternalSectionOffset {
         section: member(reader, object, section)?,

@@ -6,7 +6,7 @@ ghost use Rattle.pdb_json_records.specs.Symbols.{data_named, data_of, symbol_of,
 
 use crate::members::{FromJson, member};
 use crate::names::{kind, unknown_kind};
-use crate::sections::place;
+use crate::sections::section_offset;
 use pdb_json_values::{Reader, RecordFault, object};
 use pdb_records::{
     FileIndex, IdIndex, InlineRow, InlineSiteSymbol, ProcedureSymbol, PublicSymbol,
@@ -56,7 +56,7 @@ fn public(reader: Reader, object: &Value) -> Result<PublicSymbol, RecordFault>
     ensures { Agrees result (public_of reader.version (view object.now)) }
 {
     Ok(PublicSymbol {
-        offset: place(reader, object, "section", "offset")?,
+        offset: section_offset(reader, object, "section", "offset")?,
         name: member(reader, object, "name")?,
     })
 }
@@ -67,7 +67,7 @@ fn procedure(reader: Reader, object: &Value) -> Result<ProcedureSymbol, RecordFa
     ensures { Agrees result (procedure_of reader.version (view object.now)) }
 {
     Ok(ProcedureSymbol {
-        offset: place(reader, object, "section", "offset")?,
+        offset: section_offset(reader, object, "section", "offset")?,
         len: member(reader, object, "len")?,
         name: member(reader, object, "name")?,
         end: member(reader, object, "end")?,
@@ -81,9 +81,9 @@ fn separated_code(reader: Reader, object: &Value) -> Result<SeparatedCodeSymbol,
     ensures { Agrees result (separated_code_of (view object.now)) }
 {
     Ok(SeparatedCodeSymbol {
-        offset: place(reader, object, "section", "offset")?,
+        offset: section_offset(reader, object, "section", "offset")?,
         len: member(reader, object, "len")?,
-        parent_offset: place(reader, object, "parent_section", "parent_offset")?,
+        parent_offset: section_offset(reader, object, "parent_section", "parent_offset")?,
         end: member(reader, object, "end")?,
     })
 }
@@ -94,7 +94,7 @@ fn thunk(reader: Reader, object: &Value) -> Result<ThunkSymbol, RecordFault>
     ensures { Agrees result (thunk_of reader.version (view object.now)) }
 {
     Ok(ThunkSymbol {
-        offset: place(reader, object, "section", "offset")?,
+        offset: section_offset(reader, object, "section", "offset")?,
         len: member(reader, object, "len")?,
         name: member(reader, object, "name")?,
         end: member(reader, object, "end")?,

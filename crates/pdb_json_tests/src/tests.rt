@@ -37,13 +37,13 @@ fn parts(line: &str) -> Option<(&str, &str, &str)> {
 /// Makes one change of the small file and compares the answer.
 fn check_change(rt: &impl Abort, alloc: Global, line: &str) -> Result<(), Fail> {
     let (old, new, wanted) = parts(line).ok_or("no change")?;
-    let told = answer_to_change(alloc, old, new)?;
-    assert!(rt; told.as_str() == wanted, "{line}");
+    let shown = answer_to_change(alloc, old, new)?;
+    assert!(rt; shown.as_str() == wanted, "{line}");
     Ok(())
 }
 
 #[test]
-fn changes_are_told(rt: HostRuntime) -> Result<(), Fail> {
+fn changes_are_answered(rt: HostRuntime) -> Result<(), Fail> {
     assert!(rt; answer(rt.alloc(), EXAMPLE)?.as_str() == "read");
     for line in CHANGES.lines() {
         check_change(&rt, rt.alloc(), line)?;
@@ -80,7 +80,7 @@ fn is_answered(alloc: Global, text: &str, wanted: &str) -> Result<bool, AllocErr
 }
 
 #[test]
-fn texts_that_are_no_file_are_told(rt: HostRuntime) -> Result<(), Fail> {
+fn texts_that_are_no_file_are_refused(rt: HostRuntime) -> Result<(), Fail> {
     let answers = [
         ("", "not a JSON text"),
         ("7", ": wanted object"),
@@ -93,7 +93,7 @@ fn texts_that_are_no_file_are_told(rt: HostRuntime) -> Result<(), Fail> {
 }
 
 #[test]
-fn texts_that_are_nested_too_deep_are_told(rt: HostRuntime) -> Result<(), Fail> {
+fn texts_that_are_nested_too_deep_are_refused(rt: HostRuntime) -> Result<(), Fail> {
     for (depth, wanted) in [(127, ": wanted object"), (128, "not a JSON text")] {
         let text = nested(rt.alloc(), depth)?;
         assert!(rt; is_answered(rt.alloc(), text.as_str(), wanted)?);
@@ -102,14 +102,14 @@ fn texts_that_are_nested_too_deep_are_told(rt: HostRuntime) -> Result<(), Fail> 
 }
 
 #[test]
-fn bytes_that_are_no_text_are_told(rt: HostRuntime) -> Result<(), Fail> {
+fn bytes_that_are_no_text_are_refused(rt: HostRuntime) -> Result<(), Fail> {
     assert!(rt; is_no_json(rt.alloc(), b"{\"more\":\"\xff\"}"));
     Ok(())
 }
 
 #[test]
-fn want_of_memory_is_told(rt: HostRuntime) -> Result<(), Fail> {
-    let told = RecordFault::OutOfMemory.to_string(rt.alloc())?;
-    assert!(rt; told.as_str() == "out of memory");
+fn out_of_memory_is_answered(rt: HostRuntime) -> Result<(), Fail> {
+    let shown = RecordFault::OutOfMemory.to_string(rt.alloc())?;
+    assert!(rt; shown.as_str() == "out of memory");
     Ok(())
 }

@@ -1,7 +1,7 @@
 -- What is wrong with a records file, and where.
 use Rattle.std.specs.Prelude.{◌≡◌, ℕ, List, ◌++◌, Result, Ok, Err, string_bytes, codes}
 use Rattle.pdb_json_values.specs.declared.faults.RecordFault.{RecordFault}
-use Rattle.pdb_json_values.specs.declared.faults.RecordFault.TheVariants as told
+use Rattle.pdb_json_values.specs.declared.faults.RecordFault.TheVariants as code
 
 -- the text is no JSON; or another number of module files is wanted than was given; or at a path a value is of another
 -- sort than is wanted, a number is out of range, or a module file is no JSON
@@ -35,14 +35,14 @@ abbrev pub ◌>>=◌ : {X Y : Type 0} → Result X Fault → (X → Result Y Fau
 (Ok x) >>= next = next x
 (Err fault) >>= next = Err fault
 
--- the fault that a program tells is the fault of the definition. Want of memory may come at any time
+-- the fault that a program answers is the fault of the definition. Memory may run out at any time
 abbrev pub IsFaultOf : {X : Type 0} → RecordFault → Result X Fault → Type 0
-IsFaultOf told.NotJson read = read ≡ Err not_json
-IsFaultOf (told.ModuleFiles wanted given) read = read ≡ Err (module_files wanted given)
-IsFaultOf (told.Shape path wanted) read = read ≡ Err (shape (string_bytes path) (string_bytes wanted))
-IsFaultOf (told.NumberOutOfRange path) read = read ≡ Err (out_of_range (string_bytes path))
-IsFaultOf (told.ModuleNotJson path) read = read ≡ Err (module_not_json (string_bytes path))
-IsFaultOf told.OutOfMemory read = Unit {0}
+IsFaultOf code.NotJson read = read ≡ Err not_json
+IsFaultOf (code.ModuleFiles wanted given) read = read ≡ Err (module_files wanted given)
+IsFaultOf (code.Shape path wanted) read = read ≡ Err (shape (string_bytes path) (string_bytes wanted))
+IsFaultOf (code.NumberOutOfRange path) read = read ≡ Err (out_of_range (string_bytes path))
+IsFaultOf (code.ModuleNotJson path) read = read ≡ Err (module_not_json (string_bytes path))
+IsFaultOf code.OutOfMemory read = Unit {0}
 
 -- a program's answer is what the definition reads, unless memory ran out
 abbrev pub Agrees : {X : Type 0} → Result X RecordFault → Result X Fault → Type 0

@@ -1,6 +1,6 @@
 //! Values of a records file by their sorts, and the paths of faults.
 //!
-//! A [`Reader`] is what each reader of the records file is handed. [`RecordFault`] tells where a file is
+//! A [`Reader`] is what each reader of the records file is handed. [`RecordFault`] says where a file is
 //! broken: each reader answers a fault by its path from the value that it reads, and [`inside`] puts the
 //! name of a member in front of it, [`inside_element`] the number of an element.
 #![tactic(auto)]

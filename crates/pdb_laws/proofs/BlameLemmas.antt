@@ -39,9 +39,9 @@ blamed info found x e = by_info (extended_info info) where
   by_info (Err f) is = cc
   by_info (Ok known) is = by_rows known (function_rows known.line_program (function_start found)) (function_ranges known.inlinees info found) refl refl is
 
--- where it is told where code comes from, no part has an error
-pub sound : (info : ModuleInfo) (found : FoundFunction) (x : ℕ) (told : Origin) (p : CodePart) → origin info found x ≡ Ok told → own_error info found p ≡ None
-sound info found x told p = by_info (extended_info info) p where
+-- where it is answered where code comes from, no part has an error
+pub sound : (info : ModuleInfo) (found : FoundFunction) (x : ℕ) (answered : Origin) (p : CodePart) → origin info found x ≡ Ok answered → own_error info found p ≡ None
+sound info found x answered p = by_info (extended_info info) p where
   own : Result ExtendedInfo Error → CodePart → Option Error
   own r (part.ExtendedInfo m) = error_of r
   own r (part.Lines m start) = error_of (and_then r (λ known. function_rows known.line_program (function_start found)))
@@ -53,14 +53,14 @@ sound info found x told p = by_info (extended_info info) p where
   by_part known rows ranges rows_are ranges_are (part.InlineRanges m start) = rw ranges_are refl
 
   by_rows : (known : ExtendedInfo) (rows : Result (List LineInfo) Error) (ranges : Result (List InlineRange) Error) (p : CodePart) → function_rows known.line_program (function_start found) ≡ rows → function_ranges known.inlinees info found ≡ ranges
-      → and_then (and_then rows (λ rs. Ok (row_over rs x))) (λ row. and_then ranges (λ rs. Ok (record { line_program = known.line_program; row = row; stack = inline_stack rs x }))) ≡ (let answer : Result Origin Error = Ok told in answer)
+      → and_then (and_then rows (λ rs. Ok (row_over rs x))) (λ row. and_then ranges (λ rs. Ok (record { line_program = known.line_program; row = row; stack = inline_stack rs x }))) ≡ (let answer : Result Origin Error = Ok answered in answer)
       → own (Ok known) p ≡ None
   by_rows known (Err f) ranges p rows_are ranges_are is = absurd (cc)
   by_rows known (Ok rows) (Err f) p rows_are ranges_are is = absurd (cc)
   by_rows known (Ok rows) (Ok ranges) p rows_are ranges_are is = by_part known rows ranges rows_are ranges_are p
 
   by_info : (r : Result ExtendedInfo Error) (p : CodePart)
-      → and_then r (λ known. and_then (and_then (function_rows known.line_program (function_start found)) (λ rs. Ok (row_over rs x))) (λ row. and_then (function_ranges known.inlinees info found) (λ rs. Ok (record { line_program = known.line_program; row = row; stack = inline_stack rs x })))) ≡ (let answer : Result Origin Error = Ok told in answer)
+      → and_then r (λ known. and_then (and_then (function_rows known.line_program (function_start found)) (λ rs. Ok (row_over rs x))) (λ row. and_then (function_ranges known.inlinees info found) (λ rs. Ok (record { line_program = known.line_program; row = row; stack = inline_stack rs x })))) ≡ (let answer : Result Origin Error = Ok answered in answer)
       → own r p ≡ None
   by_info (Err f) p is = absurd (cc)
   by_info (Ok known) p is = by_rows known (function_rows known.line_program (function_start found)) (function_ranges known.inlinees info found) p refl refl is

@@ -14,15 +14,15 @@ use Rattle.pdb_records.specs.declared.types.TypeData.{TypeData}
 use Rattle.pdb_records.specs.declared.types.TypeData.TheVariants.{Primitive, Class, MemberFunction, Procedure, Pointer, Array, Union, Enumeration, Enumerate, Modifier, ArgumentList, Other}
 use Rattle.pdb_types.specs.declared.error.Error.TheVariants.{PdbError, ArgumentTypeNotArgumentList, MemberFunctionIdIsNotMemberFunctionType, FunctionIdIsNotProcedureType}
 use Rattle.pdb_records.specs.declared.error.Error.TheVariants.{UnimplementedTypeKind}
-use Rattle.pdb_types.specs.declared.unread.Part.{Part}
-use Rattle.pdb_types.specs.declared.unread.Part.TheVariants.{Imports, Exports}
-use Rattle.pdb_types.specs.Errors.{ToldError, Plain}
+use Rattle.pdb_types.specs.declared.read_error.Part.{Part}
+use Rattle.pdb_types.specs.declared.read_error.Part.TheVariants.{Imports, Exports}
+use Rattle.pdb_types.specs.Errors.{ErrorView, Plain}
 use Rattle.pdb_types.specs.FailedParts.{Parts, has_failed, unsuccessful, part_error}
 use Rattle.pdb_types.specs.Outcomes.{and_then}
-use Rattle.pdb_types.specs.Unread.{Trouble, Missing, Unimplemented, Refused, Broken}
+use Rattle.pdb_types.specs.ReadError.{ReadErrorView, Missing, Unimplemented, Refused, Broken}
 use Rattle.pdb_documents.specs.declared.attributes.Attribute.{Attribute}
 use Rattle.pdb_documents.specs.Attributes.{attributes_text}
-use Rattle.pdb_documents.specs.Documents.{Document, TypeNotFound, Told, run}
+use Rattle.pdb_documents.specs.Documents.{Document, TypeNotFound, OfError, run}
 use Rattle.pdb_documents.specs.Documents as document
 use Rattle.pdb_documents.specs.Flags.{without_arguments, without_return_type}
 use Rattle.pdb_documents.specs.Wording.{comma, function_name, dimensions_text}
@@ -32,23 +32,23 @@ use Rattle.pdb_documents.specs.Methods.{plain_this, this_by_target, this_by_type
 use Rattle.pdb_documents.specs.Plans.{Task, Index, OfType, MethodArguments, Chain, BehindModifier, Modified, Elements, Id, Plan, Done, Later, Seq, Buffered, Catch, ◌▸◌, written, circular, is_among, refusal, note_or_refusal, on_read, on_printed, opening, met_before}
 use Rattle.pdb_documents.specs.Rules.{chain_end, behind_modifier, behind_pointer, element, modified, by_kind, rule}
 use Rattle.pdb_documents.specs.Signatures.{signature_by_type, signature}
-use Rattle.pdb_documents.specs.Worlds.{World}
+use Rattle.pdb_documents.specs.PrintInputs.{PrintInputs}
 use Rattle.pdb_laws.specs.Circles.{Repeats}
-use Rattle.pdb_laws.proofs.ReadLemmas.{HasReadErrors, IsGoodTrouble, IsGoodReading, IsGoodWorld, reads_then}
+use Rattle.pdb_laws.proofs.ReadLemmas.{HasReadErrors, IsGoodReadError, IsGoodReading, AreGoodPrintInputs, reads_then}
 
 -- besides errors of reading, these of the types of functions are among them
-pub record HasPrintErrors (Good : ToldError → Type 0) : Type 0 where
+pub record HasPrintErrors (Good : ErrorView → Type 0) : Type 0 where
   pub reading : HasReadErrors Good
   pub no_list : Good (Plain ArgumentTypeNotArgumentList)
   pub no_method : Good (Plain MemberFunctionIdIsNotMemberFunctionType)
   pub no_procedure : Good (Plain FunctionIdIsNotProcedureType)
 
 -- a document fails for nothing but these errors, or for a missing type
-abbrev pub IsGoodDocument : (ToldError → Type 0) → Document → Type 0
-IsGoodDocument Good d = (failed : Parts) (e : ToldError) → (run d failed).fault ≡ Some (Told e) → Good e
+abbrev pub IsGoodDocument : (ErrorView → Type 0) → Document → Type 0
+IsGoodDocument Good d = (failed : Parts) (e : ErrorView) → (run d failed).fault ≡ Some (OfError e) → Good e
 
 -- no document that a plan has already fails for another error
-abbrev pub IsGoodPlan : (ToldError → Type 0) → Plan → Type 0
+abbrev pub IsGoodPlan : (ErrorView → Type 0) → Plan → Type 0
 IsGoodPlan Good (Done d) = IsGoodDocument Good d
 IsGoodPlan Good (Later inside task) = ⊤
 IsGoodPlan Good (Seq p q) = IsGoodPlan Good p × IsGoodPlan Good q
@@ -56,90 +56,90 @@ IsGoodPlan Good (Buffered p after_sigil after_other) = IsGoodPlan Good p
 IsGoodPlan Good (Catch p) = IsGoodPlan Good p
 
 -- a text
-pub good_text : (Good : ToldError → Type 0) → HasPrintErrors Good → (text : List ℕ) → IsGoodPlan Good (written text)
+pub good_text : (Good : ErrorView → Type 0) → HasPrintErrors Good → (text : List ℕ) → IsGoodPlan Good (written text)
 good_text Good has text = λ failed e is. absurd (cc)
 
 -- an error that is one of these
-good_error : (Good : ToldError → Type 0) → HasPrintErrors Good → (told : ToldError) → Good told → IsGoodDocument Good (document.Fail (Told told))
-good_error Good has told good = λ failed e is. let same : told ≡ e = cc in subst Good same good
+good_error : (Good : ErrorView → Type 0) → HasPrintErrors Good → (error_view : ErrorView) → Good error_view → IsGoodDocument Good (document.Fail (OfError error_view))
+good_error Good has error_view good = λ failed e is. let same : error_view ≡ e = cc in subst Good same good
 
 -- a part of the records
-good_ask : (Good : ToldError → Type 0) → HasPrintErrors Good → (part : Part) (told : ToldError) → Good told → IsGoodDocument Good (document.Ask part told)
-good_ask Good has part told good = λ failed e is. let same : part_error failed part told ≡ e = cc in subst Good same (by_test (has_failed failed part)) where
+good_ask : (Good : ErrorView → Type 0) → HasPrintErrors Good → (part : Part) (error_view : ErrorView) → Good error_view → IsGoodDocument Good (document.Ask part error_view)
+good_ask Good has part error_view good = λ failed e is. let same : part_error failed part error_view ≡ e = cc in subst Good same (by_test (has_failed failed part)) where
   before : (p : Part) → Good (unsuccessful p)
-  before (Imports position) = has.reading.imports_failed
-  before (Exports position) = has.reading.exports_failed
+  before (Imports module_index) = has.reading.imports_failed
+  before (Exports module_index) = has.reading.exports_failed
 
-  by_test : (t : Bool) → Good (cond t (unsuccessful part) told)
+  by_test : (t : Bool) → Good (cond t (unsuccessful part) error_view)
   by_test true = before part
   by_test false = good
 
 -- why something can't be read
-good_refusal : (Good : ToldError → Type 0) → HasPrintErrors Good → (trouble : Trouble) → IsGoodTrouble Good trouble → IsGoodDocument Good (refusal trouble)
+good_refusal : (Good : ErrorView → Type 0) → HasPrintErrors Good → (read_error_view : ReadErrorView) → IsGoodReadError Good read_error_view → IsGoodDocument Good (refusal read_error_view)
 good_refusal Good has (Missing index) other = λ failed e is. absurd (cc)
 good_refusal Good has (Unimplemented kind) other = good_error Good has (Plain (PdbError (UnimplementedTypeKind kind))) (has.reading.of_records (UnimplementedTypeKind kind))
 good_refusal Good has (Refused e) other = good_error Good has e other
 good_refusal Good has (Broken part e) other = good_ask Good has part e other
 
 -- why what is printed where it stands can't be read
-good_note : (Good : ToldError → Type 0) → HasPrintErrors Good → (trouble : Trouble) → IsGoodTrouble Good trouble → IsGoodDocument Good (note_or_refusal trouble)
+good_note : (Good : ErrorView → Type 0) → HasPrintErrors Good → (read_error_view : ReadErrorView) → IsGoodReadError Good read_error_view → IsGoodDocument Good (note_or_refusal read_error_view)
 good_note Good has (Missing index) other = λ failed e is. absurd (cc)
 good_note Good has (Unimplemented kind) other = λ failed e is. absurd (cc)
 good_note Good has (Refused e) other = good_error Good has e other
 good_note Good has (Broken part e) other = good_ask Good has part e other
 
 -- what follows what is needed
-pub good_on_read : {A : Type 0} (Good : ToldError → Type 0) → HasPrintErrors Good → (r : Result A Trouble) (next : A → Plan) → IsGoodReading Good r → ((answer : A) → IsGoodPlan Good (next answer)) → IsGoodPlan Good (on_read r next)
+pub good_on_read : {A : Type 0} (Good : ErrorView → Type 0) → HasPrintErrors Good → (r : Result A ReadErrorView) (next : A → Plan) → IsGoodReading Good r → ((answer : A) → IsGoodPlan Good (next answer)) → IsGoodPlan Good (on_read r next)
 good_on_read Good has (Ok answer) next reads plans = plans answer
-good_on_read Good has (Err trouble) next reads plans = good_refusal Good has trouble reads
+good_on_read Good has (Err read_error_view) next reads plans = good_refusal Good has read_error_view reads
 
 -- what follows what is printed where it stands
-pub good_on_printed : {A : Type 0} (Good : ToldError → Type 0) → HasPrintErrors Good → (r : Result A Trouble) (next : A → Plan) → IsGoodReading Good r → ((answer : A) → IsGoodPlan Good (next answer)) → IsGoodPlan Good (on_printed r next)
+pub good_on_printed : {A : Type 0} (Good : ErrorView → Type 0) → HasPrintErrors Good → (r : Result A ReadErrorView) (next : A → Plan) → IsGoodReading Good r → ((answer : A) → IsGoodPlan Good (next answer)) → IsGoodPlan Good (on_printed r next)
 good_on_printed Good has (Ok answer) next reads plans = plans answer
-good_on_printed Good has (Err trouble) next reads plans = good_note Good has trouble reads
+good_on_printed Good has (Err read_error_view) next reads plans = good_note Good has read_error_view reads
 
 -- what a function returns
-pub good_returned : (Good : ToldError → Type 0) → HasPrintErrors Good → (inside : List ℕ) (left_out : Bool) (index : Option TypeIndex) → IsGoodPlan Good (returned inside left_out index)
+pub good_returned : (Good : ErrorView → Type 0) → HasPrintErrors Good → (inside : List ℕ) (left_out : Bool) (index : Option TypeIndex) → IsGoodPlan Good (returned inside left_out index)
 good_returned Good has inside left_out None = good_text Good has []
 good_returned Good has inside true (Some index) = good_text Good has []
 good_returned Good has inside false (Some index) = (tt, good_text Good has (codes " "))
 
 -- further types
-good_further : (Good : ToldError → Type 0) → HasPrintErrors Good → (separator inside : List ℕ) (list : List TypeIndex) → IsGoodPlan Good (further_types separator inside list)
+good_further : (Good : ErrorView → Type 0) → HasPrintErrors Good → (separator inside : List ℕ) (list : List TypeIndex) → IsGoodPlan Good (further_types separator inside list)
 good_further Good has separator inside [] = good_text Good has []
 good_further Good has separator inside (next ∷ rest) = (good_text Good has separator, (tt, good_further Good has separator inside rest))
 
 -- types between separators
-pub good_between : (Good : ToldError → Type 0) → HasPrintErrors Good → (separator inside : List ℕ) (list : List TypeIndex) → IsGoodPlan Good (types_between separator inside list)
+pub good_between : (Good : ErrorView → Type 0) → HasPrintErrors Good → (separator inside : List ℕ) (list : List TypeIndex) → IsGoodPlan Good (types_between separator inside list)
 good_between Good has separator inside [] = good_text Good has []
 good_between Good has separator inside (next ∷ rest) = (tt, good_further Good has separator inside rest)
 
 -- a function's arguments
-pub good_arguments : (Good : ToldError → Type 0) → HasPrintErrors Good → (w : World) (inside : List ℕ) (list : TypeIndex) → IsGoodPlan Good (function_arguments w inside list)
+pub good_arguments : (Good : ErrorView → Type 0) → HasPrintErrors Good → (w : PrintInputs) (inside : List ℕ) (list : TypeIndex) → IsGoodPlan Good (function_arguments w inside list)
 good_arguments Good has w inside list = by_test (without_arguments w.flags) where
   by_test : (t : Bool) → IsGoodPlan Good (cond t (written []) (written (codes "(") ▸ Later inside (Index list.0) ▸ written (codes ")")))
   by_test true = good_text Good has []
   by_test false = (good_text Good has (codes "("), (tt, good_text Good has (codes ")")))
 
 -- the end of a chain of pointers
-good_chain_end : (Good : ToldError → Type 0) → HasPrintErrors Good → (w : World) (attributes : List Attribute) (inside : List ℕ) (type : TypeData) → IsGoodPlan Good (chain_end w attributes inside type)
+good_chain_end : (Good : ErrorView → Type 0) → HasPrintErrors Good → (w : PrintInputs) (attributes : List Attribute) (inside : List ℕ) (type : TypeData) → IsGoodPlan Good (chain_end w attributes inside type)
 good_chain_end Good has w attributes inside (MemberFunction m) = (good_returned Good has inside m.is_constructor (Some m.return_type), (good_text Good has (codes "("), (tt, (good_text Good has (attributes_text w.flags false false attributes), (good_text Good has (codes ")"), tt)))))
 good_chain_end Good has w attributes inside (Procedure p) = (good_returned Good has inside p.is_constructor p.return_type, (good_text Good has (codes "("), (good_text Good has (attributes_text w.flags false false attributes), (good_text Good has (codes ")("), (tt, good_text Good has (codes ")"))))))
 good_chain_end Good has w attributes inside other = tt
 
 -- what follows a modifier in a chain of pointers
-good_behind_modifier : (Good : ToldError → Type 0) → HasPrintErrors Good → (w : World) (attributes : List Attribute) (inside : List ℕ) (type : TypeData) → IsGoodPlan Good (behind_modifier w attributes inside type)
+good_behind_modifier : (Good : ErrorView → Type 0) → HasPrintErrors Good → (w : PrintInputs) (attributes : List Attribute) (inside : List ℕ) (type : TypeData) → IsGoodPlan Good (behind_modifier w attributes inside type)
 good_behind_modifier Good has w attributes inside (Pointer p) = tt
 good_behind_modifier Good has w attributes inside other = good_chain_end Good has w attributes inside other
 
 -- what follows a pointer in a chain of pointers
-good_behind_pointer : (Good : ToldError → Type 0) → HasPrintErrors Good → (w : World) (attributes : List Attribute) (inside : List ℕ) (type : TypeData) → IsGoodPlan Good (behind_pointer w attributes inside type)
+good_behind_pointer : (Good : ErrorView → Type 0) → HasPrintErrors Good → (w : PrintInputs) (attributes : List Attribute) (inside : List ℕ) (type : TypeData) → IsGoodPlan Good (behind_pointer w attributes inside type)
 good_behind_pointer Good has w attributes inside (Pointer p) = tt
 good_behind_pointer Good has w attributes inside (Modifier m) = tt
 good_behind_pointer Good has w attributes inside other = good_chain_end Good has w attributes inside other
 
 -- an element of an array
-good_element : (Good : ToldError → Type 0) → HasPrintErrors Good → (w : World) (inside elements levels : List ℕ) (index : ℕ) (type : TypeData) → IsGoodPlan Good (element w inside elements levels index type)
+good_element : (Good : ErrorView → Type 0) → HasPrintErrors Good → (w : PrintInputs) (inside elements levels : List ℕ) (index : ℕ) (type : TypeData) → IsGoodPlan Good (element w inside elements levels index type)
 good_element Good has w inside elements levels index (Array a) = tt
 good_element Good has w inside elements levels index other = by_met (w.size index).met (Later inside (OfType other) ▸ written (dimensions_text levels (w.size index).size)) (tt, good_text Good has []) where
   by_met : (met : Option Part) (p : Plan) → IsGoodPlan Good p → IsGoodPlan Good (met_before met p)
@@ -147,13 +147,13 @@ good_element Good has w inside elements levels index other = by_met (w.size inde
   by_met (Some part) p plan = ((λ failed e is. absurd (cc)), plan)
 
 -- the target of a modifier
-good_modified : (Good : ToldError → Type 0) → HasPrintErrors Good → (w : World) (constant : Bool) (inside : List ℕ) (type : TypeData) → IsGoodPlan Good (modified w constant inside type)
+good_modified : (Good : ErrorView → Type 0) → HasPrintErrors Good → (w : PrintInputs) (constant : Bool) (inside : List ℕ) (type : TypeData) → IsGoodPlan Good (modified w constant inside type)
 good_modified Good has w constant inside (Pointer p) = tt
 good_modified Good has w constant inside (Primitive p) = good_text Good has []
 good_modified Good has w constant inside other = (good_text Good has [], tt)
 
 -- a type, by its kind
-good_kind : (Good : ToldError → Type 0) → HasPrintErrors Good → (w : World) (inside : List ℕ) (type : TypeData) → IsGoodPlan Good (by_kind w inside type)
+good_kind : (Good : ErrorView → Type 0) → HasPrintErrors Good → (w : PrintInputs) (inside : List ℕ) (type : TypeData) → IsGoodPlan Good (by_kind w inside type)
 good_kind Good has w inside (Primitive p) = good_text Good has []
 good_kind Good has w inside (Class c) = good_text Good has []
 good_kind Good has w inside (Union u) = good_text Good has []
@@ -167,8 +167,8 @@ good_kind Good has w inside (Array a) = tt
 good_kind Good has w inside (Modifier m) = tt
 good_kind Good has w inside (Other kind) = good_text Good has []
 
--- what a method's `this` tells
-good_this : (Good : ToldError → Type 0) → HasPrintErrors Good → (w : World) → IsGoodWorld Good w → (class : TypeIndex) (this : Option TypeIndex) → IsGoodReading Good (this_of w class this)
+-- what a method's `this` shows
+good_this : (Good : ErrorView → Type 0) → HasPrintErrors Good → (w : PrintInputs) → AreGoodPrintInputs Good w → (class : TypeIndex) (this : Option TypeIndex) → IsGoodReading Good (this_of w class this)
 good_this Good has w reads class None = tt
 good_this Good has w reads class (Some this) = reads_then Good (w.read this.0) (this_by_type w class this) (reads.types this.0) by_type where
   by_target : (p : TypeIndex) (t : Bool) → IsGoodReading Good (cond t (Ok (plain_this false)) (and_then (w.read p.0) (λ target. Ok (this_by_target class this target))))
@@ -180,28 +180,28 @@ good_this Good has w reads class (Some this) = reads_then Good (w.read this.0) (
   by_type other = tt
 
 -- a method's list of arguments
-good_on_list : (Good : ToldError → Type 0) → HasPrintErrors Good → (w : World) → IsGoodWorld Good w → (m : MemberFunctionType) (may_say_const : Bool) (inside : List ℕ) (type : TypeData) → IsGoodPlan Good (on_list w m may_say_const inside type)
+good_on_list : (Good : ErrorView → Type 0) → HasPrintErrors Good → (w : PrintInputs) → AreGoodPrintInputs Good w → (m : MemberFunctionType) (may_say_const : Bool) (inside : List ℕ) (type : TypeData) → IsGoodPlan Good (on_list w m may_say_const inside type)
 good_on_list Good has w reads m may_say_const inside (ArgumentList list) =
     good_on_read Good has (this_of w m.class_type m.this_pointer_type) (method_list w inside may_say_const list) (good_this Good has w reads m.class_type m.this_pointer_type) (λ this. (good_text Good has (codes "("), (good_between Good has (comma w.flags) inside (arguments_behind this.argument list), good_text Good has [])))
 good_on_list Good has w reads m may_say_const inside other = good_error Good has (Plain ArgumentTypeNotArgumentList) has.no_list
 
 -- the scope of a function
-good_scope : (Good : ToldError → Type 0) → HasPrintErrors Good → (met inside : List ℕ) (index : Option IdIndex) → IsGoodPlan Good (scope met inside index)
+good_scope : (Good : ErrorView → Type 0) → HasPrintErrors Good → (met inside : List ℕ) (index : Option IdIndex) → IsGoodPlan Good (scope met inside index)
 good_scope Good has met inside None = good_text Good has []
 good_scope Good has met inside (Some index) = (tt, good_text Good has (codes "::"))
 
 -- a function of a class
-good_method_id : (Good : ToldError → Type 0) → HasPrintErrors Good → (w : World) (method : MemberFunctionId) (inside : List ℕ) (type : TypeData) → IsGoodPlan Good (method_id w method inside type)
+good_method_id : (Good : ErrorView → Type 0) → HasPrintErrors Good → (w : PrintInputs) (method : MemberFunctionId) (inside : List ℕ) (type : TypeData) → IsGoodPlan Good (method_id w method inside type)
 good_method_id Good has w method inside (MemberFunction m) = (good_text Good has [], (good_returned Good has inside (m.is_constructor || without_return_type w.flags) (Some m.return_type), (tt, (good_text Good has (codes "::"), (good_text Good has [], tt)))))
 good_method_id Good has w method inside other = good_error Good has (Plain MemberFunctionIdIsNotMemberFunctionType) has.no_method
 
 -- a function of no class
-good_function_id : (Good : ToldError → Type 0) → HasPrintErrors Good → (w : World) (met : List ℕ) (function : FunctionId) (inside : List ℕ) (type : TypeData) → IsGoodPlan Good (function_id w met function inside type)
+good_function_id : (Good : ErrorView → Type 0) → HasPrintErrors Good → (w : PrintInputs) (met : List ℕ) (function : FunctionId) (inside : List ℕ) (type : TypeData) → IsGoodPlan Good (function_id w met function inside type)
 good_function_id Good has w met function inside (Procedure p) = (good_returned Good has inside (p.is_constructor || without_return_type w.flags) p.return_type, (good_scope Good has met inside function.scope, (good_text Good has [], good_arguments Good has w inside p.argument_list)))
 good_function_id Good has w met function inside other = good_error Good has (Plain FunctionIdIsNotProcedureType) has.no_procedure
 
 -- an id, by its kind
-good_id : (Good : ToldError → Type 0) → HasPrintErrors Good → (w : World) → IsGoodWorld Good w → (met : List ℕ) (entry : IdData) → IsGoodPlan Good (id_by_kind w met entry)
+good_id : (Good : ErrorView → Type 0) → HasPrintErrors Good → (w : PrintInputs) → AreGoodPrintInputs Good w → (met : List ℕ) (entry : IdData) → IsGoodPlan Good (id_by_kind w met entry)
 good_id Good has w reads met (id.MemberFunction method) = good_on_read Good has (w.read method.function_type.0) (method_id w method (method.function_type.0 ∷ [])) (reads.types method.function_type.0) (good_method_id Good has w method (method.function_type.0 ∷ []))
 good_id Good has w reads met (id.Function function) = good_on_read Good has (w.read function.function_type.0) (function_id w met function (function.function_type.0 ∷ [])) (reads.types function.function_type.0) (good_function_id Good has w met function (function.function_type.0 ∷ []))
 good_id Good has w reads met (id.String string) = good_text Good has []
@@ -209,7 +209,7 @@ good_id Good has w reads met (id.StringList substrings) = (good_text Good has []
 good_id Good has w reads met (id.Other kind) = good_text Good has []
 
 -- the signature of a function
-pub good_signature : (Good : ToldError → Type 0) → HasPrintErrors Good → (w : World) → IsGoodWorld Good w → (name : List ℕ) (index : ℕ) → IsGoodPlan Good (signature w name index)
+pub good_signature : (Good : ErrorView → Type 0) → HasPrintErrors Good → (w : PrintInputs) → AreGoodPrintInputs Good w → (name : List ℕ) (index : ℕ) → IsGoodPlan Good (signature w name index)
 good_signature Good has w reads name index = by_test (index == 0) where
   by_type : (inside : List ℕ) (type : TypeData) → IsGoodPlan Good (signature_by_type w name inside type)
   by_type inside (MemberFunction m) = (good_text Good has [], (good_returned Good has inside (m.is_constructor || without_return_type w.flags) (Some m.return_type), (good_text Good has [], tt)))
@@ -221,23 +221,23 @@ good_signature Good has w reads name index = by_test (index == 0) where
   by_test false = good_on_read Good has (w.read index) (signature_by_type w name (index ∷ [])) (reads.types index) (by_type (index ∷ []))
 
 -- what the rule of a task gives: the refusal of an index that the task repeats, or nothing that fails for another error
-pub data RuleGives (Good : ToldError → Type 0) (w : World) (inside : List ℕ) (task : Task) : Type 0 where
+pub data RuleGives (Good : ErrorView → Type 0) (w : PrintInputs) (inside : List ℕ) (task : Task) : Type 0 where
   circle : (index : ℕ) → Repeats w inside task index → rule w inside task ≡ circular index → RuleGives Good w inside task
   other : IsGoodPlan Good (rule w inside task) → RuleGives Good w inside task
 
 -- an index that opens
-gives_opening : (Good : ToldError → Type 0) → HasPrintErrors Good → (w : World) → IsGoodWorld Good w → (inside : List ℕ) (index : ℕ) (next : List ℕ → TypeData → Plan) → ((type : TypeData) → IsGoodPlan Good (next (index ∷ inside) type)) → ((is_among index inside ≡ true) × (opening w inside index next ≡ circular index)) ⊎ IsGoodPlan Good (opening w inside index next)
+gives_opening : (Good : ErrorView → Type 0) → HasPrintErrors Good → (w : PrintInputs) → AreGoodPrintInputs Good w → (inside : List ℕ) (index : ℕ) (next : List ℕ → TypeData → Plan) → ((type : TypeData) → IsGoodPlan Good (next (index ∷ inside) type)) → ((is_among index inside ≡ true) × (opening w inside index next ≡ circular index)) ⊎ IsGoodPlan Good (opening w inside index next)
 gives_opening Good has w reads inside index next plans = by_test (is_among index inside) refl where
   by_test : (t : Bool) → is_among index inside ≡ t → ((is_among index inside ≡ true) × (opening w inside index next ≡ circular index)) ⊎ IsGoodPlan Good (opening w inside index next)
   by_test true open_already = inl (open_already, rw open_already refl)
   by_test false closed = inr (rw closed (good_on_read Good has (w.read index) (next (index ∷ inside)) (reads.types index) plans))
 
 -- the rule of a task gives one or the other
-pub rule_gives : (Good : ToldError → Type 0) → HasPrintErrors Good → (w : World) → IsGoodWorld Good w → (inside : List ℕ) (task : Task) → RuleGives Good w inside task
+pub rule_gives : (Good : ErrorView → Type 0) → HasPrintErrors Good → (w : PrintInputs) → AreGoodPrintInputs Good w → (inside : List ℕ) (task : Task) → RuleGives Good w inside task
 rule_gives Good has w reads inside (Index index) = by_tests (is_among index inside) refl (w.read index) refl where
-  by_tests : (t : Bool) → is_among index inside ≡ t → (r : Result TypeData Trouble) → w.read index ≡ r → RuleGives Good w inside (Index index)
+  by_tests : (t : Bool) → is_among index inside ≡ t → (r : Result TypeData ReadErrorView) → w.read index ≡ r → RuleGives Good w inside (Index index)
   by_tests true among (Ok type) is = circle index (refl, among, (type, is)) (rw (is, among) refl)
-  by_tests true among (Err trouble) is = other (rw is (good_note Good has trouble (rw is at (reads.types index))))
+  by_tests true among (Err read_error_view) is = other (rw is (good_note Good has read_error_view (rw is at (reads.types index))))
   by_tests false closed r is = other (rw closed (good_on_printed Good has (w.read index) (λ type. Later (index ∷ inside) (OfType type)) (reads.types index) (λ type. tt)))
 rule_gives Good has w reads inside (OfType type) = other (good_kind Good has w inside type)
 rule_gives Good has w reads inside (MethodArguments m may_say_const) = by_flag (without_arguments w.flags) refl where
@@ -270,7 +270,7 @@ rule_gives Good has w reads inside (Id met index) = by_test (is_among index met)
   by_test false first = other (rw first (good_on_printed Good has (w.read_id index) (id_by_kind w (insert_key nat_cmp met index)) (reads.ids index) (good_id Good has w reads (insert_key nat_cmp met index))))
 
 -- a task that repeats an index is refused as circular, with that index
-pub repeats_circular : (w : World) (inside : List ℕ) (task : Task) (index : ℕ) → Repeats w inside task index → rule w inside task ≡ circular index
+pub repeats_circular : (w : PrintInputs) (inside : List ℕ) (task : Task) (index : ℕ) → Repeats w inside task index → rule w inside task ≡ circular index
 repeats_circular w inside (Index i) index (one, among, (type, is)) = rw (is, among, one) refl
 repeats_circular w inside (OfType type) index never = absurd never
 repeats_circular w inside (MethodArguments m may_say_const) index (one, among, printed) = rw (printed, among, one) refl

@@ -17,10 +17,10 @@ use Rattle.pdb_records.specs.declared.ids.IdIndex.{IdIndex}
 use Rattle.pdb_records.specs.declared.ids.IdData.{IdData}
 use Rattle.pdb_types.specs.declared.error.Error.{Error}
 use Rattle.pdb_types.specs.declared.flags.TypeFormatterFlags.{TypeFormatterFlags}
-use Rattle.pdb_types.specs.declared.unread.Part.{Part}
-use Rattle.pdb_types.specs.declared.unread.Part.TheVariants.{Imports, Exports}
+use Rattle.pdb_types.specs.declared.read_error.Part.{Part}
+use Rattle.pdb_types.specs.declared.read_error.Part.TheVariants.{Imports, Exports}
 use Rattle.pdb_types.specs.declared.error.Error.TheVariants.{PdbError, CantResolveCrossModuleRefWithoutStringTable, OutOfRangeModuleIndex, ModuleInfoNotFound, LocalIndexNotInExports, ModuleImportsUnsuccessful, ModuleExportsUnsuccessful}
-use Rattle.pdb_types.specs.Errors.{ToldError, Plain, NoModuleNamed}
+use Rattle.pdb_types.specs.Errors.{ErrorView, Plain, NoModuleNamed}
 use Rattle.pdb_records.specs.Names.{lossy}
 use Rattle.std.specs.Str.{str_to_ascii_lowercase}
 use Rattle.pdb_types.specs.ModuleNames.{last_position_from, is_named}
@@ -28,46 +28,46 @@ use Rattle.pdb_types.specs.Items.{first_item}
 use Rattle.pdb_types.specs.Outcomes.{and_then}
 use Rattle.pdb_types.specs.Reading.{said, entry, reading}
 use Rattle.pdb_types.specs.Resolution.{streamed, provided_info, info_of, module_info, imports, exports, unbroken, answered, texts, found_text, found_module, module_named, module_under, found_export, export_of, import_target, across, resolved}
-use Rattle.pdb_types.specs.Standing.{Linked}
+use Rattle.pdb_types.specs.TypeInputs.{LinkInputs}
 use Rattle.pdb_types.specs.TypeSizes.{read_type}
-use Rattle.pdb_types.specs.Unread.{Trouble, Missing, Unimplemented, Refused, Broken, trouble_by}
-use Rattle.pdb_documents.specs.Worlds.{World, type_at, id_at, world_of}
+use Rattle.pdb_types.specs.ReadError.{ReadErrorView, Missing, Unimplemented, Refused, Broken, read_error_view_by}
+use Rattle.pdb_documents.specs.PrintInputs.{PrintInputs, type_at, id_at, print_inputs_of}
 
 -- errors of the records, and of indices that lead to other modules, are among these
-pub record HasReadErrors (Good : ToldError → Type 0) : Type 0 where
+pub record HasReadErrors (Good : ErrorView → Type 0) : Type 0 where
   pub of_records : (e : records.Error) → Good (Plain (PdbError e))
   pub no_texts : Good (Plain CantResolveCrossModuleRefWithoutStringTable)
-  pub past_list : (position : ℕ) → Good (Plain (OutOfRangeModuleIndex position))
-  pub no_info : (position : ℕ) → Good (Plain (ModuleInfoNotFound position))
+  pub past_list : (module_index : ℕ) → Good (Plain (OutOfRangeModuleIndex module_index))
+  pub no_info : (module_index : ℕ) → Good (Plain (ModuleInfoNotFound module_index))
   pub no_module : (name : List ℕ) → Good (NoModuleNamed name)
   pub no_export : (local : ℕ) → Good (Plain (LocalIndexNotInExports local))
   pub imports_failed : Good (Plain ModuleImportsUnsuccessful)
   pub exports_failed : Good (Plain ModuleExportsUnsuccessful)
 
 -- why something can't be read is among these errors, or it is missing or of no known kind
-abbrev pub IsGoodTrouble : (ToldError → Type 0) → Trouble → Type 0
-IsGoodTrouble Good (Missing index) = ⊤
-IsGoodTrouble Good (Unimplemented kind) = ⊤
-IsGoodTrouble Good (Refused e) = Good e
-IsGoodTrouble Good (Broken part e) = Good e
+abbrev pub IsGoodReadError : (ErrorView → Type 0) → ReadErrorView → Type 0
+IsGoodReadError Good (Missing index) = ⊤
+IsGoodReadError Good (Unimplemented kind) = ⊤
+IsGoodReadError Good (Refused e) = Good e
+IsGoodReadError Good (Broken part e) = Good e
 
 -- a reading is refused for nothing but these errors
-abbrev pub IsGoodReading : {A : Type 0} → (ToldError → Type 0) → Result A Trouble → Type 0
+abbrev pub IsGoodReading : {A : Type 0} → (ErrorView → Type 0) → Result A ReadErrorView → Type 0
 IsGoodReading Good (Ok answer) = ⊤
-IsGoodReading Good (Err trouble) = IsGoodTrouble Good trouble
+IsGoodReading Good (Err read_error_view) = IsGoodReadError Good read_error_view
 
--- all that printing stands on is refused for nothing but these errors when it is read
-pub record IsGoodWorld (Good : ToldError → Type 0) (w : World) : Type 0 where
+-- all print inputs are refused for nothing but these errors when they are read
+pub record AreGoodPrintInputs (Good : ErrorView → Type 0) (w : PrintInputs) : Type 0 where
   pub types : (index : ℕ) → IsGoodReading Good (w.read index)
   pub ids : (index : ℕ) → IsGoodReading Good (w.read_id index)
 
 -- one reading after another
-pub reads_then : {A B : Type 0} (Good : ToldError → Type 0) (r : Result A Trouble) (next : A → Result B Trouble) → IsGoodReading Good r → ((answer : A) → IsGoodReading Good (next answer)) → IsGoodReading Good (and_then r next)
+pub reads_then : {A B : Type 0} (Good : ErrorView → Type 0) (r : Result A ReadErrorView) (next : A → Result B ReadErrorView) → IsGoodReading Good r → ((answer : A) → IsGoodReading Good (next answer)) → IsGoodReading Good (and_then r next)
 reads_then Good (Ok answer) next first second = second answer
-reads_then Good (Err trouble) next first second = first
+reads_then Good (Err read_error_view) next first second = first
 
 -- an error of the records
-good_record : (Good : ToldError → Type 0) → HasReadErrors Good → (e : records.Error) → IsGoodTrouble Good (trouble_by e)
+good_record : (Good : ErrorView → Type 0) → HasReadErrors Good → (e : records.Error) → IsGoodReadError Good (read_error_view_by e)
 good_record Good has (Stream fault) = has.of_records (Stream fault)
 good_record Good has (TypeNotFound index) = tt
 good_record Good has (UnimplementedTypeKind kind) = tt
@@ -75,7 +75,7 @@ good_record Good has (CrossModuleRefNotFound index) = has.of_records (CrossModul
 good_record Good has (StringNotFound reference) = has.of_records (StringNotFound reference)
 
 -- what an entry says
-good_said : {I D : Type 0} (Good : ToldError → Type 0) → HasReadErrors Good → (fault : Option StreamError) (number : ℕ) (item : Option (Item I D)) → IsGoodReading Good (said fault number item)
+good_said : {I D : Type 0} (Good : ErrorView → Type 0) → HasReadErrors Good → (fault : Option StreamError) (number : ℕ) (item : Option (Item I D)) → IsGoodReading Good (said fault number item)
 good_said Good has None number None = good_record Good has (TypeNotFound number)
 good_said Good has (Some fault) number None = good_record Good has (Stream fault)
 good_said {D = D} Good has fault number (Some item) = by_content item.content where
@@ -84,25 +84,25 @@ good_said {D = D} Good has fault number (Some item) = by_content item.content wh
   by_content (Err e) = good_record Good has e
 
 -- an answer is refused for nothing but these errors
-abbrev IsGoodAnswer : {A : Type 0} → (ToldError → Type 0) → Result A Error → Type 0
+abbrev IsGoodAnswer : {A : Type 0} → (ErrorView → Type 0) → Result A Error → Type 0
 IsGoodAnswer Good (Ok answer) = ⊤
 IsGoodAnswer Good (Err e) = Good (Plain e)
 
 -- the records of a module
-good_info : (Good : ToldError → Type 0) → HasReadErrors Good → (w : Linked) (position : ℕ) → IsGoodAnswer Good (module_info w position)
-good_info Good has w position = by_module (slice_get w.modules position) where
-  by_answer : (answer : Result (Option ModuleInfo) StreamError) → IsGoodAnswer Good (provided_info position answer)
+good_info : (Good : ErrorView → Type 0) → HasReadErrors Good → (w : LinkInputs) (module_index : ℕ) → IsGoodAnswer Good (module_info w module_index)
+good_info Good has w module_index = by_module (slice_get w.modules module_index) where
+  by_answer : (answer : Result (Option ModuleInfo) StreamError) → IsGoodAnswer Good (provided_info module_index answer)
   by_answer (Ok (Some info)) = tt
-  by_answer (Ok None) = has.no_info position
+  by_answer (Ok None) = has.no_info module_index
   by_answer (Err fault) = has.of_records (Stream fault)
 
-  by_module : (m : Option Module) → IsGoodAnswer Good (info_of w position m)
-  by_module None = has.past_list position
-  by_module (Some m) = by_answer (w.info position m)
+  by_module : (m : Option Module) → IsGoodAnswer Good (info_of w module_index m)
+  by_module None = has.past_list module_index
+  by_module (Some m) = by_answer (w.info module_index m)
 
 -- a stream of them
-good_stream : {A : Type 0} (Good : ToldError → Type 0) → HasReadErrors Good → (w : Linked) (position : ℕ) (stream : ModuleInfo → Result A StreamError) → IsGoodAnswer Good (and_then (module_info w position) (λ info. streamed (stream info)))
-good_stream {A = A} Good has w position stream = by_info (module_info w position) (good_info Good has w position) where
+good_stream : {A : Type 0} (Good : ErrorView → Type 0) → HasReadErrors Good → (w : LinkInputs) (module_index : ℕ) (stream : ModuleInfo → Result A StreamError) → IsGoodAnswer Good (and_then (module_info w module_index) (λ info. streamed (stream info)))
+good_stream {A = A} Good has w module_index stream = by_info (module_info w module_index) (good_info Good has w module_index) where
   by_stream : (content : Result A StreamError) → IsGoodAnswer Good (streamed content)
   by_stream (Ok content) = tt
   by_stream (Err fault) = has.of_records (Stream fault)
@@ -112,15 +112,15 @@ good_stream {A = A} Good has w position stream = by_info (module_info w position
   by_info (Err e) other = other
 
 -- a part of the records
-good_part : {A : Type 0} (Good : ToldError → Type 0) → HasReadErrors Good → (part : Part) (content : Result A Error) → IsGoodAnswer Good content → IsGoodReading Good (unbroken part content)
+good_part : {A : Type 0} (Good : ErrorView → Type 0) → HasReadErrors Good → (part : Part) (content : Result A Error) → IsGoodAnswer Good content → IsGoodReading Good (unbroken part content)
 good_part Good has part (Ok content) other = tt
 good_part Good has part (Err e) other = other
 
 -- the index that a module exports
-good_export : (Good : ToldError → Type 0) → HasReadErrors Good → (w : Linked) (local position : ℕ) → IsGoodReading Good (export_of w local position)
-good_export Good has w local position =
-    reads_then Good (unbroken (Exports position) (exports w position)) (λ list. found_export local (exported local list))
-    (good_part Good has (Exports position) (exports w position) (good_stream Good has w position (λ info. info.exports)))
+good_export : (Good : ErrorView → Type 0) → HasReadErrors Good → (w : LinkInputs) (local module_index : ℕ) → IsGoodReading Good (export_of w local module_index)
+good_export Good has w local module_index =
+    reads_then Good (unbroken (Exports module_index) (exports w module_index)) (λ list. found_export local (exported local list))
+    (good_part Good has (Exports module_index) (exports w module_index) (good_stream Good has w module_index (λ info. info.exports)))
     (λ list. by_export (exported local list))
   where
     by_export : (found : Option ℕ) → IsGoodReading Good (found_export local found)
@@ -128,12 +128,12 @@ good_export Good has w local position =
     by_export (Some index) = tt
 
 -- the index behind an import
-good_target : (Good : ToldError → Type 0) → HasReadErrors Good → (w : Linked) (strings : List (StringRef × List ℕ)) (reference : StringRef) (local : ℕ) → IsGoodReading Good (import_target w strings (reference, local))
+good_target : (Good : ErrorView → Type 0) → HasReadErrors Good → (w : LinkInputs) (strings : List (StringRef × List ℕ)) (reference : StringRef) (local : ℕ) → IsGoodReading Good (import_target w strings (reference, local))
 good_target Good has w strings reference local =
-    reads_then Good (module_under w.modules strings reference) (λ position. export_of w local position)
+    reads_then Good (module_under w.modules strings reference) (λ module_index. export_of w local module_index)
     (reads_then Good (found_text reference (string_at reference strings)) (λ name. module_named w.modules name)
     (by_text (string_at reference strings)) (λ name. by_position name (last_position_from 0 (is_named name) w.modules)))
-    (λ position. good_export Good has w local position)
+    (λ module_index. good_export Good has w local module_index)
   where
     by_text : (text : Option (List ℕ)) → IsGoodReading Good (found_text reference text)
     by_text None = good_record Good has (StringNotFound reference.0)
@@ -141,13 +141,13 @@ good_target Good has w strings reference local =
 
     by_position : (name : List ℕ) (found : Option ℕ) → IsGoodReading Good (found_module name found)
     by_position name None = has.no_module (str_to_ascii_lowercase (lossy name))
-    by_position name (Some position) = tt
+    by_position name (Some module_index) = tt
 
 -- an index across modules
-good_across : (Good : ToldError → Type 0) → HasReadErrors Good → (w : Linked) (position index : ℕ) → IsGoodReading Good (across w position index)
-good_across Good has w position index =
+good_across : (Good : ErrorView → Type 0) → HasReadErrors Good → (w : LinkInputs) (module_index index : ℕ) → IsGoodReading Good (across w module_index index)
+good_across Good has w module_index index =
     reads_then Good (texts w.strings) _ (by_texts w.strings) (λ strings.
-    reads_then Good (unbroken (Imports position) (imports w position)) _ (good_part Good has (Imports position) (imports w position) (good_stream Good has w position (λ info. info.imports))) (λ list.
+    reads_then Good (unbroken (Imports module_index) (imports w module_index)) _ (good_part Good has (Imports module_index) (imports w module_index) (good_stream Good has w module_index (λ info. info.imports))) (λ list.
     reads_then Good (answered (imported list index)) _ (by_import (imported list index)) (λ target. good_target Good has w strings target.0 target.1)))
   where
     by_texts : (strings : Option (List (StringRef × List ℕ))) → IsGoodReading Good (texts strings)
@@ -159,25 +159,25 @@ good_across Good has w position index =
     by_import (Err e) = good_record Good has e
 
 -- an index that is resolved, and its entry
-good_reading : {I D : Type 0} (Good : ToldError → Type 0) → HasReadErrors Good → (number_of : I → ℕ) (w : Linked) (list : Read (Item I D)) (position index : ℕ) → IsGoodReading Good (reading number_of w list position index)
-good_reading {D = D} Good has number_of w list position index = by_size (nat_lt index (2 ^ 32)) where
-  by_place : (t : Bool) → IsGoodReading Good (cond t (Ok index) (across w position index))
-  by_place true = tt
-  by_place false = good_across Good has w position index
+good_reading : {I D : Type 0} (Good : ErrorView → Type 0) → HasReadErrors Good → (number_of : I → ℕ) (w : LinkInputs) (list : Read (Item I D)) (module_index index : ℕ) → IsGoodReading Good (reading number_of w list module_index index)
+good_reading {D = D} Good has number_of w list module_index index = by_size (nat_lt index (2 ^ 32)) where
+  by_section_offset : (t : Bool) → IsGoodReading Good (cond t (Ok index) (across w module_index index))
+  by_section_offset true = tt
+  by_section_offset false = good_across Good has w module_index index
 
-  next : ℕ → Result (ℕ × D) Trouble
+  next : ℕ → Result (ℕ × D) ReadErrorView
   next number = and_then (entry number_of list number) (λ content. Ok (number, content))
 
-  by_size : (t : Bool) → IsGoodReading Good (cond t (and_then (resolved w position index) next) (Err (Missing index)))
+  by_size : (t : Bool) → IsGoodReading Good (cond t (and_then (resolved w module_index index) next) (Err (Missing index)))
   by_size true =
-      reads_then Good (resolved w position index) next (by_place (nat_lt index (2 ^ 31))) (λ number.
+      reads_then Good (resolved w module_index index) next (by_section_offset (nat_lt index (2 ^ 31))) (λ number.
       reads_then Good (entry number_of list number) (λ content. Ok (number, content)) (good_said Good has list.fault number (first_item number_of number list.items)) (λ content. tt))
   by_size false = tt
 
--- all that printing stands on is refused for nothing but errors of reading
-pub world_is_good : (Good : ToldError → Type 0) → HasReadErrors Good → (linked : Linked) (types : Read (Item TypeIndex TypeData)) (ids : Read (Item IdIndex IdData)) (pointer : ℕ) (flags : TypeFormatterFlags) (position : ℕ) → IsGoodWorld Good (world_of linked types ids pointer flags position)
+-- all print inputs are refused for nothing but errors of reading
+pub print_inputs_are_good : (Good : ErrorView → Type 0) → HasReadErrors Good → (link_inputs : LinkInputs) (types : Read (Item TypeIndex TypeData)) (ids : Read (Item IdIndex IdData)) (pointer : ℕ) (flags : TypeFormatterFlags) (module_index : ℕ) → AreGoodPrintInputs Good (print_inputs_of link_inputs types ids pointer flags module_index)
 unfolding type_at id_at
-world_is_good Good has linked types ids pointer flags position = record {
-  types = λ index. reads_then Good (read_type linked types position index) (λ read. Ok read.1) (good_reading Good has (λ i. i.0) linked types position index) (λ read. tt);
-  ids = λ index. reads_then Good (reading (λ i. i.0) linked ids position index) (λ read. Ok read.1) (good_reading Good has (λ i. i.0) linked ids position index) (λ read. tt);
+print_inputs_are_good Good has link_inputs types ids pointer flags module_index = record {
+  types = λ index. reads_then Good (read_type link_inputs types module_index index) (λ read. Ok read.1) (good_reading Good has (λ i. i.0) link_inputs types module_index index) (λ read. tt);
+  ids = λ index. reads_then Good (reading (λ i. i.0) link_inputs ids module_index index) (λ read. Ok read.1) (good_reading Good has (λ i. i.0) link_inputs ids module_index index) (λ read. tt);
 }

@@ -4,9 +4,9 @@ use Rattle.pdb_records.specs.declared.types.TypeData.{TypeData}
 use Rattle.pdb_types.specs.declared.error.Error.TheVariants.{CircularTypeDefinition}
 use Rattle.pdb_types.specs.Errors.{Plain}
 use Rattle.pdb_types.specs.FailedParts.{Parts}
-use Rattle.pdb_documents.specs.Documents.{Document, Told, run}
+use Rattle.pdb_documents.specs.Documents.{Document, OfError, run}
 use Rattle.pdb_documents.specs.Flags.{without_arguments}
-use Rattle.pdb_documents.specs.Worlds.{World}
+use Rattle.pdb_documents.specs.PrintInputs.{PrintInputs}
 use Rattle.pdb_documents.specs.Plans.{Task, Index, OfType, MethodArguments, Chain, BehindModifier}
 use Rattle.pdb_documents.specs.Plans.{Modified, Elements, Id, Plan, Later, Seq, Buffered, Catch, is_among}
 use Rattle.pdb_documents.specs.Printed.{document_of}
@@ -16,7 +16,7 @@ use Rattle.pdb_documents.specs.Unfolding.{Unfolds}
 -- a task opens this index while it is open: a type that can be read, a method's list of arguments, and the target of a
 -- pointer or of a modifier; or the index repeats: an element of an array among the elements before it, and a scope among
 -- the ids that it is a scope of
-abbrev pub Repeats : World → List ℕ → Task → ℕ → Type 0
+abbrev pub Repeats : PrintInputs → List ℕ → Task → ℕ → Type 0
 Repeats w inside (Index index) circle =
     (index ≡ circle) × (is_among index inside ≡ true) × ((type : TypeData) × (w.read index ≡ Ok type))
 Repeats w inside (OfType type) circle = ⊥
@@ -33,7 +33,7 @@ abbrev pub Succeeds : Document → Type 0
 Succeeds d = (failed : Parts) → (run d failed).fault ≡ None
 
 -- printing a plan meets a circle at this index before anything else fails
-pub data MeetsCircle (w : World) : Plan → ℕ → Type 0 where
+pub data MeetsCircle (w : PrintInputs) : Plan → ℕ → Type 0 where
   -- a task of the plan repeats the index
   at_task : {inside : List ℕ} {task : Task} {circle : ℕ} → Repeats w inside task circle
       → MeetsCircle w (Later inside task) circle
@@ -45,13 +45,13 @@ pub data MeetsCircle (w : World) : Plan → ℕ → Type 0 where
   -- the first succeeds, and the second meets it
   in_second : {p q : Plan} {d : Document} {circle : ℕ} → Unfolds w p d → Succeeds d → MeetsCircle w q circle
       → MeetsCircle w (Seq p q) circle
-  -- what is kept back meets it
+  -- what is held back meets it
   in_buffer : {p : Plan} {after_sigil after_other : List ℕ} {circle : ℕ} → MeetsCircle w p circle
       → MeetsCircle w (Buffered p after_sigil after_other) circle
   -- what a note may follow meets it: no note stands for a circle
   in_caught : {p : Plan} {circle : ℕ} → MeetsCircle w p circle → MeetsCircle w (Catch p) circle
 
 -- printing a plan is refused as circular, with this index
-abbrev pub IsRefusedAsCircular : World → Plan → Parts → ℕ → Type 0
+abbrev pub IsRefusedAsCircular : PrintInputs → Plan → Parts → ℕ → Type 0
 IsRefusedAsCircular w p failed circle =
-    (run (document_of w p) failed).fault ≡ Some (Told (Plain (CircularTypeDefinition circle)))
+    (run (document_of w p) failed).fault ≡ Some (OfError (Plain (CircularTypeDefinition circle)))

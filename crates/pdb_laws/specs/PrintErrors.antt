@@ -7,15 +7,15 @@ use Rattle.pdb_types.specs.declared.error.Error.TheVariants.{CantResolveCrossMod
 use Rattle.pdb_types.specs.declared.error.Error.TheVariants.{ModuleImportsUnsuccessful, ModuleExportsUnsuccessful}
 use Rattle.pdb_types.specs.declared.error.Error.TheVariants.{LocalIndexNotInExports, OutOfRangeModuleIndex}
 use Rattle.pdb_types.specs.declared.error.Error.TheVariants.{ModuleInfoNotFound, CircularTypeDefinition}
-use Rattle.pdb_types.specs.Errors.{ToldError, Plain, NoModuleNamed}
+use Rattle.pdb_types.specs.Errors.{ErrorView, Plain, NoModuleNamed}
 
 -- an error of the records, of an index that leads to another module, of the type of a function or of its list of
 -- arguments, or of an index that repeats
-abbrev pub IsPrintError : ToldError → Type 0
+abbrev pub IsPrintError : ErrorView → Type 0
 IsPrintError (Plain (PdbError e)) = ⊤
 IsPrintError (Plain CantResolveCrossModuleRefWithoutStringTable) = ⊤
-IsPrintError (Plain (OutOfRangeModuleIndex position)) = ⊤
-IsPrintError (Plain (ModuleInfoNotFound position)) = ⊤
+IsPrintError (Plain (OutOfRangeModuleIndex module_index)) = ⊤
+IsPrintError (Plain (ModuleInfoNotFound module_index)) = ⊤
 IsPrintError (Plain ModuleImportsUnsuccessful) = ⊤
 IsPrintError (Plain ModuleExportsUnsuccessful) = ⊤
 IsPrintError (Plain (LocalIndexNotInExports local)) = ⊤

@@ -10,10 +10,10 @@ ghost use Rattle.pdb_frames.specs.Origins.{Origin, origin};
 ghost use Rattle.pdb_laws.specs.Blame.{own_error};
 
 /// Where it is refused where the code at an offset of a function comes from, the part that is to blame has
-/// that error by itself. Where it is told, no part has an error.
+/// that error by itself. Where it is answered, no part has an error.
 pub fn the_part_to_blame_has_the_error()
     ensures blamed { (info : ModuleInfo) (found : FoundFunction) (offset : ℕ) (error : Error)
         → origin info found offset ≡ Err error → own_error info found (part_to_blame info found) ≡ Some error }
-    ensures sound { (info : ModuleInfo) (found : FoundFunction) (offset : ℕ) (told : Origin) (part : CodePart)
-        → origin info found offset ≡ Ok told → own_error info found part ≡ None }
+    ensures sound { (info : ModuleInfo) (found : FoundFunction) (offset : ℕ) (answered : Origin) (part : CodePart)
+        → origin info found offset ≡ Ok answered → own_error info found part ≡ None }
 {}

@@ -9,55 +9,61 @@ ghost use Rattle.pdb_records.specs.declared.types.TypeIndex.{TypeIndex};
 ghost use Rattle.pdb_records.specs.declared.types.TypeData.{TypeData};
 ghost use Rattle.pdb_records.specs.declared.ids.IdIndex.{IdIndex};
 ghost use Rattle.pdb_records.specs.declared.ids.IdData.{IdData};
-ghost use Rattle.pdb_types.specs.Standing.{Linked};
+ghost use Rattle.pdb_types.specs.TypeInputs.{LinkInputs};
 ghost use Rattle.pdb_types.specs.declared.flags.TypeFormatterFlags.{TypeFormatterFlags};
 ghost use Rattle.pdb_types.specs.FailedParts.{Parts};
-ghost use Rattle.pdb_documents.specs.Worlds.{World, world_of};
+ghost use Rattle.pdb_documents.specs.PrintInputs.{PrintInputs, print_inputs_of};
 ghost use Rattle.pdb_documents.specs.Ids.{id_of_index};
 ghost use Rattle.pdb_documents.specs.Signatures.{signature, type_of_index};
 ghost use Rattle.pdb_laws.specs.Circles.{MeetsCircle, IsRefusedAsCircular};
 
 /// Printing the type of an index, while others are open, is refused as circular exactly where it meets a
-/// circle before anything else fails, and it tells the index of that circle.
+/// circle before anything else fails, and it shows the index of that circle.
 pub fn types_are_circular_exactly_where_an_index_repeats()
-    ensures refused { (linked : Linked) (types : Read (Item TypeIndex TypeData)) (ids : Read (Item IdIndex IdData))
-        (pointer : ℕ) (flags : TypeFormatterFlags) (position : ℕ) (inside : List ℕ) (index circle : ℕ)
-        → let w = world_of linked types ids pointer flags position in
+    ensures refused { (link_inputs : LinkInputs) (types : Read (Item TypeIndex TypeData))
+        (ids : Read (Item IdIndex IdData))
+        (pointer : ℕ) (flags : TypeFormatterFlags) (module_index : ℕ) (inside : List ℕ) (index circle : ℕ)
+        → let w = print_inputs_of link_inputs types ids pointer flags module_index in
         MeetsCircle w (type_of_index inside index) circle
         → (failed : Parts) → IsRefusedAsCircular w (type_of_index inside index) failed circle }
-    ensures only { (linked : Linked) (types : Read (Item TypeIndex TypeData)) (ids : Read (Item IdIndex IdData))
-        (pointer : ℕ) (flags : TypeFormatterFlags) (position : ℕ) (inside : List ℕ) (index circle : ℕ)
-        → let w = world_of linked types ids pointer flags position in
+    ensures only { (link_inputs : LinkInputs) (types : Read (Item TypeIndex TypeData))
+        (ids : Read (Item IdIndex IdData))
+        (pointer : ℕ) (flags : TypeFormatterFlags) (module_index : ℕ) (inside : List ℕ) (index circle : ℕ)
+        → let w = print_inputs_of link_inputs types ids pointer flags module_index in
         (failed : Parts) → IsRefusedAsCircular w (type_of_index inside index) failed circle
         → MeetsCircle w (type_of_index inside index) circle }
 {}
 
 /// The signature of a function is refused as circular exactly where printing it meets a circle before
-/// anything else fails, and it tells the index of that circle.
+/// anything else fails, and it shows the index of that circle.
 pub fn signatures_are_circular_exactly_where_an_index_repeats()
-    ensures refused { (linked : Linked) (types : Read (Item TypeIndex TypeData)) (ids : Read (Item IdIndex IdData))
-        (pointer : ℕ) (flags : TypeFormatterFlags) (position : ℕ) (name : List ℕ) (index circle : ℕ)
-        → let w = world_of linked types ids pointer flags position in
+    ensures refused { (link_inputs : LinkInputs) (types : Read (Item TypeIndex TypeData))
+        (ids : Read (Item IdIndex IdData))
+        (pointer : ℕ) (flags : TypeFormatterFlags) (module_index : ℕ) (name : List ℕ) (index circle : ℕ)
+        → let w = print_inputs_of link_inputs types ids pointer flags module_index in
         MeetsCircle w (signature w name index) circle
         → (failed : Parts) → IsRefusedAsCircular w (signature w name index) failed circle }
-    ensures only { (linked : Linked) (types : Read (Item TypeIndex TypeData)) (ids : Read (Item IdIndex IdData))
-        (pointer : ℕ) (flags : TypeFormatterFlags) (position : ℕ) (name : List ℕ) (index circle : ℕ)
-        → let w = world_of linked types ids pointer flags position in
+    ensures only { (link_inputs : LinkInputs) (types : Read (Item TypeIndex TypeData))
+        (ids : Read (Item IdIndex IdData))
+        (pointer : ℕ) (flags : TypeFormatterFlags) (module_index : ℕ) (name : List ℕ) (index circle : ℕ)
+        → let w = print_inputs_of link_inputs types ids pointer flags module_index in
         (failed : Parts) → IsRefusedAsCircular w (signature w name index) failed circle
         → MeetsCircle w (signature w name index) circle }
 {}
 
 /// An id is refused as circular exactly where printing it meets a circle before anything else fails, and it
-/// tells the index of that circle.
+/// shows the index of that circle.
 pub fn ids_are_circular_exactly_where_an_index_repeats()
-    ensures refused { (linked : Linked) (types : Read (Item TypeIndex TypeData)) (ids : Read (Item IdIndex IdData))
-        (pointer : ℕ) (flags : TypeFormatterFlags) (position : ℕ) (index circle : ℕ)
-        → let w = world_of linked types ids pointer flags position in
+    ensures refused { (link_inputs : LinkInputs) (types : Read (Item TypeIndex TypeData))
+        (ids : Read (Item IdIndex IdData))
+        (pointer : ℕ) (flags : TypeFormatterFlags) (module_index : ℕ) (index circle : ℕ)
+        → let w = print_inputs_of link_inputs types ids pointer flags module_index in
         MeetsCircle w (id_of_index index) circle
         → (failed : Parts) → IsRefusedAsCircular w (id_of_index index) failed circle }
-    ensures only { (linked : Linked) (types : Read (Item TypeIndex TypeData)) (ids : Read (Item IdIndex IdData))
-        (pointer : ℕ) (flags : TypeFormatterFlags) (position : ℕ) (index circle : ℕ)
-        → let w = world_of linked types ids pointer flags position in
+    ensures only { (link_inputs : LinkInputs) (types : Read (Item TypeIndex TypeData))
+        (ids : Read (Item IdIndex IdData))
+        (pointer : ℕ) (flags : TypeFormatterFlags) (module_index : ℕ) (index circle : ℕ)
+        → let w = print_inputs_of link_inputs types ids pointer flags module_index in
         (failed : Parts) → IsRefusedAsCircular w (id_of_index index) failed circle
         → MeetsCircle w (id_of_index index) circle }
 {}

@@ -19,12 +19,12 @@ pub fn line_row_starts_last()
         → IsPicked (λ row. nat_le row.offset offset) (λ row. row.offset) rows (row_over rows offset) }
 {}
 
-/// The global function over a place starts at or below it in its section. No other such one starts later,
+/// The global function over a section offset starts at or below it in its section. No other such one starts later,
 /// and of those that start together it is the first. There is none only where none starts at or below.
 pub fn global_function_starts_last()
-    ensures { (place : PdbInternalSectionOffset) (globals : List GlobalFunction)
-        → IsPicked (global_function_covers place) (λ f. f.start.offset) globals
-        (pick (global_function_covers place) (λ f. f.start.offset) globals) }
+    ensures { (section_offset : PdbInternalSectionOffset) (globals : List GlobalFunction)
+        → IsPicked (global_function_covers section_offset) (λ f. f.start.offset) globals
+        (pick (global_function_covers section_offset) (λ f. f.start.offset) globals) }
 {}
 
 /// The inlined bodies over a number are, at depth 0, 1, 2 and so on, the range of that depth over it that

@@ -1,4 +1,4 @@
-//! What printing a signature or an id can be refused for, and nothing else: want of memory and a writer's
+//! What printing a signature or an id can be refused for, and nothing else: out of memory and a writer's
 //! refusal are never among it.
 
 ghost use Rattle.std.specs.Prelude.{◌≡◌, ℕ, List, Some};
@@ -8,31 +8,32 @@ ghost use Rattle.pdb_records.specs.declared.types.TypeIndex.{TypeIndex};
 ghost use Rattle.pdb_records.specs.declared.types.TypeData.{TypeData};
 ghost use Rattle.pdb_records.specs.declared.ids.IdIndex.{IdIndex};
 ghost use Rattle.pdb_records.specs.declared.ids.IdData.{IdData};
-ghost use Rattle.pdb_types.specs.Standing.{Linked};
+ghost use Rattle.pdb_types.specs.TypeInputs.{LinkInputs};
 ghost use Rattle.pdb_types.specs.declared.flags.TypeFormatterFlags.{TypeFormatterFlags};
 ghost use Rattle.pdb_types.specs.FailedParts.{Parts};
 ghost use Rattle.pdb_documents.specs.Documents.{Failure, failure_error, run};
 ghost use Rattle.pdb_documents.specs.Ids.{id_of_index};
 ghost use Rattle.pdb_documents.specs.Printed.{document_of};
 ghost use Rattle.pdb_documents.specs.Signatures.{signature};
-ghost use Rattle.pdb_documents.specs.Worlds.{world_of};
+ghost use Rattle.pdb_documents.specs.PrintInputs.{print_inputs_of};
 ghost use Rattle.pdb_laws.specs.PrintErrors.{IsPrintError};
 
 /// The signature of a function is refused for an error of the records, of an index that leads to another
 /// module, of the type of a function or of its list of arguments, or of an index that repeats.
 pub fn signatures_are_refused_for()
-    ensures { (linked : Linked) (types : Read (Item TypeIndex TypeData)) (ids : Read (Item IdIndex IdData))
-        (pointer : ℕ) (flags : TypeFormatterFlags) (position : ℕ) (name : List ℕ) (index : ℕ)
-        → let w = world_of linked types ids pointer flags position in
-        (failed : Parts) (failure : Failure) → (run (document_of w (signature w name index)) failed).fault ≡ Some failure
+    ensures { (link_inputs : LinkInputs) (types : Read (Item TypeIndex TypeData)) (ids : Read (Item IdIndex IdData))
+        (pointer : ℕ) (flags : TypeFormatterFlags) (module_index : ℕ) (name : List ℕ) (index : ℕ)
+        → let w = print_inputs_of link_inputs types ids pointer flags module_index in
+        (failed : Parts) (failure : Failure)
+        → (run (document_of w (signature w name index)) failed).fault ≡ Some failure
         → IsPrintError (failure_error failure) }
 {}
 
 /// An id is refused for the same errors.
 pub fn ids_are_refused_for()
-    ensures { (linked : Linked) (types : Read (Item TypeIndex TypeData)) (ids : Read (Item IdIndex IdData))
-        (pointer : ℕ) (flags : TypeFormatterFlags) (position : ℕ) (index : ℕ)
-        → let w = world_of linked types ids pointer flags position in
+    ensures { (link_inputs : LinkInputs) (types : Read (Item TypeIndex TypeData)) (ids : Read (Item IdIndex IdData))
+        (pointer : ℕ) (flags : TypeFormatterFlags) (module_index : ℕ) (index : ℕ)
+        → let w = print_inputs_of link_inputs types ids pointer flags module_index in
         (failed : Parts) (failure : Failure) → (run (document_of w (id_of_index index)) failed).fault ≡ Some failure
         → IsPrintError (failure_error failure) }
 {}

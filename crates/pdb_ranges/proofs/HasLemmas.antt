@@ -20,14 +20,6 @@ within_above lo hi x above = grind (arith, nat_tests)
 pub within_empty : (lo hi x : ℕ) → hi ≤ lo → is_within lo hi x ≡ false
 within_empty lo hi x empty = grind (arith, nat_tests)
 
--- what is within begins at lo or later
-pub within_from : (lo hi x : ℕ) → is_within lo hi x ≡ true → lo ≤ x
-within_from lo hi x within = grind (arith, nat_tests)
-
--- what is within ends before hi
-pub within_before : (lo hi x : ℕ) → is_within lo hi x ≡ true → x < hi
-within_before lo hi x within = grind (arith, nat_tests)
-
 -- two ranges that overlap or touch are together the range from the lower start to the higher end
 pub within_joined : (lo hi start end x : ℕ) → lo ≤ hi → start ≤ end → start ≤ hi → lo ≤ end
     → is_within (min lo start) (max hi end) x ≡ (is_within lo hi x || is_within start end x)

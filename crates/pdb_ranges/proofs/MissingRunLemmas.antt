@@ -48,9 +48,3 @@ pub missing_runs_are : (ranges others runs : List (ℕ × ℕ)) → IsRunsFrom 0
 missing_runs_are ranges others runs ordered same =
     same_runs 0 0 runs (missing_runs ranges others) ordered (IsRunsFrom-missing_runs ranges others)
     (λ x. same x ∙ sym (has-missing_runs ranges others x))
-
--- what is missing depends on the numbers in the ranges alone
-pub missing_runs_same : (ranges same others : List (ℕ × ℕ)) → ((x : ℕ) → has ranges x ≡ has same x) → missing_runs ranges others ≡ missing_runs same others
-missing_runs_same ranges same others equal =
-    missing_runs_are same others (missing_runs ranges others) (IsRunsFrom-missing_runs ranges others)
-    (λ x. rw (has-missing_runs ranges others x, equal x) refl)

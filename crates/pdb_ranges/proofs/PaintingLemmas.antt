@@ -1,25 +1,25 @@
--- What `parts_within`, `going_past` and `overlaid` make of segments in order.
+-- What `pieces_within`, `going_past` and `overlaid` make of segments in order.
 use Rattle.std.proofs.Common.{◌≡◌, ℕ, ◌<◌, ◌≤◌, List, [], ◌∷◌, ◌++◌, min, max, append_assoc, refl, ◌∙◌, arith, inl, inr}
 use Rattle.std.proofs.lemmas.List.{append-nil}
 use Rattle.std.proofs.lemmas.Bool.{cases_lt, le-ltb, lt-leb, le-leb}
 use Rattle.pdb_ranges.specs.declared.segment.Segment.{Segment}
 use Rattle.pdb_ranges.specs.Segments.{IsOrderedFrom}
-use Rattle.pdb_ranges.specs.Painting.{part, parts_within, parts_from, going_past, overlaid}
+use Rattle.pdb_ranges.specs.Painting.{piece, pieces_within, pieces_from, going_past, overlaid}
 use Rattle.pdb_ranges.proofs.SegmentLemmas.{ordered_rest}
 
--- a segment has no part where the range ends by its start
-pub part_before : {T : Type 0} (lo hi : ℕ) (s : Segment T) → hi ≤ s.start → part lo hi s ≡ []
-part_before lo hi s before = rw (le-ltb (max lo s.start) (min hi s.end) (omega arith))
+-- a segment has no piece where the range ends by its start
+pub piece_before : {T : Type 0} (lo hi : ℕ) (s : Segment T) → hi ≤ s.start → piece lo hi s ≡ []
+piece_before lo hi s before = rw (le-ltb (max lo s.start) (min hi s.end) (omega arith))
 
--- a segment has no part where the range begins at its end or later
-pub part_past : {T : Type 0} (lo hi : ℕ) (s : Segment T) → s.end ≤ lo → part lo hi s ≡ []
-part_past lo hi s past = rw (le-ltb (max lo s.start) (min hi s.end) (omega arith))
+-- a segment has no piece where the range begins at its end or later
+pub piece_past : {T : Type 0} (lo hi : ℕ) (s : Segment T) → s.end ≤ lo → piece lo hi s ≡ []
+piece_past lo hi s past = rw (le-ltb (max lo s.start) (min hi s.end) (omega arith))
 
--- segments that begin at hi or later have no part before hi
-pub parts_before : {T : Type 0} (n lo hi : ℕ) (ss : List (Segment T)) → hi ≤ n → IsOrderedFrom n ss → parts_within lo hi ss ≡ []
-parts_before n lo hi [] past ordered = refl
-parts_before n lo hi (s ∷ ss) past ordered =
-    rw (part_before lo hi s (omega arith), parts_before s.end lo hi ss (omega arith) ordered.2)
+-- segments that begin at hi or later have no piece before hi
+pub pieces_before : {T : Type 0} (n lo hi : ℕ) (ss : List (Segment T)) → hi ≤ n → IsOrderedFrom n ss → pieces_within lo hi ss ≡ []
+pieces_before n lo hi [] past ordered = refl
+pieces_before n lo hi (s ∷ ss) past ordered =
+    rw (piece_before lo hi s (omega arith), pieces_before s.end lo hi ss (omega arith) ordered.2)
 
 -- the segments that go past a bound are in order
 pub ordered_going_past : {T : Type 0} (n bound : ℕ) (ss : List (Segment T)) → IsOrderedFrom n ss → IsOrderedFrom n (going_past bound ss)
@@ -30,45 +30,45 @@ ordered_going_past n bound (s ∷ ss) ordered =
       | inr ended ↦ rw (le-leb s.end bound ended) (ordered_going_past n bound ss (ordered_rest n s ss ordered))
     ]
 
--- segments that end by a bound have no part past it
-parts_within-going_past : {T : Type 0} (bound lo hi : ℕ) (ss : List (Segment T)) → bound ≤ lo
-    → parts_within lo hi (going_past bound ss) ≡ parts_within lo hi ss
-parts_within-going_past bound lo hi [] from = refl
-parts_within-going_past bound lo hi (s ∷ ss) from =
+-- segments that end by a bound have no piece past it
+pieces_within-going_past : {T : Type 0} (bound lo hi : ℕ) (ss : List (Segment T)) → bound ≤ lo
+    → pieces_within lo hi (going_past bound ss) ≡ pieces_within lo hi ss
+pieces_within-going_past bound lo hi [] from = refl
+pieces_within-going_past bound lo hi (s ∷ ss) from =
     elim (cases_lt bound s.end) [
       | inl past ↦ rw (lt-leb s.end bound past)
-      | inr ended ↦ rw (le-leb s.end bound ended, part_past lo hi s (omega arith)) (parts_within-going_past bound lo hi ss from)
+      | inr ended ↦ rw (le-leb s.end bound ended, piece_past lo hi s (omega arith)) (pieces_within-going_past bound lo hi ss from)
     ]
 
-parts_from-going_past : {T : Type 0} (bound lo : ℕ) (ss : List (Segment T)) → bound ≤ lo
-    → parts_from lo (going_past bound ss) ≡ parts_from lo ss
-parts_from-going_past bound lo [] from = refl
-parts_from-going_past bound lo (s ∷ ss) from =
+pieces_from-going_past : {T : Type 0} (bound lo : ℕ) (ss : List (Segment T)) → bound ≤ lo
+    → pieces_from lo (going_past bound ss) ≡ pieces_from lo ss
+pieces_from-going_past bound lo [] from = refl
+pieces_from-going_past bound lo (s ∷ ss) from =
     elim (cases_lt bound s.end) [
       | inl past ↦ rw (lt-leb s.end bound past)
-      | inr ended ↦ rw (le-leb s.end bound ended, part_past lo s.end s (omega arith)) (parts_from-going_past bound lo ss from)
+      | inr ended ↦ rw (le-leb s.end bound ended, piece_past lo s.end s (omega arith)) (pieces_from-going_past bound lo ss from)
     ]
 
 -- segments that end by a bound leave nothing past it
 pub overlaid-going_past : {T : Type 0} (bound lo : ℕ) (tops under : List (Segment T)) → bound ≤ lo → IsOrderedFrom lo tops
     → overlaid lo tops (going_past bound under) ≡ overlaid lo tops under
-overlaid-going_past bound lo [] under from ordered = parts_from-going_past bound lo under from
+overlaid-going_past bound lo [] under from ordered = pieces_from-going_past bound lo under from
 overlaid-going_past bound lo (top ∷ tops) under from ordered =
     rw (
-      parts_within-going_past bound lo top.start under from,
+      pieces_within-going_past bound lo top.start under from,
       overlaid-going_past bound top.end tops under (omega arith) ordered.2,
     )
 
--- where the first segment goes past hi, only that one has a part before hi
-pub parts_within_first : {T : Type 0} (lo hi : ℕ) (s : Segment T) (ss : List (Segment T)) → hi < s.end → IsOrderedFrom 0 (s ∷ ss)
-    → parts_within lo hi (s ∷ ss) ≡ part lo hi s
-parts_within_first lo hi s ss past ordered = rw (parts_before s.end lo hi ss (omega arith) ordered.2) (append-nil (part lo hi s))
+-- where the first segment goes past hi, only that one has a piece before hi
+pub pieces_within_first : {T : Type 0} (lo hi : ℕ) (s : Segment T) (ss : List (Segment T)) → hi < s.end → IsOrderedFrom 0 (s ∷ ss)
+    → pieces_within lo hi (s ∷ ss) ≡ piece lo hi s
+pieces_within_first lo hi s ss past ordered = rw (pieces_before s.end lo hi ss (omega arith) ordered.2) (append-nil (piece lo hi s))
 
 -- one segment more is laid on top
 pub overlaid_step : {T : Type 0} (from : ℕ) (all tops rest whole : List (Segment T)) (top : Segment T) → IsOrderedFrom from (top ∷ tops)
     → all ++ overlaid from (top ∷ tops) rest ≡ whole
-    → ((all ++ parts_within from top.start rest) ++ top ∷ []) ++ overlaid top.end tops (going_past top.start rest) ≡ whole
+    → ((all ++ pieces_within from top.start rest) ++ top ∷ []) ++ overlaid top.end tops (going_past top.start rest) ≡ whole
 overlaid_step from all tops rest whole top ordered e =
     rw (overlaid-going_past top.start top.end tops rest (omega arith) ordered.2)
-    (append_assoc (all ++ parts_within from top.start rest) (top ∷ []) (overlaid top.end tops rest)
-    ∙ append_assoc all (parts_within from top.start rest) (top ∷ overlaid top.end tops rest) ∙ e)
+    (append_assoc (all ++ pieces_within from top.start rest) (top ∷ []) (overlaid top.end tops rest)
+    ∙ append_assoc all (pieces_within from top.start rest) (top ∷ overlaid top.end tops rest) ∙ e)

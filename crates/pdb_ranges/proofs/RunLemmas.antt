@@ -1,4 +1,4 @@
--- What keeps a list of ranges a list of runs.
+-- What leaves a list of ranges a list of runs.
 use Rattle.std.proofs.Common.{◌≡◌, ℕ, suc, ◌+◌, ◌-◌, ◌<◌, ◌≤◌, ◌||◌, List, [], ◌∷◌, ◌++◌, length, take, set, max, Some, sym, ◌∙◌, subst, append_assoc, drop-cons, arith}
 use Rattle.std.specs.List.{slice_get}
 use Rattle.std.proofs.Math.ListN.{drop_of_length-le}

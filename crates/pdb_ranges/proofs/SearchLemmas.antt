@@ -1,8 +1,7 @@
--- What one look at a segment tells a search.
-use Rattle.std.proofs.Common.{◌≡◌, ℕ, zero, suc, ◌+◌, ◌-◌, ◌<◌, ◌≤◌, List, [], ◌∷◌, ◌++◌, length, take, drop, Some, refl, sym, ◌∙◌, ap, arith}
+-- What one look at a segment shows a search.
+use Rattle.std.proofs.Common.{◌≡◌, ℕ, zero, suc, ◌+◌, ◌-◌, ◌<◌, ◌≤◌, List, [], ◌∷◌, ◌++◌, take, drop, Some, refl, sym, ◌∙◌, ap, arith}
 use Rattle.std.specs.List.{slice_get}
-use Rattle.std.proofs.Math.Nat.{sub-zero}
-use Rattle.std.proofs.Math.Seq.{take-add, take-length}
+use Rattle.std.proofs.Math.Seq.{take-add}
 use Rattle.std.proofs.Math.ListN.{drop_of_length-le}
 use Rattle.std.proofs.lemmas.List.{drop_more}
 use Rattle.std.proofs.lemmas.Option.{get_or_from_slice_get, slice_get_within}
@@ -14,10 +13,6 @@ use Rattle.pdb_ranges.proofs.SegmentLemmas.{ordered_rest, value_at-append, value
 -- the segments at the places from `from` up to the one before `to`
 abbrev pub window : {T : Type 0} → ℕ → ℕ → List (Segment T) → List (Segment T)
 window from to ss = take (to - from) (drop from ss)
-
--- a window over all segments
-pub whole_window : {T : Type 0} (ss : List (Segment T)) → window 0 (length ss) ss ≡ ss
-whole_window ss = rw sub-zero (take-length ss)
 
 -- a list from a place on, and of it from another place on
 drop-drop : {T : Type 0} (i j : ℕ) (xs : List T) → drop j (drop i xs) ≡ drop (i + j) xs

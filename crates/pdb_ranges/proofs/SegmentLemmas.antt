@@ -1,4 +1,4 @@
--- Which values lists of segments give, and what keeps them in order.
+-- Which values lists of segments give, and what leaves them in order.
 use Rattle.std.proofs.Common.{◌≡◌, ℕ, zero, suc, ◌+◌, ◌<◌, ◌≤◌, Bool, true, false, List, [], ◌∷◌, ◌++◌, drop, get_or, length, Option, Some, None, if◌then◌else◌, refl, sym, ◌∙◌, ap, arith, inl, inr}
 use Rattle.std.specs.Option.{option_or, option_map_or}
 use Rattle.std.specs.List.{slice_get}

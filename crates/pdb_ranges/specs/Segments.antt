@@ -1,4 +1,4 @@
--- Values of numbers, kept as segments: each is a range of numbers that have one value.
+-- Values of numbers, held as segments: each is a range of numbers that have one value.
 use Rattle.std.specs.Prelude.{ℕ, ◌<◌, ◌≤◌, List, [], ◌∷◌, Option, Some, None, if◌then◌else◌}
 use Rattle.pdb_ranges.specs.declared.segment.Segment.{Segment}
 use Rattle.pdb_ranges.specs.RangeSet.{is_within}

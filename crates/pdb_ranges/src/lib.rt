@@ -1,7 +1,7 @@
-//! Sets of numbers that keep only their runs.
+//! Sets of numbers that hold only their runs.
 //!
 //! A [`RangeSet`] holds the numbers of any ranges that are put into it, such as the bytes that a piece of code takes,
-//! and tells them back as the fewest ranges that hold the same numbers, in ascending order. A range is a pair
+//! and answers them as the fewest ranges that hold the same numbers, in ascending order. A range is a pair
 //! `(lo, hi)`, with `lo` in it and `hi` out of it.
 #![tactic(auto)]
 

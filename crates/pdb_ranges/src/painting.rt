@@ -2,19 +2,20 @@
 
 ghost use Rattle.std.specs.Prelude.{◌≡◌, ℕ, ◌*◌, Bool, None, ◌+◌, ◌<◌, ◌≤◌, ◌++◌, length, IfOk, IsOk, OnOk, OnErr};
 ghost use Rattle.pdb_ranges.specs.Segments.{painted, painted_in_turn, value_at, IsOrderedFrom};
-ghost use Rattle.pdb_ranges.specs.Painting.{part, parts_within, parts_from, going_past, overlaid, end_from, HaveEdges};
+ghost use Rattle.pdb_ranges.specs.Painting.{piece, pieces_within, pieces_from, going_past, overlaid, end_from};
+ghost use Rattle.pdb_ranges.specs.Painting.{HaveEdges};
 
 use crate::segment::Segment;
 use std::alloc::{AllocError, Global};
 
-// Appends the part of a segment from lo to hi, if there is any.
-fn push_part<T: Copy>(
+// Appends the piece of a segment from lo to hi, if there is any.
+fn push_piece<T: Copy>(
     all: &mut Vec<Segment<T>>,
     segment: Segment<T>,
     lo: u64,
     hi: u64,
 ) -> Result<(), AllocError>
-    ensures { OnOk result (all.new.items ≡ all.old.items ++ part lo hi segment) }
+    ensures { OnOk result (all.new.items ≡ all.old.items ++ piece lo hi segment) }
 {
     let start = lo.max(segment.start);
     let end = hi.min(segment.end);
@@ -25,20 +26,20 @@ fn push_part<T: Copy>(
     Ok(())
 }
 
-// Appends the parts of the segments from lo to hi, and returns the segments from the first one on that goes past hi. It
+// Appends the pieces of the segments from lo to hi, and returns those from the first one on that goes past hi. It
 // reads no further.
-fn push_parts_within<'a, T: Copy>(
+fn push_pieces_within<'a, T: Copy>(
     all: &mut Vec<Segment<T>>,
     segments: &'a [Segment<T>],
     lo: u64,
     hi: u64,
 ) -> Result<&'a [Segment<T>], AllocError>
     requires { IsOrderedFrom 0 segments.now }
-    ensures parts { OnOk result (all.new.items ≡ all.old.items ++ parts_within lo hi segments.now) }
+    ensures pieces { OnOk result (all.new.items ≡ all.old.items ++ pieces_within lo hi segments.now) }
     ensures rest { IfOk result (λ rest. rest.now ≡ going_past hi segments.now) }
 {
     for (at, &segment) in segments.iter().enumerate() {
-        push_part(all, segment, lo, hi)?;
+        push_piece(all, segment, lo, hi)?;
         if hi < segment.end {
             return Ok(&segments[at..]);
         }
@@ -46,16 +47,16 @@ fn push_parts_within<'a, T: Copy>(
     Ok(&[])
 }
 
-// Appends the parts of the segments from lo on.
-fn push_parts_from<T: Copy>(
+// Appends the pieces of the segments from lo on.
+fn push_pieces_from<T: Copy>(
     all: &mut Vec<Segment<T>>,
     segments: &[Segment<T>],
     lo: u64,
 ) -> Result<(), AllocError>
-    ensures { OnOk result (all.new.items ≡ all.old.items ++ parts_from lo segments.now) }
+    ensures { OnOk result (all.new.items ≡ all.old.items ++ pieces_from lo segments.now) }
 {
     for &segment in segments {
-        push_part(all, segment, lo, segment.end)?;
+        push_piece(all, segment, lo, segment.end)?;
     }
     Ok(())
 }
@@ -74,11 +75,11 @@ pub(crate) fn overlaid<T: Copy>(
     let mut rest = under;
     let mut from = 0;
     for &top in tops {
-        rest = push_parts_within(&mut all, rest, from, top.start)?;
+        rest = push_pieces_within(&mut all, rest, from, top.start)?;
         all.push(top)?;
         from = top.end;
     }
-    push_parts_from(&mut all, rest, from)?;
+    push_pieces_from(&mut all, rest, from)?;
     Ok(all)
 }
 
@@ -127,10 +128,10 @@ pub(crate) fn paint<T: Copy>(
 
 // One segment, or none where it is empty.
 fn one_or_none<T: Copy>(alloc: Global, segment: Segment<T>) -> Result<Vec<Segment<T>>, AllocError>
-    ensures { IfOk result (λ all. all.items ≡ part segment.start segment.end segment) }
+    ensures { IfOk result (λ all. all.items ≡ piece segment.start segment.end segment) }
 {
     let mut all = Vec::new(alloc);
-    push_part(&mut all, segment, segment.start, segment.end)?;
+    push_piece(&mut all, segment, segment.start, segment.end)?;
     Ok(all)
 }
 

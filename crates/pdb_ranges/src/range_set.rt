@@ -5,7 +5,7 @@ use crate::runs;
 use std::alloc::{AllocError, Global};
 use std::marker::Model;
 
-/// A set of 64-bit numbers, kept as its runs.
+/// A set of 64-bit numbers, held as its runs.
 ///
 /// A run is a range of numbers that are all in the set, with neither the number before it nor the one past it. So the
 /// set takes memory for each run and not for each number, and the ranges 10 to 20 and 20 to 30 lie in it as the one run

@@ -130,12 +130,12 @@ fn ending_after(runs: &[(u64, u64)], bound: u64) -> &[(u64, u64)]
 
 // Appends what the others leave of lo..hi. It reads the others up to the first that begins at `hi` or later.
 fn push_pieces(
-    kept: &mut Vec<(u64, u64)>,
+    left: &mut Vec<(u64, u64)>,
     lo: u64,
     hi: u64,
     others: &[(u64, u64)],
 ) -> Result<(), AllocError>
-    ensures { OnOk result (kept.new.items ≡ kept.old.items ++ pieces lo hi others.now) }
+    ensures { OnOk result (left.new.items ≡ left.old.items ++ pieces lo hi others.now) }
 {
     let mut from = lo;
     for &(start, end) in others {
@@ -143,12 +143,12 @@ fn push_pieces(
             break;
         }
         if from < start {
-            kept.push((from, start))?;
+            left.push((from, start))?;
         }
         from = from.max(end);
     }
     if from < hi {
-        kept.push((from, hi))?;
+        left.push((from, hi))?;
     }
     Ok(())
 }
@@ -161,17 +161,17 @@ pub(crate) fn difference_of(
 ) -> Result<Vec<(u64, u64)>, AllocError>
     requires runs { IsRunsFrom 0 runs.now }
     requires others { IsRunsFrom 0 others.now }
-    ensures ordered { IfOk result (λ kept. IsRunsFrom 0 kept.items) }
-    ensures numbers { IfOk result (λ kept. (x : ℕ) →
-        has kept.items x ≡ (has runs.now x && not (has others.now x))) }
+    ensures ordered { IfOk result (λ left. IsRunsFrom 0 left.items) }
+    ensures numbers { IfOk result (λ left. (x : ℕ) →
+        has left.items x ≡ (has runs.now x && not (has others.now x))) }
 {
-    let mut kept = Vec::new(alloc);
+    let mut left = Vec::new(alloc);
     let mut rest = others;
     for &(lo, hi) in runs {
         rest = ending_after(rest, lo);
-        push_pieces(&mut kept, lo, hi, rest)?;
+        push_pieces(&mut left, lo, hi, rest)?;
     }
-    Ok(kept)
+    Ok(left)
 }
 
 // Whether each of the others lies within one of the runs. Each list is gone through once.

@@ -8,7 +8,7 @@ use crate::segment::Segment;
 use std::alloc::{AllocError, Global};
 use std::marker::Model;
 
-/// A table of values of 64-bit numbers, kept as segments: ranges of numbers that have one value.
+/// A table of values of 64-bit numbers, held as segments: ranges of numbers that have one value.
 ///
 /// It takes memory for each segment and not for each number. No two segments overlap, and they stand in order, so the
 /// value of a number is found by a binary search. The end of a range is not in it, so `u64::MAX` has no value.
@@ -17,7 +17,7 @@ pub struct Segments<T: Copy> {
     entries: Entries<T>,
 }
 
-// Clauses see a table as the list of its segments, which tells the value of each number.
+// Clauses see a table as the list of its segments, which shows the value of each number.
 impl<T: Copy> Model for Segments<T> {
     ghost use Rattle.std.specs.Prelude.{List};
     ghost use Rattle.pdb_ranges.specs.declared.segment.Segment.{Segment};

@@ -1,31 +1,31 @@
--- Addresses, and places in sections.
+-- Addresses, and section offsets.
 use Rattle.std.specs.Prelude.{ℕ, ◌+◌, ◌-◌, ◌^◌, ◌&&◌, ◌==◌, Bool, List, [], ◌∷◌, Option, Some}
 use Rattle.std.specs.Prelude.{None, nat_le, nat_lt, option_and_then, slice_get, if◌then◌else◌}
 use Rattle.pdb_records.specs.declared.addresses.Rva.{Rva}
 use Rattle.pdb_records.specs.declared.addresses.AddressRange.{AddressRange}
 use Rattle.pdb_records.specs.declared.addresses.PdbInternalSectionOffset.{PdbInternalSectionOffset}
 
--- two places are one
-abbrev pub is_same_place : PdbInternalSectionOffset → PdbInternalSectionOffset → Bool
-is_same_place a b = (a.section == b.section) && (a.offset == b.offset)
+-- two section offsets are one
+abbrev pub is_same_section_offset : PdbInternalSectionOffset → PdbInternalSectionOffset → Bool
+is_same_section_offset a b = (a.section == b.section) && (a.offset == b.offset)
 
 -- the section holds the address: it starts at or below it and ends above it
 abbrev pub holds : ℕ → AddressRange → Bool
 holds address range =
     nat_le range.virtual_address address && nat_lt address (range.virtual_address + range.virtual_size)
 
--- the place in the section of this number, where the number is at most 65535
+-- the section offset in the section of this number, where the number is at most 65535
 abbrev pub numbered : ℕ → ℕ → Option PdbInternalSectionOffset
 numbered number offset = if nat_le number 65535 then Some (record { section = number; offset = offset }) else None
 
--- the place of an address among sections that are numbered from here on: in the first that holds it
+-- the section offset of an address among sections that are numbered from here on: in the first that holds it
 abbrev pub offset_from : ℕ → List AddressRange → ℕ → Option PdbInternalSectionOffset
 offset_from number [] address = None
 offset_from number (range ∷ ranges) address =
     if holds address range then numbered number (address - range.virtual_address)
     else offset_from (number + 1) ranges address
 
--- the place of an address: sections are numbered from 1
+-- the section offset of an address: sections are numbered from 1
 abbrev pub internal_offset : List AddressRange → Rva → Option PdbInternalSectionOffset
 internal_offset sections address = offset_from 1 sections address.0
 
@@ -37,7 +37,8 @@ rva_of address = if nat_lt address (2 ^ 32) then Some (record { 0 = address }) e
 abbrev pub numbered_section : {S : Type 0} → ℕ → List S → Option S
 numbered_section number sections = if nat_lt 0 number then slice_get sections (number - 1) else None
 
--- the address of a place: the start of its section, and the offset
+-- the address of a section offset: the start of its section, and the offset
 abbrev pub rva : List AddressRange → PdbInternalSectionOffset → Option Rva
-rva sections place =
-    option_and_then (λ range. rva_of (range.virtual_address + place.offset)) (numbered_section place.section sections)
+rva sections section_offset =
+    option_and_then (λ range. rva_of (range.virtual_address + section_offset.offset))
+    (numbered_section section_offset.section sections)

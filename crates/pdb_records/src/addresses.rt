@@ -8,7 +8,7 @@ use std::marker::Model;
 #[derive(Clone, Copy, PartialEq, Eq, PartialOrd, Ord, Hash)]
 pub struct Rva(pub u32);
 
-/// A place in a program: a section, counted from 1, and bytes from its start.
+/// A section offset: a section, counted from 1, and bytes from its start.
 #[derive(Clone, Copy, PartialEq, Eq, PartialOrd, Ord, Hash)]
 pub struct PdbInternalSectionOffset {
     /// The section's number.
@@ -63,7 +63,7 @@ impl Model for AddressMap {
 }
 
 impl Rva {
-    /// The place of this address: the first section in order that holds it, and the bytes from that
+    /// The section offset of this address: the first section in order that holds it, and the bytes from that
     /// section's start. `None` where no section holds it, or the first that does has a number past
     /// 65535.
     pub fn to_internal_offset(self, address_map: &AddressMap) -> Option<PdbInternalSectionOffset>
@@ -85,7 +85,7 @@ impl Rva {
 }
 
 impl PdbInternalSectionOffset {
-    /// The address of this place. `None` where there is no such section, or the address would not
+    /// The address of this section offset. `None` where there is no such section, or the address would not
     /// fit 32 bits. The offset may lie past the section's end.
     pub fn to_rva(self, address_map: &AddressMap) -> Option<Rva>
         ensures { result ≡ rva address_map.now self }

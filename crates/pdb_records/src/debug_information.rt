@@ -34,6 +34,6 @@ pub struct SectionContribution {
     pub offset: PdbInternalSectionOffset,
     /// Its size in bytes.
     pub size: u32,
-    /// The module's position in the list of modules.
+    /// The module index, in the list of modules.
     pub module: usize,
 }

@@ -1,6 +1,6 @@
 use thiserror::Error;
 
-/// The number by which a reader tells why a stream, or the rest of one, could not be read.
+/// The number by which a reader says why a stream, or the rest of one, could not be read.
 #[derive(Debug, Clone, Copy, PartialEq, Eq)]
 pub struct StreamError(pub u32);
 

@@ -26,7 +26,7 @@ impl Model for LineProgram {
     ghost view = { λ p. record { entries = p.entries.items; files = p.files.items } };
 }
 
-/// The line rows of the function that starts at a place.
+/// The line rows of the function that starts at a section offset.
 #[derive(Drop)]
 pub struct SymbolLines {
     pub offset: PdbInternalSectionOffset,
@@ -50,7 +50,7 @@ pub struct FileInfo {
 }
 
 impl LineProgram {
-    /// The line rows of the function that starts at this very place, of the first entry for it.
+    /// The line rows of the function that starts at this very section offset, of the first entry for it.
     pub fn lines_for_symbol(&self, offset: PdbInternalSectionOffset) -> Option<&Reading<LineInfo>>
         ensures { option_copied result ≡ lines_at offset self.now.entries }
     {

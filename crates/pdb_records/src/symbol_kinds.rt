@@ -59,7 +59,7 @@ pub fn is_procedure_kind(raw_kind: u16) -> bool
     )
 }
 
-/// Whether symbols of this kind tell of code with a size: procedures, short pieces that lead to one, and
+/// Whether symbols of this kind show code with a size: procedures, short pieces that lead to one, and
 /// code apart from its body.
 pub fn is_code_kind(raw_kind: u16) -> bool
     ensures { result ≡ is_code_kind raw_kind }

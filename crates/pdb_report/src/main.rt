@@ -1,4 +1,4 @@
-//! Tells which functions addresses of a Windows program lie in, over the records of a file.
+//! Shows which functions addresses of a Windows program lie in, over the records of a file.
 //!
 //! `pdb_report RECORDS frames ADDRESS...` prints for each address the functions in whose code it lies, with
 //! files and lines, and `pdb_report RECORDS names ADDRESS...` a line with the function. `pdb_report RECORDS
@@ -6,7 +6,7 @@
 #![tactic(auto)]
 
 use pdb_addr2line::Error;
-use pdb_reporting::{Out, Stop, is_want_of_memory, run};
+use pdb_report_lib::{Out, Stop, ran_out_of_memory, run};
 use std::io::BufWriter;
 use std::process::ExitCode;
 use std::rt::Env;
@@ -15,14 +15,14 @@ use std::{env, io};
 fn main(rt: HostRuntime) -> ExitCode {
     let words = match words(&rt) {
         Ok(words) => words,
-        Err(stop) => return tell(&rt, &stop),
+        Err(stop) => return report(&rt, &stop),
     };
     let Ok(writer) = BufWriter::new(rt.alloc(), io::writer(&rt)) else {
-        return tell(&rt, &Stop::Refused(Error::OutOfMemory));
+        return report(&rt, &Stop::Refused(Error::OutOfMemory));
     };
     match run(&rt, &words, &mut Out::new(writer)) {
         Ok(()) => ExitCode::SUCCESS,
-        Err(stop) => tell(&rt, &stop),
+        Err(stop) => report(&rt, &stop),
     }
 }
 
@@ -30,7 +30,7 @@ fn main(rt: HostRuntime) -> ExitCode {
 fn words<R: Env + AllocGlobal>(rt: &R) -> Result<Vec<String>, Stop<'static>> {
     let words = match env::args(rt) {
         Ok(words) => words,
-        Err(error) if is_want_of_memory(&error) => return Err(Stop::Refused(Error::OutOfMemory)),
+        Err(error) if ran_out_of_memory(&error) => return Err(Stop::Refused(Error::OutOfMemory)),
         Err(_) => return Err(Stop::Usage),
     };
     match words.collect(rt.alloc()) {
@@ -40,7 +40,7 @@ fn words<R: Env + AllocGlobal>(rt: &R) -> Result<Vec<String>, Stop<'static>> {
 }
 
 /// Prints why the program ended early, and gives its status.
-fn tell<R: Eprint>(rt: &R, stop: &Stop<'_>) -> ExitCode {
+fn report<R: Eprint>(rt: &R, stop: &Stop<'_>) -> ExitCode {
     let _ = eprintln!(rt; "{stop}");
     ExitCode::from(stop.status())
 }

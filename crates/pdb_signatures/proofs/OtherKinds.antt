@@ -1,4 +1,4 @@
--- What the rules say of types of other kinds than those that they tell apart.
+-- What the rules say of types of other kinds than those that they distinguish.
 use Rattle.std.proofs.Common.{◌≡◌, ℕ, Bool, true, false, List, [], refl}
 use Rattle.std.specs.Prelude.{codes, Ok, if◌then◌else◌}
 use Rattle.pdb_records.specs.declared.types.TypeIndex.{TypeIndex}
@@ -18,14 +18,14 @@ use Rattle.pdb_documents.specs.Ids.{method_id, function_id}
 use Rattle.pdb_documents.specs.declared.attributes.Attribute.{Attribute}
 use Rattle.pdb_documents.specs.Attributes.{attributes_text}
 use Rattle.pdb_documents.specs.Wording.{dimensions_text}
-use Rattle.pdb_documents.specs.Worlds.{World}
+use Rattle.pdb_documents.specs.PrintInputs.{PrintInputs}
 use Rattle.pdb_documents.specs.Plans.{OfType, Later, Buffered, ◌▸◌, written, failing, met_before}
 use Rattle.pdb_documents.specs.Rules.{chain_end, behind_modifier, behind_pointer, element, modified}
 use Rattle.pdb_documents.specs.Methods.{this_by_target, this_by_type, printed_this, on_list}
 use Rattle.pdb_documents.specs.Signatures.{signature_by_type}
 
 -- any other type than a function ends a chain of pointers before them
-pub chain_end-other : (w : World) (attributes : List Attribute) (inside : List ℕ) (type : TypeData) → ((x : MemberFunctionType) → type ≡ MemberFunction x → ⊥) → ((x : ProcedureType) → type ≡ Procedure x → ⊥) → chain_end w attributes inside type ≡ Buffered (Later inside (OfType type)) (attributes_text w.flags true true attributes) (attributes_text w.flags true false attributes)
+pub chain_end-other : (w : PrintInputs) (attributes : List Attribute) (inside : List ℕ) (type : TypeData) → ((x : MemberFunctionType) → type ≡ MemberFunction x → ⊥) → ((x : ProcedureType) → type ≡ Procedure x → ⊥) → chain_end w attributes inside type ≡ Buffered (Later inside (OfType type)) (attributes_text w.flags true true attributes) (attributes_text w.flags true false attributes)
 chain_end-other w attributes inside (Primitive x) not0 not1 = refl
 chain_end-other w attributes inside (Class x) not0 not1 = refl
 chain_end-other w attributes inside (MemberFunction x) not0 not1 = absurd (not0 x refl)
@@ -40,7 +40,7 @@ chain_end-other w attributes inside (ArgumentList x) not0 not1 = refl
 chain_end-other w attributes inside (Other x) not0 not1 = refl
 
 -- any other type than a pointer ends a chain behind a modifier
-pub behind_modifier-other : (w : World) (attributes : List Attribute) (inside : List ℕ) (type : TypeData) → ((x : PointerType) → type ≡ Pointer x → ⊥) → behind_modifier w attributes inside type ≡ chain_end w attributes inside type
+pub behind_modifier-other : (w : PrintInputs) (attributes : List Attribute) (inside : List ℕ) (type : TypeData) → ((x : PointerType) → type ≡ Pointer x → ⊥) → behind_modifier w attributes inside type ≡ chain_end w attributes inside type
 behind_modifier-other w attributes inside (Primitive x) not0 = refl
 behind_modifier-other w attributes inside (Class x) not0 = refl
 behind_modifier-other w attributes inside (MemberFunction x) not0 = refl
@@ -55,7 +55,7 @@ behind_modifier-other w attributes inside (ArgumentList x) not0 = refl
 behind_modifier-other w attributes inside (Other x) not0 = refl
 
 -- any other type than a pointer or a modifier ends a chain behind a pointer
-pub behind_pointer-other : (w : World) (attributes : List Attribute) (inside : List ℕ) (type : TypeData) → ((x : PointerType) → type ≡ Pointer x → ⊥) → ((x : ModifierType) → type ≡ Modifier x → ⊥) → behind_pointer w attributes inside type ≡ chain_end w attributes inside type
+pub behind_pointer-other : (w : PrintInputs) (attributes : List Attribute) (inside : List ℕ) (type : TypeData) → ((x : PointerType) → type ≡ Pointer x → ⊥) → ((x : ModifierType) → type ≡ Modifier x → ⊥) → behind_pointer w attributes inside type ≡ chain_end w attributes inside type
 behind_pointer-other w attributes inside (Primitive x) not0 not1 = refl
 behind_pointer-other w attributes inside (Class x) not0 not1 = refl
 behind_pointer-other w attributes inside (MemberFunction x) not0 not1 = refl
@@ -70,7 +70,7 @@ behind_pointer-other w attributes inside (ArgumentList x) not0 not1 = refl
 behind_pointer-other w attributes inside (Other x) not0 not1 = refl
 
 -- any other type than an array is the base of one
-pub element-other : (w : World) (inside elements levels : List ℕ) (index : ℕ) (type : TypeData) → ((x : ArrayType) → type ≡ Array x → ⊥) → element w inside elements levels index type ≡ met_before (w.size index).met (Later inside (OfType type) ▸ written (dimensions_text levels (w.size index).size))
+pub element-other : (w : PrintInputs) (inside elements levels : List ℕ) (index : ℕ) (type : TypeData) → ((x : ArrayType) → type ≡ Array x → ⊥) → element w inside elements levels index type ≡ met_before (w.size index).met (Later inside (OfType type) ▸ written (dimensions_text levels (w.size index).size))
 element-other w inside elements levels index (Primitive x) not0 = refl
 element-other w inside elements levels index (Class x) not0 = refl
 element-other w inside elements levels index (MemberFunction x) not0 = refl
@@ -85,7 +85,7 @@ element-other w inside elements levels index (ArgumentList x) not0 = refl
 element-other w inside elements levels index (Other x) not0 = refl
 
 -- any other type than a pointer or one that the compiler brings has `const` before it
-pub modified-other : (w : World) (constant : Bool) (inside : List ℕ) (type : TypeData) → ((x : PointerType) → type ≡ Pointer x → ⊥) → ((x : PrimitiveType) → type ≡ Primitive x → ⊥) → modified w constant inside type ≡ written (if constant then codes "const " else []) ▸ Later inside (OfType type)
+pub modified-other : (w : PrintInputs) (constant : Bool) (inside : List ℕ) (type : TypeData) → ((x : PointerType) → type ≡ Pointer x → ⊥) → ((x : PrimitiveType) → type ≡ Primitive x → ⊥) → modified w constant inside type ≡ written (if constant then codes "const " else []) ▸ Later inside (OfType type)
 modified-other w constant inside (Primitive x) not0 not1 = absurd (not1 x refl)
 modified-other w constant inside (Class x) not0 not1 = refl
 modified-other w constant inside (MemberFunction x) not0 not1 = refl
@@ -115,7 +115,7 @@ this_by_target-other class this (ArgumentList x) not0 = refl
 this_by_target-other class this (Other x) not0 = refl
 
 -- with any other type than a pointer `this` is an argument
-pub this_by_type-other : (w : World) (class this : TypeIndex) (type : TypeData) → ((x : PointerType) → type ≡ Pointer x → ⊥) → this_by_type w class this type ≡ Ok (printed_this this)
+pub this_by_type-other : (w : PrintInputs) (class this : TypeIndex) (type : TypeData) → ((x : PointerType) → type ≡ Pointer x → ⊥) → this_by_type w class this type ≡ Ok (printed_this this)
 this_by_type-other w class this (Primitive x) not0 = refl
 this_by_type-other w class this (Class x) not0 = refl
 this_by_type-other w class this (MemberFunction x) not0 = refl
@@ -130,7 +130,7 @@ this_by_type-other w class this (ArgumentList x) not0 = refl
 this_by_type-other w class this (Other x) not0 = refl
 
 -- any other type than a list of arguments is none
-pub on_list-other : (w : World) (m : MemberFunctionType) (may_say_const : Bool) (inside : List ℕ) (type : TypeData) → ((x : List TypeIndex) → type ≡ ArgumentList x → ⊥) → on_list w m may_say_const inside type ≡ failing (Plain ArgumentTypeNotArgumentList)
+pub on_list-other : (w : PrintInputs) (m : MemberFunctionType) (may_say_const : Bool) (inside : List ℕ) (type : TypeData) → ((x : List TypeIndex) → type ≡ ArgumentList x → ⊥) → on_list w m may_say_const inside type ≡ failing (Plain ArgumentTypeNotArgumentList)
 on_list-other w m may_say_const inside (Primitive x) not0 = refl
 on_list-other w m may_say_const inside (Class x) not0 = refl
 on_list-other w m may_say_const inside (MemberFunction x) not0 = refl
@@ -145,7 +145,7 @@ on_list-other w m may_say_const inside (ArgumentList x) not0 = absurd (not0 x re
 on_list-other w m may_say_const inside (Other x) not0 = refl
 
 -- a name with any other type than a function stands alone
-pub signature_by_type-other : (w : World) (name inside : List ℕ) (type : TypeData) → ((x : MemberFunctionType) → type ≡ MemberFunction x → ⊥) → ((x : ProcedureType) → type ≡ Procedure x → ⊥) → signature_by_type w name inside type ≡ written name
+pub signature_by_type-other : (w : PrintInputs) (name inside : List ℕ) (type : TypeData) → ((x : MemberFunctionType) → type ≡ MemberFunction x → ⊥) → ((x : ProcedureType) → type ≡ Procedure x → ⊥) → signature_by_type w name inside type ≡ written name
 signature_by_type-other w name inside (Primitive x) not0 not1 = refl
 signature_by_type-other w name inside (Class x) not0 not1 = refl
 signature_by_type-other w name inside (MemberFunction x) not0 not1 = absurd (not0 x refl)
@@ -160,7 +160,7 @@ signature_by_type-other w name inside (ArgumentList x) not0 not1 = refl
 signature_by_type-other w name inside (Other x) not0 not1 = refl
 
 -- a function of a class has a method's type
-pub method_id-other : (w : World) (method : MemberFunctionId) (inside : List ℕ) (type : TypeData) → ((x : MemberFunctionType) → type ≡ MemberFunction x → ⊥) → method_id w method inside type ≡ failing (Plain MemberFunctionIdIsNotMemberFunctionType)
+pub method_id-other : (w : PrintInputs) (method : MemberFunctionId) (inside : List ℕ) (type : TypeData) → ((x : MemberFunctionType) → type ≡ MemberFunction x → ⊥) → method_id w method inside type ≡ failing (Plain MemberFunctionIdIsNotMemberFunctionType)
 method_id-other w method inside (Primitive x) not0 = refl
 method_id-other w method inside (Class x) not0 = refl
 method_id-other w method inside (MemberFunction x) not0 = absurd (not0 x refl)
@@ -175,7 +175,7 @@ method_id-other w method inside (ArgumentList x) not0 = refl
 method_id-other w method inside (Other x) not0 = refl
 
 -- a function of no class has a procedure's type
-pub function_id-other : (w : World) (met : List ℕ) (function : FunctionId) (inside : List ℕ) (type : TypeData) → ((x : ProcedureType) → type ≡ Procedure x → ⊥) → function_id w met function inside type ≡ failing (Plain FunctionIdIsNotProcedureType)
+pub function_id-other : (w : PrintInputs) (met : List ℕ) (function : FunctionId) (inside : List ℕ) (type : TypeData) → ((x : ProcedureType) → type ≡ Procedure x → ⊥) → function_id w met function inside type ≡ failing (Plain FunctionIdIsNotProcedureType)
 function_id-other w met function inside (Primitive x) not0 = refl
 function_id-other w met function inside (Class x) not0 = refl
 function_id-other w met function inside (MemberFunction x) not0 = refl

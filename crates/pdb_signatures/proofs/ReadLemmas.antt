@@ -11,131 +11,131 @@ use Rattle.pdb_records.specs.declared.ids.IdData.{IdData}
 use Rattle.pdb_documents.specs.declared.this.This.{This}
 use Rattle.pdb_documents.specs.Methods.{plain_this, this_by_target, this_by_type, this_of}
 use Rattle.pdb_types.specs.declared.error.Error.{Error}
-use Rattle.pdb_types.specs.declared.unread.Part.{Part}
-use Rattle.pdb_types.specs.declared.unread.Unread.{Unread}
-use Rattle.pdb_types.specs.declared.unread.Unread.TheVariants as code
-use Rattle.pdb_types.specs.Errors.{told}
+use Rattle.pdb_types.specs.declared.read_error.Part.{Part}
+use Rattle.pdb_types.specs.declared.read_error.ReadError.{ReadError}
+use Rattle.pdb_types.specs.declared.read_error.ReadError.TheVariants as code
+use Rattle.pdb_types.specs.Errors.{error_view}
 use Rattle.pdb_types.specs.FailedParts.{Parts, with_part, with_met}
 use Rattle.pdb_types.specs.Outcomes.{and_then}
 use Rattle.pdb_types.specs.Reading.{reading}
-use Rattle.pdb_types.specs.Standing.{Linked}
+use Rattle.pdb_types.specs.TypeInputs.{LinkInputs}
 use Rattle.pdb_types.specs.TypeSizes.{read_type}
-use Rattle.pdb_types.specs.Unread.{Trouble, Broken, Tells}
+use Rattle.pdb_types.specs.ReadError.{ReadErrorView, Broken, Matches}
 use Rattle.pdb_documents.specs.Plans.{refusal, note_or_refusal}
-use Rattle.pdb_signatures.specs.Troubles.{IsTrouble}
+use Rattle.pdb_signatures.specs.ReadErrorViews.{IsViewOf}
 use Rattle.pdb_documents.specs.BrokenParts.{IsBroken, AddsBroken}
-use Rattle.pdb_documents.specs.Worlds.{World, type_at, id_at}
+use Rattle.pdb_documents.specs.PrintInputs.{PrintInputs, type_at, id_at}
 
--- the trouble of what can't be read
-pub tells-trouble : {A B : Type 0} (view : A → B) (unread : Unread) (trouble : Trouble) (r : Result B Trouble) → Tells view (Err unread) r → IsTrouble unread trouble → r ≡ Err trouble
-tells-trouble view code.OutOfMemory trouble r tells is = absurd is
-tells-trouble view (code.Missing n) trouble r tells is = rw is tells
-tells-trouble view (code.Unimplemented k) trouble r tells is = rw is tells
-tells-trouble view (code.Refused e) trouble r tells is = rw is tells
-tells-trouble view (code.Broken part e) trouble r tells is = rw is tells
+-- the view of the read error of what can't be read
+pub matches-read_error_view : {A B : Type 0} (view : A → B) (read_error : ReadError) (read_error_view : ReadErrorView) (r : Result B ReadErrorView) → Matches view (Err read_error) r → IsViewOf read_error read_error_view → r ≡ Err read_error_view
+matches-read_error_view view code.OutOfMemory read_error_view r matches is = absurd is
+matches-read_error_view view (code.Missing n) read_error_view r matches is = rw is matches
+matches-read_error_view view (code.Unimplemented k) read_error_view r matches is = rw is matches
+matches-read_error_view view (code.Refused e) read_error_view r matches is = rw is matches
+matches-read_error_view view (code.Broken part e) read_error_view r matches is = rw is matches
 
 -- the type of an index that was read
-pub type_at-read : (linked : Linked) (types : Read (Item TypeIndex TypeData)) (position index : ℕ) (read : ℕ × TypeData) → read_type linked types position index ≡ Ok read → type_at linked types position index ≡ Ok read.1
+pub type_at-read : (link_inputs : LinkInputs) (types : Read (Item TypeIndex TypeData)) (module_index index : ℕ) (read : ℕ × TypeData) → read_type link_inputs types module_index index ≡ Ok read → type_at link_inputs types module_index index ≡ Ok read.1
 unfolding type_at
-type_at-read linked types position index read is = ap (λ r. and_then r (λ (x : ℕ × TypeData). Ok x.1)) is
+type_at-read link_inputs types module_index index read is = ap (λ r. and_then r (λ (x : ℕ × TypeData). Ok x.1)) is
 
--- the trouble of an index that can't be read
-pub type_at-unread : (linked : Linked) (types : Read (Item TypeIndex TypeData)) (position index : ℕ) (trouble : Trouble) → read_type linked types position index ≡ Err trouble → type_at linked types position index ≡ Err trouble
+-- the view of the read error of an index that can't be read
+pub type_at-read_error : (link_inputs : LinkInputs) (types : Read (Item TypeIndex TypeData)) (module_index index : ℕ) (read_error_view : ReadErrorView) → read_type link_inputs types module_index index ≡ Err read_error_view → type_at link_inputs types module_index index ≡ Err read_error_view
 unfolding type_at
-type_at-unread linked types position index trouble is = ap (λ r. and_then r (λ (x : ℕ × TypeData). Ok x.1)) is
+type_at-read_error link_inputs types module_index index read_error_view is = ap (λ r. and_then r (λ (x : ℕ × TypeData). Ok x.1)) is
 
--- why an index can't be read is the trouble of its type
-pub unread-trouble : (linked : Linked) (types : Read (Item TypeIndex TypeData)) (position index : ℕ) (unread : Unread) (trouble : Trouble) → Tells {A = ℕ × TypeData} (λ read. read) (Err unread) (read_type linked types position index) → IsTrouble unread trouble → type_at linked types position index ≡ Err trouble
-unread-trouble linked types position index unread trouble tells known =
-    type_at-unread linked types position index trouble (tells-trouble {A = ℕ × TypeData} (λ read. read) unread trouble (read_type linked types position index) tells known)
+-- why an index can't be read is the view of the read error of its type
+pub read_error-read_error_view : (link_inputs : LinkInputs) (types : Read (Item TypeIndex TypeData)) (module_index index : ℕ) (read_error : ReadError) (read_error_view : ReadErrorView) → Matches {A = ℕ × TypeData} (λ read. read) (Err read_error) (read_type link_inputs types module_index index) → IsViewOf read_error read_error_view → type_at link_inputs types module_index index ≡ Err read_error_view
+read_error-read_error_view link_inputs types module_index index read_error read_error_view matches known =
+    type_at-read_error link_inputs types module_index index read_error_view (matches-read_error_view {A = ℕ × TypeData} (λ read. read) read_error read_error_view (read_type link_inputs types module_index index) matches known)
 
 -- a part that reading an index meets broken is broken
-pub unread-broken : (w : World) (linked : Linked) (types : Read (Item TypeIndex TypeData)) (position index : ℕ) → w.read index ≡ type_at linked types position index → (unread : Unread) → Tells {A = ℕ × TypeData} (λ read. read) (Err unread) (read_type linked types position index) → (part : Part) (e : Error) → unread ≡ code.Broken part e → IsBroken w part
-unread-broken w linked types position index same unread tells part e broken =
-    let met : w.read index ≡ Err (Broken part (told e)) = same ∙ unread-trouble linked types position index unread (Broken part (told e)) tells (rw broken refl) in
+pub read_error-broken : (w : PrintInputs) (link_inputs : LinkInputs) (types : Read (Item TypeIndex TypeData)) (module_index index : ℕ) → w.read index ≡ type_at link_inputs types module_index index → (read_error : ReadError) → Matches {A = ℕ × TypeData} (λ read. read) (Err read_error) (read_type link_inputs types module_index index) → (part : Part) (e : Error) → read_error ≡ code.Broken part e → IsBroken w part
+read_error-broken w link_inputs types module_index index same read_error matches part e broken =
+    let met : w.read index ≡ Err (Broken part (error_view e)) = same ∙ read_error-read_error_view link_inputs types module_index index read_error (Broken part (error_view e)) matches (rw broken refl) in
     (index, inl (rw met refl))
 
 -- the id of an index that was read
-pub id_at-read : (linked : Linked) (ids : Read (Item IdIndex IdData)) (position index : ℕ) (read : ℕ × IdData) → reading (λ i. i.0) linked ids position index ≡ Ok read → id_at linked ids position index ≡ Ok read.1
+pub id_at-read : (link_inputs : LinkInputs) (ids : Read (Item IdIndex IdData)) (module_index index : ℕ) (read : ℕ × IdData) → reading (λ i. i.0) link_inputs ids module_index index ≡ Ok read → id_at link_inputs ids module_index index ≡ Ok read.1
 unfolding id_at
-id_at-read linked ids position index read is = ap (λ r. and_then r (λ (x : ℕ × IdData). Ok x.1)) is
+id_at-read link_inputs ids module_index index read is = ap (λ r. and_then r (λ (x : ℕ × IdData). Ok x.1)) is
 
--- the trouble of an id that can't be read
-id_at-unread : (linked : Linked) (ids : Read (Item IdIndex IdData)) (position index : ℕ) (trouble : Trouble) → reading (λ i. i.0) linked ids position index ≡ Err trouble → id_at linked ids position index ≡ Err trouble
+-- the view of the read error of an id that can't be read
+id_at-read_error : (link_inputs : LinkInputs) (ids : Read (Item IdIndex IdData)) (module_index index : ℕ) (read_error_view : ReadErrorView) → reading (λ i. i.0) link_inputs ids module_index index ≡ Err read_error_view → id_at link_inputs ids module_index index ≡ Err read_error_view
 unfolding id_at
-id_at-unread linked ids position index trouble is = ap (λ r. and_then r (λ (x : ℕ × IdData). Ok x.1)) is
+id_at-read_error link_inputs ids module_index index read_error_view is = ap (λ r. and_then r (λ (x : ℕ × IdData). Ok x.1)) is
 
--- why an index can't be read is the trouble of its id
-pub unread-id-trouble : (linked : Linked) (ids : Read (Item IdIndex IdData)) (position index : ℕ) (unread : Unread) (trouble : Trouble) → Tells {A = ℕ × IdData} (λ read. read) (Err unread) (reading (λ i. i.0) linked ids position index) → IsTrouble unread trouble → id_at linked ids position index ≡ Err trouble
-unread-id-trouble linked ids position index unread trouble tells known =
-    id_at-unread linked ids position index trouble (tells-trouble {A = ℕ × IdData} (λ read. read) unread trouble (reading (λ i. i.0) linked ids position index) tells known)
+-- why an index can't be read is the view of the read error of its id
+pub read_error-id-read_error_view : (link_inputs : LinkInputs) (ids : Read (Item IdIndex IdData)) (module_index index : ℕ) (read_error : ReadError) (read_error_view : ReadErrorView) → Matches {A = ℕ × IdData} (λ read. read) (Err read_error) (reading (λ i. i.0) link_inputs ids module_index index) → IsViewOf read_error read_error_view → id_at link_inputs ids module_index index ≡ Err read_error_view
+read_error-id-read_error_view link_inputs ids module_index index read_error read_error_view matches known =
+    id_at-read_error link_inputs ids module_index index read_error_view (matches-read_error_view {A = ℕ × IdData} (λ read. read) read_error read_error_view (reading (λ i. i.0) link_inputs ids module_index index) matches known)
 
 -- a part that reading an id meets broken is broken
-pub unread-id-broken : (w : World) (linked : Linked) (ids : Read (Item IdIndex IdData)) (position index : ℕ) → w.read_id index ≡ id_at linked ids position index → (unread : Unread) → Tells {A = ℕ × IdData} (λ read. read) (Err unread) (reading (λ i. i.0) linked ids position index) → (part : Part) (e : Error) → unread ≡ code.Broken part e → IsBroken w part
-unread-id-broken w linked ids position index same unread tells part e broken =
-    let met : w.read_id index ≡ Err (Broken part (told e)) = same ∙ unread-id-trouble linked ids position index unread (Broken part (told e)) tells (rw broken refl) in
+pub read_error-id-broken : (w : PrintInputs) (link_inputs : LinkInputs) (ids : Read (Item IdIndex IdData)) (module_index index : ℕ) → w.read_id index ≡ id_at link_inputs ids module_index index → (read_error : ReadError) → Matches {A = ℕ × IdData} (λ read. read) (Err read_error) (reading (λ i. i.0) link_inputs ids module_index index) → (part : Part) (e : Error) → read_error ≡ code.Broken part e → IsBroken w part
+read_error-id-broken w link_inputs ids module_index index same read_error matches part e broken =
+    let met : w.read_id index ≡ Err (Broken part (error_view e)) = same ∙ read_error-id-read_error_view link_inputs ids module_index index read_error (Broken part (error_view e)) matches (rw broken refl) in
     (index, inr (inr (rw met refl)))
 
 -- where it is neither missing nor of an unknown kind, there is no note of it
-pub note-refusal : (unread : Unread) (trouble : Trouble) → IsTrouble unread trouble → ((n : ℕ) → unread ≡ code.Missing n → ⊥) → ((k : ℕ) → unread ≡ code.Unimplemented k → ⊥) → note_or_refusal trouble ≡ refusal trouble
-note-refusal code.OutOfMemory trouble is not_missing not_unimplemented = absurd is
-note-refusal (code.Missing n) trouble is not_missing not_unimplemented = absurd (not_missing n refl)
-note-refusal (code.Unimplemented k) trouble is not_missing not_unimplemented = absurd (not_unimplemented k refl)
-note-refusal (code.Refused e) trouble is not_missing not_unimplemented = rw is refl
-note-refusal (code.Broken part e) trouble is not_missing not_unimplemented = rw is refl
+pub note-refusal : (read_error : ReadError) (read_error_view : ReadErrorView) → IsViewOf read_error read_error_view → ((n : ℕ) → read_error ≡ code.Missing n → ⊥) → ((k : ℕ) → read_error ≡ code.Unimplemented k → ⊥) → note_or_refusal read_error_view ≡ refusal read_error_view
+note-refusal code.OutOfMemory read_error_view is not_missing not_unimplemented = absurd is
+note-refusal (code.Missing n) read_error_view is not_missing not_unimplemented = absurd (not_missing n refl)
+note-refusal (code.Unimplemented k) read_error_view is not_missing not_unimplemented = absurd (not_unimplemented k refl)
+note-refusal (code.Refused e) read_error_view is not_missing not_unimplemented = rw is refl
+note-refusal (code.Broken part e) read_error_view is not_missing not_unimplemented = rw is refl
 
 -- no part was added
-pub adds_none : {w : World} {old new : Parts} → new ≡ old → AddsBroken w old new
+pub adds_none : {w : PrintInputs} {old new : Parts} → new ≡ old → AddsBroken w old new
 adds_none is = record { added = []; broken = tt; is = is }
 
 -- one broken part was added
-pub adds_one : {w : World} {old new : Parts} (part : Part) → IsBroken w part → new ≡ with_part old part → AddsBroken w old new
+pub adds_one : {w : PrintInputs} {old new : Parts} (part : Part) → IsBroken w part → new ≡ with_part old part → AddsBroken w old new
 adds_one part broken is = record { added = part ∷ []; broken = (broken, tt); is = is }
 
 -- the part that a size meets broken was added, if there is one
-pub adds_met : {old new : Parts} (w : World) (index : ℕ) (met : Option Part) → (w.size index).met ≡ met → new ≡ with_met old met → AddsBroken w old new
+pub adds_met : {old new : Parts} (w : PrintInputs) (index : ℕ) (met : Option Part) → (w.size index).met ≡ met → new ≡ with_met old met → AddsBroken w old new
 adds_met w index None is new = adds_none new
 adds_met w index (Some part) is new = adds_one part (index, inr (inl is)) new
 
--- an answer is no trouble
-ok_is_no_err : {A : Type 0} {answer : A} {trouble : Trouble} → ◌≡◌ {A = Result A Trouble} (Ok answer) (Err trouble) → ⊥
+-- an answer is no view of a read error
+ok_is_no_err : {A : Type 0} {answer : A} {read_error_view : ReadErrorView} → ◌≡◌ {A = Result A ReadErrorView} (Ok answer) (Err read_error_view) → ⊥
 ok_is_no_err e = cc
 
 -- where what follows a reading can't be read, the reading can't
-then-unread : {A B : Type 0} (r : Result A Trouble) (next : A → B) (trouble : Trouble) → and_then r (λ answer. Ok (next answer)) ≡ Err trouble → r ≡ Err trouble
-then-unread (Ok answer) next trouble e = absurd (ok_is_no_err e)
-then-unread (Err t) next trouble e = cc
+then-read_error : {A B : Type 0} (r : Result A ReadErrorView) (next : A → B) (read_error_view : ReadErrorView) → and_then r (λ answer. Ok (next answer)) ≡ Err read_error_view → r ≡ Err read_error_view
+then-read_error (Ok answer) next read_error_view e = absurd (ok_is_no_err e)
+then-read_error (Err t) next read_error_view e = cc
 
--- where what `this` tells can't be read, the type of some index can't
-pub this_by_type-unread : (w : World) (class this : TypeIndex) (type : TypeData) (trouble : Trouble) → this_by_type w class this type ≡ Err trouble → (index : ℕ) × (w.read index ≡ Err trouble)
-this_by_type-unread w class this (Pointer p) trouble is =
-    (elim (nat_eq p.underlying_type.0 class.0) as (λ b. cond b (Ok (plain_this false)) (and_then (w.read p.underlying_type.0) (λ target. Ok (this_by_target class this target))) ≡ Err trouble → (index : ℕ) × (w.read index ≡ Err trouble)) [
+-- where what `this` shows can't be read, the type of some index can't
+pub this_by_type-read_error : (w : PrintInputs) (class this : TypeIndex) (type : TypeData) (read_error_view : ReadErrorView) → this_by_type w class this type ≡ Err read_error_view → (index : ℕ) × (w.read index ≡ Err read_error_view)
+this_by_type-read_error w class this (Pointer p) read_error_view is =
+    (elim (nat_eq p.underlying_type.0 class.0) as (λ b. cond b (Ok (plain_this false)) (and_then (w.read p.underlying_type.0) (λ target. Ok (this_by_target class this target))) ≡ Err read_error_view → (index : ℕ) × (w.read index ≡ Err read_error_view)) [
       | true ↦ λ e. absurd (ok_is_no_err e)
-      | false ↦ λ e. (p.underlying_type.0, then-unread (w.read p.underlying_type.0) (this_by_target class this) trouble e)
+      | false ↦ λ e. (p.underlying_type.0, then-read_error (w.read p.underlying_type.0) (this_by_target class this) read_error_view e)
     ]) is
-this_by_type-unread w class this (Primitive x) trouble is = absurd (ok_is_no_err is)
-this_by_type-unread w class this (Class x) trouble is = absurd (ok_is_no_err is)
-this_by_type-unread w class this (MemberFunction x) trouble is = absurd (ok_is_no_err is)
-this_by_type-unread w class this (Procedure x) trouble is = absurd (ok_is_no_err is)
-this_by_type-unread w class this (Array x) trouble is = absurd (ok_is_no_err is)
-this_by_type-unread w class this (Union x) trouble is = absurd (ok_is_no_err is)
-this_by_type-unread w class this (Enumeration x) trouble is = absurd (ok_is_no_err is)
-this_by_type-unread w class this (Enumerate x) trouble is = absurd (ok_is_no_err is)
-this_by_type-unread w class this (Modifier x) trouble is = absurd (ok_is_no_err is)
-this_by_type-unread w class this (ArgumentList x) trouble is = absurd (ok_is_no_err is)
-this_by_type-unread w class this (Other x) trouble is = absurd (ok_is_no_err is)
+this_by_type-read_error w class this (Primitive x) read_error_view is = absurd (ok_is_no_err is)
+this_by_type-read_error w class this (Class x) read_error_view is = absurd (ok_is_no_err is)
+this_by_type-read_error w class this (MemberFunction x) read_error_view is = absurd (ok_is_no_err is)
+this_by_type-read_error w class this (Procedure x) read_error_view is = absurd (ok_is_no_err is)
+this_by_type-read_error w class this (Array x) read_error_view is = absurd (ok_is_no_err is)
+this_by_type-read_error w class this (Union x) read_error_view is = absurd (ok_is_no_err is)
+this_by_type-read_error w class this (Enumeration x) read_error_view is = absurd (ok_is_no_err is)
+this_by_type-read_error w class this (Enumerate x) read_error_view is = absurd (ok_is_no_err is)
+this_by_type-read_error w class this (Modifier x) read_error_view is = absurd (ok_is_no_err is)
+this_by_type-read_error w class this (ArgumentList x) read_error_view is = absurd (ok_is_no_err is)
+this_by_type-read_error w class this (Other x) read_error_view is = absurd (ok_is_no_err is)
 
 -- the same, for a method that may have no `this`
-pub this-unread : (w : World) (class : TypeIndex) (this : Option TypeIndex) (trouble : Trouble) → this_of w class this ≡ Err trouble → (index : ℕ) × (w.read index ≡ Err trouble)
-this-unread w class None trouble is = absurd (ok_is_no_err is)
-this-unread w class (Some this) trouble is =
-    (elim (w.read this.0) as (λ r. w.read this.0 ≡ r → and_then r (this_by_type w class this) ≡ Err trouble → (index : ℕ) × (w.read index ≡ Err trouble)) [
-      | Ok type ↦ λ read e. this_by_type-unread w class this type trouble e
+pub this-read_error : (w : PrintInputs) (class : TypeIndex) (this : Option TypeIndex) (read_error_view : ReadErrorView) → this_of w class this ≡ Err read_error_view → (index : ℕ) × (w.read index ≡ Err read_error_view)
+this-read_error w class None read_error_view is = absurd (ok_is_no_err is)
+this-read_error w class (Some this) read_error_view is =
+    (elim (w.read this.0) as (λ r. w.read this.0 ≡ r → and_then r (this_by_type w class this) ≡ Err read_error_view → (index : ℕ) × (w.read index ≡ Err read_error_view)) [
+      | Ok type ↦ λ read e. this_by_type-read_error w class this type read_error_view e
       | Err t ↦ λ read e. (this.0, cc)
     ]) refl is
 
 -- a part that reading `this` meets broken is broken
-pub this-broken : (w : World) (class : TypeIndex) (this : Option TypeIndex) (unread : Unread) → Tells {A = This} (λ this. this) (Err unread) (this_of w class this) → (part : Part) (e : Error) → unread ≡ code.Broken part e → IsBroken w part
-this-broken w class this unread tells part e broken =
-    let met = this-unread w class this (Broken part (told e)) (tells-trouble {A = This} (λ this. this) unread (Broken part (told e)) (this_of w class this) tells (rw broken refl)) in
+pub this-broken : (w : PrintInputs) (class : TypeIndex) (this : Option TypeIndex) (read_error : ReadError) → Matches {A = This} (λ this. this) (Err read_error) (this_of w class this) → (part : Part) (e : Error) → read_error ≡ code.Broken part e → IsBroken w part
+this-broken w class this read_error matches part e broken =
+    let met = this-read_error w class this (Broken part (error_view e)) (matches-read_error_view {A = This} (λ this. this) read_error (Broken part (error_view e)) (this_of w class this) matches (rw broken refl)) in
     (met.0, inl (rw met.1 refl))

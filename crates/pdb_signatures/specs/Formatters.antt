@@ -1,8 +1,8 @@
--- What a formatter of types stands on, and what it remembers.
+-- The type inputs of a formatter of types, and what it remembers.
 use Rattle.pdb_types.specs.FailedParts.{Parts}
-use Rattle.pdb_types.specs.Standing.{Basis}
+use Rattle.pdb_types.specs.TypeInputs.{TypeInputs}
 
--- a formatter: what it stands on, and the parts of the records that it met broken
+-- a formatter: its type inputs, and the parts of the records that it met broken
 pub record Formatter (P : Type 0) : Type 0 where
-  pub standing : Basis P
+  pub type_inputs : TypeInputs P
   pub failed : Parts

@@ -1,3 +1,3 @@
 pub mod Formatters
-pub mod Troubles
-pub mod Frames
+pub mod ReadErrorViews
+pub mod PendingPlans

@@ -1,13 +1,13 @@
 ghost use Rattle.std.specs.Prelude.{◌≡◌, None, OnOk};
 ghost use Rattle.pdb_records.specs.declared.types.TypeData.TheVariants.{Array};
-ghost use Rattle.pdb_types.specs.Findings.{Fits};
+ghost use Rattle.pdb_types.specs.TypeCache.{IsCacheOf};
 ghost use Rattle.pdb_documents.specs.BrokenParts.{AddsBroken};
 ghost use Rattle.pdb_documents.specs.Plans.{OfType, Elements, Later, ◌▸◌, written, met_before};
 ghost use Rattle.pdb_documents.specs.Progress.{open_in};
 ghost use Rattle.pdb_documents.specs.Rules.{element};
 ghost use Rattle.pdb_documents.specs.Wording.{dimensions_text};
-ghost use Rattle.pdb_documents.specs.Worlds.{World, formatter_world};
-ghost use Rattle.pdb_signatures.specs.Frames.{Advances, Stands};
+ghost use Rattle.pdb_documents.specs.PrintInputs.{PrintInputs, formatter_inputs};
+ghost use Rattle.pdb_signatures.specs.PendingPlans.{Advances, Stands};
 
 use crate::printer::Printer;
 use pdb_documents::failures::Failure;
@@ -15,7 +15,7 @@ use pdb_documents::progress::Progress;
 use pdb_documents::tasks::Task;
 use pdb_documents::wording::Wording;
 use pdb_records::{ArrayType, TypeData, TypeIndex};
-use pdb_types::{Error, Findings, ModuleProvider};
+use pdb_types::{Error, ModuleProvider, TypeCache};
 use std::alloc::AllocError;
 use std::collections::BTreeSet;
 
@@ -27,7 +27,7 @@ fn further_level(
     index: TypeIndex,
     a: &ArrayType,
 ) -> Result<(), AllocError>
-    ensures { OnOk result ((w : World)
+    ensures { OnOk result ((w : PrintInputs)
         → Stands w 0 (element w (open_in progress.old.steps) elements.keys levels.items index.0 (Array a.now))
         progress.old progress.new) }
 {
@@ -41,7 +41,7 @@ impl<'p, 'a, P: ModuleProvider> Printer<'p, 'a, P> {
     /// The base of an array: its size is asked, and then it is printed with the dimensions behind it.
     fn base<'s>(
         &self,
-        findings: &mut Findings<'a>,
+        cache: &mut TypeCache<'a>,
         progress: &mut Progress<'s>,
         levels: Vec<u32>,
         index: TypeIndex,
@@ -49,23 +49,23 @@ impl<'p, 'a, P: ModuleProvider> Printer<'p, 'a, P> {
     ) -> Result<(), AllocError>
     where
         'a: 's,
-        requires fits { Fits P.info self.now.standing.now findings.old }
+        requires is_cache { IsCacheOf P.info self.now.type_inputs.now cache.old }
         requires well { progress.old.failure ≡ None }
-        ensures fits { Fits P.info self.now.standing.now findings.new }
-        ensures broken { AddsBroken (formatter_world P.info self.now.standing.now self.now.position)
-            findings.old.failed findings.new.failed }
+        ensures is_cache { IsCacheOf P.info self.now.type_inputs.now cache.new }
+        ensures broken { AddsBroken (formatter_inputs P.info self.now.type_inputs.now self.now.module_index)
+            cache.old.failed cache.new.failed }
         ensures advances { OnOk result
-            (let w = formatter_world P.info self.now.standing.now self.now.position in
+            (let w = formatter_inputs P.info self.now.type_inputs.now self.now.module_index in
             Advances w (met_before (w.size index.0).met
             (Later (open_in progress.old.steps) (OfType type_data.now)
             ▸ written (dimensions_text levels.items (w.size index.0).size))) 0
-            progress.old findings.old.failed progress.new findings.new.failed) }
+            progress.old cache.old.failed progress.new cache.new.failed) }
     {
-        let size = match self.standing.type_size(findings, self.position, index) {
+        let size = match self.type_inputs.type_size(cache, self.module_index, index) {
             Ok(size) => size,
             Err(_) => return Err(AllocError),
         };
-        self.standing.remember(findings, size.met)?;
+        self.type_inputs.remember(cache, size.met)?;
         progress.first(Task::Written(Wording::Dimensions(levels, size.size)))?;
         progress.first(Task::OfType(type_data))?;
         Ok(())
@@ -74,7 +74,7 @@ impl<'p, 'a, P: ModuleProvider> Printer<'p, 'a, P> {
     /// An element of an array that was read: one more level, or the base.
     fn element<'s>(
         &self,
-        findings: &mut Findings<'a>,
+        cache: &mut TypeCache<'a>,
         progress: &mut Progress<'s>,
         elements: BTreeSet<u32>,
         levels: Vec<u32>,
@@ -83,15 +83,15 @@ impl<'p, 'a, P: ModuleProvider> Printer<'p, 'a, P> {
     ) -> Result<(), AllocError>
     where
         'a: 's,
-        requires fits { Fits P.info self.now.standing.now findings.old }
+        requires is_cache { IsCacheOf P.info self.now.type_inputs.now cache.old }
         requires well { progress.old.failure ≡ None }
-        ensures fits { Fits P.info self.now.standing.now findings.new }
-        ensures broken { AddsBroken (formatter_world P.info self.now.standing.now self.now.position)
-            findings.old.failed findings.new.failed }
+        ensures is_cache { IsCacheOf P.info self.now.type_inputs.now cache.new }
+        ensures broken { AddsBroken (formatter_inputs P.info self.now.type_inputs.now self.now.module_index)
+            cache.old.failed cache.new.failed }
         ensures advances { OnOk result
-            (let w = formatter_world P.info self.now.standing.now self.now.position in
+            (let w = formatter_inputs P.info self.now.type_inputs.now self.now.module_index in
             Advances w (element w (open_in progress.old.steps) elements.keys levels.items index.0 type_data.now) 0
-            progress.old findings.old.failed progress.new findings.new.failed) }
+            progress.old cache.old.failed progress.new cache.new.failed) }
     {
         match type_data {
             TypeData::Array(a) => {
@@ -99,7 +99,7 @@ impl<'p, 'a, P: ModuleProvider> Printer<'p, 'a, P> {
                 Ok(())
             }
             _ => {
-                self.base(findings, progress, levels, index, type_data)?;
+                self.base(cache, progress, levels, index, type_data)?;
                 Ok(())
             }
         }
@@ -108,7 +108,7 @@ impl<'p, 'a, P: ModuleProvider> Printer<'p, 'a, P> {
     /// The next element of an array, which may not be one of those so far.
     pub(crate) fn elements<'s>(
         &self,
-        findings: &mut Findings<'a>,
+        cache: &mut TypeCache<'a>,
         progress: &mut Progress<'s>,
         elements: BTreeSet<u32>,
         levels: Vec<u32>,
@@ -116,27 +116,27 @@ impl<'p, 'a, P: ModuleProvider> Printer<'p, 'a, P> {
     ) -> Result<(), AllocError>
     where
         'a: 's,
-        requires fits { Fits P.info self.now.standing.now findings.old }
+        requires is_cache { IsCacheOf P.info self.now.type_inputs.now cache.old }
         requires well { progress.old.failure ≡ None }
-        ensures fits { Fits P.info self.now.standing.now findings.new }
-        ensures broken { AddsBroken (formatter_world P.info self.now.standing.now self.now.position)
-            findings.old.failed findings.new.failed }
+        ensures is_cache { IsCacheOf P.info self.now.type_inputs.now cache.new }
+        ensures broken { AddsBroken (formatter_inputs P.info self.now.type_inputs.now self.now.module_index)
+            cache.old.failed cache.new.failed }
         ensures advances { OnOk result
-            (Advances (formatter_world P.info self.now.standing.now self.now.position)
+            (Advances (formatter_inputs P.info self.now.type_inputs.now self.now.module_index)
             (Later (open_in progress.old.steps) (Elements elements.keys levels.items next.0)) 1
-            progress.old findings.old.failed progress.new findings.new.failed) }
+            progress.old cache.old.failed progress.new cache.new.failed) }
     {
         if elements.contains(&next.0) {
-            progress.fail(Failure::Told(Error::CircularTypeDefinition(next.0)));
+            progress.fail(Failure::OfError(Error::CircularTypeDefinition(next.0)));
             return Ok(());
         }
-        match self.standing.read_type(findings, self.position, next) {
+        match self.type_inputs.read_type(cache, self.module_index, next) {
             Ok((_, type_data)) => {
-                self.element(findings, progress, elements, levels, next, type_data)?;
+                self.element(cache, progress, elements, levels, next, type_data)?;
                 Ok(())
             }
-            Err(unread) => {
-                self.refuse(findings, progress, unread)?;
+            Err(read_error) => {
+                self.refuse(cache, progress, read_error)?;
                 Ok(())
             }
         }

@@ -3,8 +3,8 @@ ghost use Rattle.pdb_documents.specs.Flags.{without_return_type};
 ghost use Rattle.pdb_documents.specs.Functions.{returned, further_types, types_between, function_arguments};
 ghost use Rattle.pdb_documents.specs.Methods.{arguments_behind};
 ghost use Rattle.pdb_documents.specs.Progress.{open_in};
-ghost use Rattle.pdb_documents.specs.Worlds.{World};
-ghost use Rattle.pdb_signatures.specs.Frames.{Stands};
+ghost use Rattle.pdb_documents.specs.PrintInputs.{PrintInputs};
+ghost use Rattle.pdb_signatures.specs.PendingPlans.{Stands};
 
 use pdb_documents::options::{without_arguments, without_return_type};
 use pdb_documents::progress::Progress;
@@ -27,7 +27,7 @@ pub(crate) fn returned(
     left_out: bool,
     index: Option<TypeIndex>,
 ) -> Result<(), AllocError>
-    ensures { OnOk result ((w : World) → Stands w 1 (returned (open_in progress.old.steps) left_out index)
+    ensures { OnOk result ((w : PrintInputs) → Stands w 1 (returned (open_in progress.old.steps) left_out index)
         progress.old progress.new) }
 {
     let Some(index) = index else {
@@ -47,7 +47,7 @@ pub(crate) fn further_types<'s>(
     separator: &'static str,
     list: &'s [TypeIndex],
 ) -> Result<(), AllocError>
-    ensures { OnOk result ((w : World)
+    ensures { OnOk result ((w : PrintInputs)
         → Stands w 1 (further_types separator.now (open_in progress.old.steps) list.now) progress.old progress.new) }
 {
     let Some((next, rest)) = list.split_first() else {
@@ -66,7 +66,7 @@ pub(crate) fn types_between<'s>(
     this: Option<TypeIndex>,
     list: &'s [TypeIndex],
 ) -> Result<(), AllocError>
-    ensures { OnOk result ((w : World)
+    ensures { OnOk result ((w : PrintInputs)
         → Stands w 1 (types_between separator.now (open_in progress.old.steps) (arguments_behind this list.now))
         progress.old progress.new) }
 {
@@ -89,7 +89,7 @@ pub(crate) fn function_arguments(
     flags: TypeFormatterFlags,
     list: TypeIndex,
 ) -> Result<(), AllocError>
-    ensures { OnOk result ((w : World) → w.flags ≡ flags
+    ensures { OnOk result ((w : PrintInputs) → w.flags ≡ flags
         → Stands w 1 (function_arguments w (open_in progress.old.steps) list) progress.old progress.new) }
 {
     if without_arguments(flags) {

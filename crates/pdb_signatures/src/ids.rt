@@ -2,14 +2,14 @@ ghost use Rattle.std.specs.Prelude.{◌≡◌, ◌∷◌, [], None, OnOk, IfOk, 
 ghost use Rattle.pdb_records.specs.declared.ids.IdData.TheVariants as kind;
 ghost use Rattle.pdb_records.specs.declared.types.TypeData.TheVariants.{MemberFunction, Procedure};
 ghost use Rattle.pdb_types.specs.FailedParts.{Parts};
-ghost use Rattle.pdb_types.specs.Findings.{Fits};
+ghost use Rattle.pdb_types.specs.TypeCache.{IsCacheOf};
 ghost use Rattle.pdb_documents.specs.BrokenParts.{AddsBroken};
 ghost use Rattle.pdb_documents.specs.Ids.{scope, method_id, function_id, id_by_kind};
 ghost use Rattle.pdb_documents.specs.Plans.{Id, Later};
 ghost use Rattle.pdb_documents.specs.Printed.{id_run};
 ghost use Rattle.pdb_documents.specs.Progress.{failure_in, open_in};
-ghost use Rattle.pdb_documents.specs.Worlds.{World, formatter_world};
-ghost use Rattle.pdb_signatures.specs.Frames.{Advances, AdvancesClosing, Stands};
+ghost use Rattle.pdb_documents.specs.PrintInputs.{PrintInputs, formatter_inputs};
+ghost use Rattle.pdb_signatures.specs.PendingPlans.{Advances, AdvancesClosing, Stands};
 
 use crate::functions::is_left_out;
 use crate::printer::Printer;
@@ -22,7 +22,7 @@ use pdb_records::{
     FunctionId, IdData, IdIndex, MemberFunctionId, MemberFunctionType, ProcedureType, TypeData,
     TypeIndex,
 };
-use pdb_types::{Error, Findings, ModuleProvider, Standing, TypeFormatterFlags};
+use pdb_types::{Error, ModuleProvider, TypeCache, TypeFormatterFlags, TypeInputs};
 use std::alloc::{AllocError, Global};
 use std::collections::BTreeSet;
 
@@ -32,7 +32,7 @@ pub(crate) fn scope(
     met: BTreeSet<u32>,
     index: Option<IdIndex>,
 ) -> Result<(), AllocError>
-    ensures { OnOk result ((w : World) → Stands w 1 (scope met.keys (open_in progress.old.steps) index)
+    ensures { OnOk result ((w : PrintInputs) → Stands w 1 (scope met.keys (open_in progress.old.steps) index)
         progress.old progress.new) }
 {
     let Some(index) = index else {
@@ -50,7 +50,7 @@ fn method<'s>(
     method: &'s MemberFunctionId,
     m: &'s MemberFunctionType,
 ) -> Result<(), AllocError>
-    ensures { OnOk result ((w : World) → w.flags ≡ flags
+    ensures { OnOk result ((w : PrintInputs) → w.flags ≡ flags
         → Stands w 0 (method_id w method.now (open_in progress.old.steps) (MemberFunction m.now))
         progress.old progress.new) }
 {
@@ -72,7 +72,7 @@ fn function<'s>(
     function: &'s FunctionId,
     p: &'s ProcedureType,
 ) -> Result<(), AllocError>
-    ensures { OnOk result ((w : World) → w.flags ≡ flags
+    ensures { OnOk result ((w : PrintInputs) → w.flags ≡ flags
         → Stands w 0 (function_id w met.keys function.now (open_in progress.old.steps) (Procedure p.now))
         progress.old progress.new) }
 {
@@ -92,7 +92,7 @@ fn method_by_type<'s>(
     type_data: &'s TypeData,
 ) -> Result<(), AllocError>
     requires well { progress.old.failure ≡ None }
-    ensures { OnOk result ((w : World) → w.flags ≡ flags → (failed : Parts)
+    ensures { OnOk result ((w : PrintInputs) → w.flags ≡ flags → (failed : Parts)
         → Advances w (method_id w id.now (open_in progress.old.steps) type_data.now) 0
         progress.old failed progress.new failed) }
 {
@@ -102,7 +102,7 @@ fn method_by_type<'s>(
             Ok(())
         }
         _ => {
-            progress.fail(Failure::Told(Error::MemberFunctionIdIsNotMemberFunctionType));
+            progress.fail(Failure::OfError(Error::MemberFunctionIdIsNotMemberFunctionType));
             Ok(())
         }
     }
@@ -117,7 +117,7 @@ fn function_by_type<'s>(
     type_data: &'s TypeData,
 ) -> Result<(), AllocError>
     requires well { progress.old.failure ≡ None }
-    ensures { OnOk result ((w : World) → w.flags ≡ flags → (failed : Parts)
+    ensures { OnOk result ((w : PrintInputs) → w.flags ≡ flags → (failed : Parts)
         → Advances w (function_id w met.keys id.now (open_in progress.old.steps) type_data.now) 0
         progress.old failed progress.new failed) }
 {
@@ -127,7 +127,7 @@ fn function_by_type<'s>(
             Ok(())
         }
         _ => {
-            progress.fail(Failure::Told(Error::FunctionIdIsNotProcedureType));
+            progress.fail(Failure::OfError(Error::FunctionIdIsNotProcedureType));
             Ok(())
         }
     }
@@ -138,7 +138,7 @@ fn string_list<'s>(
     progress: &mut Progress<'s>,
     substrings: &'s [TypeIndex],
 ) -> Result<(), AllocError>
-    ensures { OnOk result ((w : World) → (failed : Parts)
+    ensures { OnOk result ((w : PrintInputs) → (failed : Parts)
         → AdvancesClosing w (id_by_kind w [] (kind.StringList substrings.now))
         progress.old failed progress.new failed) }
 {
@@ -153,23 +153,23 @@ impl<'p, 'a, P: ModuleProvider> Printer<'p, 'a, P> {
     /// A function of a class: its type is read, which is open in it alone.
     fn method_id<'s>(
         &self,
-        findings: &mut Findings<'a>,
+        cache: &mut TypeCache<'a>,
         progress: &mut Progress<'s>,
         id: &'s MemberFunctionId,
     ) -> Result<(), AllocError>
     where
         'a: 's,
-        requires fits { Fits P.info self.now.standing.now findings.old }
+        requires is_cache { IsCacheOf P.info self.now.type_inputs.now cache.old }
         requires well { progress.old.failure ≡ None }
-        ensures fits { Fits P.info self.now.standing.now findings.new }
-        ensures broken { AddsBroken (formatter_world P.info self.now.standing.now self.now.position)
-            findings.old.failed findings.new.failed }
+        ensures is_cache { IsCacheOf P.info self.now.type_inputs.now cache.new }
+        ensures broken { AddsBroken (formatter_inputs P.info self.now.type_inputs.now self.now.module_index)
+            cache.old.failed cache.new.failed }
         ensures advances { OnOk result
-            (let w = formatter_world P.info self.now.standing.now self.now.position in
+            (let w = formatter_inputs P.info self.now.type_inputs.now self.now.module_index in
             AdvancesClosing w (id_by_kind w [] (kind.MemberFunction id.now))
-            progress.old findings.old.failed progress.new findings.new.failed) }
+            progress.old cache.old.failed progress.new cache.new.failed) }
     {
-        match self.enter_alone(findings, progress, id.function_type)? {
+        match self.enter_alone(cache, progress, id.function_type)? {
             None => Ok(()),
             Some(type_data) => {
                 method_by_type(progress, self.flags(), id, type_data)?;
@@ -181,24 +181,24 @@ impl<'p, 'a, P: ModuleProvider> Printer<'p, 'a, P> {
     /// A function of no class: its type is read, which is open in it alone.
     fn function_id<'s>(
         &self,
-        findings: &mut Findings<'a>,
+        cache: &mut TypeCache<'a>,
         progress: &mut Progress<'s>,
         met: BTreeSet<u32>,
         id: &'s FunctionId,
     ) -> Result<(), AllocError>
     where
         'a: 's,
-        requires fits { Fits P.info self.now.standing.now findings.old }
+        requires is_cache { IsCacheOf P.info self.now.type_inputs.now cache.old }
         requires well { progress.old.failure ≡ None }
-        ensures fits { Fits P.info self.now.standing.now findings.new }
-        ensures broken { AddsBroken (formatter_world P.info self.now.standing.now self.now.position)
-            findings.old.failed findings.new.failed }
+        ensures is_cache { IsCacheOf P.info self.now.type_inputs.now cache.new }
+        ensures broken { AddsBroken (formatter_inputs P.info self.now.type_inputs.now self.now.module_index)
+            cache.old.failed cache.new.failed }
         ensures advances { OnOk result
-            (let w = formatter_world P.info self.now.standing.now self.now.position in
+            (let w = formatter_inputs P.info self.now.type_inputs.now self.now.module_index in
             AdvancesClosing w (id_by_kind w met.keys (kind.Function id.now))
-            progress.old findings.old.failed progress.new findings.new.failed) }
+            progress.old cache.old.failed progress.new cache.new.failed) }
     {
-        match self.enter_alone(findings, progress, id.function_type)? {
+        match self.enter_alone(cache, progress, id.function_type)? {
             None => Ok(()),
             Some(type_data) => {
                 function_by_type(progress, self.flags(), met, id, type_data)?;
@@ -210,30 +210,30 @@ impl<'p, 'a, P: ModuleProvider> Printer<'p, 'a, P> {
     /// An id that was read, by its kind.
     fn id_by_kind<'s>(
         &self,
-        findings: &mut Findings<'a>,
+        cache: &mut TypeCache<'a>,
         progress: &mut Progress<'s>,
         met: BTreeSet<u32>,
         id_data: &'s IdData,
     ) -> Result<(), AllocError>
     where
         'a: 's,
-        requires fits { Fits P.info self.now.standing.now findings.old }
+        requires is_cache { IsCacheOf P.info self.now.type_inputs.now cache.old }
         requires well { progress.old.failure ≡ None }
-        ensures fits { Fits P.info self.now.standing.now findings.new }
-        ensures broken { AddsBroken (formatter_world P.info self.now.standing.now self.now.position)
-            findings.old.failed findings.new.failed }
+        ensures is_cache { IsCacheOf P.info self.now.type_inputs.now cache.new }
+        ensures broken { AddsBroken (formatter_inputs P.info self.now.type_inputs.now self.now.module_index)
+            cache.old.failed cache.new.failed }
         ensures advances { OnOk result
-            (let w = formatter_world P.info self.now.standing.now self.now.position in
+            (let w = formatter_inputs P.info self.now.type_inputs.now self.now.module_index in
             AdvancesClosing w (id_by_kind w met.keys id_data.now)
-            progress.old findings.old.failed progress.new findings.new.failed) }
+            progress.old cache.old.failed progress.new cache.new.failed) }
     {
         match id_data {
             IdData::MemberFunction(id) => {
-                self.method_id(findings, progress, id)?;
+                self.method_id(cache, progress, id)?;
                 Ok(())
             }
             IdData::Function(id) => {
-                self.function_id(findings, progress, met, id)?;
+                self.function_id(cache, progress, met, id)?;
                 Ok(())
             }
             IdData::String(string) => {
@@ -254,63 +254,66 @@ impl<'p, 'a, P: ModuleProvider> Printer<'p, 'a, P> {
     /// The id of an index, which may not be one of those that it is a scope of.
     pub(crate) fn id<'s>(
         &self,
-        findings: &mut Findings<'a>,
+        cache: &mut TypeCache<'a>,
         progress: &mut Progress<'s>,
         mut met: BTreeSet<u32>,
         index: IdIndex,
     ) -> Result<(), AllocError>
     where
         'a: 's,
-        requires fits { Fits P.info self.now.standing.now findings.old }
+        requires is_cache { IsCacheOf P.info self.now.type_inputs.now cache.old }
         requires well { progress.old.failure ≡ None }
-        ensures fits { Fits P.info self.now.standing.now findings.new }
-        ensures broken { AddsBroken (formatter_world P.info self.now.standing.now self.now.position)
-            findings.old.failed findings.new.failed }
+        ensures is_cache { IsCacheOf P.info self.now.type_inputs.now cache.new }
+        ensures broken { AddsBroken (formatter_inputs P.info self.now.type_inputs.now self.now.module_index)
+            cache.old.failed cache.new.failed }
         ensures advances { OnOk result
-            (Advances (formatter_world P.info self.now.standing.now self.now.position)
+            (Advances (formatter_inputs P.info self.now.type_inputs.now self.now.module_index)
             (Later (open_in progress.old.steps) (Id met.keys index.0)) 1
-            progress.old findings.old.failed progress.new findings.new.failed) }
+            progress.old cache.old.failed progress.new cache.new.failed) }
     {
         if met.contains(&index.0) {
-            progress.fail(Failure::Told(Error::CircularTypeDefinition(index.0)));
+            progress.fail(Failure::OfError(Error::CircularTypeDefinition(index.0)));
             return Ok(());
         }
-        match self.standing.read_id(findings, self.position, index) {
+        match self.type_inputs.read_id(cache, self.module_index, index) {
             Ok((_, id_data)) => {
                 met.insert(index.0)?;
-                self.id_by_kind(findings, progress, met, id_data)?;
+                self.id_by_kind(cache, progress, met, id_data)?;
                 Ok(())
             }
-            Err(unread) => {
-                self.note(findings, progress, unread)?;
+            Err(read_error) => {
+                self.note(cache, progress, read_error)?;
                 Ok(())
             }
         }
     }
 }
 
-/// Prints an id, by its index as the module at a position writes it.
+/// Prints an id, by its index as the module at a module index writes it.
 pub(crate) fn print_id<'a, P: ModuleProvider>(
     alloc: Global,
-    standing: &Standing<'a, P>,
-    findings: &mut Findings<'a>,
-    position: usize,
+    type_inputs: &TypeInputs<'a, P>,
+    cache: &mut TypeCache<'a>,
+    module_index: usize,
     index: IdIndex,
 ) -> Result<Printed, AllocError>
-    requires fits { Fits P.info standing.now findings.old }
-    ensures fits { Fits P.info standing.now findings.new }
-    ensures broken { AddsBroken (formatter_world P.info standing.now position)
-        findings.old.failed findings.new.failed }
+    requires is_cache { IsCacheOf P.info type_inputs.now cache.old }
+    ensures is_cache { IsCacheOf P.info type_inputs.now cache.new }
+    ensures broken { AddsBroken (formatter_inputs P.info type_inputs.now module_index)
+        cache.old.failed cache.new.failed }
     ensures printed { IfOk result (λ p.
-        id_run P.info standing.now position index.0 findings.old.failed ≡ record {
+        id_run P.info type_inputs.now module_index index.0 cache.old.failed ≡ record {
           text = string_bytes p.text;
           fault = failure_in p.failure;
-          failed = findings.new.failed;
+          failed = cache.new.failed;
         }) }
 {
-    let printer = Printer { standing, position };
+    let printer = Printer {
+        type_inputs,
+        module_index,
+    };
     let mut progress = Progress::new(alloc);
     progress.first(Task::Id(BTreeSet::new(alloc), index))?;
-    printer.print(findings, &mut progress)?;
+    printer.print(cache, &mut progress)?;
     Ok(progress.into_printed())
 }

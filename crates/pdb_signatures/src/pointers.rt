@@ -4,8 +4,8 @@ ghost use Rattle.pdb_documents.specs.Plans.{Chain, Later};
 ghost use Rattle.pdb_documents.specs.Progress.{open_in};
 ghost use Rattle.pdb_documents.specs.Rules.{pointers_to_method, pointers_to_function};
 ghost use Rattle.pdb_documents.specs.Rules.{chain_end, behind_modifier, behind_pointer};
-ghost use Rattle.pdb_documents.specs.Worlds.{World};
-ghost use Rattle.pdb_signatures.specs.Frames.{Stands, StandsHere};
+ghost use Rattle.pdb_documents.specs.PrintInputs.{PrintInputs};
+ghost use Rattle.pdb_signatures.specs.PendingPlans.{Stands, StandsHere};
 
 use pdb_documents::attributes::{Attribute, attribute_of, point_to};
 use pdb_documents::progress::Progress;
@@ -20,7 +20,7 @@ fn pointers_to_method<'s>(
     attributes: Vec<Attribute>,
     m: &'s MemberFunctionType,
 ) -> Result<(), AllocError>
-    ensures { OnOk result ((w : World)
+    ensures { OnOk result ((w : PrintInputs)
         → Stands w 0 (pointers_to_method w (reverse attributes.items) (open_in progress.old.steps) m.now)
         progress.old progress.new) }
 {
@@ -40,7 +40,7 @@ fn pointers_to_function<'s>(
     attributes: Vec<Attribute>,
     p: &'s ProcedureType,
 ) -> Result<(), AllocError>
-    ensures { OnOk result ((w : World)
+    ensures { OnOk result ((w : PrintInputs)
         → Stands w 0 (pointers_to_function w (reverse attributes.items) (open_in progress.old.steps) p.now)
         progress.old progress.new) }
 {
@@ -60,7 +60,7 @@ fn chain_end<'s>(
     attributes: Vec<Attribute>,
     type_data: &'s TypeData,
 ) -> Result<(), AllocError>
-    ensures { OnOk result ((w : World)
+    ensures { OnOk result ((w : PrintInputs)
         → StandsHere w (chain_end w (reverse attributes.items) (open_in progress.old.steps) type_data.now)
         progress.old progress.new) }
 {
@@ -74,7 +74,7 @@ fn chain_end<'s>(
             Ok(())
         }
         _ => {
-            progress.keep_back(attributes)?;
+            progress.hold_back(attributes)?;
             progress.first(Task::OfType(type_data))?;
             Ok(())
         }
@@ -87,7 +87,7 @@ fn further_pointer(
     mut attributes: Vec<Attribute>,
     p: &PointerType,
 ) -> Result<(), AllocError>
-    ensures { OnOk result ((w : World)
+    ensures { OnOk result ((w : PrintInputs)
         → Stands w 0 (Later (open_in progress.old.steps)
         (Chain (attribute_of p.now false ∷ reverse attributes.items) p.now.underlying_type.0))
         progress.old progress.new) }
@@ -103,7 +103,7 @@ pub(crate) fn behind_modifier<'s>(
     attributes: Vec<Attribute>,
     type_data: &'s TypeData,
 ) -> Result<(), AllocError>
-    ensures { OnOk result ((w : World)
+    ensures { OnOk result ((w : PrintInputs)
         → StandsHere w (behind_modifier w (reverse attributes.items) (open_in progress.old.steps) type_data.now)
         progress.old progress.new) }
 {
@@ -126,7 +126,7 @@ pub(crate) fn behind_pointer<'s>(
     mut attributes: Vec<Attribute>,
     type_data: &'s TypeData,
 ) -> Result<(), AllocError>
-    ensures { OnOk result ((w : World)
+    ensures { OnOk result ((w : PrintInputs)
         → StandsHere w (behind_pointer w (reverse attributes.items) (open_in progress.old.steps) type_data.now)
         progress.old progress.new) }
 {

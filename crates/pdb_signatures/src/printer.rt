@@ -2,73 +2,73 @@ ghost use Rattle.std.specs.Prelude.{◌≡◌, List, ℕ, [], None, IfOk, OnOk, 
 ghost use Rattle.std.specs.Option.{option_copied};
 ghost use Rattle.pdb_records.specs.declared.types.TypeData.{TypeData};
 ghost use Rattle.pdb_types.specs.declared.error.Error.{Error};
-ghost use Rattle.pdb_types.specs.declared.unread.Part.{Part};
-ghost use Rattle.pdb_types.specs.Findings.{Fits};
-ghost use Rattle.pdb_types.specs.Unread.{Trouble};
+ghost use Rattle.pdb_types.specs.declared.read_error.Part.{Part};
+ghost use Rattle.pdb_types.specs.TypeCache.{IsCacheOf};
+ghost use Rattle.pdb_types.specs.ReadError.{ReadErrorView};
 ghost use Rattle.pdb_documents.specs.BrokenParts.{IsBroken, AddsBroken};
 ghost use Rattle.pdb_documents.specs.Documents.{run, then_by};
 ghost use Rattle.pdb_documents.specs.Plans.{Plan, Done, refusal, note_or_refusal, opening};
 ghost use Rattle.pdb_documents.specs.Progress.{Stage, open_in, task_plan, stage_run};
-ghost use Rattle.pdb_documents.specs.Worlds.{World, formatter_world};
-ghost use Rattle.pdb_signatures.specs.Frames.{Advances, IsRefused, IsNoted, Entered, EnteredAlone, Ends, frames};
-ghost use Rattle.pdb_signatures.specs.Troubles.{IsTrouble};
+ghost use Rattle.pdb_documents.specs.PrintInputs.{PrintInputs, formatter_inputs};
+ghost use Rattle.pdb_signatures.specs.PendingPlans.{Advances, IsRefused, IsNoted, Entered, EnteredAlone, Ends, frames};
+ghost use Rattle.pdb_signatures.specs.ReadErrorViews.{IsViewOf};
 
 use pdb_documents::failures::Failure;
 use pdb_documents::progress::Progress;
 use pdb_documents::wording::Wording;
 use pdb_records::{TypeData, TypeIndex};
-use pdb_types::{Error, Findings, ModuleProvider, Standing, TypeFormatterFlags, Unread};
+use pdb_types::{Error, ModuleProvider, ReadError, TypeCache, TypeFormatterFlags, TypeInputs};
 use std::alloc::AllocError;
 
-/// Prints types and ids on what a formatter stands on, where the module at a position asks.
+/// Prints types and ids from the type inputs of a formatter, where the module at a module index asks.
 #[derive(Drop)]
 pub(crate) struct Printer<'p, 'a, P: ModuleProvider> {
-    pub(crate) standing: &'p Standing<'a, P>,
-    pub(crate) position: usize,
+    pub(crate) type_inputs: &'p TypeInputs<'a, P>,
+    pub(crate) module_index: usize,
 }
 
 impl<'p, 'a, P: ModuleProvider> Printer<'p, 'a, P> {
     /// How signatures are printed.
     pub(crate) fn flags(&self) -> TypeFormatterFlags
-        ensures { result ≡ (formatter_world P.info self.now.standing.now self.now.position).flags }
+        ensures { result ≡ (formatter_inputs P.info self.now.type_inputs.now self.now.module_index).flags }
     {
-        self.standing.flags()
+        self.type_inputs.flags()
     }
 
     /// What is needed can't be read: printing fails.
     pub(crate) fn refuse(
         &self,
-        findings: &mut Findings<'a>,
+        cache: &mut TypeCache<'a>,
         progress: &mut Progress<'_>,
-        unread: Unread,
+        read_error: ReadError,
     ) -> Result<(), AllocError>
-        requires fits { Fits P.info self.now.standing.now findings.old }
+        requires is_cache { IsCacheOf P.info self.now.type_inputs.now cache.old }
         requires well { progress.old.failure ≡ None }
-        ensures fits { Fits P.info self.now.standing.now findings.new }
-        ensures broken { (w : World)
-            → ((part : Part) (e : Error) → unread ≡ Unread.Broken part e → IsBroken w part)
-            → AddsBroken w findings.old.failed findings.new.failed }
+        ensures is_cache { IsCacheOf P.info self.now.type_inputs.now cache.new }
+        ensures broken { (w : PrintInputs)
+            → ((part : Part) (e : Error) → read_error ≡ ReadError.Broken part e → IsBroken w part)
+            → AddsBroken w cache.old.failed cache.new.failed }
         ensures refused { OnOk result
-            (IsRefused unread progress.old findings.old.failed progress.new findings.new.failed) }
+            (IsRefused read_error progress.old cache.old.failed progress.new cache.new.failed) }
     {
-        match unread {
-            Unread::OutOfMemory => Err(AllocError),
-            Unread::Missing(index) => {
+        match read_error {
+            ReadError::OutOfMemory => Err(AllocError),
+            ReadError::Missing(index) => {
                 progress.fail(Failure::TypeNotFound(index));
                 Ok(())
             }
-            Unread::Unimplemented(kind) => {
+            ReadError::Unimplemented(kind) => {
                 let error = pdb_records::Error::UnimplementedTypeKind(kind);
-                progress.fail(Failure::Told(Error::from(error)));
+                progress.fail(Failure::OfError(Error::from(error)));
                 Ok(())
             }
-            Unread::Refused(error) => {
-                progress.fail(Failure::Told(error));
+            ReadError::Refused(error) => {
+                progress.fail(Failure::OfError(error));
                 Ok(())
             }
-            Unread::Broken(part, error) => {
-                let told = self.standing.ask(findings, part, error)?;
-                progress.fail(Failure::Told(told));
+            ReadError::Broken(part, error) => {
+                let error_view = self.type_inputs.ask(cache, part, error)?;
+                progress.fail(Failure::OfError(error_view));
                 Ok(())
             }
         }
@@ -78,30 +78,30 @@ impl<'p, 'a, P: ModuleProvider> Printer<'p, 'a, P> {
     /// stands for it, and else printing fails.
     pub(crate) fn note(
         &self,
-        findings: &mut Findings<'a>,
+        cache: &mut TypeCache<'a>,
         progress: &mut Progress<'_>,
-        unread: Unread,
+        read_error: ReadError,
     ) -> Result<(), AllocError>
-        requires fits { Fits P.info self.now.standing.now findings.old }
+        requires is_cache { IsCacheOf P.info self.now.type_inputs.now cache.old }
         requires well { progress.old.failure ≡ None }
-        ensures fits { Fits P.info self.now.standing.now findings.new }
-        ensures broken { (w : World)
-            → ((part : Part) (e : Error) → unread ≡ Unread.Broken part e → IsBroken w part)
-            → AddsBroken w findings.old.failed findings.new.failed }
+        ensures is_cache { IsCacheOf P.info self.now.type_inputs.now cache.new }
+        ensures broken { (w : PrintInputs)
+            → ((part : Part) (e : Error) → read_error ≡ ReadError.Broken part e → IsBroken w part)
+            → AddsBroken w cache.old.failed cache.new.failed }
         ensures noted { OnOk result
-            (IsNoted unread progress.old findings.old.failed progress.new findings.new.failed) }
+            (IsNoted read_error progress.old cache.old.failed progress.new cache.new.failed) }
     {
-        match unread {
-            Unread::Missing(index) => {
+        match read_error {
+            ReadError::Missing(index) => {
                 progress.write(self.flags(), &Wording::MissingType(index))?;
                 Ok(())
             }
-            Unread::Unimplemented(kind) => {
+            ReadError::Unimplemented(kind) => {
                 progress.write(self.flags(), &Wording::UnimplementedKind(kind))?;
                 Ok(())
             }
             other => {
-                self.refuse(findings, progress, other)?;
+                self.refuse(cache, progress, other)?;
                 Ok(())
             }
         }
@@ -111,26 +111,26 @@ impl<'p, 'a, P: ModuleProvider> Printer<'p, 'a, P> {
     /// printing fails.
     pub(crate) fn enter(
         &self,
-        findings: &mut Findings<'a>,
+        cache: &mut TypeCache<'a>,
         progress: &mut Progress<'_>,
         index: TypeIndex,
     ) -> Result<Option<&'a TypeData>, AllocError>
-        requires fits { Fits P.info self.now.standing.now findings.old }
+        requires is_cache { IsCacheOf P.info self.now.type_inputs.now cache.old }
         requires well { progress.old.failure ≡ None }
-        ensures fits { Fits P.info self.now.standing.now findings.new }
-        ensures broken { AddsBroken (formatter_world P.info self.now.standing.now self.now.position)
-            findings.old.failed findings.new.failed }
+        ensures is_cache { IsCacheOf P.info self.now.type_inputs.now cache.new }
+        ensures broken { AddsBroken (formatter_inputs P.info self.now.type_inputs.now self.now.module_index)
+            cache.old.failed cache.new.failed }
         ensures entered { IfOk result (λ found.
-            Entered (formatter_world P.info self.now.standing.now self.now.position) index.0
-            progress.old findings.old.failed progress.new findings.new.failed (option_copied found)) }
+            Entered (formatter_inputs P.info self.now.type_inputs.now self.now.module_index) index.0
+            progress.old cache.old.failed progress.new cache.new.failed (option_copied found)) }
     {
         if !progress.open(index.0)? {
             return Ok(None);
         }
-        match self.standing.read_type(findings, self.position, index) {
+        match self.type_inputs.read_type(cache, self.module_index, index) {
             Ok((_, type_data)) => Ok(Some(type_data)),
-            Err(unread) => {
-                self.refuse(findings, progress, unread)?;
+            Err(read_error) => {
+                self.refuse(cache, progress, read_error)?;
                 Ok(None)
             }
         }
@@ -139,26 +139,26 @@ impl<'p, 'a, P: ModuleProvider> Printer<'p, 'a, P> {
     /// it can't be read, printing fails.
     pub(crate) fn enter_alone(
         &self,
-        findings: &mut Findings<'a>,
+        cache: &mut TypeCache<'a>,
         progress: &mut Progress<'_>,
         index: TypeIndex,
     ) -> Result<Option<&'a TypeData>, AllocError>
-        requires fits { Fits P.info self.now.standing.now findings.old }
+        requires is_cache { IsCacheOf P.info self.now.type_inputs.now cache.old }
         requires well { progress.old.failure ≡ None }
-        ensures fits { Fits P.info self.now.standing.now findings.new }
-        ensures broken { AddsBroken (formatter_world P.info self.now.standing.now self.now.position)
-            findings.old.failed findings.new.failed }
+        ensures is_cache { IsCacheOf P.info self.now.type_inputs.now cache.new }
+        ensures broken { AddsBroken (formatter_inputs P.info self.now.type_inputs.now self.now.module_index)
+            cache.old.failed cache.new.failed }
         ensures entered { IfOk result (λ found.
-            EnteredAlone (formatter_world P.info self.now.standing.now self.now.position) index.0
-            progress.old findings.old.failed progress.new findings.new.failed (option_copied found)) }
+            EnteredAlone (formatter_inputs P.info self.now.type_inputs.now self.now.module_index) index.0
+            progress.old cache.old.failed progress.new cache.new.failed (option_copied found)) }
     {
-        match self.standing.read_type(findings, self.position, index) {
+        match self.type_inputs.read_type(cache, self.module_index, index) {
             Ok((_, type_data)) => {
                 progress.open_alone(Some(index.0))?;
                 Ok(Some(type_data))
             }
-            Err(unread) => {
-                self.refuse(findings, progress, unread)?;
+            Err(read_error) => {
+                self.refuse(cache, progress, read_error)?;
                 Ok(None)
             }
         }

@@ -5,8 +5,8 @@ ghost use Rattle.pdb_documents.specs.Rules.{modified, by_kind};
 ghost use Rattle.pdb_documents.specs.Attributes.{attribute_of};
 ghost use Rattle.pdb_documents.specs.Plans.{Chain, Later, written};
 ghost use Rattle.pdb_documents.specs.Wording.{declared_text};
-ghost use Rattle.pdb_documents.specs.Worlds.{World};
-ghost use Rattle.pdb_signatures.specs.Frames.{Stands};
+ghost use Rattle.pdb_documents.specs.PrintInputs.{PrintInputs};
+ghost use Rattle.pdb_signatures.specs.PendingPlans.{Stands};
 
 use crate::functions::{is_left_out, types_between};
 use pdb_documents::attributes::attribute_of;
@@ -26,7 +26,7 @@ fn declared<'s>(
     word: &'static str,
     name: &'s RawString,
 ) -> Result<(), AllocError>
-    ensures { OnOk result ((w : World)
+    ensures { OnOk result ((w : PrintInputs)
         → Stands w 0 (written (declared_text w.flags word.now name.now)) progress.old progress.new) }
 {
     progress.first(Task::Written(Wording::Declared(word, name)))
@@ -38,7 +38,7 @@ fn method<'s>(
     flags: TypeFormatterFlags,
     m: &'s MemberFunctionType,
 ) -> Result<(), AllocError>
-    ensures { OnOk result ((w : World) → w.flags ≡ flags
+    ensures { OnOk result ((w : PrintInputs) → w.flags ≡ flags
         → Stands w 0 (by_kind w (open_in progress.old.steps) (MemberFunction m.now)) progress.old progress.new) }
 {
     let left_out = is_left_out(flags, m.is_constructor);
@@ -54,7 +54,7 @@ fn procedure<'s>(
     flags: TypeFormatterFlags,
     p: &'s ProcedureType,
 ) -> Result<(), AllocError>
-    ensures { OnOk result ((w : World) → w.flags ≡ flags
+    ensures { OnOk result ((w : PrintInputs) → w.flags ≡ flags
         → Stands w 0 (by_kind w (open_in progress.old.steps) (Procedure p.now)) progress.old progress.new) }
 {
     let left_out = is_left_out(flags, p.is_constructor);
@@ -70,7 +70,7 @@ pub(crate) fn pointer(
     p: &PointerType,
     constant: bool,
 ) -> Result<(), AllocError>
-    ensures { OnOk result ((w : World)
+    ensures { OnOk result ((w : PrintInputs)
         → Stands w 0 (Later (open_in progress.old.steps)
         (Chain (attribute_of p.now constant ∷ []) p.now.underlying_type.0)) progress.old progress.new) }
 {
@@ -82,7 +82,7 @@ pub(crate) fn pointer(
 
 /// An array: its levels and elements begin.
 fn array(progress: &mut Progress<'_>, a: &ArrayType) -> Result<(), AllocError>
-    ensures { OnOk result ((w : World)
+    ensures { OnOk result ((w : PrintInputs)
         → Stands w 0 (by_kind w (open_in progress.old.steps) (Array a.now)) progress.old progress.new) }
 {
     let elements = BTreeSet::new(progress.allocator());
@@ -105,7 +105,7 @@ pub(crate) fn modified<'s>(
     constant: bool,
     type_data: &'s TypeData,
 ) -> Result<(), AllocError>
-    ensures { OnOk result ((w : World)
+    ensures { OnOk result ((w : PrintInputs)
         → Stands w 0 (modified w constant (open_in progress.old.steps) type_data.now) progress.old progress.new) }
 {
     match type_data {
@@ -131,7 +131,7 @@ pub(crate) fn by_kind<'s>(
     flags: TypeFormatterFlags,
     type_data: &'s TypeData,
 ) -> Result<(), AllocError>
-    ensures { OnOk result ((w : World) → w.flags ≡ flags
+    ensures { OnOk result ((w : PrintInputs) → w.flags ≡ flags
         → Stands w 0 (by_kind w (open_in progress.old.steps) type_data.now) progress.old progress.new) }
 {
     match type_data {

@@ -1,13 +1,13 @@
 ghost use Rattle.std.specs.Prelude.{◌≡◌, None, OnOk, IfOk, IfErr, string_bytes};
 ghost use Rattle.pdb_records.specs.declared.types.TypeData.TheVariants.{MemberFunction, Procedure};
-ghost use Rattle.pdb_types.specs.Findings.{Fits};
+ghost use Rattle.pdb_types.specs.TypeCache.{IsCacheOf};
 ghost use Rattle.pdb_types.specs.declared.error.Error.TheVariants.{OutOfMemory};
 ghost use Rattle.pdb_documents.specs.BrokenParts.{AddsBroken};
 ghost use Rattle.pdb_documents.specs.Printed.{signature_run};
 ghost use Rattle.pdb_documents.specs.Progress.{beginning, failure_in, open_in};
 ghost use Rattle.pdb_documents.specs.Signatures.{signature_by_type, signature};
-ghost use Rattle.pdb_documents.specs.Worlds.{World, formatter_world};
-ghost use Rattle.pdb_signatures.specs.Frames.{Begins, Stands};
+ghost use Rattle.pdb_documents.specs.PrintInputs.{PrintInputs, formatter_inputs};
+ghost use Rattle.pdb_signatures.specs.PendingPlans.{Begins, Stands};
 
 use crate::functions::is_left_out;
 use crate::printer::Printer;
@@ -16,7 +16,7 @@ use pdb_documents::progress::Progress;
 use pdb_documents::tasks::Task;
 use pdb_documents::wording::{Wording, function_name, static_word};
 use pdb_records::{MemberFunctionType, ProcedureType, TypeData, TypeIndex};
-use pdb_types::{Findings, ModuleProvider, Standing, TypeFormatterFlags};
+use pdb_types::{ModuleProvider, TypeCache, TypeFormatterFlags, TypeInputs};
 use std::alloc::{AllocError, Global};
 
 /// The signature of a method with this name.
@@ -26,7 +26,7 @@ fn method<'s>(
     name: &'s str,
     m: &'s MemberFunctionType,
 ) -> Result<(), AllocError>
-    ensures { OnOk result ((w : World) → w.flags ≡ flags
+    ensures { OnOk result ((w : PrintInputs) → w.flags ≡ flags
         → Stands w 0 (signature_by_type w name.now (open_in progress.old.steps) (MemberFunction m.now))
         progress.old progress.new) }
 {
@@ -45,7 +45,7 @@ fn procedure<'s>(
     name: &'s str,
     p: &'s ProcedureType,
 ) -> Result<(), AllocError>
-    ensures { OnOk result ((w : World) → w.flags ≡ flags
+    ensures { OnOk result ((w : PrintInputs) → w.flags ≡ flags
         → Stands w 0 (signature_by_type w name.now (open_in progress.old.steps) (Procedure p.now))
         progress.old progress.new) }
 {
@@ -63,7 +63,7 @@ fn by_type<'s>(
     name: &'s str,
     type_data: &'s TypeData,
 ) -> Result<(), AllocError>
-    ensures { OnOk result ((w : World) → w.flags ≡ flags
+    ensures { OnOk result ((w : PrintInputs) → w.flags ≡ flags
         → Stands w 0 (signature_by_type w name.now (open_in progress.old.steps) type_data.now)
         progress.old progress.new) }
 {
@@ -88,34 +88,34 @@ impl<'p, 'a, P: ModuleProvider> Printer<'p, 'a, P> {
     /// type, and then the name stands alone.
     fn signature<'s>(
         &self,
-        findings: &mut Findings<'a>,
+        cache: &mut TypeCache<'a>,
         progress: &mut Progress<'s>,
         name: &'s str,
         index: TypeIndex,
     ) -> Result<(), AllocError>
     where
         'a: 's,
-        requires fits { Fits P.info self.now.standing.now findings.old }
+        requires is_cache { IsCacheOf P.info self.now.type_inputs.now cache.old }
         requires beginning { progress.old ≡ beginning }
-        ensures fits { Fits P.info self.now.standing.now findings.new }
-        ensures broken { AddsBroken (formatter_world P.info self.now.standing.now self.now.position)
-            findings.old.failed findings.new.failed }
+        ensures is_cache { IsCacheOf P.info self.now.type_inputs.now cache.new }
+        ensures broken { AddsBroken (formatter_inputs P.info self.now.type_inputs.now self.now.module_index)
+            cache.old.failed cache.new.failed }
         ensures begins { OnOk result
-            (let w = formatter_world P.info self.now.standing.now self.now.position in
-            Begins w (signature w name.now index.0) findings.old.failed progress.new findings.new.failed) }
+            (let w = formatter_inputs P.info self.now.type_inputs.now self.now.module_index in
+            Begins w (signature w name.now index.0) cache.old.failed progress.new cache.new.failed) }
     {
         if index.0 == 0 {
             progress.first(Task::Written(Wording::Text(function_name(name))))?;
             return Ok(());
         }
-        match self.standing.read_type(findings, self.position, index) {
+        match self.type_inputs.read_type(cache, self.module_index, index) {
             Ok((_, type_data)) => {
                 progress.open(index.0)?;
                 by_type(progress, self.flags(), name, type_data)?;
                 Ok(())
             }
-            Err(unread) => {
-                self.refuse(findings, progress, unread)?;
+            Err(read_error) => {
+                self.refuse(cache, progress, read_error)?;
                 Ok(())
             }
         }
@@ -123,29 +123,32 @@ impl<'p, 'a, P: ModuleProvider> Printer<'p, 'a, P> {
 }
 
 /// Prints the signature of a function with this name, and the type of this index as the module at a
-/// position writes it.
+/// module index writes it.
 pub(crate) fn print_signature<'a, P: ModuleProvider>(
     alloc: Global,
-    standing: &Standing<'a, P>,
-    findings: &mut Findings<'a>,
+    type_inputs: &TypeInputs<'a, P>,
+    cache: &mut TypeCache<'a>,
     name: &str,
-    position: usize,
+    module_index: usize,
     index: TypeIndex,
 ) -> Result<Printed, AllocError>
-    requires fits { Fits P.info standing.now findings.old }
-    ensures fits { Fits P.info standing.now findings.new }
-    ensures broken { AddsBroken (formatter_world P.info standing.now position)
-        findings.old.failed findings.new.failed }
+    requires is_cache { IsCacheOf P.info type_inputs.now cache.old }
+    ensures is_cache { IsCacheOf P.info type_inputs.now cache.new }
+    ensures broken { AddsBroken (formatter_inputs P.info type_inputs.now module_index)
+        cache.old.failed cache.new.failed }
     ensures printed { IfOk result (λ p.
-        signature_run P.info standing.now position name.now index.0 findings.old.failed ≡ record {
+        signature_run P.info type_inputs.now module_index name.now index.0 cache.old.failed ≡ record {
           text = string_bytes p.text;
           fault = failure_in p.failure;
-          failed = findings.new.failed;
+          failed = cache.new.failed;
         }) }
 {
-    let printer = Printer { standing, position };
+    let printer = Printer {
+        type_inputs,
+        module_index,
+    };
     let mut progress = Progress::new(alloc);
-    printer.signature(findings, &mut progress, name, index)?;
-    printer.print(findings, &mut progress)?;
+    printer.signature(cache, &mut progress, name, index)?;
+    printer.print(cache, &mut progress)?;
     Ok(progress.into_printed())
 }

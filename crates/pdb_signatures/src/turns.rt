@@ -1,11 +1,11 @@
 ghost use Rattle.std.specs.Prelude.{◌≡◌, None, Ok, OnOk, reverse};
-ghost use Rattle.pdb_types.specs.Findings.{Fits};
+ghost use Rattle.pdb_types.specs.TypeCache.{IsCacheOf};
 ghost use Rattle.pdb_types.specs.FailedParts.{Parts};
 ghost use Rattle.pdb_documents.specs.BrokenParts.{AddsBroken};
 ghost use Rattle.pdb_documents.specs.Plans.{Index, OfType, Chain, BehindModifier, Modified, Later};
 ghost use Rattle.pdb_documents.specs.Progress.{open_in, task_plan, stage_run};
-ghost use Rattle.pdb_documents.specs.Worlds.{World, formatter_world};
-ghost use Rattle.pdb_signatures.specs.Frames.{Advances, Ends, frames};
+ghost use Rattle.pdb_documents.specs.PrintInputs.{PrintInputs, formatter_inputs};
+ghost use Rattle.pdb_signatures.specs.PendingPlans.{Advances, Ends, frames};
 
 use crate::functions::{function_arguments, further_types, returned, types_between};
 use crate::ids::scope;
@@ -16,7 +16,7 @@ use pdb_documents::attributes::Attribute;
 use pdb_documents::progress::{Next, Progress};
 use pdb_documents::tasks::Task;
 use pdb_records::{TypeData, TypeIndex};
-use pdb_types::{Findings, ModuleProvider, TypeFormatterFlags};
+use pdb_types::{ModuleProvider, TypeCache, TypeFormatterFlags};
 use std::alloc::AllocError;
 
 /// The type of an index that was read: it is printed while the index is open.
@@ -26,7 +26,7 @@ fn index_read<'s>(
     type_data: &'s TypeData,
 ) -> Result<(), AllocError>
     requires well { progress.old.failure ≡ None }
-    ensures { OnOk result ((w : World) → w.read index.0 ≡ Ok type_data.now → (failed : Parts)
+    ensures { OnOk result ((w : PrintInputs) → w.read index.0 ≡ Ok type_data.now → (failed : Parts)
         → Advances w (Later (open_in progress.old.steps) (Index index.0)) 1
         progress.old failed progress.new failed) }
 {
@@ -44,7 +44,7 @@ pub(crate) fn of_type<'s>(
     type_data: &'s TypeData,
 ) -> Result<(), AllocError>
     requires well { progress.old.failure ≡ None }
-    ensures { OnOk result ((w : World) → w.flags ≡ flags → (failed : Parts)
+    ensures { OnOk result ((w : PrintInputs) → w.flags ≡ flags → (failed : Parts)
         → Advances w (Later (open_in progress.old.steps) (OfType type_data.now)) 1
         progress.old failed progress.new failed) }
 {
@@ -57,29 +57,29 @@ impl<'p, 'a, P: ModuleProvider> Printer<'p, 'a, P> {
     /// The type of an index.
     pub(crate) fn index<'s>(
         &self,
-        findings: &mut Findings<'a>,
+        cache: &mut TypeCache<'a>,
         progress: &mut Progress<'s>,
         index: TypeIndex,
     ) -> Result<(), AllocError>
     where
         'a: 's,
-        requires fits { Fits P.info self.now.standing.now findings.old }
+        requires is_cache { IsCacheOf P.info self.now.type_inputs.now cache.old }
         requires well { progress.old.failure ≡ None }
-        ensures fits { Fits P.info self.now.standing.now findings.new }
-        ensures broken { AddsBroken (formatter_world P.info self.now.standing.now self.now.position)
-            findings.old.failed findings.new.failed }
+        ensures is_cache { IsCacheOf P.info self.now.type_inputs.now cache.new }
+        ensures broken { AddsBroken (formatter_inputs P.info self.now.type_inputs.now self.now.module_index)
+            cache.old.failed cache.new.failed }
         ensures advances { OnOk result
-            (Advances (formatter_world P.info self.now.standing.now self.now.position)
+            (Advances (formatter_inputs P.info self.now.type_inputs.now self.now.module_index)
             (Later (open_in progress.old.steps) (Index index.0)) 1
-            progress.old findings.old.failed progress.new findings.new.failed) }
+            progress.old cache.old.failed progress.new cache.new.failed) }
     {
-        match self.standing.read_type(findings, self.position, index) {
+        match self.type_inputs.read_type(cache, self.module_index, index) {
             Ok((_, type_data)) => {
                 index_read(progress, index, type_data)?;
                 Ok(())
             }
-            Err(unread) => {
-                self.note(findings, progress, unread)?;
+            Err(read_error) => {
+                self.note(cache, progress, read_error)?;
                 Ok(())
             }
         }
@@ -88,24 +88,24 @@ impl<'p, 'a, P: ModuleProvider> Printer<'p, 'a, P> {
     /// A chain of pointers to the type of an index.
     pub(crate) fn chain<'s>(
         &self,
-        findings: &mut Findings<'a>,
+        cache: &mut TypeCache<'a>,
         progress: &mut Progress<'s>,
         attributes: Vec<Attribute>,
         target: TypeIndex,
     ) -> Result<(), AllocError>
     where
         'a: 's,
-        requires fits { Fits P.info self.now.standing.now findings.old }
+        requires is_cache { IsCacheOf P.info self.now.type_inputs.now cache.old }
         requires well { progress.old.failure ≡ None }
-        ensures fits { Fits P.info self.now.standing.now findings.new }
-        ensures broken { AddsBroken (formatter_world P.info self.now.standing.now self.now.position)
-            findings.old.failed findings.new.failed }
+        ensures is_cache { IsCacheOf P.info self.now.type_inputs.now cache.new }
+        ensures broken { AddsBroken (formatter_inputs P.info self.now.type_inputs.now self.now.module_index)
+            cache.old.failed cache.new.failed }
         ensures advances { OnOk result
-            (Advances (formatter_world P.info self.now.standing.now self.now.position)
+            (Advances (formatter_inputs P.info self.now.type_inputs.now self.now.module_index)
             (Later (open_in progress.old.steps) (Chain (reverse attributes.items) target.0)) 1
-            progress.old findings.old.failed progress.new findings.new.failed) }
+            progress.old cache.old.failed progress.new cache.new.failed) }
     {
-        match self.enter(findings, progress, target)? {
+        match self.enter(cache, progress, target)? {
             None => Ok(()),
             Some(type_data) => {
                 behind_pointer(progress, attributes, type_data)?;
@@ -117,24 +117,24 @@ impl<'p, 'a, P: ModuleProvider> Printer<'p, 'a, P> {
     /// A chain of pointers with a modifier between them and the type of an index.
     pub(crate) fn behind_modifier<'s>(
         &self,
-        findings: &mut Findings<'a>,
+        cache: &mut TypeCache<'a>,
         progress: &mut Progress<'s>,
         attributes: Vec<Attribute>,
         target: TypeIndex,
     ) -> Result<(), AllocError>
     where
         'a: 's,
-        requires fits { Fits P.info self.now.standing.now findings.old }
+        requires is_cache { IsCacheOf P.info self.now.type_inputs.now cache.old }
         requires well { progress.old.failure ≡ None }
-        ensures fits { Fits P.info self.now.standing.now findings.new }
-        ensures broken { AddsBroken (formatter_world P.info self.now.standing.now self.now.position)
-            findings.old.failed findings.new.failed }
+        ensures is_cache { IsCacheOf P.info self.now.type_inputs.now cache.new }
+        ensures broken { AddsBroken (formatter_inputs P.info self.now.type_inputs.now self.now.module_index)
+            cache.old.failed cache.new.failed }
         ensures advances { OnOk result
-            (Advances (formatter_world P.info self.now.standing.now self.now.position)
+            (Advances (formatter_inputs P.info self.now.type_inputs.now self.now.module_index)
             (Later (open_in progress.old.steps) (BehindModifier (reverse attributes.items) target.0)) 1
-            progress.old findings.old.failed progress.new findings.new.failed) }
+            progress.old cache.old.failed progress.new cache.new.failed) }
     {
-        match self.enter(findings, progress, target)? {
+        match self.enter(cache, progress, target)? {
             None => Ok(()),
             Some(type_data) => {
                 behind_modifier(progress, attributes, type_data)?;
@@ -146,24 +146,24 @@ impl<'p, 'a, P: ModuleProvider> Printer<'p, 'a, P> {
     /// The type of an index, constant or not.
     pub(crate) fn modified<'s>(
         &self,
-        findings: &mut Findings<'a>,
+        cache: &mut TypeCache<'a>,
         progress: &mut Progress<'s>,
         constant: bool,
         target: TypeIndex,
     ) -> Result<(), AllocError>
     where
         'a: 's,
-        requires fits { Fits P.info self.now.standing.now findings.old }
+        requires is_cache { IsCacheOf P.info self.now.type_inputs.now cache.old }
         requires well { progress.old.failure ≡ None }
-        ensures fits { Fits P.info self.now.standing.now findings.new }
-        ensures broken { AddsBroken (formatter_world P.info self.now.standing.now self.now.position)
-            findings.old.failed findings.new.failed }
+        ensures is_cache { IsCacheOf P.info self.now.type_inputs.now cache.new }
+        ensures broken { AddsBroken (formatter_inputs P.info self.now.type_inputs.now self.now.module_index)
+            cache.old.failed cache.new.failed }
         ensures advances { OnOk result
-            (Advances (formatter_world P.info self.now.standing.now self.now.position)
+            (Advances (formatter_inputs P.info self.now.type_inputs.now self.now.module_index)
             (Later (open_in progress.old.steps) (Modified constant target.0)) 1
-            progress.old findings.old.failed progress.new findings.new.failed) }
+            progress.old cache.old.failed progress.new cache.new.failed) }
     {
-        match self.enter(findings, progress, target)? {
+        match self.enter(cache, progress, target)? {
             None => Ok(()),
             Some(type_data) => {
                 modified(progress, constant, type_data)?;
@@ -175,21 +175,21 @@ impl<'p, 'a, P: ModuleProvider> Printer<'p, 'a, P> {
     /// One turn: prints a task, or puts what is printed of it first.
     fn turn<'s>(
         &self,
-        findings: &mut Findings<'a>,
+        cache: &mut TypeCache<'a>,
         progress: &mut Progress<'s>,
         task: Task<'s>,
     ) -> Result<(), AllocError>
     where
         'a: 's,
-        requires fits { Fits P.info self.now.standing.now findings.old }
+        requires is_cache { IsCacheOf P.info self.now.type_inputs.now cache.old }
         requires well { progress.old.failure ≡ None }
-        ensures fits { Fits P.info self.now.standing.now findings.new }
-        ensures broken { AddsBroken (formatter_world P.info self.now.standing.now self.now.position)
-            findings.old.failed findings.new.failed }
+        ensures is_cache { IsCacheOf P.info self.now.type_inputs.now cache.new }
+        ensures broken { AddsBroken (formatter_inputs P.info self.now.type_inputs.now self.now.module_index)
+            cache.old.failed cache.new.failed }
         ensures advances { OnOk result
-            (let w = formatter_world P.info self.now.standing.now self.now.position in
+            (let w = formatter_inputs P.info self.now.type_inputs.now self.now.module_index in
             Advances w (task_plan w (open_in progress.old.steps) task.entry) 1
-            progress.old findings.old.failed progress.new findings.new.failed) }
+            progress.old cache.old.failed progress.new cache.new.failed) }
     {
         match task {
             Task::Written(wording) => {
@@ -197,7 +197,7 @@ impl<'p, 'a, P: ModuleProvider> Printer<'p, 'a, P> {
                 Ok(())
             }
             Task::Index(index) => {
-                self.index(findings, progress, index)?;
+                self.index(cache, progress, index)?;
                 Ok(())
             }
             Task::OfType(type_data) => {
@@ -221,27 +221,27 @@ impl<'p, 'a, P: ModuleProvider> Printer<'p, 'a, P> {
                 Ok(())
             }
             Task::MethodArguments(m, may_say_const) => {
-                self.method_arguments(findings, progress, m, may_say_const)?;
+                self.method_arguments(cache, progress, m, may_say_const)?;
                 Ok(())
             }
             Task::Chain(attributes, target) => {
-                self.chain(findings, progress, attributes, target)?;
+                self.chain(cache, progress, attributes, target)?;
                 Ok(())
             }
             Task::BehindModifier(attributes, target) => {
-                self.behind_modifier(findings, progress, attributes, target)?;
+                self.behind_modifier(cache, progress, attributes, target)?;
                 Ok(())
             }
             Task::Modified(constant, target) => {
-                self.modified(findings, progress, constant, target)?;
+                self.modified(cache, progress, constant, target)?;
                 Ok(())
             }
             Task::Elements(elements, levels, next) => {
-                self.elements(findings, progress, elements, levels, next)?;
+                self.elements(cache, progress, elements, levels, next)?;
                 Ok(())
             }
             Task::Id(met, index) => {
-                self.id(findings, progress, met, index)?;
+                self.id(cache, progress, met, index)?;
                 Ok(())
             }
             Task::Scope(met, index) => {
@@ -254,25 +254,25 @@ impl<'p, 'a, P: ModuleProvider> Printer<'p, 'a, P> {
     /// Prints until nothing is left to be done.
     pub(crate) fn print<'s>(
         &self,
-        findings: &mut Findings<'a>,
+        cache: &mut TypeCache<'a>,
         progress: &mut Progress<'s>,
     ) -> Result<(), AllocError>
     where
         'a: 's,
-        requires fits { Fits P.info self.now.standing.now findings.old }
-        ensures fits { Fits P.info self.now.standing.now findings.new }
-        ensures broken { AddsBroken (formatter_world P.info self.now.standing.now self.now.position)
-            findings.old.failed findings.new.failed }
+        requires is_cache { IsCacheOf P.info self.now.type_inputs.now cache.old }
+        ensures is_cache { IsCacheOf P.info self.now.type_inputs.now cache.new }
+        ensures broken { AddsBroken (formatter_inputs P.info self.now.type_inputs.now self.now.module_index)
+            cache.old.failed cache.new.failed }
         ensures ends { OnOk result
-            (let w = formatter_world P.info self.now.standing.now self.now.position in
-            Ends w (frames w progress.old.steps) (stage_run progress.old findings.old.failed)
-            (stage_run progress.new findings.new.failed)) }
+            (let w = formatter_inputs P.info self.now.type_inputs.now self.now.module_index in
+            Ends w (frames w progress.old.steps) (stage_run progress.old cache.old.failed)
+            (stage_run progress.new cache.new.failed)) }
     {
         'turns: loop {
             match progress.next(self.flags())? {
                 Next::Finished => return Ok(()),
                 Next::Ended => {}
-                Next::Print(task) => self.turn(findings, progress, task)?,
+                Next::Print(task) => self.turn(cache, progress, task)?,
             }
         }
     }

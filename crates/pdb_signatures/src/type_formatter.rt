@@ -3,13 +3,13 @@ ghost use Rattle.std.specs.Option.{option_copied};
 ghost use Rattle.pdb_types.specs.declared.error.Error.TheVariants.{OutOfMemory};
 ghost use Rattle.pdb_types.specs.FailedParts.{with_met};
 ghost use Rattle.pdb_types.specs.Outcomes.{Gives};
-ghost use Rattle.pdb_types.specs.Standing.{program_pointer_size};
+ghost use Rattle.pdb_types.specs.TypeInputs.{program_pointer_size};
 ghost use Rattle.pdb_types.specs.TypeSizes.{size_of};
 ghost use Rattle.pdb_documents.specs.Answers.{AnswersText, AnswersWritten};
 ghost use Rattle.pdb_documents.specs.BrokenParts.{AddsBroken};
 ghost use Rattle.pdb_documents.specs.Printed.{signature_run, id_run};
 ghost use Rattle.pdb_documents.specs.Progress.{failure_in};
-ghost use Rattle.pdb_documents.specs.Worlds.{formatter_world};
+ghost use Rattle.pdb_documents.specs.PrintInputs.{formatter_inputs};
 
 use crate::ids::print_id;
 use crate::signatures::print_signature;
@@ -17,42 +17,42 @@ use pdb_documents::answers::{Printed, printed_text, write_printed};
 use pdb_records::{
     DebugInformation, IdIndex, IdInformation, Module, StringTable, TypeIndex, TypeInformation,
 };
-use pdb_types::{Findings, ModuleProvider, Result, Standing, TypeFormatterFlags};
+use pdb_types::{ModuleProvider, Result, TypeCache, TypeFormatterFlags, TypeInputs};
 use std::alloc::{AllocError, Global};
 use std::fmt;
 use std::marker::Model;
 
-/// Tells the sizes of types, and prints the signatures of functions and ids.
+/// Answers the sizes of types, and prints the signatures of functions and ids.
 ///
-/// It stands on the records that it was given. Of what happens between two questions it remembers one
+/// Its inputs are the records that it was given. Of what happens between two questions it remembers one
 /// thing that later answers show: which parts of the records it met broken.
 pub struct TypeFormatter<'a, P: ModuleProvider> {
-    standing: Standing<'a, P>,
-    findings: Findings<'a>,
+    type_inputs: TypeInputs<'a, P>,
+    cache: TypeCache<'a>,
 }
 
 impl<'a, P: ModuleProvider> Model for TypeFormatter<'a, P> {
     ghost use Rattle.pdb_signatures.specs.Formatters.{Formatter};
-    ghost use Rattle.pdb_types.specs.Findings.{Fits};
+    ghost use Rattle.pdb_types.specs.TypeCache.{IsCacheOf};
 
     ghost Value = { Formatter P };
 
-    ghost view = { λ f. record { standing = f.standing; failed = f.findings.failed } };
+    ghost view = { λ f. record { type_inputs = f.type_inputs; failed = f.cache.failed } };
 
-    ghost invariant = { λ f. Fits P.info f.standing f.findings };
+    ghost invariant = { λ f. IsCacheOf P.info f.type_inputs f.cache };
 }
 
 impl<P: ModuleProvider> Drop for TypeFormatter<'_, P> {
     fn drop(self) {
         let TypeFormatter {
-            standing: _,
-            findings: _,
+            type_inputs: _,
+            cache: _,
         } = self;
     }
 }
 
 impl<'a, P: ModuleProvider> TypeFormatter<'a, P> {
-    /// A formatter that stands on these records. Of the debug information it takes the machine alone.
+    /// A formatter whose inputs are these records. Of the debug information it takes the machine alone.
     ///
     /// # Errors
     ///
@@ -67,20 +67,20 @@ impl<'a, P: ModuleProvider> TypeFormatter<'a, P> {
         string_table: Option<&'a StringTable>,
         flags: TypeFormatterFlags,
     ) -> Result<Self>
-        ensures pointer { Gives (λ f. f.standing.pointer_size) result
+        ensures pointer { Gives (λ f. f.type_inputs.pointer_size) result
             (program_pointer_size debug_information.now.machine_type) }
-        ensures standing { IfOk result (λ f. f.standing ≡ record {
+        ensures type_inputs { IfOk result (λ f. f.type_inputs ≡ record {
           provider = provider.now;
           modules = modules.items;
           strings = option_copied string_table.entry;
-          pointer_size = f.standing.pointer_size;
+          pointer_size = f.type_inputs.pointer_size;
           types = type_information.now.items;
           ids = id_information.now.items;
           flags = flags;
         }) }
         ensures none_failed { IfOk result (λ f. f.failed ≡ []) }
     {
-        let standing = Standing::new(
+        let type_inputs = TypeInputs::new(
             alloc,
             provider,
             modules,
@@ -90,15 +90,15 @@ impl<'a, P: ModuleProvider> TypeFormatter<'a, P> {
             string_table,
             flags,
         )?;
-        let findings = standing.no_findings();
-        Ok(TypeFormatter { standing, findings })
+        let cache = type_inputs.no_cache();
+        Ok(TypeFormatter { type_inputs, cache })
     }
 
     /// The modules that the formatter was given, in their order.
     pub fn modules(&self) -> &[Module]
-        ensures { result.now ≡ self.now.standing.modules }
+        ensures { result.now ≡ self.now.type_inputs.modules }
     {
-        self.standing.modules()
+        self.type_inputs.modules()
     }
 
     /// The size of a type in bytes, for an index as the module at `module_index` writes it.
@@ -112,17 +112,17 @@ impl<'a, P: ModuleProvider> TypeFormatter<'a, P> {
     /// [`Error::OutOfMemory`](crate::Error::OutOfMemory) alone. The formatter is then as it was before.
     pub fn get_type_size(&mut self, module_index: usize, index: TypeIndex) -> Result<u64>
         ensures size { MatchResult result
-            (λ size. size ≡ (size_of P.info self.old.standing module_index index.0).size)
+            (λ size. size ≡ (size_of P.info self.old.type_inputs module_index index.0).size)
             (λ e. e ≡ OutOfMemory) }
-        ensures standing { self.new.standing ≡ self.old.standing }
+        ensures type_inputs { self.new.type_inputs ≡ self.old.type_inputs }
         ensures remembered { OnOk result (self.new.failed ≡
-            with_met self.old.failed (size_of P.info self.old.standing module_index index.0).met) }
+            with_met self.old.failed (size_of P.info self.old.type_inputs module_index index.0).met) }
         ensures unchanged { OnErr result (self.new.failed ≡ self.old.failed) }
     {
         let found = self
-            .standing
-            .type_size(&mut self.findings, module_index, index)?;
-        self.standing.remember(&mut self.findings, found.met)?;
+            .type_inputs
+            .type_size(&mut self.cache, module_index, index)?;
+        self.type_inputs.remember(&mut self.cache, found.met)?;
         Ok(found.size)
     }
 
@@ -134,7 +134,7 @@ impl<'a, P: ModuleProvider> TypeFormatter<'a, P> {
     ///
     /// The first error of what is printed: [`Error::CircularTypeDefinition`](crate::Error) for an index
     /// that opens inside itself and for an array that is among its own elements, and the errors of types
-    /// that can't be read. A part of the records that is met broken tells its own error the first time, and
+    /// that can't be read. A part of the records that is met broken answers its own error the first time, and
     /// then that it failed before. Types that are missing and of unknown kinds have a note in the text where
     /// they are printed by themselves.
     pub fn format_function(
@@ -144,10 +144,10 @@ impl<'a, P: ModuleProvider> TypeFormatter<'a, P> {
         index: TypeIndex,
     ) -> Result<String>
         ensures answer { AnswersText
-            (signature_run P.info self.old.standing module_index name.now index.0 self.old.failed)
+            (signature_run P.info self.old.type_inputs module_index name.now index.0 self.old.failed)
             result self.new.failed }
-        ensures standing { self.new.standing ≡ self.old.standing }
-        ensures broken { AddsBroken (formatter_world P.info self.old.standing module_index)
+        ensures type_inputs { self.new.type_inputs ≡ self.old.type_inputs }
+        ensures broken { AddsBroken (formatter_inputs P.info self.old.type_inputs module_index)
             self.old.failed self.new.failed }
     {
         printed_text(self.print_function(name, module_index, index)?)
@@ -158,7 +158,7 @@ impl<'a, P: ModuleProvider> TypeFormatter<'a, P> {
     /// # Errors
     ///
     /// As of [`TypeFormatter::format_function`]; the writer then has the text that was printed before the
-    /// error, but for want of memory, where it has nothing. [`Error::FormatError`](crate::Error) where the
+    /// error, except where memory runs out: then it has nothing. [`Error::FormatError`](crate::Error) where the
     /// writer refused the text.
     pub fn emit_function<W: fmt::Write>(
         &mut self,
@@ -168,10 +168,10 @@ impl<'a, P: ModuleProvider> TypeFormatter<'a, P> {
         index: TypeIndex,
     ) -> Result<()>
         ensures answer { AnswersWritten W.write_str_gives
-            (signature_run P.info self.old.standing module_index name.now index.0 self.old.failed)
+            (signature_run P.info self.old.type_inputs module_index name.now index.0 self.old.failed)
             writer.old writer.new result self.new.failed }
-        ensures standing { self.new.standing ≡ self.old.standing }
-        ensures broken { AddsBroken (formatter_world P.info self.old.standing module_index)
+        ensures type_inputs { self.new.type_inputs ≡ self.old.type_inputs }
+        ensures broken { AddsBroken (formatter_inputs P.info self.old.type_inputs module_index)
             self.old.failed self.new.failed }
     {
         let printed = self.print_function(name, module_index, index)?;
@@ -187,15 +187,15 @@ impl<'a, P: ModuleProvider> TypeFormatter<'a, P> {
     /// a scope of itself and as of [`TypeFormatter::format_function`],
     /// [`Error::MemberFunctionIdIsNotMemberFunctionType`](crate::Error) and
     /// [`Error::FunctionIdIsNotProcedureType`](crate::Error) for a function whose type is of another kind, and
-    /// the errors of types and ids that can't be read. A part of the records that is met broken tells its own
+    /// the errors of types and ids that can't be read. A part of the records that is met broken answers its own
     /// error the first time, whether for a type or for an id, and then that it failed before. Ids that are
     /// missing and of unknown kinds have a note in the text, and so have types that are printed by themselves.
     pub fn format_id(&mut self, module_index: usize, index: IdIndex) -> Result<String>
         ensures answer { AnswersText
-            (id_run P.info self.old.standing module_index index.0 self.old.failed)
+            (id_run P.info self.old.type_inputs module_index index.0 self.old.failed)
             result self.new.failed }
-        ensures standing { self.new.standing ≡ self.old.standing }
-        ensures broken { AddsBroken (formatter_world P.info self.old.standing module_index)
+        ensures type_inputs { self.new.type_inputs ≡ self.old.type_inputs }
+        ensures broken { AddsBroken (formatter_inputs P.info self.old.type_inputs module_index)
             self.old.failed self.new.failed }
     {
         printed_text(self.print_id(module_index, index)?)
@@ -206,7 +206,7 @@ impl<'a, P: ModuleProvider> TypeFormatter<'a, P> {
     /// # Errors
     ///
     /// As of [`TypeFormatter::format_id`]; the writer then has the text that was printed before the error,
-    /// but for want of memory, where it has nothing. [`Error::FormatError`](crate::Error) where the writer
+    /// except where memory runs out: then it has nothing. [`Error::FormatError`](crate::Error) where the writer
     /// refused the text.
     pub fn emit_id<W: fmt::Write>(
         &mut self,
@@ -215,10 +215,10 @@ impl<'a, P: ModuleProvider> TypeFormatter<'a, P> {
         index: IdIndex,
     ) -> Result<()>
         ensures answer { AnswersWritten W.write_str_gives
-            (id_run P.info self.old.standing module_index index.0 self.old.failed)
+            (id_run P.info self.old.type_inputs module_index index.0 self.old.failed)
             writer.old writer.new result self.new.failed }
-        ensures standing { self.new.standing ≡ self.old.standing }
-        ensures broken { AddsBroken (formatter_world P.info self.old.standing module_index)
+        ensures type_inputs { self.new.type_inputs ≡ self.old.type_inputs }
+        ensures broken { AddsBroken (formatter_inputs P.info self.old.type_inputs module_index)
             self.old.failed self.new.failed }
     {
         let printed = self.print_id(module_index, index)?;
@@ -232,20 +232,20 @@ impl<'a, P: ModuleProvider> TypeFormatter<'a, P> {
         module_index: usize,
         index: TypeIndex,
     ) -> Result<Printed, AllocError>
-        ensures standing { self.new.standing ≡ self.old.standing }
-        ensures broken { AddsBroken (formatter_world P.info self.old.standing module_index)
+        ensures type_inputs { self.new.type_inputs ≡ self.old.type_inputs }
+        ensures broken { AddsBroken (formatter_inputs P.info self.old.type_inputs module_index)
             self.old.failed self.new.failed }
         ensures printed { IfOk result (λ p.
-            signature_run P.info self.old.standing module_index name.now index.0 self.old.failed ≡ record {
+            signature_run P.info self.old.type_inputs module_index name.now index.0 self.old.failed ≡ record {
               text = string_bytes p.text;
               fault = failure_in p.failure;
               failed = self.new.failed;
             }) }
     {
         print_signature(
-            self.standing.allocator(),
-            &self.standing,
-            &mut self.findings,
+            self.type_inputs.allocator(),
+            &self.type_inputs,
+            &mut self.cache,
             name,
             module_index,
             index,
@@ -253,20 +253,20 @@ impl<'a, P: ModuleProvider> TypeFormatter<'a, P> {
     }
     /// Prints an id.
     fn print_id(&mut self, module_index: usize, index: IdIndex) -> Result<Printed, AllocError>
-        ensures standing { self.new.standing ≡ self.old.standing }
-        ensures broken { AddsBroken (formatter_world P.info self.old.standing module_index)
+        ensures type_inputs { self.new.type_inputs ≡ self.old.type_inputs }
+        ensures broken { AddsBroken (formatter_inputs P.info self.old.type_inputs module_index)
             self.old.failed self.new.failed }
         ensures printed { IfOk result (λ p.
-            id_run P.info self.old.standing module_index index.0 self.old.failed ≡ record {
+            id_run P.info self.old.type_inputs module_index index.0 self.old.failed ≡ record {
               text = string_bytes p.text;
               fault = failure_in p.failure;
               failed = self.new.failed;
             }) }
     {
         print_id(
-            self.standing.allocator(),
-            &self.standing,
-            &mut self.findings,
+            self.type_inputs.allocator(),
+            &self.type_inputs,
+            &mut self.cache,
             module_index,
             index,
         )

@@ -64,10 +64,10 @@ fn write_plain(
 
 fn write_unknown(out: &mut String, options: &Options<'_>) -> Result<(), AllocError> {
     write_name(out, options, false, UNKNOWN)?;
-    write_place(out, options, UNKNOWN, 0)
+    write_location(out, options, UNKNOWN, 0)
 }
 
-// The lines of a frame. One that another was inlined into is told as that on one line.
+// The lines of a frame. One that another was inlined into is shown as that on one line.
 fn write_frame(
     out: &mut String,
     options: &Options<'_>,
@@ -75,7 +75,7 @@ fn write_frame(
     frame: &Frame<'_>,
 ) -> Result<(), AllocError> {
     write_name(out, options, outer, name_of(frame, UNKNOWN))?;
-    write_place(
+    write_location(
         out,
         options,
         file_of(options, frame, UNKNOWN),
@@ -101,7 +101,7 @@ fn write_name(
     write!(out, "{start}{name}{end}")
 }
 
-fn write_place(
+fn write_location(
     out: &mut String,
     options: &Options<'_>,
     file: &str,
@@ -150,7 +150,7 @@ fn write_json(
     write_quoted(out, options.file)?;
     out.push_str(",\"Symbol\":[")?;
     if frames.is_empty() {
-        write_json_place(out, "", "", 0)?;
+        write_json_location(out, "", "", 0)?;
     }
     for (position, frame) in frames.iter().enumerate() {
         if position > 0 {
@@ -166,7 +166,7 @@ fn write_json_frame(
     options: &Options<'_>,
     frame: &Frame<'_>,
 ) -> Result<(), AllocError> {
-    write_json_place(
+    write_json_location(
         out,
         file_of(options, frame, ""),
         json_name(options, frame),
@@ -174,7 +174,12 @@ fn write_json_frame(
     )
 }
 
-fn write_json_place(out: &mut String, file: &str, name: &str, line: u32) -> Result<(), AllocError> {
+fn write_json_location(
+    out: &mut String,
+    file: &str,
+    name: &str,
+    line: u32,
+) -> Result<(), AllocError> {
     out.push_str("{\"Column\":0,\"Discriminator\":0,\"FileName\":")?;
     write_quoted(out, file)?;
     out.push_str(",\"FunctionName\":")?;

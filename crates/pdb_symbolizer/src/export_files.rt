@@ -1,4 +1,4 @@
-use crate::input_files::{beside, is_want_of_memory};
+use crate::input_files::{beside, ran_out_of_memory};
 use crate::options::Export;
 use crate::progress::{Progress, Watched};
 use crate::stops::Stop;
@@ -109,7 +109,7 @@ fn create<'p, R: Files>(
 }
 
 fn fault_of(error: &io::Error) -> ExportFault {
-    if is_want_of_memory(error) {
+    if ran_out_of_memory(error) {
         ExportFault::OutOfMemory
     } else {
         ExportFault::CannotWrite

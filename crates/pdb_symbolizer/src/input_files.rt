@@ -18,7 +18,7 @@ pub fn read_records_of<'w, R: Files + Eprint + AllocGlobal>(
     path: &'w str,
 ) -> Result<PDB, Stop<'w>> {
     let bytes = read_file(rt, path)?;
-    progress.tell_size(rt, path, bytes.len());
+    progress.print_size(rt, path, bytes.len());
     if bytes.starts_with(&PDB_FILE) {
         return read_container(rt.alloc(), path, &bytes);
     }
@@ -40,7 +40,7 @@ fn read_container<'w>(alloc: Global, path: &'w str, bytes: &[u8]) -> Result<PDB,
 fn read_file<'w, R: Files + AllocGlobal>(rt: &R, path: &'w str) -> Result<Vec<u8>, Stop<'w>> {
     match fs::read(rt, path) {
         Ok(bytes) => Ok(bytes),
-        Err(error) if is_want_of_memory(&error) => Err(Stop::Refused(Error::OutOfMemory)),
+        Err(error) if ran_out_of_memory(&error) => Err(Stop::Refused(Error::OutOfMemory)),
         Err(_) => Err(Stop::CannotRead(path)),
     }
 }
@@ -70,7 +70,7 @@ fn read_module_file<'w, R: Files + AllocGlobal>(
     let path = beside(rt.alloc(), records, name)?;
     match fs::read(rt, path.as_str()) {
         Ok(bytes) => Ok(bytes),
-        Err(error) if is_want_of_memory(&error) => Err(Stop::Refused(Error::OutOfMemory)),
+        Err(error) if ran_out_of_memory(&error) => Err(Stop::Refused(Error::OutOfMemory)),
         Err(_) => Err(Stop::CannotReadModule(path)),
     }
 }
@@ -84,6 +84,6 @@ pub fn beside(alloc: Global, path: &str, name: &str) -> Result<String, AllocErro
 }
 
 /// Whether the error is that there was no memory.
-pub fn is_want_of_memory(error: &io::Error) -> bool {
+pub fn ran_out_of_memory(error: &io::Error) -> bool {
     matches!(error.kind(), io::ErrorKind::OutOfMemory)
 }

@@ -1,4 +1,4 @@
-//! Tells the functions, files and lines that addresses of a Windows program come from, by its PDB file.
+//! Shows the functions, files and lines that addresses of a Windows program come from, by its PDB file.
 //!
 //! `pdb_symbolizer [OPTIONS] FILE [ADDRESS...]` prints for each address the functions in whose code it
 //! lies, in the styles of `llvm-symbolizer`. With no address it reads them from standard input, a line
@@ -28,12 +28,12 @@ use stops::Stop;
 fn main(rt: HostRuntime) -> ExitCode {
     let words = match words(&rt) {
         Ok(words) => words,
-        Err(stop) => return tell(&rt, &stop),
+        Err(stop) => return report(&rt, &stop),
     };
     let mut progress = Progress::new(&rt, rt.stderr().is_terminal());
     match runs::run(&rt, &mut progress, &words) {
         Ok(()) => ExitCode::SUCCESS,
-        Err(stop) => tell(&rt, &stop),
+        Err(stop) => report(&rt, &stop),
     }
 }
 
@@ -49,7 +49,7 @@ fn words<R: Env + AllocGlobal>(rt: &R) -> Result<Vec<String>, Stop<'static>> {
 }
 
 /// Prints why the program ended early, and gives its status.
-fn tell<R: Print + Eprint>(rt: &R, stop: &Stop<'_>) -> ExitCode {
+fn report<R: Print + Eprint>(rt: &R, stop: &Stop<'_>) -> ExitCode {
     match stop {
         Stop::Words(error) => {
             let _ = error.print(rt);

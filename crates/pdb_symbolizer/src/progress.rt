@@ -1,18 +1,18 @@
 use std::io;
 use std::time::{Clock, Instant};
 
-/// How many seconds may pass until something is told.
+/// How many seconds may pass until something is shown.
 const PAUSE: u64 = 1;
 
 /// The length of files whose reading takes long, in bytes.
 const LONG: usize = 1 << 26;
 
-/// What is told of long work on standard error, where somebody watches.
+/// What is shown of long work on standard error, where somebody watches.
 #[derive(Drop)]
 pub struct Progress {
     watched: bool,
-    /// When something was told last, or the work began.
-    told: Option<Instant>,
+    /// When something was shown last, or the work began.
+    shown: Option<Instant>,
     /// How many bytes were written.
     written: usize,
 }
@@ -22,19 +22,19 @@ impl Progress {
     pub fn new<R: Clock>(rt: &R, watched: bool) -> Progress {
         Progress {
             watched,
-            told: Instant::now(rt).ok(),
+            shown: Instant::now(rt).ok(),
             written: 0,
         }
     }
 
-    /// Tells that a file of this length is being read, where that takes long.
-    pub fn tell_size<R: Eprint>(&self, rt: &R, path: &str, length: usize) {
+    /// Shows that a file of this length is being read, where that takes long.
+    pub fn print_size<R: Eprint>(&self, rt: &R, path: &str, length: usize) {
         if self.watched && length >= LONG {
             let _ = eprintln!(rt; "pdb_symbolizer: reading {path}, {length} bytes");
         }
     }
 
-    /// Counts bytes that were written, and tells their number once a second.
+    /// Counts bytes that were written, and shows their number once a second.
     fn count<R: Clock + Eprint>(&mut self, rt: &R, written: usize) {
         self.written = self.written.saturating_add(written);
         if self.watched && self.is_due(rt) {
@@ -42,11 +42,11 @@ impl Progress {
         }
     }
 
-    /// Whether a second has passed since something was told. If so, it counts anew.
+    /// Whether a second has passed since something was shown. If so, it counts anew.
     fn is_due<R: Clock>(&mut self, rt: &R) -> bool {
-        match (Instant::now(rt), self.told) {
-            (Ok(now), Some(told)) if now.duration_since(told).as_secs() >= PAUSE => {
-                self.told = Some(now);
+        match (Instant::now(rt), self.shown) {
+            (Ok(now), Some(shown)) if now.duration_since(shown).as_secs() >= PAUSE => {
+                self.shown = Some(now);
                 true
             }
             _ => false,
@@ -54,7 +54,7 @@ impl Progress {
     }
 }
 
-/// A writer of which is told how much it took.
+/// A writer of which is shown how much it took.
 #[derive(Drop)]
 pub struct Watched<'p, R, W> {
     pub rt: &'p R,

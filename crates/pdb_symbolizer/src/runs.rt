@@ -114,7 +114,7 @@ fn answer_line<'w, R: Print + Eprint + AllocGlobal, P: ModuleProvider>(
     write_out(rt, text.as_str())
 }
 
-/// The answer of what was given as an address. What is none is told on standard error.
+/// The answer of what was given as an address. What is none is shown on standard error.
 fn answer_text<'w, R: Eprint + AllocGlobal, P: ModuleProvider>(
     rt: &R,
     options: &Options<'_>,
@@ -135,7 +135,7 @@ fn answer_text<'w, R: Eprint + AllocGlobal, P: ModuleProvider>(
     Ok(text)
 }
 
-/// The frames of an address. Where the records of its module can't be read that is told on standard error.
+/// The frames of an address. Where the records of its module can't be read that is shown on standard error.
 fn frames_at<'a, 'w, R: Eprint, P: ModuleProvider>(
     rt: &R,
     options: &Options<'_>,

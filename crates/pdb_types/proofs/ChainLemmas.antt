@@ -15,11 +15,11 @@ use Rattle.pdb_types.specs.declared.type_sizes.TypeSize.{TypeSize}
 use Rattle.pdb_types.specs.declared.type_sizes.Step.{Step}
 use Rattle.pdb_types.specs.declared.type_sizes.Step.TheVariants.{Ended, Next}
 use Rattle.pdb_types.specs.Outcomes.{and_then}
-use Rattle.pdb_types.specs.Unread.{Trouble, Missing}
+use Rattle.pdb_types.specs.ReadError.{ReadErrorView, Missing}
 use Rattle.pdb_types.specs.Items.{first_item}
 use Rattle.pdb_types.specs.Reading.{said, entry}
 use Rattle.pdb_types.specs.Resolution.{resolved}
-use Rattle.pdb_types.specs.Standing.{Linked}
+use Rattle.pdb_types.specs.TypeInputs.{LinkInputs}
 use Rattle.pdb_types.specs.TypeSizes.{no_size, step_after, step, onward, ended, size_along, type_size}
 use Rattle.pdb_types.specs.SizeLaws.{EndsWith, NeverEnds}
 use Rattle.pdb_types.proofs.SizeLemmas.{size_along-ended}
@@ -55,8 +55,8 @@ size_along-never next (suc allowed) index never =
     by_step (Next further) is onwards = onwards further is
 
 -- of indices that go on, those with the same key are followed by the same
-abbrev KeysTell : (ℕ → Step) → (ℕ → ℕ) → Type 0
-KeysTell next key = (i j : ℕ) (further other : TypeIndex) → next i ≡ Next further → next j ≡ Next other → key i ≡ key j → next i ≡ next j
+abbrev KeysDetermine : (ℕ → Step) → (ℕ → ℕ) → Type 0
+KeysDetermine next key = (i j : ℕ) (further other : TypeIndex) → next i ≡ Next further → next j ≡ Next other → key i ≡ key j → next i ≡ next j
 
 -- the keys of indices that go on are in a list
 abbrev KeysAmong : (ℕ → Step) → (ℕ → ℕ) → List ℕ → Type 0
@@ -83,28 +83,28 @@ keys_along-among next key keys (suc steps) index size ends among q here =
     by_test false other later rest = rest later
 
 -- an index that is farther from its end than all of a chain has a key of its own
-keys_along-apart : (next : ℕ → Step) (key : ℕ → ℕ) → KeysTell next key → (far first : ℕ) (end : TypeSize) → EndsWith next (suc far) first end → (steps index : ℕ) (size : TypeSize) (ends : EndsWith next steps index size) → steps ≤ far → AllByRecursion (λ q. eqb (key first) q ≡ false) (keys_along next key steps index size ends)
-keys_along-apart next key tell far first end long zero index size ends within = tt
-keys_along-apart next key tell far first end long (suc steps) index size ends within = (by_test (eqb (key first) (key index)) refl, keys_along-apart next key tell far first end long steps ends.0.0 size ends.2 (omega arith)) where
+keys_along-apart : (next : ℕ → Step) (key : ℕ → ℕ) → KeysDetermine next key → (far first : ℕ) (end : TypeSize) → EndsWith next (suc far) first end → (steps index : ℕ) (size : TypeSize) (ends : EndsWith next steps index size) → steps ≤ far → AllByRecursion (λ q. eqb (key first) q ≡ false) (keys_along next key steps index size ends)
+keys_along-apart next key report far first end long zero index size ends within = tt
+keys_along-apart next key report far first end long (suc steps) index size ends within = (by_test (eqb (key first) (key index)) refl, keys_along-apart next key report far first end long steps ends.0.0 size ends.2 (omega arith)) where
   by_test : (t : Bool) → eqb (key first) (key index) ≡ t → t ≡ false
   by_test false other = refl
   by_test true same =
-      let e : next first ≡ next index = tell first index long.0 ends.0 long.1 ends.1 (eqb-true (key first) (key index) same) in
+      let e : next first ≡ next index = report first index long.0 ends.0 long.1 ends.1 (eqb-true (key first) (key index) same) in
       let equal : suc far ≡ suc steps = steps_to_end next (suc far) (suc steps) index end size (long.0, sym e ∙ long.1, long.2) ends in
       absurd (omega arith)
 
 -- the indices of a chain that go on have different keys
-keys_along-distinct : (next : ℕ → Step) (key : ℕ → ℕ) → KeysTell next key → (steps index : ℕ) (size : TypeSize) (ends : EndsWith next steps index size) → IsDistinct eqb (keys_along next key steps index size ends)
+keys_along-distinct : (next : ℕ → Step) (key : ℕ → ℕ) → KeysDetermine next key → (steps index : ℕ) (size : TypeSize) (ends : EndsWith next steps index size) → IsDistinct eqb (keys_along next key steps index size ends)
 unfolding IsDistinct
-keys_along-distinct next key tell zero index size ends = tt
-keys_along-distinct next key tell (suc steps) index size ends =
-    (keys_along-apart next key tell steps index size ends steps ends.0.0 size ends.2 (omega arith), keys_along-distinct next key tell steps ends.0.0 size ends.2)
+keys_along-distinct next key report zero index size ends = tt
+keys_along-distinct next key report (suc steps) index size ends =
+    (keys_along-apart next key report steps index size ends steps ends.0.0 size ends.2 (omega arith), keys_along-distinct next key report steps ends.0.0 size ends.2)
 
 -- a chain that ends has no more steps than there are keys
-steps-le_keys : (next : ℕ → Step) (key : ℕ → ℕ) (keys : List ℕ) → KeysTell next key → KeysAmong next key keys → (steps index : ℕ) (size : TypeSize) → EndsWith next steps index size → steps ≤ length keys
-steps-le_keys next key keys tell among steps index size ends =
+steps-le_keys : (next : ℕ → Step) (key : ℕ → ℕ) (keys : List ℕ) → KeysDetermine next key → KeysAmong next key keys → (steps index : ℕ) (size : TypeSize) → EndsWith next steps index size → steps ≤ length keys
+steps-le_keys next key keys report among steps index size ends =
     subst (λ (n : ℕ). n ≤ length keys) (length-keys_along next key steps index size ends)
-    (length-le_from_is_member nat_eq_equiv (keys_along next key steps index size ends) keys (keys_along-distinct next key tell steps index size ends) (keys_along-among next key keys steps index size ends among))
+    (length-le_from_is_member nat_eq_equiv (keys_along next key steps index size ends) keys (keys_along-distinct next key report steps index size ends) (keys_along-among next key keys steps index size ends among))
 
 -- the numbers of entries
 abbrev numbers : List (Item TypeIndex TypeData) → List ℕ
@@ -119,11 +119,11 @@ first_item-among number (item ∷ items) found is = by_test (eqb item.index.0 nu
   by_test false other later rest = or_right (eqb number item.index.0) (list_any (eqb number) (numbers items)) (rest later)
 
 -- what follows an index that stands for this
-abbrev follows : Read (Item TypeIndex TypeData) → ℕ → Result ℕ Trouble → Step
+abbrev follows : Read (Item TypeIndex TypeData) → ℕ → Result ℕ ReadErrorView → Step
 follows types pointer stands = step_after pointer types.items (and_then stands (λ number. and_then (entry (λ i. i.0) types number) (λ content. Ok (number, content))))
 
 -- an index that goes on stands for the number of an entry
-follows-entry : (types : Read (Item TypeIndex TypeData)) (pointer : ℕ) (stands : Result ℕ Trouble) (further : TypeIndex) → follows types pointer stands ≡ Next further → (number : ℕ) × (stands ≡ Ok number) × (list_any (eqb number) (numbers types.items) ≡ true)
+follows-entry : (types : Read (Item TypeIndex TypeData)) (pointer : ℕ) (stands : Result ℕ ReadErrorView) (further : TypeIndex) → follows types pointer stands ≡ Next further → (number : ℕ) × (stands ≡ Ok number) × (list_any (eqb number) (numbers types.items) ≡ true)
 follows-entry types pointer (Err e) further on = cc
 follows-entry types pointer (Ok number) further on = (number, refl, by_found (first_item (λ i. i.0) number types.items) refl on) where
   by_found : (o : Option (Item TypeIndex TypeData)) → first_item (λ i. i.0) number types.items ≡ o → step_after pointer types.items (and_then (said types.fault number o) (λ content. Ok (number, content))) ≡ Next further → list_any (eqb number) (numbers types.items) ≡ true
@@ -131,54 +131,54 @@ follows-entry types pointer (Ok number) further on = (number, refl, by_found (fi
   by_found (Some item) is on = first_item-among number types.items item is
 
 -- an index of 32 bits goes on as what it stands for does; others don't go on
-abbrev follows_within : Linked → Read (Item TypeIndex TypeData) → ℕ → ℕ → ℕ → Bool → Step
-follows_within w types pointer position index within = step_after pointer types.items (cond within (and_then (resolved w position index) (λ number. and_then (entry (λ i. i.0) types number) (λ content. Ok (number, content)))) (Err (Missing index)))
+abbrev follows_within : LinkInputs → Read (Item TypeIndex TypeData) → ℕ → ℕ → ℕ → Bool → Step
+follows_within w types pointer module_index index within = step_after pointer types.items (cond within (and_then (resolved w module_index index) (λ number. and_then (entry (λ i. i.0) types number) (λ content. Ok (number, content)))) (Err (Missing index)))
 
 -- an index that goes on goes on as what it stands for does
-step-follows : (w : Linked) (types : Read (Item TypeIndex TypeData)) (pointer position index : ℕ) (further : TypeIndex) → step w types pointer position index ≡ Next further → step w types pointer position index ≡ follows types pointer (resolved w position index)
-step-follows w types pointer position index further on =
-    (elim (nat_lt index (2 ^ 32)) as (λ b. follows_within w types pointer position index b ≡ Next further → follows_within w types pointer position index b ≡ follows types pointer (resolved w position index)) [ true ↦ λ e. refl | false ↦ λ e. cc ]) on
+step-follows : (w : LinkInputs) (types : Read (Item TypeIndex TypeData)) (pointer module_index index : ℕ) (further : TypeIndex) → step w types pointer module_index index ≡ Next further → step w types pointer module_index index ≡ follows types pointer (resolved w module_index index)
+step-follows w types pointer module_index index further on =
+    (elim (nat_lt index (2 ^ 32)) as (λ b. follows_within w types pointer module_index index b ≡ Next further → follows_within w types pointer module_index index b ≡ follows types pointer (resolved w module_index index)) [ true ↦ λ e. refl | false ↦ λ e. cc ]) on
 
 -- only an index of 32 bits goes on
-pub step-below : (w : Linked) (types : Read (Item TypeIndex TypeData)) (pointer position index : ℕ) (further : TypeIndex) → step w types pointer position index ≡ Next further → index < 2 ^ 32
-step-below w types pointer position index further on =
-    (elim (nat_lt index (2 ^ 32)) as (λ b. nat_lt index (2 ^ 32) ≡ b → follows_within w types pointer position index b ≡ Next further → index < 2 ^ 32) [ true ↦ λ e _. ltb-true index (2 ^ 32) e | false ↦ λ _ e. cc ]) refl on
+pub step-below : (w : LinkInputs) (types : Read (Item TypeIndex TypeData)) (pointer module_index index : ℕ) (further : TypeIndex) → step w types pointer module_index index ≡ Next further → index < 2 ^ 32
+step-below w types pointer module_index index further on =
+    (elim (nat_lt index (2 ^ 32)) as (λ b. nat_lt index (2 ^ 32) ≡ b → follows_within w types pointer module_index index b ≡ Next further → index < 2 ^ 32) [ true ↦ λ e _. ltb-true index (2 ^ 32) e | false ↦ λ _ e. cc ]) refl on
 
 -- the number that an index stands for, where it stands for one
-abbrev number_of : Linked → ℕ → ℕ → ℕ
-number_of w position index = result_unwrap_or (resolved w position index) 0
+abbrev number_of : LinkInputs → ℕ → ℕ → ℕ
+number_of w module_index index = result_unwrap_or (resolved w module_index index) 0
 
 -- the numbers of the indices that go on are those of entries
-numbers_among : (w : Linked) (types : Read (Item TypeIndex TypeData)) (pointer position : ℕ) → KeysAmong (step w types pointer position) (number_of w position) (numbers types.items)
-numbers_among w types pointer position index further on =
-    let entry = follows-entry types pointer (resolved w position index) further (sym (step-follows w types pointer position index further on) ∙ on) in rw entry.1 entry.2
+numbers_among : (w : LinkInputs) (types : Read (Item TypeIndex TypeData)) (pointer module_index : ℕ) → KeysAmong (step w types pointer module_index) (number_of w module_index) (numbers types.items)
+numbers_among w types pointer module_index index further on =
+    let entry = follows-entry types pointer (resolved w module_index index) further (sym (step-follows w types pointer module_index index further on) ∙ on) in rw entry.1 entry.2
 
 -- of the indices that go on, those that stand for the same number are followed by the same
-numbers_tell : (w : Linked) (types : Read (Item TypeIndex TypeData)) (pointer position : ℕ) → KeysTell (step w types pointer position) (number_of w position)
-numbers_tell w types pointer position i j further other on onward same =
-    let on_entry = step-follows w types pointer position i further on in
-    let next_entry = step-follows w types pointer position j other onward in
-    let entry = follows-entry types pointer (resolved w position i) further (sym on_entry ∙ on) in
-    let next = follows-entry types pointer (resolved w position j) other (sym next_entry ∙ onward) in
+numbers_determine : (w : LinkInputs) (types : Read (Item TypeIndex TypeData)) (pointer module_index : ℕ) → KeysDetermine (step w types pointer module_index) (number_of w module_index)
+numbers_determine w types pointer module_index i j further other on onward same =
+    let on_entry = step-follows w types pointer module_index i further on in
+    let next_entry = step-follows w types pointer module_index j other onward in
+    let entry = follows-entry types pointer (resolved w module_index i) further (sym on_entry ∙ on) in
+    let next = follows-entry types pointer (resolved w module_index j) other (sym next_entry ∙ onward) in
     let equal : entry.0 ≡ next.0 = rw (entry.1, next.1) at same in
     on_entry ∙ (ap (follows types pointer) (entry.1 ∙ (ap (λ n. Ok n) equal ∙ sym next.1)) ∙ sym next_entry)
 
 -- a chain that ends has no more steps than there are entries
-pub steps_within : (w : Linked) (types : Read (Item TypeIndex TypeData)) (pointer position index steps : ℕ) (size : TypeSize) → EndsWith (step w types pointer position) steps index size → steps ≤ length types.items
-steps_within w types pointer position index steps size ends =
-    let next = step w types pointer position in
-    let within = steps-le_keys next (number_of w position) (numbers types.items) (numbers_tell w types pointer position) (numbers_among w types pointer position) steps index size ends in
+pub steps_within : (w : LinkInputs) (types : Read (Item TypeIndex TypeData)) (pointer module_index index steps : ℕ) (size : TypeSize) → EndsWith (step w types pointer module_index) steps index size → steps ≤ length types.items
+steps_within w types pointer module_index index steps size ends =
+    let next = step w types pointer module_index in
+    let within = steps-le_keys next (number_of w module_index) (numbers types.items) (numbers_determine w types pointer module_index) (numbers_among w types pointer module_index) steps index size ends in
     subst (λ (n : ℕ). steps ≤ n) (length-map types.items (λ item. item.index.0)) within
 
 -- however many steps a chain has, where it ends, the size at its end is the type's
-pub type_size-at_end : (w : Linked) (types : Read (Item TypeIndex TypeData)) (pointer position index steps : ℕ) (size : TypeSize) → EndsWith (step w types pointer position) steps index size → type_size w types pointer position index ≡ size
+pub type_size-at_end : (w : LinkInputs) (types : Read (Item TypeIndex TypeData)) (pointer module_index index steps : ℕ) (size : TypeSize) → EndsWith (step w types pointer module_index) steps index size → type_size w types pointer module_index index ≡ size
 unfolding type_size
-type_size-at_end w types pointer position index steps size ends = size_along-within (step w types pointer position) (length types.items) steps index size (steps_within w types pointer position index steps size ends) ends
+type_size-at_end w types pointer module_index index steps size ends = size_along-within (step w types pointer module_index) (length types.items) steps index size (steps_within w types pointer module_index index steps size ends) ends
 
 -- where a chain never ends, the type has no size
-pub type_size-never : (w : Linked) (types : Read (Item TypeIndex TypeData)) (pointer position index : ℕ) → NeverEnds (step w types pointer position) index → type_size w types pointer position index ≡ no_size
+pub type_size-never : (w : LinkInputs) (types : Read (Item TypeIndex TypeData)) (pointer module_index index : ℕ) → NeverEnds (step w types pointer module_index) index → type_size w types pointer module_index index ≡ no_size
 unfolding type_size
-type_size-never w types pointer position index never = size_along-never (step w types pointer position) (length types.items) index never
+type_size-never w types pointer module_index index never = size_along-never (step w types pointer module_index) (length types.items) index never
 
 -- a chain ends, or not within so many steps
 abbrev pub EndsOrNot : (ℕ → Step) → ℕ → ℕ → Type 0
@@ -196,7 +196,7 @@ ends_or_not-onward next steps index further is (inr behind) = inr longer where
       let less : steps < k = behind k size (subst (λ (f : TypeIndex). EndsWith next k f.0 size) same ends.2) in
       omega arith
 
--- whether a chain ends within so many steps can be told
+-- whether a chain ends within so many steps can be answered
 pub ends_or_not : (next : ℕ → Step) (steps index : ℕ) → EndsOrNot next steps index
 ends_or_not next zero index = by_step (next index) refl where
   longer : (further : TypeIndex) → next index ≡ Next further → (k : ℕ) (size : TypeSize) → EndsWith next k index size → zero < k

@@ -15,7 +15,7 @@ use Rattle.pdb_records.specs.declared.error.Error as records
 use Rattle.pdb_records.specs.declared.types.Item.{Item}
 use Rattle.pdb_records.specs.declared.types.TypeIndex.{TypeIndex}
 use Rattle.pdb_records.specs.declared.types.TypeData.{TypeData}
-use Rattle.pdb_types.specs.ForwardReferences.{Aggregate, aggregate, told_by, size_behind, size_for, definition_size, first_definition, entries_behind, referred_name, entry_name, forward_size, size_under, Defines, Tabulates}
+use Rattle.pdb_types.specs.ForwardReferences.{Aggregate, aggregate, item_aggregate, size_behind, size_for, definition_size, first_definition, entries_behind, referred_name, entry_name, forward_size, size_under, Defines, Tabulates}
 use Rattle.pdb_types.specs.Items.{first_item}
 use Rattle.pdb_types.specs.Resolution.{answered}
 use Rattle.pdb_types.specs.Reading.{said, entry}
@@ -42,9 +42,9 @@ unfolding Tabulates
 tabulates_nothing sizes empty number = ap (λ es. lookup (λ k. is_eq (nat_cmp number k)) es) empty
 
 -- a map that takes up an entry before those that it has the definitions of has its definition too
-pub defines_more : (behind : List (Item TypeIndex TypeData)) (item : Item TypeIndex TypeData) (told : Option Aggregate) (old new : BTreeMap (Bor (List ℕ)) ℕ) → told ≡ told_by item → Defines behind old → ((name : List ℕ) → size_under new name ≡ option_or (option_and_then (size_for name) told) (size_under old name)) → Defines (item ∷ behind) new
+pub defines_more : (behind : List (Item TypeIndex TypeData)) (item : Item TypeIndex TypeData) (error_view : Option Aggregate) (old new : BTreeMap (Bor (List ℕ)) ℕ) → error_view ≡ item_aggregate item → Defines behind old → ((name : List ℕ) → size_under new name ≡ option_or (option_and_then (size_for name) error_view) (size_under old name)) → Defines (item ∷ behind) new
 unfolding Defines
-defines_more behind item told old new is defined step name =
+defines_more behind item error_view old new is defined step name =
     step name ∙ (ap (λ t. option_or (option_and_then (size_for name) t) (size_under old name)) is ∙ ap (λ size. option_or (definition_size name item) size) (defined name))
 
 -- what a map has under the own name of an entry is its size among the entries that it has the definitions of
@@ -67,10 +67,10 @@ forward_size-first number item behind =
     ≡ cond b (forward_size_among behind item) (forward_size number behind)) [ true ↦ refl | false ↦ refl ]
 
 -- a table that takes up an entry before those that it has the answers of has its answer too
-pub tabulates_more : (behind : List (Item TypeIndex TypeData)) (item : Item TypeIndex TypeData) (number : ℕ) (told : Option Aggregate) (size : Option ℕ) (by_name : BTreeMap (Bor (List ℕ)) ℕ) (old new : BTreeMap ℕ ℕ) → number ≡ item.index.0 → told ≡ told_by item → size ≡ option_and_then (size_under by_name) (option_and_then referred_name told) → Defines behind by_name → Tabulates behind old → ((n : ℕ) → get nat_cmp new n ≡ cond (nat_eq number n) size (get nat_cmp old n)) → Tabulates (item ∷ behind) new
+pub tabulates_more : (behind : List (Item TypeIndex TypeData)) (item : Item TypeIndex TypeData) (number : ℕ) (error_view : Option Aggregate) (size : Option ℕ) (by_name : BTreeMap (Bor (List ℕ)) ℕ) (old new : BTreeMap ℕ ℕ) → number ≡ item.index.0 → error_view ≡ item_aggregate item → size ≡ option_and_then (size_under by_name) (option_and_then referred_name error_view) → Defines behind by_name → Tabulates behind old → ((n : ℕ) → get nat_cmp new n ≡ cond (nat_eq number n) size (get nat_cmp old n)) → Tabulates (item ∷ behind) new
 unfolding Tabulates
-tabulates_more behind item number told size by_name old new same is answers defined tabulated step n =
-    let own : size ≡ forward_size_among behind item = answers ∙ (forward_size_among-by_name behind by_name defined (option_and_then referred_name told) ∙ ap (λ t. option_and_then (λ name. first_definition name behind) (option_and_then referred_name t)) is) in
+tabulates_more behind item number error_view size by_name old new same is answers defined tabulated step n =
+    let own : size ≡ forward_size_among behind item = answers ∙ (forward_size_among-by_name behind by_name defined (option_and_then referred_name error_view) ∙ ap (λ t. option_and_then (λ name. first_definition name behind) (option_and_then referred_name t)) is) in
     step n ∙ (ap (λ m. cond (nat_eq m n) size (get nat_cmp old n)) same ∙ (ap (λ s. cond (nat_eq (item.index.0) n) s (get nat_cmp old n)) own ∙ (ap (λ s. cond (nat_eq (item.index.0) n) (forward_size_among behind item) s) (tabulated n) ∙ sym (forward_size-first n item behind))))
 
 -- an index that no entry has has nothing behind it
@@ -80,24 +80,24 @@ entries_behind-absent number (item ∷ items) absent =
     (elim (nat_eq (item.index.0) number) as (λ b. cond b (Some item) (first_item (λ index. index.0) number items) ≡ None → cond b items (entries_behind number items) ≡ []) [ true ↦ λ e. cc | false ↦ λ e. entries_behind-absent number items e ]) absent
 
 -- the size behind an entry of the name that it goes by, where it is a forward reference
-forward_size-told : (number : ℕ) (a : Aggregate) (items : List (Item TypeIndex TypeData)) (found : Item TypeIndex TypeData)
-    → first_item (λ index. index.0) number items ≡ Some found → told_by found ≡ Some a → a.forward_reference ≡ true
+forward_size-error_view : (number : ℕ) (a : Aggregate) (items : List (Item TypeIndex TypeData)) (found : Item TypeIndex TypeData)
+    → first_item (λ index. index.0) number items ≡ Some found → item_aggregate found ≡ Some a → a.forward_reference ≡ true
     → forward_size number items ≡ size_behind number a.name items
-forward_size-told number a items found is told refers =
+forward_size-error_view number a items found is error_view refers =
     let sized : Option (List ℕ) → Option ℕ = option_and_then (λ name. size_behind number name items) in
     ap (λ o. sized (option_and_then entry_name o)) is
-    ∙ (ap (λ t. sized (option_and_then referred_name t)) told ∙ ap (λ b. sized (cond b (Some a.name) None)) refers)
+    ∙ (ap (λ t. sized (option_and_then referred_name t)) error_view ∙ ap (λ b. sized (cond b (Some a.name) None)) refers)
 
 -- the size of a forward reference that was read is that behind it by its own name
 pub forward_size-read : (types : Read (Item TypeIndex TypeData)) (number : ℕ) (type : TypeData) (a : Aggregate) → entry (λ index. index.0) types number ≡ Ok type → aggregate type ≡ Some a → a.forward_reference ≡ true → forward_size number types.items ≡ size_behind number a.name types.items
-forward_size-read types number type a read told refers = by_found (first_item (λ index. index.0) number types.items) refl read where
-  by_content : (item : Item TypeIndex TypeData) (content : Result TypeData records.Error) → item.content ≡ content → answered content ≡ Ok type → told_by item ≡ Some a
-  by_content item (Ok said) is e = let same : said ≡ type = cc in ap (λ c. option_and_then aggregate (result_ok c)) is ∙ (ap aggregate same ∙ told)
+forward_size-read types number type a read error_view refers = by_found (first_item (λ index. index.0) number types.items) refl read where
+  by_content : (item : Item TypeIndex TypeData) (content : Result TypeData records.Error) → item.content ≡ content → answered content ≡ Ok type → item_aggregate item ≡ Some a
+  by_content item (Ok said) is e = let same : said ≡ type = cc in ap (λ c. option_and_then aggregate (result_ok c)) is ∙ (ap aggregate same ∙ error_view)
   by_content item (Err error) is e = cc
 
   by_found : (o : Option (Item TypeIndex TypeData)) → first_item (λ index. index.0) number types.items ≡ o → said types.fault number o ≡ Ok type → forward_size number types.items ≡ size_behind number a.name types.items
   by_found None is e = cc
-  by_found (Some item) is e = forward_size-told number a types.items item is (by_content item item.content refl e) refers
+  by_found (Some item) is e = forward_size-error_view number a types.items item is (by_content item item.content refl e) refers
 
 -- what a table has under a number is the size behind its index
 pub forward_size-tabulated : (inside items : List (Item TypeIndex TypeData)) (n number : ℕ) (sizes : BTreeMap ℕ ℕ) → inside ≡ items → n ≡ number → Tabulates inside sizes → get nat_cmp sizes n ≡ forward_size number items
@@ -105,6 +105,6 @@ unfolding Tabulates
 forward_size-tabulated inside items n number sizes same is tabulated = rw (← same, ← is) (tabulated n)
 
 -- a forward reference has the size that was found behind it, else its own
-pub size_elsewhere-forward : (number own : ℕ) (items : List (Item TypeIndex TypeData)) (told : Option Aggregate) (a : Aggregate) (size : Option ℕ) → told ≡ Some a → a.forward_reference ≡ true → size ≡ size_behind number a.name items → unwrap_or size own ≡ unwrap_or (option_and_then (size_elsewhere number items) told) own
-size_elsewhere-forward number own items told a size is refers found =
+pub size_elsewhere-forward : (number own : ℕ) (items : List (Item TypeIndex TypeData)) (error_view : Option Aggregate) (a : Aggregate) (size : Option ℕ) → error_view ≡ Some a → a.forward_reference ≡ true → size ≡ size_behind number a.name items → unwrap_or size own ≡ unwrap_or (option_and_then (size_elsewhere number items) error_view) own
+size_elsewhere-forward number own items error_view a size is refers found =
     ap (λ s. unwrap_or s own) (found ∙ sym (ap (option_and_then (size_elsewhere number items)) is ∙ ap (λ b. cond b (size_behind number a.name items) None) refers))

@@ -23,7 +23,7 @@ free_le (suc n) old new more =
 pub free_lt : (n i : ℕ) (old new : ℕ → Bool) → i < n → old i ≡ false → new i ≡ true → ((q : ℕ) → old q ≡ true → new q ≡ true) → free n new < free n old
 unfolding free
 free_lt zero i old new below absent here more = absurd (omega arith)
-free_lt (suc n) i old new below absent here more = by_place (cases_eq n i) (λ less. free_lt n i old new less absent here more) where
+free_lt (suc n) i old new below absent here more = by_position (cases_eq n i) (λ less. free_lt n i old new less absent here more) where
   here_last : n ≡ i → cond (new n) (free n new) (suc (free n new)) < cond (old n) (free n old) (suc (free n old))
   here_last e = let was : old n ≡ false = ap old e ∙ absent in let is : new n ≡ true = ap new e ∙ here in let fewer = free_le n old new more in rw (was, is) (omega arith)
 
@@ -34,6 +34,6 @@ free_lt (suc n) i old new below absent here more = by_place (cases_eq n i) (λ l
         | false ↦ λ e. elim (new n) as (λ b. cond b (free n new) (suc (free n new)) < suc (free n old)) [ true ↦ omega arith | false ↦ omega arith ]
       ]) refl
 
-  by_place : (n ≡ i) ⊎ (n ≡ i → ⊥) → (i < n → free n new < free n old) → cond (new n) (free n new) (suc (free n new)) < cond (old n) (free n old) (suc (free n old))
-  by_place (inl e) fewer = here_last e
-  by_place (inr other) fewer = behind (fewer (omega (arith, other)))
+  by_position : (n ≡ i) ⊎ (n ≡ i → ⊥) → (i < n → free n new < free n old) → cond (new n) (free n new) (suc (free n new)) < cond (old n) (free n old) (suc (free n old))
+  by_position (inl e) fewer = here_last e
+  by_position (inr other) fewer = behind (fewer (omega (arith, other)))

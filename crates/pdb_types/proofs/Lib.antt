@@ -1,10 +1,10 @@
 pub mod ForwardLemmas
 pub mod AscendingLemmas
-pub mod KeptLemmas
+pub mod CachedLemmas
 pub mod ModuleLemmas
 pub mod SizeLemmas
 pub mod ChainLemmas
 pub mod PassedLemmas
-pub mod FindingLemmas
+pub mod TypeCacheLemmas
 pub mod FreeNumbers
 pub mod ReadingLemmas

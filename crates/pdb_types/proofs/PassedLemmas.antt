@@ -15,7 +15,7 @@ use Rattle.pdb_records.specs.declared.types.TypeData.{TypeData}
 use Rattle.pdb_types.specs.declared.type_sizes.TypeSize.{TypeSize}
 use Rattle.pdb_types.specs.declared.type_sizes.Step.{Step}
 use Rattle.pdb_types.specs.declared.type_sizes.Step.TheVariants.{Ended, Next}
-use Rattle.pdb_types.specs.Standing.{Linked}
+use Rattle.pdb_types.specs.TypeInputs.{LinkInputs}
 use Rattle.pdb_types.specs.TypeSizes.{no_size, step, type_size}
 use Rattle.pdb_types.specs.SizeLaws.{EndsWith, NeverEnds, Leads}
 use Rattle.pdb_types.proofs.ChainLemmas.{steps_to_end, steps_within, EndsOrNot, ends_or_not, type_size-at_end, type_size-never}
@@ -49,21 +49,21 @@ ends_before next (suc steps) k index other size leads ends =
     let behind = ends_before next steps k leads.0.0 other size leads.2 ends in (suc behind.0, (leads.0, leads.1, behind.1))
 
 -- a type has the size of each that its chain leads to
-pub type_size-leads : (w : Linked) (types : Read (Item TypeIndex TypeData)) (pointer position index other steps : ℕ) → Leads (step w types pointer position) steps index other → type_size w types pointer position index ≡ type_size w types pointer position other
-type_size-leads w types pointer position index other steps leads = by_end (ends_or_not (step w types pointer position) (length types.items) other) where
-  by_end : EndsOrNot (step w types pointer position) (length types.items) other → type_size w types pointer position index ≡ type_size w types pointer position other
-  by_end (inl (k, size, ends)) = let total = ends_before (step w types pointer position) steps k index other size leads ends in type_size-at_end w types pointer position index total.0 size total.1 ∙ sym (type_size-at_end w types pointer position other k size ends)
+pub type_size-leads : (w : LinkInputs) (types : Read (Item TypeIndex TypeData)) (pointer module_index index other steps : ℕ) → Leads (step w types pointer module_index) steps index other → type_size w types pointer module_index index ≡ type_size w types pointer module_index other
+type_size-leads w types pointer module_index index other steps leads = by_end (ends_or_not (step w types pointer module_index) (length types.items) other) where
+  by_end : EndsOrNot (step w types pointer module_index) (length types.items) other → type_size w types pointer module_index index ≡ type_size w types pointer module_index other
+  by_end (inl (k, size, ends)) = let total = ends_before (step w types pointer module_index) steps k index other size leads ends in type_size-at_end w types pointer module_index index total.0 size total.1 ∙ sym (type_size-at_end w types pointer module_index other k size ends)
   by_end (inr longer) =
-      let never : NeverEnds (step w types pointer position) other = λ k size ends. let within = steps_within w types pointer position other k size ends in let more = longer k size ends in absurd (omega arith) in
-      type_size-never w types pointer position index (never_before (step w types pointer position) steps index other leads never) ∙ sym (type_size-never w types pointer position other never)
+      let never : NeverEnds (step w types pointer module_index) other = λ k size ends. let within = steps_within w types pointer module_index other k size ends in let more = longer k size ends in absurd (omega arith) in
+      type_size-never w types pointer module_index index (never_before (step w types pointer module_index) steps index other leads never) ∙ sym (type_size-never w types pointer module_index other never)
 
 -- a type whose chain comes back to it has no size
-pub type_size-back : (w : Linked) (types : Read (Item TypeIndex TypeData)) (pointer position index steps : ℕ) → Leads (step w types pointer position) (suc steps) index index → type_size w types pointer position index ≡ no_size
-type_size-back w types pointer position index steps back = type_size-never w types pointer position index (never_ends (step w types pointer position) steps index back)
+pub type_size-back : (w : LinkInputs) (types : Read (Item TypeIndex TypeData)) (pointer module_index index steps : ℕ) → Leads (step w types pointer module_index) (suc steps) index index → type_size w types pointer module_index index ≡ no_size
+type_size-back w types pointer module_index index steps back = type_size-never w types pointer module_index index (never_ends (step w types pointer module_index) steps index back)
 
 -- a type whose chain meets an index twice has no size
-pub type_size-repeats : (w : Linked) (types : Read (Item TypeIndex TypeData)) (pointer position index repeated before steps : ℕ) → Leads (step w types pointer position) before index repeated → Leads (step w types pointer position) (suc steps) repeated repeated → type_size w types pointer position index ≡ no_size
-type_size-repeats w types pointer position index repeated before steps leads back = type_size-leads w types pointer position index repeated before leads ∙ type_size-back w types pointer position repeated steps back
+pub type_size-repeats : (w : LinkInputs) (types : Read (Item TypeIndex TypeData)) (pointer module_index index repeated before steps : ℕ) → Leads (step w types pointer module_index) before index repeated → Leads (step w types pointer module_index) (suc steps) repeated repeated → type_size w types pointer module_index index ≡ no_size
+type_size-repeats w types pointer module_index index repeated before steps leads back = type_size-leads w types pointer module_index index repeated before leads ∙ type_size-back w types pointer module_index repeated steps back
 
 -- a chain with one more step
 pub leads_more : (next : ℕ → Step) (steps index other : ℕ) (further : TypeIndex) → Leads next steps index other → next other ≡ Next further → Leads next (suc steps) index further.0

@@ -1,14 +1,14 @@
--- What errors tell.
+-- What contracts see of an error: its view.
 use Rattle.std.specs.Prelude.{ℕ, List, string_bytes}
 use Rattle.pdb_types.specs.declared.error.Error.{Error}
 use Rattle.pdb_types.specs.declared.error.Error.TheVariants as error
 
--- what an error tells: a name by its bytes, whatever room the text has for more
-pub data ToldError : Type 0 where
-  Plain : Error → ToldError
-  NoModuleNamed : List ℕ → ToldError
+-- the view of an error: a name by its bytes, whatever room the text has for more
+pub data ErrorView : Type 0 where
+  Plain : Error → ErrorView
+  NoModuleNamed : List ℕ → ErrorView
 
--- what this error tells
-abbrev pub told : Error → ToldError
-told (error.ModuleNameNotFound name) = NoModuleNamed (string_bytes name)
-told e = Plain e
+-- the view of this error
+abbrev pub error_view : Error → ErrorView
+error_view (error.ModuleNameNotFound name) = NoModuleNamed (string_bytes name)
+error_view e = Plain e

@@ -6,11 +6,11 @@ use Rattle.std.specs.List.{list_any}
 use Rattle.std.specs.Ordering.{nat_cmp, is_eq}
 use Rattle.std.specs.BTreeSet.{insert_key}
 use Rattle.pdb_types.specs.declared.error.Error.TheVariants.{ModuleImportsUnsuccessful, ModuleExportsUnsuccessful}
-use Rattle.pdb_types.specs.declared.unread.Part.{Part}
-use Rattle.pdb_types.specs.declared.unread.Part.TheVariants.{Imports, Exports}
-use Rattle.pdb_types.specs.Errors.{ToldError, Plain}
+use Rattle.pdb_types.specs.declared.read_error.Part.{Part}
+use Rattle.pdb_types.specs.declared.read_error.Part.TheVariants.{Imports, Exports}
+use Rattle.pdb_types.specs.Errors.{ErrorView, Plain}
 
--- the order that parts are kept in: imports before exports, each by the position of its module
+-- the order of parts: imports before exports, each by module index
 abbrev pub part_cmp : Part → Part → Ordering
 part_cmp (Imports a) (Imports b) = nat_cmp a b
 part_cmp (Imports a) (Exports b) = Less
@@ -35,10 +35,10 @@ with_met failed None = failed
 with_met failed (Some part) = with_part failed part
 
 -- the error of a part that failed before
-abbrev pub unsuccessful : Part → ToldError
-unsuccessful (Imports position) = Plain ModuleImportsUnsuccessful
-unsuccessful (Exports position) = Plain ModuleExportsUnsuccessful
+abbrev pub unsuccessful : Part → ErrorView
+unsuccessful (Imports module_index) = Plain ModuleImportsUnsuccessful
+unsuccessful (Exports module_index) = Plain ModuleExportsUnsuccessful
 
--- what a part tells that is met broken: that it failed before, where it did, else its own error
-abbrev pub part_error : Parts → Part → ToldError → ToldError
+-- what a part answers that is met broken: that it failed before, where it did, else its own error
+abbrev pub part_error : Parts → Part → ErrorView → ErrorView
 part_error failed part e = if has_failed failed part then unsuccessful part else e

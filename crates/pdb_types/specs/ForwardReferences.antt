@@ -15,15 +15,15 @@ use Rattle.pdb_records.specs.declared.types.TypeData.TheVariants.{Class, Union}
 use Rattle.pdb_types.specs.declared.aggregates.Aggregate as code
 use Rattle.pdb_types.specs.Items.{first_item}
 
--- what a class or a union tells of itself: what it goes by, its size, and whether it is a forward reference
+-- what a class or a union says of itself: what it goes by, its size, and whether it is a forward reference
 pub record Aggregate : Type 0 where
   pub name : List ℕ
   pub size : ℕ
   pub forward_reference : Bool
 
 -- the same, as the code has it
-abbrev pub told_aggregate : code.Aggregate → Aggregate
-told_aggregate a = record { name = a.name.now; size = a.size; forward_reference = a.forward_reference }
+abbrev pub aggregate_view : code.Aggregate → Aggregate
+aggregate_view a = record { name = a.name.now; size = a.size; forward_reference = a.forward_reference }
 
 -- a class or a union goes by its unique name where it has one, else by its name
 abbrev pub aggregate : TypeData → Option Aggregate
@@ -33,9 +33,9 @@ aggregate (Union u) =
     Some (record { name = unwrap_or u.unique_name u.name; size = u.size; forward_reference = u.forward_reference })
 aggregate other = None
 
--- what an entry tells, if it could be read
-abbrev pub told_by : Item TypeIndex TypeData → Option Aggregate
-told_by item = option_and_then aggregate (result_ok item.content)
+-- what an entry says, if it could be read
+abbrev pub item_aggregate : Item TypeIndex TypeData → Option Aggregate
+item_aggregate item = option_and_then aggregate (result_ok item.content)
 
 -- the size that a class or a union gives to a name: its own, where it goes by that name and is no forward reference
 abbrev pub size_for : List ℕ → Aggregate → Option ℕ
@@ -43,7 +43,7 @@ size_for name a = if (not a.forward_reference && bytes_eq a.name name) then Some
 
 -- the size that an entry gives to a name
 abbrev pub definition_size : List ℕ → Item TypeIndex TypeData → Option ℕ
-definition_size name item = option_and_then (size_for name) (told_by item)
+definition_size name item = option_and_then (size_for name) (item_aggregate item)
 
 -- the size that the first definition of a name gives to it
 abbrev pub first_definition : List ℕ → List (Item TypeIndex TypeData) → Option ℕ
@@ -66,7 +66,7 @@ referred_name a = if a.forward_reference then Some a.name else None
 
 -- the name that an entry goes by, where it is a forward reference
 abbrev pub entry_name : Item TypeIndex TypeData → Option (List ℕ)
-entry_name item = option_and_then referred_name (told_by item)
+entry_name item = option_and_then referred_name (item_aggregate item)
 
 -- the size behind the first entry with this index of the name that it goes by, where it is a forward reference
 abbrev pub forward_size : ℕ → List (Item TypeIndex TypeData) → Option ℕ

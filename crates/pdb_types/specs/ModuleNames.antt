@@ -15,13 +15,13 @@ has_lower_name lower m = bytes_eq (str_to_ascii_lowercase (lossy m.name)) lower
 abbrev pub is_named : List ℕ → Module → Bool
 is_named name m = has_lower_name (str_to_ascii_lowercase (lossy name)) m
 
--- the greatest position, counted from here on, of those that pass the test
+-- the greatest module index, counted from here on, of those that pass the test
 abbrev pub last_position_from : {A : Type 0} → ℕ → (A → Bool) → List A → Option ℕ
-last_position_from position test [] = None
-last_position_from position test (x ∷ xs) =
-    option_or (last_position_from (position + 1) test xs) (if test x then Some position else None)
+last_position_from module_index test [] = None
+last_position_from module_index test (x ∷ xs) =
+    option_or (last_position_from (module_index + 1) test xs) (if test x then Some module_index else None)
 
--- a table knows the greatest position of each name
+-- a table knows the greatest module index of each name
 abbrev pub KnowsPositions : {Y : Type 0} → List Module → BTreeMap (String Y) ℕ → Type 0
 KnowsPositions modules positions =
     (lower : List ℕ) → get_by_text positions lower ≡ last_position_from 0 (has_lower_name lower) modules

@@ -4,7 +4,7 @@ use Rattle.std.specs.Borrow.{Bor}
 use Rattle.pdb_types.specs.declared.error.Error.{Error}
 use Rattle.pdb_types.specs.declared.error.Error.TheVariants.{OutOfMemory}
 
--- an answer is the definition's, and so is an error, but for want of memory
+-- an answer is the definition's, and so is an error, except where memory runs out
 abbrev pub Gives : {A B : Type 0} → (A → B) → Result A Error → Result B Error → Type 0
 Gives view (Ok answer) definition = definition ≡ Ok (view answer)
 Gives view (Err error) definition = error ≢ OutOfMemory → definition ≡ Err error

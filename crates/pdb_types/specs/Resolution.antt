@@ -15,102 +15,102 @@ use Rattle.pdb_types.specs.declared.error.Error.{Error}
 use Rattle.pdb_types.specs.declared.error.Error.TheVariants.{PdbError, OutOfRangeModuleIndex, ModuleInfoNotFound}
 use Rattle.pdb_types.specs.declared.error.Error.TheVariants.{CantResolveCrossModuleRefWithoutStringTable}
 use Rattle.pdb_types.specs.declared.error.Error.TheVariants.{LocalIndexNotInExports}
-use Rattle.pdb_types.specs.declared.unread.Part.{Part}
-use Rattle.pdb_types.specs.declared.unread.Part.TheVariants.{Imports, Exports}
+use Rattle.pdb_types.specs.declared.read_error.Part.{Part}
+use Rattle.pdb_types.specs.declared.read_error.Part.TheVariants.{Imports, Exports}
 use Rattle.pdb_types.specs.Errors.{Plain, NoModuleNamed}
 use Rattle.pdb_types.specs.ModuleNames.{is_named, last_position_from}
 use Rattle.pdb_types.specs.Outcomes.{and_then}
-use Rattle.pdb_types.specs.Standing.{Linked}
-use Rattle.pdb_types.specs.Unread.{Trouble, Refused, Broken, trouble_by}
+use Rattle.pdb_types.specs.TypeInputs.{LinkInputs}
+use Rattle.pdb_types.specs.ReadError.{ReadErrorView, Refused, Broken, read_error_view_by}
 
 -- a stream's content, or its fault as an error
 abbrev pub streamed : {A : Type 0} → Result A StreamError → Result A Error
 streamed (Ok content) = Ok content
 streamed (Err fault) = Err (PdbError (Stream fault))
 
--- the records that a provider has of the module at a position
+-- the records that a provider has of the module at a module index
 abbrev pub provided_info : ℕ → Result (Option ModuleInfo) StreamError → Result ModuleInfo Error
-provided_info position (Ok (Some info)) = Ok info
-provided_info position (Ok None) = Err (ModuleInfoNotFound position)
-provided_info position (Err fault) = Err (PdbError (Stream fault))
+provided_info module_index (Ok (Some info)) = Ok info
+provided_info module_index (Ok None) = Err (ModuleInfoNotFound module_index)
+provided_info module_index (Err fault) = Err (PdbError (Stream fault))
 
--- the records of a module, where the list has the position
-abbrev pub info_of : Linked → ℕ → Option Module → Result ModuleInfo Error
-info_of w position None = Err (OutOfRangeModuleIndex position)
-info_of w position (Some m) = provided_info position (w.info position m)
+-- the records of a module, where the list has the module index
+abbrev pub info_of : LinkInputs → ℕ → Option Module → Result ModuleInfo Error
+info_of w module_index None = Err (OutOfRangeModuleIndex module_index)
+info_of w module_index (Some m) = provided_info module_index (w.info module_index m)
 
--- the records of the module at a position
-abbrev pub module_info : Linked → ℕ → Result ModuleInfo Error
-module_info w position = info_of w position (slice_get w.modules position)
+-- the records of the module at a module index
+abbrev pub module_info : LinkInputs → ℕ → Result ModuleInfo Error
+module_info w module_index = info_of w module_index (slice_get w.modules module_index)
 
--- what the module at a position imports
-abbrev pub imports : Linked → ℕ → Result (List Imported) Error
-imports w position = and_then (module_info w position) (λ info. streamed info.imports)
+-- what the module at a module index imports
+abbrev pub imports : LinkInputs → ℕ → Result (List Imported) Error
+imports w module_index = and_then (module_info w module_index) (λ info. streamed info.imports)
 
--- what the module at a position exports
-abbrev pub exports : Linked → ℕ → Result (List (ℕ × ℕ)) Error
-exports w position = and_then (module_info w position) (λ info. streamed info.exports)
+-- what the module at a module index exports
+abbrev pub exports : LinkInputs → ℕ → Result (List (ℕ × ℕ)) Error
+exports w module_index = and_then (module_info w module_index) (λ info. streamed info.exports)
 
 -- a part of the records: where it answers an error it is broken
-abbrev pub unbroken : {A : Type 0} → Part → Result A Error → Result A Trouble
+abbrev pub unbroken : {A : Type 0} → Part → Result A Error → Result A ReadErrorView
 unbroken part (Ok content) = Ok content
 unbroken part (Err e) = Err (Broken part (Plain e))
 
 -- an answer of the records
-abbrev pub answered : {A : Type 0} → Result A records.Error → Result A Trouble
+abbrev pub answered : {A : Type 0} → Result A records.Error → Result A ReadErrorView
 answered (Ok answer) = Ok answer
-answered (Err e) = Err (trouble_by e)
+answered (Err e) = Err (read_error_view_by e)
 
 -- the texts, without which no index leads to another module
-abbrev pub texts : Option (List (StringRef × List ℕ)) → Result (List (StringRef × List ℕ)) Trouble
+abbrev pub texts : Option (List (StringRef × List ℕ)) → Result (List (StringRef × List ℕ)) ReadErrorView
 texts None = Err (Refused (Plain CantResolveCrossModuleRefWithoutStringTable))
 texts (Some strings) = Ok strings
 
 -- the text under a reference
-abbrev pub found_text : StringRef → Option (List ℕ) → Result (List ℕ) Trouble
-found_text reference None = Err (trouble_by (StringNotFound reference.0))
+abbrev pub found_text : StringRef → Option (List ℕ) → Result (List ℕ) ReadErrorView
+found_text reference None = Err (read_error_view_by (StringNotFound reference.0))
 found_text reference (Some text) = Ok text
 
 -- the module that was found by a name, or the name in lower case
-abbrev pub found_module : List ℕ → Option ℕ → Result ℕ Trouble
+abbrev pub found_module : List ℕ → Option ℕ → Result ℕ ReadErrorView
 found_module name None = Err (Refused (NoModuleNamed (str_to_ascii_lowercase (lossy name))))
-found_module name (Some position) = Ok position
+found_module name (Some module_index) = Ok module_index
 
--- the module of this name; of several the one of greatest position
-abbrev pub module_named : List Module → List ℕ → Result ℕ Trouble
+-- the module of this name; of several the one of greatest module index
+abbrev pub module_named : List Module → List ℕ → Result ℕ ReadErrorView
 module_named modules name = found_module name (last_position_from 0 (is_named name) modules)
 
 -- the module whose name stands under a reference
-abbrev pub module_under : List Module → List (StringRef × List ℕ) → StringRef → Result ℕ Trouble
+abbrev pub module_under : List Module → List (StringRef × List ℕ) → StringRef → Result ℕ ReadErrorView
 module_under modules strings reference =
     and_then (found_text reference (string_at reference strings)) (λ name.
     module_named modules name)
 
 -- the index that was found under a number of a module's exports
-abbrev pub found_export : ℕ → Option ℕ → Result ℕ Trouble
+abbrev pub found_export : ℕ → Option ℕ → Result ℕ ReadErrorView
 found_export local None = Err (Refused (Plain (LocalIndexNotInExports local)))
 found_export local (Some index) = Ok index
 
 -- the index that a module exports under a number
-abbrev pub export_of : Linked → ℕ → ℕ → Result ℕ Trouble
-export_of w local position =
-    and_then (unbroken (Exports position) (exports w position)) (λ list.
+abbrev pub export_of : LinkInputs → ℕ → ℕ → Result ℕ ReadErrorView
+export_of w local module_index =
+    and_then (unbroken (Exports module_index) (exports w module_index)) (λ list.
     found_export local (exported local list))
 
 -- the index behind an import: the name of the other module, and the number there
-abbrev pub import_target : Linked → List (StringRef × List ℕ) → StringRef × ℕ → Result ℕ Trouble
+abbrev pub import_target : LinkInputs → List (StringRef × List ℕ) → StringRef × ℕ → Result ℕ ReadErrorView
 import_target w strings (reference, local) =
-    and_then (module_under w.modules strings reference) (λ position.
-    export_of w local position)
+    and_then (module_under w.modules strings reference) (λ module_index.
+    export_of w local module_index)
 
--- what an index that leads to another module stands for, asked by the module at a position
-abbrev pub across : Linked → ℕ → ℕ → Result ℕ Trouble
-across w position index =
+-- what an index that leads to another module stands for, asked by the module at a module index
+abbrev pub across : LinkInputs → ℕ → ℕ → Result ℕ ReadErrorView
+across w module_index index =
     and_then (texts w.strings) (λ strings.
-    and_then (unbroken (Imports position) (imports w position)) (λ list.
+    and_then (unbroken (Imports module_index) (imports w module_index)) (λ list.
     and_then (answered (imported list index)) (λ target.
     import_target w strings target)))
 
 -- what an index stands for: with bit 31 it leads to another module, else it is its own
-abbrev pub resolved : Linked → ℕ → ℕ → Result ℕ Trouble
-resolved w position index = if nat_lt index (2 ^ 31) then Ok index else across w position index
+abbrev pub resolved : LinkInputs → ℕ → ℕ → Result ℕ ReadErrorView
+resolved w module_index index = if nat_lt index (2 ^ 31) then Ok index else across w module_index index

@@ -95,7 +95,7 @@ underneath (Enumeration e) = Some e.underlying_type
 underneath (Modifier m) = Some m.underlying_type
 underneath other = None
 
--- the size that a type itself tells, by the size of a pointer
+-- the size that a type itself says, by the size of a pointer
 abbrev pub own_size : ℕ → TypeData → ℕ
 own_size pointer (Primitive p) = if p.indirection then pointer else primitive_size p.kind
 own_size pointer (Class c) = c.size

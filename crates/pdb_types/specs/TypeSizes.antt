@@ -6,19 +6,19 @@ use Rattle.pdb_records.specs.Readings.{Read}
 use Rattle.pdb_records.specs.declared.types.Item.{Item}
 use Rattle.pdb_records.specs.declared.types.TypeIndex.{TypeIndex}
 use Rattle.pdb_records.specs.declared.types.TypeData.{TypeData}
-use Rattle.pdb_types.specs.declared.unread.Part.{Part}
+use Rattle.pdb_types.specs.declared.read_error.Part.{Part}
 use Rattle.pdb_types.specs.declared.type_sizes.TypeSize.{TypeSize}
 use Rattle.pdb_types.specs.declared.type_sizes.Step.{Step}
 use Rattle.pdb_types.specs.declared.type_sizes.Step.TheVariants.{Ended, Next}
 use Rattle.pdb_types.specs.ForwardReferences.{Aggregate, aggregate, size_behind}
 use Rattle.pdb_types.specs.Reading.{reading}
 use Rattle.pdb_types.specs.Sizes.{own_size, underneath}
-use Rattle.pdb_types.specs.Standing.{Linked, Basis, Infos, linked}
-use Rattle.pdb_types.specs.Unread.{Trouble, Broken}
+use Rattle.pdb_types.specs.TypeInputs.{LinkInputs, TypeInputs, ProviderInfos, link_inputs}
+use Rattle.pdb_types.specs.ReadError.{ReadErrorView, Broken}
 
--- the type of an index, asked by the module at a position, with the number that the index stands for
-abbrev pub read_type : Linked → Read (Item TypeIndex TypeData) → ℕ → ℕ → Result (ℕ × TypeData) Trouble
-read_type w types position index = reading (λ i. i.0) w types position index
+-- the type of an index, asked by the module at a module index, with the number that the index stands for
+abbrev pub read_type : LinkInputs → Read (Item TypeIndex TypeData) → ℕ → ℕ → Result (ℕ × TypeData) ReadErrorView
+read_type w types module_index index = reading (λ i. i.0) w types module_index index
 
 -- the size of a forward reference's definition behind it; other types have none
 abbrev pub size_elsewhere : ℕ → List (Item TypeIndex TypeData) → Aggregate → Option ℕ
@@ -39,18 +39,18 @@ step_from pointer items read None = Ended (record { size = end_size pointer item
 step_from pointer items read (Some next) = Next next
 
 -- the part that was met broken
-abbrev pub met_in : Trouble → Option Part
+abbrev pub met_in : ReadErrorView → Option Part
 met_in (Broken part e) = Some part
 met_in other = None
 
 -- what follows what was read in a chain: what can't be read ends it, and has no size
-abbrev pub step_after : ℕ → List (Item TypeIndex TypeData) → Result (ℕ × TypeData) Trouble → Step
+abbrev pub step_after : ℕ → List (Item TypeIndex TypeData) → Result (ℕ × TypeData) ReadErrorView → Step
 step_after pointer items (Ok read) = step_from pointer items read (underneath read.1)
-step_after pointer items (Err trouble) = Ended (record { size = 0; met = met_in trouble })
+step_after pointer items (Err read_error_view) = Ended (record { size = 0; met = met_in read_error_view })
 
 -- what follows an index in a chain
-abbrev pub step : Linked → Read (Item TypeIndex TypeData) → ℕ → ℕ → ℕ → Step
-step w types pointer position index = step_after pointer types.items (read_type w types position index)
+abbrev pub step : LinkInputs → Read (Item TypeIndex TypeData) → ℕ → ℕ → ℕ → Step
+step w types pointer module_index index = step_after pointer types.items (read_type w types module_index index)
 
 -- a chain that goes on here has no size
 abbrev pub ended : Step → TypeSize
@@ -67,11 +67,11 @@ abbrev pub size_along : (ℕ → Step) → ℕ → ℕ → TypeSize
 size_along next zero index = ended (next index)
 size_along next (suc steps) index = onward (size_along next steps) (next index)
 
--- the size of a type, asked by the module at a position: the size at the end of its chain, however long, or none where
--- it never ends; as many steps as there are entries settle that, as the laws over SizeLaws say
-unfoldable pub type_size : Linked → Read (Item TypeIndex TypeData) → ℕ → ℕ → ℕ → TypeSize
-type_size w types pointer position index = size_along (step w types pointer position) (length types.items) index
+-- the size of a type, asked by the module at a module index: the size at the end of its chain, however long, or none
+-- where it never ends; as many steps as there are entries settle that, as the laws over SizeLaws say
+unfoldable pub type_size : LinkInputs → Read (Item TypeIndex TypeData) → ℕ → ℕ → ℕ → TypeSize
+type_size w types pointer module_index index = size_along (step w types pointer module_index) (length types.items) index
 
--- the size of a type on what answers stand on, and the part that is met broken
-abbrev pub size_of : {P : Type 0} → (P → Infos) → Basis P → ℕ → ℕ → TypeSize
-size_of info s position index = type_size (linked info s) s.types s.pointer_size position index
+-- the size of a type, from type inputs, and the part that is met broken
+abbrev pub size_of : {P : Type 0} → (P → ProviderInfos) → TypeInputs P → ℕ → ℕ → TypeSize
+size_of info s module_index index = type_size (link_inputs info s) s.types s.pointer_size module_index index

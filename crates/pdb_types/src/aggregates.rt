@@ -1,10 +1,10 @@
 ghost use Rattle.std.specs.Prelude.{◌≡◌, option_map};
 ghost use Rattle.std.specs.Option.{unwrap_or};
-ghost use Rattle.pdb_types.specs.ForwardReferences.{told_aggregate, aggregate, told_by};
+ghost use Rattle.pdb_types.specs.ForwardReferences.{aggregate_view, aggregate, item_aggregate};
 
 use pdb_records::{Item, RawString, TypeData, TypeIndex};
 
-/// What a class or a union tells of itself.
+/// What a class or a union says of itself.
 #[derive(Clone, Copy)]
 pub(crate) struct Aggregate<'a> {
     /// What it goes by: its unique name where it has one, else its name.
@@ -25,9 +25,9 @@ fn name_of<'a>(unique_name: &'a Option<RawString>, name: &'a RawString) -> &'a R
     }
 }
 
-/// What a class or a union tells of itself. Other types tell nothing.
+/// What a class or a union says of itself. Other types say nothing.
 pub(crate) fn aggregate_of(type_data: &TypeData) -> Option<Aggregate<'_>>
-    ensures { option_map told_aggregate result ≡ aggregate type_data.now }
+    ensures { option_map aggregate_view result ≡ aggregate type_data.now }
 {
     match type_data {
         TypeData::Class(class) => Some(Aggregate {
@@ -44,9 +44,9 @@ pub(crate) fn aggregate_of(type_data: &TypeData) -> Option<Aggregate<'_>>
     }
 }
 
-/// What an entry tells, if it could be read.
-pub(crate) fn told_by(item: &Item<TypeIndex, TypeData>) -> Option<Aggregate<'_>>
-    ensures { option_map told_aggregate result ≡ told_by item.now }
+/// What an entry says, if it could be read.
+pub(crate) fn item_aggregate(item: &Item<TypeIndex, TypeData>) -> Option<Aggregate<'_>>
+    ensures { option_map aggregate_view result ≡ item_aggregate item.now }
 {
     match &item.content {
         Ok(content) => aggregate_of(content),

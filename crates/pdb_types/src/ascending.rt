@@ -13,7 +13,7 @@ pub(crate) trait Numbered {
 }
 
 /// The entry that has this number if no number is left out from there to the last entry.
-fn guess<T: Numbered>(entries: &[T], number: u32) -> Option<&T>
+fn hint<T: Numbered>(entries: &[T], number: u32) -> Option<&T>
     requires { Ascends T.number_of entries.now }
     ensures { IfSome result (λ entry. first_numbered T.number_of number entries.now ≡ Some entry.now) }
 {
@@ -29,13 +29,13 @@ fn guess<T: Numbered>(entries: &[T], number: u32) -> Option<&T>
 
 /// The entry with this number, among entries whose numbers ascend. It takes no memory.
 ///
-/// Lists that linkers write end in a run of entries with no number left out, so a guess from the end comes ahead of a
+/// Lists that linkers write end in a run of entries with no number left out, so a hint from the end comes ahead of a
 /// binary search.
 pub(crate) fn find_ascending<T: Numbered>(entries: &[T], number: u32) -> Option<&T>
     requires { Ascends T.number_of entries.now }
     ensures { option_copied result ≡ first_numbered T.number_of number entries.now }
 {
-    if let Some(entry) = guess(entries, number) {
+    if let Some(entry) = hint(entries, number) {
         return Some(entry);
     }
     match entries.binary_search_by_key(&number, |entry| entry.number()) {

@@ -1,6 +1,8 @@
 ghost use Rattle.std.specs.Prelude.{◌≡◌};
+ghost use Rattle.pdb_records.specs.declared.error.Error.TheVariants.{Stream};
 ghost use Rattle.pdb_types.specs.declared.error.Error.TheVariants.{FormatError, PdbError, OutOfMemory};
 
+use pdb_records::StreamError;
 use std::alloc::{AllocError, AllocFailed};
 use std::fmt;
 
@@ -55,7 +57,7 @@ pub enum Error {
     /// The module that is imported from exports nothing under this number.
     #[error("The local index {0} was not found in the module exports")]
     LocalIndexNotInExports(u32),
-    /// The list of modules has no such position.
+    /// The list of modules has no such module index.
     #[error("The module index {0} was out-of-range.")]
     OutOfRangeModuleIndex(usize),
     /// The module has no records of its own.
@@ -70,6 +72,14 @@ pub enum Error {
     /// A contribution's end lies past 32 bits.
     #[error("The end of a section contribution of module {0} in section {1} does not fit 32 bits")]
     SectionContributionEndTooLarge(usize, u16),
+}
+
+impl From<StreamError> for Error {
+    ghost from_gives = { λ e r. r ≡ PdbError (Stream e) };
+
+    fn from(error: StreamError) -> Error {
+        Error::PdbError(pdb_records::Error::Stream(error))
+    }
 }
 
 impl From<pdb_records::Error> for Error {

@@ -1,9 +1,9 @@
 ghost use Rattle.std.specs.Prelude.{◌≡◌, [], IfOk, OnOk, OnErr};
-ghost use Rattle.pdb_types.specs.Errors.{Plain, told};
+ghost use Rattle.pdb_types.specs.Errors.{Plain, error_view};
 ghost use Rattle.pdb_types.specs.FailedParts.{has_failed, with_part, with_met, unsuccessful, part_error};
 
 use crate::error::Error;
-use crate::unread::Part;
+use crate::read_error::Part;
 use std::alloc::{AllocError, Global};
 use std::collections::BTreeSet;
 use std::marker::Model;
@@ -16,7 +16,7 @@ pub struct FailedParts {
 
 impl Model for FailedParts {
     ghost use Rattle.std.specs.Prelude.{List};
-    ghost use Rattle.pdb_types.specs.declared.unread.Part.{Part};
+    ghost use Rattle.pdb_types.specs.declared.read_error.Part.{Part};
 
     ghost Value = { List Part };
 
@@ -72,10 +72,10 @@ impl FailedParts {
         }
     }
 
-    /// What a part that is met broken tells: its own error where it is new, and then it is remembered,
+    /// What a part that is met broken answers: its own error where it is new, and then it is remembered,
     /// else that it failed before.
     pub fn ask(&mut self, part: Part, error: Error) -> Result<Error, AllocError>
-        ensures told { IfOk result (λ e. told e ≡ part_error self.old part (told error)) }
+        ensures error_view { IfOk result (λ e. error_view e ≡ part_error self.old part (error_view error)) }
         ensures added { OnOk result (self.new ≡ with_part self.old part) }
         ensures refused { OnErr result (self.new ≡ self.old) }
     {

@@ -3,7 +3,7 @@ ghost use Rattle.std.specs.Str.{bytes_eq};
 ghost use Rattle.pdb_types.specs.declared.error.Error.TheVariants.{OutOfMemory};
 ghost use Rattle.pdb_types.specs.ForwardReferences.{definition_size, size_behind};
 
-use crate::aggregates::told_by;
+use crate::aggregates::item_aggregate;
 use crate::error::Result;
 use crate::items::TypeMap;
 use pdb_records::{Item, RawString, TypeData, TypeIndex};
@@ -19,7 +19,7 @@ fn is_same(a: &RawString, b: &RawString) -> bool
 fn definition_size(item: &Item<TypeIndex, TypeData>, name: &RawString) -> Option<u64>
     ensures { result ≡ definition_size name.now item.now }
 {
-    let defined = told_by(item)?;
+    let defined = item_aggregate(item)?;
     if !defined.forward_reference && is_same(defined.name, name) {
         return Some(defined.size);
     }
@@ -47,7 +47,7 @@ fn size_behind(
 
 /// Finds the sizes of classes and unions of which a name alone is known.
 ///
-/// It keeps nothing: each call brings a list of its own.
+/// It caches nothing: each call brings a list of its own.
 #[derive(Drop)]
 pub struct TypeSizeCache {}
 

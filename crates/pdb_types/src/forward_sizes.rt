@@ -2,9 +2,9 @@ ghost use Rattle.std.specs.Prelude.{◌≡◌, ◌==◌, ℕ, List, IfOk, OnOk, 
 ghost use Rattle.std.specs.Option.{option_or};
 ghost use Rattle.std.specs.BTreeMap.{get};
 ghost use Rattle.std.specs.Ordering.{nat_cmp};
-ghost use Rattle.pdb_types.specs.ForwardReferences.{told_aggregate, size_for, referred_name, size_under, Tabulates};
+ghost use Rattle.pdb_types.specs.ForwardReferences.{aggregate_view, size_for, referred_name, size_under, Tabulates};
 
-use crate::aggregates::{Aggregate, told_by};
+use crate::aggregates::{Aggregate, item_aggregate};
 use pdb_records::{Item, RawString, TypeData, TypeIndex};
 use std::alloc::{AllocError, Global};
 use std::collections::BTreeMap;
@@ -17,11 +17,14 @@ fn bytes_of(name: &RawString) -> &[u8]
 }
 
 /// The size under the name of a forward reference.
-fn reference_size<'a>(by_name: &BTreeMap<&'a [u8], u64>, told: Option<Aggregate<'a>>) -> Option<u64>
+fn reference_size<'a>(
+    by_name: &BTreeMap<&'a [u8], u64>,
+    error_view: Option<Aggregate<'a>>,
+) -> Option<u64>
     ensures { result ≡ option_and_then (size_under by_name.now)
-        (option_and_then referred_name (option_map told_aggregate told.entry)) }
+        (option_and_then referred_name (option_map aggregate_view error_view.entry)) }
 {
-    let reference = told?;
+    let reference = error_view?;
     if !reference.forward_reference {
         return None;
     }
@@ -31,13 +34,13 @@ fn reference_size<'a>(by_name: &BTreeMap<&'a [u8], u64>, told: Option<Aggregate<
 /// Puts the size of a definition under its name, in the place of one from behind it.
 fn define<'a>(
     by_name: &mut BTreeMap<&'a [u8], u64>,
-    told: Option<Aggregate<'a>>,
+    error_view: Option<Aggregate<'a>>,
 ) -> Result<(), AllocError>
     ensures { OnOk result ((name : List ℕ) → size_under by_name.new name
-        ≡ option_or (option_and_then (size_for name) (option_map told_aggregate told.entry))
+        ≡ option_or (option_and_then (size_for name) (option_map aggregate_view error_view.entry))
         (size_under by_name.old name)) }
 {
-    let Some(defined) = told else {
+    let Some(defined) = error_view else {
         return Ok(());
     };
     if defined.forward_reference {
@@ -79,10 +82,10 @@ pub(crate) fn forward_sizes(
     while left > 0 {
         left -= 1;
         let item = &items[left];
-        let told = told_by(item);
-        let size = reference_size(&by_name, told);
+        let error_view = item_aggregate(item);
+        let size = reference_size(&by_name, error_view);
         answer(&mut sizes, item.index.0, size)?;
-        define(&mut by_name, told)?;
+        define(&mut by_name, error_view)?;
     }
     Ok(sizes)
 }

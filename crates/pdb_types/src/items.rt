@@ -4,8 +4,8 @@ ghost use Rattle.pdb_types.specs.Items.{absence, first_item, index_number, item_
 ghost use Rattle.pdb_types.specs.Outcomes.{Gives};
 
 use crate::ascending::{Numbered, find_in_beginning};
+use crate::cached_entries::read_on;
 use crate::error::{Error, Result};
-use crate::kept_entries::read_on;
 use pdb_records::{
     IdData, IdIndex, Item, ItemInformation, Reading, StreamError, TypeData, TypeIndex,
 };
@@ -50,7 +50,7 @@ impl<I: ItemIndex, D> Numbered for Item<I, D> {
 /// Finds the entries of a list by their index. The list is read as far as it was asked for.
 ///
 /// As long as the indices ascend from the beginning on, as in lists that linkers write, an entry is searched in the
-/// list itself, and no memory is taken. The entries behind that beginning, if there are any, are kept by their index.
+/// list itself, and no memory is taken. The entries behind that beginning, if any, are cached by their index.
 pub struct ItemMap<'a, I: ItemIndex, D> {
     information: &'a ItemInformation<I, D>,
     /// How many entries at the beginning were read and ascend.
@@ -73,7 +73,7 @@ impl<'a, I: ItemIndex, D> Model for ItemMap<'a, I, D> {
     ghost use Rattle.pdb_records.specs.declared.types.Item.{Item};
     ghost use Rattle.pdb_types.specs.Ascending.{Ascends};
     ghost use Rattle.pdb_types.specs.Items.{index_number};
-    ghost use Rattle.pdb_types.specs.KeptEntries.{Knows};
+    ghost use Rattle.pdb_types.specs.CachedEntries.{Knows};
 
     ghost Value = { Read (Item I D) };
 

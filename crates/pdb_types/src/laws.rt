@@ -8,28 +8,30 @@ ghost use Rattle.pdb_records.specs.declared.types.Item.{Item};
 ghost use Rattle.pdb_records.specs.declared.types.TypeIndex.{TypeIndex};
 ghost use Rattle.pdb_records.specs.declared.types.TypeData.{TypeData};
 ghost use Rattle.pdb_types.specs.declared.type_sizes.TypeSize.{TypeSize};
-ghost use Rattle.pdb_types.specs.Standing.{Linked};
+ghost use Rattle.pdb_types.specs.TypeInputs.{LinkInputs};
 ghost use Rattle.pdb_types.specs.TypeSizes.{no_size, step, type_size};
 ghost use Rattle.pdb_types.specs.SizeLaws.{EndsWith, NeverEnds, Leads};
 
 /// Where a chain of types ends, after however many steps, a type has the size at its end.
 pub fn chains_that_end_have_the_size_at_their_end()
-    ensures { (w : Linked) (types : Read (Item TypeIndex TypeData)) (pointer position index steps : ℕ) (size : TypeSize)
-        → EndsWith (step w types pointer position) steps index size
-        → type_size w types pointer position index ≡ size }
+    ensures { (w : LinkInputs) (types : Read (Item TypeIndex TypeData)) (pointer module_index index steps : ℕ)
+        (size : TypeSize)
+        → EndsWith (step w types pointer module_index) steps index size
+        → type_size w types pointer module_index index ≡ size }
 {}
 
 /// Where a chain of types never ends, a type has no size, and no part of the records is met broken.
 pub fn chains_that_never_end_have_no_size()
-    ensures { (w : Linked) (types : Read (Item TypeIndex TypeData)) (pointer position index : ℕ)
-        → NeverEnds (step w types pointer position) index
-        → type_size w types pointer position index ≡ no_size }
+    ensures { (w : LinkInputs) (types : Read (Item TypeIndex TypeData)) (pointer module_index index : ℕ)
+        → NeverEnds (step w types pointer module_index) index
+        → type_size w types pointer module_index index ≡ no_size }
 {}
 
 /// Where a chain of types meets an index a second time, the type has no size: not the first one either.
 pub fn chains_that_repeat_have_no_size()
-    ensures { (w : Linked) (types : Read (Item TypeIndex TypeData)) (pointer position index repeated before steps : ℕ)
-        → Leads (step w types pointer position) before index repeated
-        → Leads (step w types pointer position) (suc steps) repeated repeated
-        → type_size w types pointer position index ≡ no_size }
+    ensures { (w : LinkInputs) (types : Read (Item TypeIndex TypeData))
+        (pointer module_index index repeated before steps : ℕ)
+        → Leads (step w types pointer module_index) before index repeated
+        → Leads (step w types pointer module_index) (suc steps) repeated repeated
+        → type_size w types pointer module_index index ≡ no_size }
 {}

@@ -37,16 +37,16 @@ pub(crate) fn lower_case(alloc: Global, name: &RawString) -> Result<String, Allo
     Ok(text)
 }
 
-/// Puts the position of a module under its name, in the place of one from before.
+/// Puts a module index under the module's name, in the place of one from before.
 fn put(
     positions: &mut BTreeMap<String, usize>,
     lower_name: String,
-    position: usize,
+    module_index: usize,
 ) -> Result<(), AllocError>
     ensures { OnOk result ((lower : List ℕ) → get_by_text positions.new lower
-        ≡ (if bytes_eq (string_bytes lower_name) lower then Some position else get_by_text positions.old lower)) }
+        ≡ (if bytes_eq (string_bytes lower_name) lower then Some module_index else get_by_text positions.old lower)) }
 {
-    positions.insert(lower_name, position)?;
+    positions.insert(lower_name, module_index)?;
     Ok(())
 }
 
@@ -56,9 +56,9 @@ impl ModuleList {
         ensures { IfOk result (λ list. list ≡ modules.items) }
     {
         let mut positions = BTreeMap::new(alloc);
-        for (position, module) in modules.iter().enumerate() {
+        for (module_index, module) in modules.iter().enumerate() {
             let lower_name = lower_case(alloc, &module.name)?;
-            put(&mut positions, lower_name, position)?;
+            put(&mut positions, lower_name, module_index)?;
         }
         Ok(ModuleList { modules, positions })
     }
@@ -70,12 +70,12 @@ impl ModuleList {
         &self.modules
     }
 
-    /// The last position of a module that has this name in lower case.
+    /// The last module index of a module that has this name in lower case.
     pub(crate) fn last_named(&self, lower_name: &str) -> Option<usize>
         ensures { result ≡ last_position_from 0 (has_lower_name lower_name.now) self.now }
     {
         match self.positions.get(lower_name) {
-            Some(position) => Some(*position),
+            Some(module_index) => Some(*module_index),
             None => None,
         }
     }

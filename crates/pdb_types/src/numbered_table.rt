@@ -3,7 +3,7 @@ ghost use Rattle.std.specs.Option.{option_copied};
 ghost use Rattle.pdb_types.specs.Ascending.{Ascends, first_numbered};
 
 use crate::ascending::{Numbered, ascending_length, find_ascending};
-use crate::kept_entries::{keep_all, look_up};
+use crate::cached_entries::{cache_all, look_up};
 use std::alloc::{AllocError, Global};
 use std::collections::BTreeMap;
 use std::marker::Model;
@@ -11,7 +11,7 @@ use std::marker::Model;
 /// The entries of a list by their numbers, in a table that is made once.
 ///
 /// As far as numbers ascend from the beginning on, an entry is searched in the list itself, and takes no memory. The
-/// entries behind that beginning, if there are any, are kept by their number.
+/// entries behind that beginning, if there are any, are cached by their number.
 pub(crate) struct NumberedTable<'a, T: Numbered> {
     entries: &'a [T],
     ascending: usize,
@@ -22,7 +22,7 @@ pub(crate) struct NumberedTable<'a, T: Numbered> {
 impl<'a, T: Numbered> Model for NumberedTable<'a, T> {
     ghost use Rattle.std.specs.Prelude.{◌≤◌, List, drop, length, take};
     ghost use Rattle.pdb_types.specs.Ascending.{Ascends};
-    ghost use Rattle.pdb_types.specs.KeptEntries.{Knows};
+    ghost use Rattle.pdb_types.specs.CachedEntries.{Knows};
 
     ghost Value = { List T };
 
@@ -51,7 +51,7 @@ impl<'a, T: Numbered> NumberedTable<'a, T> {
     {
         let ascending = ascending_length(entries);
         let (_, behind) = entries.split_at(ascending);
-        let known = keep_all(alloc, behind)?;
+        let known = cache_all(alloc, behind)?;
         Ok(NumberedTable {
             entries,
             ascending,

@@ -9,12 +9,12 @@ use pdb_records::{Module, ModuleInfo, StreamError};
 /// Hands in the records of a module when they are asked for.
 ///
 /// An implementation may read them from elsewhere, and has to answer equal questions alike: its answer
-/// is a function of its own value, the position and the module.
+/// is a function of its own value, the module index and the module.
 pub trait ModuleProvider {
-    /// What is known of the module at this position.
+    /// What is known of the module at this module index.
     ghost info: { Self → ℕ → Module → Result (Option ModuleInfo) StreamError };
 
-    /// The records of the module at a position in the list of modules, or `None` where it has none.
+    /// The records of the module at a module index in the list of modules, or `None` where it has none.
     fn get_module_info(
         &self,
         module_index: usize,

@@ -1,19 +1,19 @@
 ghost use Rattle.std.specs.Prelude.{◌≡◌, Some};
 ghost use Rattle.pdb_types.specs.Outcomes.{lent};
-ghost use Rattle.pdb_types.specs.Unread.{Tells};
-ghost use Rattle.pdb_types.specs.Standing.{linked};
+ghost use Rattle.pdb_types.specs.ReadError.{Matches};
+ghost use Rattle.pdb_types.specs.TypeInputs.{link_inputs};
 ghost use Rattle.pdb_types.specs.Resolution.{streamed, module_info, imports, exports, module_named, module_under};
 ghost use Rattle.pdb_types.specs.Resolution.{found_export, export_of, import_target, across, resolved};
-ghost use Rattle.pdb_types.specs.Findings.{Fits, Keeps};
+ghost use Rattle.pdb_types.specs.TypeCache.{IsCacheOf, IsCacheAfter};
 
 use crate::error::{Error, Result};
 use crate::exports::ExportTable;
-use crate::findings::Findings;
 use crate::module_list::lower_case;
 use crate::provider::ModuleProvider;
-use crate::standing::Standing;
+use crate::read_error::{Part, ReadError};
 use crate::texts::Texts;
-use crate::unread::{Part, Unread};
+use crate::type_cache::TypeCache;
+use crate::type_inputs::TypeInputs;
 use pdb_records::{
     CrossModuleExports, CrossModuleImports, ModuleInfo, RawString, StreamError, StringRef,
 };
@@ -27,168 +27,170 @@ fn streamed<A>(content: &Result<A, StreamError>) -> Result<&A>
 {
     match content {
         Ok(content) => Ok(content),
-        Err(fault) => Err(Error::from(pdb_records::Error::Stream(*fault))),
+        Err(fault) => Err(Error::from(*fault)),
     }
 }
 
 /// The index that was found under a number of a module's exports.
-fn found_export(local: u32, found: Option<u32>) -> Result<u32, Unread>
-    ensures { Tells (λ index. index) result (found_export local found) }
+fn found_export(local: u32, found: Option<u32>) -> Result<u32, ReadError>
+    ensures { Matches (λ index. index) result (found_export local found) }
 {
     match found {
         Some(index) => Ok(index),
-        None => Err(Unread::Refused(Error::LocalIndexNotInExports(local))),
+        None => Err(ReadError::Refused(Error::LocalIndexNotInExports(local))),
     }
 }
 
-impl<'a, P: ModuleProvider> Standing<'a, P> {
-    /// The records of the module at a position.
-    fn module_info(&self, position: usize) -> Result<&'a ModuleInfo>
-        ensures { lent result ≡ module_info (linked P.info self.now) position }
+impl<'a, P: ModuleProvider> TypeInputs<'a, P> {
+    /// The records of the module at a module index.
+    fn module_info(&self, module_index: usize) -> Result<&'a ModuleInfo>
+        ensures { lent result ≡ module_info (link_inputs P.info self.now) module_index }
     {
         let provider = self.provider;
-        let Some(module) = self.modules().get(position) else {
-            return Err(Error::OutOfRangeModuleIndex(position));
+        let Some(module) = self.modules().get(module_index) else {
+            return Err(Error::OutOfRangeModuleIndex(module_index));
         };
-        match provider.get_module_info(position, module) {
+        match provider.get_module_info(module_index, module) {
             Ok(Some(info)) => Ok(info),
-            Ok(None) => Err(Error::ModuleInfoNotFound(position)),
-            Err(fault) => Err(Error::from(pdb_records::Error::Stream(fault))),
+            Ok(None) => Err(Error::ModuleInfoNotFound(module_index)),
+            Err(fault) => Err(Error::from(fault)),
         }
     }
 
-    /// What the module at a position imports.
-    fn imports(&self, position: usize) -> Result<&'a CrossModuleImports>
-        ensures { lent result ≡ imports (linked P.info self.now) position }
+    /// What the module at a module index imports.
+    fn imports(&self, module_index: usize) -> Result<&'a CrossModuleImports>
+        ensures { lent result ≡ imports (link_inputs P.info self.now) module_index }
     {
-        streamed(&self.module_info(position)?.imports)
+        streamed(&self.module_info(module_index)?.imports)
     }
 
-    /// What the module at a position exports.
-    fn exports(&self, position: usize) -> Result<&'a CrossModuleExports>
-        ensures { lent result ≡ exports (linked P.info self.now) position }
+    /// What the module at a module index exports.
+    fn exports(&self, module_index: usize) -> Result<&'a CrossModuleExports>
+        ensures { lent result ≡ exports (link_inputs P.info self.now) module_index }
     {
-        streamed(&self.module_info(position)?.exports)
+        streamed(&self.module_info(module_index)?.exports)
     }
 
-    /// The position of the module with this name.
-    fn module_named(&self, name: &RawString) -> Result<usize, Unread>
-        ensures { Tells (λ position. position) result (module_named self.now.modules name.now) }
+    /// The module index of the module with this name.
+    fn module_named(&self, name: &RawString) -> Result<usize, ReadError>
+        ensures { Matches (λ module_index. module_index) result (module_named self.now.modules name.now) }
     {
         let lower_name = lower_case(self.alloc, name)?;
         match self.modules.last_named(lower_name.as_str()) {
-            Some(position) => Ok(position),
-            None => Err(Unread::Refused(Error::ModuleNameNotFound(lower_name))),
+            Some(module_index) => Ok(module_index),
+            None => Err(ReadError::Refused(Error::ModuleNameNotFound(lower_name))),
         }
     }
 
-    /// The position of the module whose name stands under a reference. It is looked for once.
+    /// The module index of the module whose name stands under a reference. It is looked for once.
     fn module_under(
         &self,
-        findings: &mut Findings<'a>,
+        cache: &mut TypeCache<'a>,
         strings: &Texts<'a>,
         reference: StringRef,
-    ) -> Result<usize, Unread>
-        requires fits { Fits P.info self.now findings.old }
+    ) -> Result<usize, ReadError>
+        requires is_cache { IsCacheOf P.info self.now cache.old }
         requires strings { self.now.strings ≡ Some strings.now }
-        ensures position { Tells (λ position. position) result (module_under self.now.modules strings.now reference) }
-        ensures kept { Keeps P.info self.now findings.old findings.new }
+        ensures module_index { Matches (λ module_index. module_index) result
+            (module_under self.now.modules strings.now reference) }
+        ensures cached { IsCacheAfter P.info self.now cache.old cache.new }
     {
-        if let Some(position) = findings.named.get(&reference.0) {
-            return Ok(*position);
+        if let Some(module_index) = cache.named.get(&reference.0) {
+            return Ok(*module_index);
         }
         let Some(name) = strings.get(reference) else {
-            return Err(Unread::from(pdb_records::Error::StringNotFound(reference.0)));
+            return Err(ReadError::from(pdb_records::Error::StringNotFound(reference.0)));
         };
-        let position = self.module_named(name)?;
-        match findings.named.insert(reference.0, position) {
-            Ok(_) => Ok(position),
-            Err(_) => Err(Unread::OutOfMemory),
+        let module_index = self.module_named(name)?;
+        match cache.named.insert(reference.0, module_index) {
+            Ok(_) => Ok(module_index),
+            Err(_) => Err(ReadError::OutOfMemory),
         }
     }
 
-    /// The index that the module at a position exports under a number. Its exports are read once.
+    /// The index that the module at a module index exports under a number. Its exports are read once.
     fn export_of(
         &self,
-        findings: &mut Findings<'a>,
+        cache: &mut TypeCache<'a>,
         local: u32,
-        position: usize,
-    ) -> Result<u32, Unread>
-        requires fits { Fits P.info self.now findings.old }
-        ensures index { Tells (λ index. index) result (export_of (linked P.info self.now) local position) }
-        ensures kept { Keeps P.info self.now findings.old findings.new }
+        module_index: usize,
+    ) -> Result<u32, ReadError>
+        requires is_cache { IsCacheOf P.info self.now cache.old }
+        ensures index { Matches (λ index. index) result (export_of (link_inputs P.info self.now) local module_index) }
+        ensures cached { IsCacheAfter P.info self.now cache.old cache.new }
     {
-        if let Some(table) = findings.exports.get(&position) {
+        if let Some(table) = cache.exports.get(&module_index) {
             return found_export(local, table.get(local));
         }
-        let exports = match self.exports(position) {
+        let exports = match self.exports(module_index) {
             Ok(exports) => exports,
-            Err(error) => return Err(Unread::Broken(Part::Exports(position), error)),
+            Err(error) => return Err(ReadError::Broken(Part::Exports(module_index), error)),
         };
         let table = ExportTable::new(self.alloc, exports)?;
         let found = table.get(local);
-        match findings.exports.insert(position, table) {
+        match cache.exports.insert(module_index, table) {
             Ok(_) => found_export(local, found),
-            Err(_) => Err(Unread::OutOfMemory),
+            Err(_) => Err(ReadError::OutOfMemory),
         }
     }
 
     /// The index behind an import: the name of the other module, and the number there.
     fn import_target(
         &self,
-        findings: &mut Findings<'a>,
+        cache: &mut TypeCache<'a>,
         strings: &Texts<'a>,
         target: (StringRef, u32),
-    ) -> Result<u32, Unread>
-        requires fits { Fits P.info self.now findings.old }
+    ) -> Result<u32, ReadError>
+        requires is_cache { IsCacheOf P.info self.now cache.old }
         requires strings { self.now.strings ≡ Some strings.now }
-        ensures index { Tells (λ index. index) result (import_target (linked P.info self.now) strings.now target) }
-        ensures kept { Keeps P.info self.now findings.old findings.new }
+        ensures index { Matches (λ index. index) result
+            (import_target (link_inputs P.info self.now) strings.now target) }
+        ensures cached { IsCacheAfter P.info self.now cache.old cache.new }
     {
         let (reference, local) = target;
-        let position = self.module_under(findings, strings, reference)?;
-        self.export_of(findings, local, position)
+        let module_index = self.module_under(cache, strings, reference)?;
+        self.export_of(cache, local, module_index)
     }
 
-    /// What an index that leads to another module stands for, asked by the module at a position.
+    /// What an index that leads to another module stands for, asked by the module at a module index.
     fn across(
         &self,
-        findings: &mut Findings<'a>,
-        position: usize,
+        cache: &mut TypeCache<'a>,
+        module_index: usize,
         index: u32,
-    ) -> Result<u32, Unread>
-        requires fits { Fits P.info self.now findings.old }
-        ensures index { Tells (λ index. index) result (across (linked P.info self.now) position index) }
-        ensures kept { Keeps P.info self.now findings.old findings.new }
+    ) -> Result<u32, ReadError>
+        requires is_cache { IsCacheOf P.info self.now cache.old }
+        ensures index { Matches (λ index. index) result (across (link_inputs P.info self.now) module_index index) }
+        ensures cached { IsCacheAfter P.info self.now cache.old cache.new }
     {
         let Some(strings) = &self.strings else {
             let refusal = Error::CantResolveCrossModuleRefWithoutStringTable;
-            return Err(Unread::Refused(refusal));
+            return Err(ReadError::Refused(refusal));
         };
-        let imports = match self.imports(position) {
+        let imports = match self.imports(module_index) {
             Ok(imports) => imports,
-            Err(error) => return Err(Unread::Broken(Part::Imports(position), error)),
+            Err(error) => return Err(ReadError::Broken(Part::Imports(module_index), error)),
         };
         match imports.resolve_import(index) {
-            Ok(target) => self.import_target(findings, strings, target),
-            Err(error) => Err(Unread::from(error)),
+            Ok(target) => self.import_target(cache, strings, target),
+            Err(error) => Err(ReadError::from(error)),
         }
     }
 
-    /// What an index stands for, asked by the module at a position.
+    /// What an index stands for, asked by the module at a module index.
     pub(crate) fn resolve(
         &self,
-        findings: &mut Findings<'a>,
-        position: usize,
+        cache: &mut TypeCache<'a>,
+        module_index: usize,
         index: u32,
-    ) -> Result<u32, Unread>
-        requires fits { Fits P.info self.now findings.old }
-        ensures index { Tells (λ index. index) result (resolved (linked P.info self.now) position index) }
-        ensures kept { Keeps P.info self.now findings.old findings.new }
+    ) -> Result<u32, ReadError>
+        requires is_cache { IsCacheOf P.info self.now cache.old }
+        ensures index { Matches (λ index. index) result (resolved (link_inputs P.info self.now) module_index index) }
+        ensures cached { IsCacheAfter P.info self.now cache.old cache.new }
     {
         if index < CROSS_MODULE {
             return Ok(index);
         }
-        self.across(findings, position, index)
+        self.across(cache, module_index, index)
     }
 }

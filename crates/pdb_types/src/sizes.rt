@@ -98,7 +98,7 @@ pub(crate) fn underneath(type_data: &TypeData) -> Option<TypeIndex>
     }
 }
 
-/// The size that a type itself tells, by the size of a pointer.
+/// The size that a type itself says, by the size of a pointer.
 pub(crate) fn own_size(pointer: u64, type_data: &TypeData) -> u64
     ensures { result ≡ own_size pointer type_data.now }
 {

@@ -5,18 +5,18 @@ ghost use Rattle.std.specs.Ordering.{nat_cmp};
 ghost use Rattle.pdb_types.specs.declared.error.Error.TheVariants.{OutOfMemory};
 ghost use Rattle.pdb_types.specs.ForwardReferences.{forward_size};
 ghost use Rattle.pdb_types.specs.Reading.{entry};
-ghost use Rattle.pdb_types.specs.Standing.{linked};
+ghost use Rattle.pdb_types.specs.TypeInputs.{link_inputs};
 ghost use Rattle.pdb_types.specs.TypeSizes.{end_size, step, size_of};
-ghost use Rattle.pdb_types.specs.Findings.{Fits, Keeps};
+ghost use Rattle.pdb_types.specs.TypeCache.{IsCacheOf, IsCacheAfter};
 
 use crate::aggregates::aggregate_of;
 use crate::error::{Error, Result};
-use crate::findings::{Asked, Findings};
 use crate::forward_sizes::{forward_sizes, size_at};
 use crate::provider::ModuleProvider;
+use crate::read_error::{Part, ReadError};
 use crate::sizes::{own_size, underneath};
-use crate::standing::Standing;
-use crate::unread::{Part, Unread};
+use crate::type_cache::{Asked, TypeCache};
+use crate::type_inputs::TypeInputs;
 use pdb_records::{TypeData, TypeIndex};
 use std::collections::BTreeSet;
 
@@ -41,44 +41,44 @@ pub(crate) enum Step {
     Next(TypeIndex),
 }
 
-impl<'a, P: ModuleProvider> Standing<'a, P> {
+impl<'a, P: ModuleProvider> TypeInputs<'a, P> {
     /// The size that the definition behind a forward reference has. The list is read once for all.
-    fn forward_size(&self, findings: &mut Findings<'a>, resolved: TypeIndex) -> Result<Option<u64>>
-        requires fits { Fits P.info self.now findings.old }
+    fn forward_size(&self, cache: &mut TypeCache<'a>, resolved: TypeIndex) -> Result<Option<u64>>
+        requires is_cache { IsCacheOf P.info self.now cache.old }
         ensures size { MatchResult result
             (λ size. size ≡ forward_size resolved.0 self.now.types.items)
             (λ e. e ≡ OutOfMemory) }
-        ensures kept { Keeps P.info self.now findings.old findings.new }
+        ensures cached { IsCacheAfter P.info self.now cache.old cache.new }
     {
-        if let Some(sizes) = &findings.forward_sizes {
+        if let Some(sizes) = &cache.forward_sizes {
             return Ok(size_at(sizes, resolved.0));
         }
         let information = self.types;
         let list = &information.items;
         let sizes = forward_sizes(self.alloc, &list.items)?;
         let size = size_at(&sizes, resolved.0);
-        findings.forward_sizes = Some(sizes);
+        cache.forward_sizes = Some(sizes);
         Ok(size)
     }
 
     /// The size of a type with this index that is no enumeration and no modifier.
     fn end_size(
         &self,
-        findings: &mut Findings<'a>,
+        cache: &mut TypeCache<'a>,
         resolved: TypeIndex,
         type_data: &TypeData,
     ) -> Result<u64>
-        requires fits { Fits P.info self.now findings.old }
+        requires is_cache { IsCacheOf P.info self.now cache.old }
         requires read { entry (λ i. i.0) self.now.types resolved.0 ≡ Ok type_data.now }
         ensures size { MatchResult result
             (λ size. size ≡ end_size self.now.pointer_size self.now.types.items resolved.0 type_data.now)
             (λ e. e ≡ OutOfMemory) }
-        ensures kept { Keeps P.info self.now findings.old findings.new }
+        ensures cached { IsCacheAfter P.info self.now cache.old cache.new }
     {
         let own = own_size(self.pointer_size, type_data);
         match aggregate_of(type_data) {
-            Some(told) if told.forward_reference => {
-                let elsewhere = self.forward_size(findings, resolved)?;
+            Some(error_view) if error_view.forward_reference => {
+                let elsewhere = self.forward_size(cache, resolved)?;
                 Ok(elsewhere.unwrap_or(own))
             }
             _ => Ok(own),
@@ -86,17 +86,17 @@ impl<'a, P: ModuleProvider> Standing<'a, P> {
     }
 
     /// What follows an index in a chain of types.
-    fn step(&self, findings: &mut Findings<'a>, position: usize, index: TypeIndex) -> Result<Step>
-        requires fits { Fits P.info self.now findings.old }
+    fn step(&self, cache: &mut TypeCache<'a>, module_index: usize, index: TypeIndex) -> Result<Step>
+        requires is_cache { IsCacheOf P.info self.now cache.old }
         ensures step { MatchResult result
-            (λ s. s ≡ step (linked P.info self.now) self.now.types self.now.pointer_size position index.0)
+            (λ s. s ≡ step (link_inputs P.info self.now) self.now.types self.now.pointer_size module_index index.0)
             (λ e. e ≡ OutOfMemory) }
-        ensures kept { Keeps P.info self.now findings.old findings.new }
+        ensures cached { IsCacheAfter P.info self.now cache.old cache.new }
     {
-        let (resolved, type_data) = match self.read_type(findings, position, index) {
+        let (resolved, type_data) = match self.read_type(cache, module_index, index) {
             Ok(read) => read,
-            Err(Unread::OutOfMemory) => return Err(Error::OutOfMemory),
-            Err(Unread::Broken(part, _)) => {
+            Err(ReadError::OutOfMemory) => return Err(Error::OutOfMemory),
+            Err(ReadError::Broken(part, _)) => {
                 return Ok(Step::Ended(TypeSize {
                     size: 0,
                     met: Some(part),
@@ -107,7 +107,7 @@ impl<'a, P: ModuleProvider> Standing<'a, P> {
         match underneath(type_data) {
             Some(next) => Ok(Step::Next(next)),
             None => {
-                let size = self.end_size(findings, resolved, type_data)?;
+                let size = self.end_size(cache, resolved, type_data)?;
                 Ok(Step::Ended(TypeSize { size, met: None }))
             }
         }
@@ -116,78 +116,78 @@ impl<'a, P: ModuleProvider> Standing<'a, P> {
     /// The size at the end of a chain, and the indices that were passed on the way to it.
     fn chain_size(
         &self,
-        findings: &mut Findings<'a>,
+        cache: &mut TypeCache<'a>,
         passed: &mut BTreeSet<u32>,
-        position: usize,
+        module_index: usize,
         index: TypeIndex,
     ) -> Result<TypeSize>
-        requires fits { Fits P.info self.now findings.old }
+        requires is_cache { IsCacheOf P.info self.now cache.old }
         requires none_passed { passed.old.keys ≡ [] }
         ensures size { MatchResult result
-            (λ size. size ≡ size_of P.info self.now position index.0)
+            (λ size. size ≡ size_of P.info self.now module_index index.0)
             (λ e. e ≡ OutOfMemory) }
         ensures passed { IfOk result
             (λ size. (other : ℕ) → contains nat_cmp passed.new other ≡ true
-            → size_of P.info self.now position other ≡ size) }
-        ensures kept { Keeps P.info self.now findings.old findings.new }
+            → size_of P.info self.now module_index other ≡ size) }
+        ensures cached { IsCacheAfter P.info self.now cache.old cache.new }
     {
         let mut index = index;
         'chain: loop {
             let number = index.0;
             let asked = Asked {
-                position,
+                module_index,
                 index: number,
             };
-            if let Some(size) = findings.sizes.get(&asked) {
+            if let Some(size) = cache.sizes.get(&asked) {
                 return Ok(*size);
             }
             if !passed.insert(number)? {
                 return Ok(NO_SIZE);
             }
-            match self.step(findings, position, index)? {
+            match self.step(cache, module_index, index)? {
                 Step::Ended(size) => return Ok(size),
                 Step::Next(next) => index = next,
             }
         }
     }
 
-    /// Keeps the size of a type that was asked for.
-    fn keep_size(&self, findings: &mut Findings<'a>, asked: Asked, size: TypeSize) -> Result<()>
-        requires fits { Fits P.info self.now findings.old }
-        requires size { size_of P.info self.now asked.position asked.index ≡ size }
+    /// Caches the size of a type that was asked for.
+    fn cache_size(&self, cache: &mut TypeCache<'a>, asked: Asked, size: TypeSize) -> Result<()>
+        requires is_cache { IsCacheOf P.info self.now cache.old }
+        requires size { size_of P.info self.now asked.module_index asked.index ≡ size }
         ensures only_memory { IfErr result (λ e. e ≡ OutOfMemory) }
-        ensures kept { Keeps P.info self.now findings.old findings.new }
+        ensures cached { IsCacheAfter P.info self.now cache.old cache.new }
     {
-        match findings.sizes.insert(asked, size) {
+        match cache.sizes.insert(asked, size) {
             Ok(_) => Ok(()),
             Err(_) => Err(Error::OutOfMemory),
         }
     }
 
-    /// Keeps the size of types that were asked for by the module at a position.
-    fn keep_sizes(
+    /// Caches the size of types that were asked for by the module at a module index.
+    fn cache_sizes(
         &self,
-        findings: &mut Findings<'a>,
+        cache: &mut TypeCache<'a>,
         passed: &BTreeSet<u32>,
-        position: usize,
+        module_index: usize,
         size: TypeSize,
     ) -> Result<()>
-        requires fits { Fits P.info self.now findings.old }
-        requires sizes { AllByRecursion (λ index. size_of P.info self.now position index ≡ size) passed.now.keys }
+        requires is_cache { IsCacheOf P.info self.now cache.old }
+        requires sizes { AllByRecursion (λ index. size_of P.info self.now module_index index ≡ size) passed.now.keys }
         ensures only_memory { IfErr result (λ e. e ≡ OutOfMemory) }
-        ensures kept { Keeps P.info self.now findings.old findings.new }
+        ensures cached { IsCacheAfter P.info self.now cache.old cache.new }
     {
         for index in passed {
             let asked = Asked {
-                position,
+                module_index,
                 index: *index,
             };
-            self.keep_size(findings, asked, size)?;
+            self.cache_size(cache, asked, size)?;
         }
         Ok(())
     }
 
-    /// The size of a type, asked by the module at a position, and the part that was met broken.
+    /// The size of a type, asked by the module at a module index, and the part that was met broken.
     ///
     /// Each index of a chain of types is read once, whatever is asked of the chain afterwards.
     ///
@@ -196,19 +196,19 @@ impl<'a, P: ModuleProvider> Standing<'a, P> {
     /// [`Error::OutOfMemory`] alone.
     pub fn type_size(
         &self,
-        findings: &mut Findings<'a>,
-        position: usize,
+        cache: &mut TypeCache<'a>,
+        module_index: usize,
         index: TypeIndex,
     ) -> Result<TypeSize>
-        requires fits { Fits P.info self.now findings.old }
+        requires is_cache { IsCacheOf P.info self.now cache.old }
         ensures size { MatchResult result
-            (λ size. size ≡ size_of P.info self.now position index.0)
+            (λ size. size ≡ size_of P.info self.now module_index index.0)
             (λ e. e ≡ OutOfMemory) }
-        ensures kept { Keeps P.info self.now findings.old findings.new }
+        ensures cached { IsCacheAfter P.info self.now cache.old cache.new }
     {
         let mut passed = BTreeSet::new(self.alloc);
-        let size = self.chain_size(findings, &mut passed, position, index)?;
-        self.keep_sizes(findings, &passed, position, size)?;
+        let size = self.chain_size(cache, &mut passed, module_index, index)?;
+        self.cache_sizes(cache, &passed, module_index, size)?;
         Ok(size)
     }
 }

@@ -17,8 +17,8 @@ fn changed(alloc: Global, path: &str, new: &str) -> Result<Option<String>, Fail>
         };
         let _removed = members.remove(name);
     } else {
-        let place = file.pointer_mut(path).ok_or("no such path")?;
-        *place = Value::from_str(alloc, new)?;
+        let section_offset = file.pointer_mut(path).ok_or("no such path")?;
+        *section_offset = Value::from_str(alloc, new)?;
     }
     Ok(Some(file.to_string(alloc)?))
 }
@@ -32,18 +32,18 @@ fn answer_to_change(alloc: Global, path: &str, new: &str) -> Result<Option<Strin
 }
 
 /// Whether the answer is that the file was read, or else the path with this fault.
-fn is_wanted(told: &str, path: &str, fault: &str) -> bool {
-    match told.strip_prefix(path) {
+fn is_wanted(shown: &str, path: &str, fault: &str) -> bool {
+    match shown.strip_prefix(path) {
         Some(rest) => rest == fault,
-        None => told == "read" && fault == "read",
+        None => shown == "read" && fault == "read",
     }
 }
 
 /// Makes one change of the whole file and compares the answer.
 fn check_case(rt: &impl Abort, alloc: Global, path: &str, case: &str) -> Result<(), Fail> {
     let (new, fault) = case.split_once(' ').ok_or("an answer")?;
-    if let Some(told) = answer_to_change(alloc, path, new)? {
-        assert!(rt; is_wanted(told.as_str(), path, fault), "{path} {case}");
+    if let Some(shown) = answer_to_change(alloc, path, new)? {
+        assert!(rt; is_wanted(shown.as_str(), path, fault), "{path} {case}");
     }
     Ok(())
 }

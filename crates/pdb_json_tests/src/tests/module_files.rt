@@ -84,11 +84,11 @@ fn check_files(rt: &impl Abort, alloc: Global, line: &str) -> Result<(), Fail> {
     let (infos, files, wanted) = parts(line).ok_or("no files")?;
     let text = with_infos(alloc, infos)?;
     let files = files_of(alloc, files)?;
-    let told = match read_records_with(alloc, text.as_bytes(), &files) {
+    let shown = match read_records_with(alloc, text.as_bytes(), &files) {
         Ok(_) => String::from_str(alloc, "read")?,
         Err(fault) => fault.to_string(alloc)?,
     };
-    assert!(rt; told.as_str() == wanted, "{line}");
+    assert!(rt; shown.as_str() == wanted, "{line}");
     Ok(())
 }
 
@@ -101,7 +101,7 @@ fn module_files_are_read(rt: HostRuntime) -> Result<(), Fail> {
 }
 
 /// The names of the module files of a file with commas between them, or the fault's text.
-fn told_names(alloc: Global, text: &str) -> Result<String, AllocError> {
+fn answered_names(alloc: Global, text: &str) -> Result<String, AllocError> {
     match module_files(alloc, text.as_bytes()) {
         Ok(names) => names.join(alloc, ","),
         Err(fault) => fault.to_string(alloc),
@@ -111,13 +111,13 @@ fn told_names(alloc: Global, text: &str) -> Result<String, AllocError> {
 /// Asks one file for the names of its module files and compares the answer.
 fn check_names(rt: &impl Abort, alloc: Global, line: &str) -> Result<(), Fail> {
     let (text, wanted) = line.split_once(" =>").ok_or("no names")?;
-    let told = told_names(alloc, text)?;
-    assert!(rt; told.as_str() == wanted.trim_start_matches(' '), "{line}");
+    let shown = answered_names(alloc, text)?;
+    assert!(rt; shown.as_str() == wanted.trim_start_matches(' '), "{line}");
     Ok(())
 }
 
 #[test]
-fn names_of_module_files_are_told(rt: HostRuntime) -> Result<(), Fail> {
+fn names_of_module_files_are_answered(rt: HostRuntime) -> Result<(), Fail> {
     for line in NAMES.lines() {
         check_names(&rt, rt.alloc(), line)?;
     }
@@ -132,7 +132,7 @@ fn each_element_has_its_own_file(rt: HostRuntime) -> Result<(), Fail> {
     let Ok(records) = read_records_with(alloc, text.as_bytes(), &files) else {
         return Err("refused".into());
     };
-    let told = matches!(
+    let shown = matches!(
         records.module_infos.as_slice(),
         [
             Err(StreamError(5)),
@@ -141,7 +141,7 @@ fn each_element_has_its_own_file(rt: HostRuntime) -> Result<(), Fail> {
             Err(StreamError(6)),
         ]
     );
-    assert!(rt; told);
+    assert!(rt; shown);
     Ok(())
 }
 
@@ -154,8 +154,8 @@ fn the_first_version_has_no_module_files(rt: HostRuntime) -> Result<(), Fail> {
     let Err(fault) = read_records(alloc, text.as_bytes()) else {
         return Err("read".into());
     };
-    let told = fault.to_string(alloc)?;
-    assert!(rt; told.as_str() == "/module_infos/0/symbols: wanted array");
+    let shown = fault.to_string(alloc)?;
+    assert!(rt; shown.as_str() == "/module_infos/0/symbols: wanted array");
     Ok(())
 }
 

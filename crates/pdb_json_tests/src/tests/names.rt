@@ -105,9 +105,9 @@ fn names_alone_may_be_bytes(rt: HostRuntime) -> Result<(), Fail> {
 fn names_are_texts_in_the_first_version(rt: HostRuntime) -> Result<(), Fail> {
     for name in ["[102,255]", "[]", "[102,256]"] {
         let text = example_named(rt.alloc(), "1", name)?;
-        let told = answer(rt.alloc(), &text)?;
+        let shown = answer(rt.alloc(), &text)?;
         assert!(rt;
-            told.as_str() == "/global_symbols/0/data/name: wanted text",
+            shown.as_str() == "/global_symbols/0/data/name: wanted text",
             "{name}"
         );
     }
@@ -129,7 +129,7 @@ fn has_the_name(records: &PDB, wanted: &[u8]) -> bool {
 }
 
 #[test]
-fn bytes_of_a_name_are_kept(rt: HostRuntime) -> Result<(), Fail> {
+fn bytes_of_a_name_stay(rt: HostRuntime) -> Result<(), Fail> {
     let text = example_named(rt.alloc(), "2", "[102,255,0]")?;
     let Ok(records) = read_records(rt.alloc(), text.as_bytes()) else {
         return Err("refused".into());

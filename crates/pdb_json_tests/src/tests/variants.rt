@@ -165,8 +165,8 @@ fn wanted_answer(wanted: &str) -> &str {
 fn numbers_fit_their_widths(rt: HostRuntime) -> Result<(), Fail> {
     for line in WIDTHS.lines() {
         let (width, number, wanted) = parts(line).ok_or("no number")?;
-        let told = answer_to_number(rt.alloc(), width, number)?;
-        assert!(rt; told.as_str() == wanted_answer(wanted), "{line}");
+        let shown = answer_to_number(rt.alloc(), width, number)?;
+        assert!(rt; shown.as_str() == wanted_answer(wanted), "{line}");
     }
     Ok(())
 }

@@ -20,9 +20,9 @@ fn is_name(name: &RawString, wanted: &str) -> bool {
     name.0.as_slice() == wanted.as_bytes()
 }
 
-/// Whether a place is this offset in this section.
-fn is_place(place: PdbInternalSectionOffset, section: u16, offset: u32) -> bool {
-    place == PdbInternalSectionOffset { section, offset }
+/// Whether a section offset is this offset in this section.
+fn is_section_offset(section_offset: PdbInternalSectionOffset, section: u16, offset: u32) -> bool {
+    section_offset == PdbInternalSectionOffset { section, offset }
 }
 
 /// Whether the sections are those of the file.

@@ -1,10 +1,10 @@
 use Rattle.pdb_documents.specs.Ids.{id_of_index}
-use Rattle.pdb_documents.specs.Worlds.{world_of}
+use Rattle.pdb_documents.specs.PrintInputs.{print_inputs_of}
 use Rattle.pdb_documents.proofs.DocumentLemmas.{document-unfolds}
-use Rattle.pdb_documents.proofs.UnfoldingLemmas.{world-below}
+use Rattle.pdb_documents.proofs.UnfoldingLemmas.{print_inputs-below}
 use Rattle.pdb_documents.proofs.laws.the_document_of_an_id_is_what_it_unfolds_to.Goals as goal
 
 pub returns : goal.returns
-returns c = λ linked types ids pointer flags position index.
-    let w = world_of linked types ids pointer flags position in
-    document-unfolds w (world-below linked types ids pointer flags position) (id_of_index index)
+returns c = λ link_inputs types ids pointer flags module_index index.
+    let w = print_inputs_of link_inputs types ids pointer flags module_index in
+    document-unfolds w (print_inputs-below link_inputs types ids pointer flags module_index) (id_of_index index)

@@ -3,7 +3,7 @@ use Rattle.std.specs.Prelude.{None}
 use Rattle.pdb_frames.specs.FunctionRows.{first_rows_after}
 use Rattle.pdb_frames.proofs.function_rows.first_neighbours.Given as goal
 
--- what is kept, and what stays of what is left, is what stays of all
+-- what stayed so far, and what stays of what is left, is what stays of all
 abbrev pub invariant-loop-row : goal.invariant-loop-row
 invariant-loop-row l =
-    l.kept.items ++ first_rows_after l.before (drop l.row-index l.rows) ≡ first_rows_after None l.rows
+    l.counted.items ++ first_rows_after l.before (drop l.row-index l.rows) ≡ first_rows_after None l.rows

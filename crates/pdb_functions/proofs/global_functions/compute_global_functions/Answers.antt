@@ -4,16 +4,16 @@ use Rattle.std.proofs.lemmas.Grind.{common_steps}
 use Rattle.pdb_functions.specs.Sections.{section_ends}
 use Rattle.pdb_functions.specs.Starts.{first_of_each_start}
 use Rattle.pdb_functions.specs.GlobalFunctions.{GlobalFunction, global_function, public_function, placeholder}
-use Rattle.pdb_functions.proofs.AscendLemmas.{kept_ascend}
+use Rattle.pdb_functions.proofs.AscendLemmas.{firsts_ascend}
 use Rattle.pdb_functions.proofs.StartLemmas.{map-first_of_each_start}
 use Rattle.pdb_functions.proofs.global_functions.compute_global_functions.Goals as goal
 
 pub new-requires : goal.new-requires
-new-requires c = rw c.in_ok-kept.ensures (kept_ascend (λ f. f.start_offset) c.add_placeholders-2.new.functions.items)
+new-requires c = rw c.in_ok-counted.ensures (firsts_ascend (λ f. f.start_offset) c.add_placeholders-2.new.functions.items)
 
 pub returns : goal.returns
 returns c =
-    let told : map global_function c.add_placeholders-2.new.functions.items ≡ filter_map (public_function c.args.sections.now) c.args.symbols.now ++ map placeholder (c.args.contribution_starts.now ++ section_ends c.args.sections.now)
+    let shown : map global_function c.add_placeholders-2.new.functions.items ≡ filter_map (public_function c.args.sections.now) c.args.symbols.now ++ map placeholder (c.args.contribution_starts.now ++ section_ends c.args.sections.now)
     = grind (arith, common_steps)
-    in rw (c.new.ensures, c.in_ok-kept.ensures) (map-first_of_each_start global_function (λ f. f.start) c.add_placeholders-2.new.functions.items
-    ∙ ap (λ (fs : List GlobalFunction). first_of_each_start (λ f. f.start) fs) told)
+    in rw (c.new.ensures, c.in_ok-counted.ensures) (map-first_of_each_start global_function (λ f. f.start) c.add_placeholders-2.new.functions.items
+    ∙ ap (λ (fs : List GlobalFunction). first_of_each_start (λ f. f.start) fs) shown)

@@ -1,7 +1,7 @@
 use Rattle.std.proofs.Common.{rules}
 use Rattle.std.proofs.lemmas.Fn.{always_returns_same}
 use Rattle.pdb_ranges.proofs.SortLemmas.{sorted_is_in_order}
-use Rattle.pdb_functions.proofs.PlaceLemmas.{starts_rank}
+use Rattle.pdb_functions.proofs.SectionOffsetLemmas.{starts_rank}
 use Rattle.pdb_functions.proofs.starts.sort_by_start.Goals as goal
 
 pub returns-clause-ok : goal.returns-clause-ok

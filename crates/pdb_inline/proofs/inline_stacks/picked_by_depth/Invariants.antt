@@ -1,7 +1,7 @@
 use Rattle.std.proofs.Common.{◌≡◌, ◌<◌, ◌≤◌, ℕ, drop, length, None}
 use Rattle.pdb_ranges.specs.Pick.{pick, later_start}
 use Rattle.pdb_inline.specs.InlineStacks.{lies_over}
-use Rattle.pdb_inline.specs.PickedPlaces.{picked_at}
+use Rattle.pdb_inline.specs.PickedSlots.{picked_at}
 use Rattle.pdb_inline.proofs.inline_stacks.picked_by_depth.Given as goal
 
 -- at each depth that a stack may reach, what is picked so far, or what is left has to offer, is the pick of all; and nothing is picked from there on

@@ -1,4 +1,4 @@
-use super::{is_name, is_place};
+use super::{is_name, is_section_offset};
 use pdb_records::{
     CrossModuleExports, CrossModuleImports, DebugInformation, FileIndex, IdIndex, Inlinee,
     LineProgram, MachineType, Module, ModuleInfo, Reading, SectionContribution, StreamError,
@@ -18,7 +18,7 @@ fn has_the_contributions(contributions: &Reading<SectionContribution>) -> bool {
     let [contribution] = contributions.items.as_slice() else {
         return false;
     };
-    is_place(contribution.offset, 6, 37)
+    is_section_offset(contribution.offset, 6, 37)
         && contribution.size == 38
         && contribution.module == 39
         && contributions.fault == None
@@ -47,7 +47,7 @@ fn is_the_entry(entry: &SymbolLines) -> bool {
     let [line] = entry.lines.items.as_slice() else {
         return false;
     };
-    is_place(entry.offset, 7, 69)
+    is_section_offset(entry.offset, 7, 69)
         && line.offset == 70
         && line.file_index == FileIndex(71)
         && line.line_start == 72

@@ -1,4 +1,4 @@
-use super::{is_name, is_place};
+use super::{is_name, is_section_offset};
 use pdb_records::{
     FileIndex, IdIndex, InlineRow, Reading, StreamError, Symbol, SymbolData, SymbolIndex,
     SymbolTable, TypeIndex,
@@ -9,7 +9,9 @@ fn is_the_public_name(symbol: &Symbol) -> bool {
     let Some(SymbolData::Public(public)) = &symbol.content else {
         return false;
     };
-    symbol.raw_kind == 4366 && is_place(public.offset, 1, 16) && is_name(&public.name, "?f")
+    symbol.raw_kind == 4366
+        && is_section_offset(public.offset, 1, 16)
+        && is_name(&public.name, "?f")
 }
 
 /// Whether this is the procedure.
@@ -18,7 +20,7 @@ fn is_the_procedure(symbol: &Symbol) -> bool {
         return false;
     };
     symbol.raw_kind == 4368
-        && is_place(procedure.offset, 2, 17)
+        && is_section_offset(procedure.offset, 2, 17)
         && procedure.len == 18
         && is_name(&procedure.name, "p")
         && procedure.end == SymbolIndex(19)
@@ -31,9 +33,9 @@ fn is_the_separated_code(symbol: &Symbol) -> bool {
         return false;
     };
     symbol.raw_kind == 4402
-        && is_place(code.offset, 3, 21)
+        && is_section_offset(code.offset, 3, 21)
         && code.len == 22
-        && is_place(code.parent_offset, 4, 23)
+        && is_section_offset(code.parent_offset, 4, 23)
         && code.end == SymbolIndex(24)
 }
 
@@ -43,7 +45,7 @@ fn is_the_thunk(symbol: &Symbol) -> bool {
         return false;
     };
     symbol.raw_kind == 4354
-        && is_place(thunk.offset, 5, 25)
+        && is_section_offset(thunk.offset, 5, 25)
         && thunk.len == 65535
         && is_name(&thunk.name, "")
         && thunk.end == SymbolIndex(26)
@@ -76,13 +78,13 @@ fn is_the_site(symbol: &Symbol) -> bool {
         && has_the_rows(&site.rows)
 }
 
-/// Whether this symbol of another kind is told as such.
+/// Whether this symbol of another kind is shown as such.
 fn is_the_other(symbol: &Symbol) -> bool {
     symbol.raw_kind == 65535 && matches!(symbol.content, Some(SymbolData::Other))
 }
 
 /// Whether this is a symbol of this kind that holds nothing.
-fn is_unread(symbol: &Symbol, kind: u16) -> bool {
+fn is_read_error(symbol: &Symbol, kind: u16) -> bool {
     symbol.raw_kind == kind && symbol.content.is_none()
 }
 
@@ -101,7 +103,7 @@ pub(super) fn has_the_symbols(table: &Result<SymbolTable, StreamError>) -> bool 
         && is_the_thunk(thunk)
         && is_the_site(site)
         && is_the_other(other)
-        && is_unread(null, 0)
-        && is_unread(absent, 1)
+        && is_read_error(null, 0)
+        && is_read_error(absent, 1)
         && table.symbols.fault == Some(StreamError(9))
 }

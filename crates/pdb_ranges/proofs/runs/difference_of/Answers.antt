@@ -6,10 +6,10 @@ use Rattle.pdb_ranges.proofs.runs.difference_of.Goals as goal
 
 pub returns-clause-ordered : goal.returns-clause-ordered
 returns-clause-ordered c =
-    let all : c.loop-lo.kept.items ≡ difference c.args.runs.now c.args.others.now = grind (arith, common_steps) in
+    let all : c.loop-lo.left.items ≡ difference c.args.runs.now c.args.others.now = grind (arith, common_steps) in
     rw all (IsRunsFrom-difference 0 0 _ _ c.requires.runs c.requires.others)
 
 pub returns-clause-numbers : goal.returns-clause-numbers
 returns-clause-numbers c =
-    let all : c.loop-lo.kept.items ≡ difference c.args.runs.now c.args.others.now = grind (arith, common_steps) in
+    let all : c.loop-lo.left.items ≡ difference c.args.runs.now c.args.others.now = grind (arith, common_steps) in
     rw all (λ x. has-difference 0 0 x _ _ c.requires.runs c.requires.others)

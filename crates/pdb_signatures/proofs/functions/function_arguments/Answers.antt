@@ -8,5 +8,5 @@ returns c = λ w flags.
     let row = stands_before w _ _ _ _ _ _ last c.in_ok-first-2.ensures in
     let all = stands_fewer 1 (omega arith) (stands_before w _ _ _ _ _ _ row c.in_ok-first-3.ensures) in
     let wanted = sym c.if-without_arguments.ensures in
-    let told = rw (← flags) at wanted in
-    rw told all
+    let error_view = rw (← flags) at wanted in
+    rw error_view all

@@ -1,7 +1,7 @@
 use Rattle.std.proofs.Common.{arith}
 use Rattle.pdb_types.specs.declared.error.Error.TheVariants.{MemberFunctionIdIsNotMemberFunctionType}
 use Rattle.pdb_types.specs.Errors.{Plain}
-use Rattle.pdb_documents.specs.Documents.{Told}
+use Rattle.pdb_documents.specs.Documents.{OfError}
 use Rattle.pdb_documents.specs.Plans.{failing}
 use Rattle.pdb_documents.specs.Progress.{open_in}
 use Rattle.pdb_signatures.proofs.OtherKinds.{method_id-other}
@@ -15,6 +15,6 @@ returns-in_ok-method-in-MemberFunction c = λ w flags failed.
 pub returns-in_default : goal.returns-in_default
 returns-in_default c = λ w flags failed.
     let error = Plain MemberFunctionIdIsNotMemberFunctionType in
-    let fails = advances_failed w (Told error) c.args.progress.now _ failed c.requires.well c.fail.ensures in
+    let fails = advances_failed w (OfError error) c.args.progress.now _ failed c.requires.well c.fail.ensures in
     let fewer = advances_fewer w (failing error) 1 0 c.args.progress.now _ failed failed (omega arith) fails in
     rw (method_id-other w c.args.id.now (open_in c.args.progress.now.steps) c.args.type_data.now c.in_default.not-MemberFunction) fewer

@@ -1,4 +1,4 @@
-use Rattle.pdb_signatures.proofs.StandsLemmas.{stands_here, stands_kept}
+use Rattle.pdb_signatures.proofs.StandsLemmas.{stands_here, stands_held_back}
 use Rattle.pdb_signatures.proofs.OtherKinds.{chain_end-other}
 use Rattle.pdb_signatures.proofs.pointers.chain_end.Goals as goal
 
@@ -10,5 +10,5 @@ returns-in_ok-pointers_to_function-in-Procedure c = λ w. rw c.in-Procedure.is (
 
 pub returns-in_ok-first-in_default : goal.returns-in_ok-first-in_default
 returns-in_ok-first-in_default c = λ w.
-    let kept = stands_kept w c.args.attributes _ _ _ _ c.in_ok-keep_back-in_default.ensures c.in_ok-first-in_default.ensures in
-    rw (chain_end-other w _ _ c.args.type_data.now c.in_default.not-MemberFunction c.in_default.not-Procedure) kept
+    let cached = stands_held_back w c.args.attributes _ _ _ _ c.in_ok-hold_back-in_default.ensures c.in_ok-first-in_default.ensures in
+    rw (chain_end-other w _ _ c.args.type_data.now c.in_default.not-MemberFunction c.in_default.not-Procedure) cached

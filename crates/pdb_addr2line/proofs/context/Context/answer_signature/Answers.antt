@@ -3,15 +3,15 @@ use Rattle.pdb_addr2line.proofs.FunctionLemmas.{on_error}
 use Rattle.pdb_addr2line.proofs.GainLemmas.{gains_by_one}
 use Rattle.pdb_addr2line.proofs.context.Context.answer_signature.Goals as goal
 
-pub returns-in_err-told_error-in-Err-clause-not_made : goal.returns-in_err-told_error-in-Err-clause-not_made
-returns-in_err-told_error-in-Err-clause-not_made g c =
+pub returns-in_err-answered_error-in-Err-clause-not_made : goal.returns-in_err-answered_error-in-Err-clause-not_made
+returns-in_err-answered_error-in-Err-clause-not_made g c =
     rw (← c.self.view_is) (on_error _ (gains_by_one g.P.ModuleProvider.info _ _
-    (ap (λ standing. record {
+    (ap (λ t. record {
       provider = c.self.inside.provider.now;
       sections = c.self.inside.tables.sections.items;
       address_map = c.self.inside.address_map.now;
       global_symbols = c.self.inside.global_symbols.now;
       strings = c.self.inside.tables.file_names;
       debug_information = c.self.inside.debug_information.now;
-      basis = standing;
-    }) c.format_function.ensures.standing) (c.args.module_index, c.format_function.ensures.broken) refl))
+      type_inputs = t;
+    }) c.format_function.ensures.type_inputs) (c.args.module_index, c.format_function.ensures.broken) refl))

@@ -4,23 +4,23 @@ use Rattle.pdb_addr2line.proofs.context.Context.find_frames.Goals as goal
 
 pub returns-in-Some-2-clause-answer : goal.returns-in-Some-2-clause-answer
 returns-in-Some-2-clause-answer g c =
-    let place = rw (c.in-Some.is) at c.place_of.ensures in
+    let section_offset = rw (c.in-Some.is) at c.section_offset_of.ensures in
     let found = rw (c.in-Some-2.is) at c.in_ok-found_over.ensures.answer in
-    rw (← place, ← found) (rw c.found_over.ensures.kept at c.tell_frames.ensures.told)
+    rw (← section_offset, ← found) (rw c.found_over.ensures.unchanged at c.frames_answer.ensures.shown)
 
 pub returns-in-Some-2-clause-failed : goal.returns-in-Some-2-clause-failed
 returns-in-Some-2-clause-failed g c =
-    let place = rw (c.in-Some.is) at c.place_of.ensures in
+    let section_offset = rw (c.in-Some.is) at c.section_offset_of.ensures in
     let found = rw (c.in-Some-2.is) at c.in_ok-found_over.ensures.answer in
-    rw (← place, ← found) (rw c.found_over.ensures.kept at c.tell_frames.ensures.failed)
+    rw (← section_offset, ← found) (rw c.found_over.ensures.unchanged at c.frames_answer.ensures.failed)
 
 pub returns-in-Some-2-clause-code_failed : goal.returns-in-Some-2-clause-code_failed
 returns-in-Some-2-clause-code_failed g c =
-    let place = rw (c.in-Some.is) at c.place_of.ensures in
+    let section_offset = rw (c.in-Some.is) at c.section_offset_of.ensures in
     let found = rw (c.in-Some-2.is) at c.in_ok-found_over.ensures.answer in
-    rw (← place, ← found) (rw c.found_over.ensures.kept at c.tell_frames.ensures.code_failed)
+    rw (← section_offset, ← found) (rw c.found_over.ensures.unchanged at c.frames_answer.ensures.code_failed)
 
-pub tell_frames-requires : goal.tell_frames-requires
-tell_frames-requires g c =
+pub frames_answer-requires : goal.frames_answer-requires
+frames_answer-requires g c =
     let found = rw (c.in-Some-2.is) at c.in_ok-found_over.ensures.answer in
-    record { named = rw c.found_over.ensures.kept (over_goes_by_symbol g.P.ModuleProvider.info c.args.self.now.sources c.in-Some.place (found_function c.in-Some-2.found) found) }
+    record { named = rw c.found_over.ensures.unchanged (over_goes_by_symbol g.P.ModuleProvider.info c.args.self.now.inputs c.in-Some.section_offset (found_function c.in-Some-2.found) found) }

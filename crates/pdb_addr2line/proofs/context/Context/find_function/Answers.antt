@@ -5,14 +5,14 @@ use Rattle.pdb_addr2line.proofs.context.Context.find_function.Goals as goal
 pub returns-in-Some-clause-answer : goal.returns-in-Some-clause-answer
 returns-in-Some-clause-answer g c =
     let found = rw (c.in-Some.is) at c.in_ok-found.ensures.answer in
-    rw (← found) (rw c.found.ensures.kept at c.describe.ensures.told)
+    rw (← found) (rw c.found.ensures.unchanged at c.function_info.ensures.shown)
 
 pub returns-in-Some-clause-failed : goal.returns-in-Some-clause-failed
 returns-in-Some-clause-failed g c =
     let found = rw (c.in-Some.is) at c.in_ok-found.ensures.answer in
-    rw (← found) (rw c.found.ensures.kept at c.describe.ensures.failed)
+    rw (← found) (rw c.found.ensures.unchanged at c.function_info.ensures.failed)
 
-pub describe-requires : goal.describe-requires
-describe-requires g c =
+pub function_info-requires : goal.function_info-requires
+function_info-requires g c =
     let found = rw (c.in-Some.is) at c.in_ok-found.ensures.answer in
-    record { named = rw c.found.ensures.kept (at_goes_by_symbol g.P.ModuleProvider.info c.args.self.now.sources c.args.address (found_function c.in-Some.found) found) }
+    record { named = rw c.found.ensures.unchanged (at_goes_by_symbol g.P.ModuleProvider.info c.args.self.now.inputs c.args.address (found_function c.in-Some.found) found) }

@@ -3,7 +3,7 @@ use Rattle.std.specs.Vec.Iter.{into_iter_items}
 use Rattle.std.specs.Option.{is_some}
 use Rattle.pdb_addr2line.specs.FunctionSteps.{untried, lender}
 use Rattle.pdb_addr2line.proofs.FunctionLemmas.{on_error}
-use Rattle.pdb_addr2line.proofs.FunctionStepLemmas.{passed_here, told_here}
+use Rattle.pdb_addr2line.proofs.FunctionStepLemmas.{passed_here, shown_here}
 use Rattle.pdb_addr2line.proofs.functions.FunctionIterIterator.next.Goals as goal
 
 pub loop-address-preserved : goal.loop-address-preserved
@@ -11,10 +11,10 @@ loop-address-preserved g c =
     let info = g.P.ModuleProvider.info in
     let all = untried c.args.self.now in
     let passed = c.loop-address.invariant.1 in
-    let nothing = ap is_some (sym c.transpose-told.ensures) ∙ (sym c.is_some.ensures ∙ c.if-is_some.false) in (
+    let nothing = ap is_some (sym c.transpose-shown.ensures) ∙ (sym c.is_some.ensures ∙ c.if-is_some.false) in (
       c.loop-address.invariant.0,
       passed ++ c.in-Some.address ∷ [],
-      passed_here info (lender c.args.self.now) (lender c.loop-address.self) c.told_function.new.self all passed (untried c.loop-address.self) (into_iter_items c.next.new.self) c.in-Some.address c.told_function.result c.loop-address.invariant.2 c.in-Some.ensures.items c.told_function.ensures.answer c.told_function.ensures.told nothing,
+      passed_here info (lender c.args.self.now) (lender c.loop-address.self) c.next_function.new.self all passed (untried c.loop-address.self) (into_iter_items c.next.new.self) c.in-Some.address c.next_function.result c.loop-address.invariant.2 c.in-Some.ensures.items c.next_function.ensures.answer c.next_function.ensures.shown nothing,
     )
 
 pub returns-then-is_some-clause-steps : goal.returns-then-is_some-clause-steps
@@ -22,9 +22,9 @@ returns-then-is_some-clause-steps g c =
     let info = g.P.ModuleProvider.info in
     let all = untried c.args.self.now in
     let passed = c.loop-address.invariant.1 in
-    let something = ap is_some (sym c.transpose-told.ensures) ∙ (sym c.is_some.ensures ∙ c.if-is_some.true) in
-    let told = told_here info (lender c.args.self.now) (lender c.loop-address.self) c.told_function.new.self all passed (untried c.loop-address.self) (into_iter_items c.next.new.self) c.in-Some.address c.told_function.result c.loop-address.invariant.2 c.in-Some.ensures.items c.told_function.ensures.answer c.told_function.ensures.told (on_error c.told_function.result c.told_function.ensures.gains) something in
+    let something = ap is_some (sym c.transpose-shown.ensures) ∙ (sym c.is_some.ensures ∙ c.if-is_some.true) in
+    let shown = shown_here info (lender c.args.self.now) (lender c.loop-address.self) c.next_function.new.self all passed (untried c.loop-address.self) (into_iter_items c.next.new.self) c.in-Some.address c.next_function.result c.loop-address.invariant.2 c.in-Some.ensures.items c.next_function.ensures.answer c.next_function.ensures.shown (on_error c.next_function.result c.next_function.ensures.gains) something in
     record {
       same_reference = c.loop-address.invariant.0;
-      tells = rw c.transpose-told.ensures told;
+      matches = rw c.transpose-shown.ensures shown;
     }

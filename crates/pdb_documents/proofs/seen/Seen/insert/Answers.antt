@@ -5,6 +5,6 @@ use Rattle.pdb_documents.proofs.seen.Seen.insert.Goals as goal
 pub returns-in-Ok-clause-added : goal.returns-in-Ok-clause-added
 returns-in-Ok-clause-added c = has-added c.args.self.now.set.now c.insert.new.self c.args.index c.in-Ok.ensures.updates
 
-pub returns-in-Ok-clause-kept : goal.returns-in-Ok-clause-kept
-returns-in-Ok-clause-kept c =
+pub returns-in-Ok-clause-base_unchanged : goal.returns-in-Ok-clause-base_unchanged
+returns-in-Ok-clause-base_unchanged c =
     base-added c.args.self.now.set.now c.insert.new.self c.args.self.now.inserted.items c.push.new.self.items c.args.index c.in_ok-push.ensures.items (sym c.if-contains.ensures) c.in-Ok.ensures.updates

@@ -9,9 +9,9 @@ pub invariant_of-result : goal.invariant_of-result
 invariant_of-result c =
     let last_first = c.reverse.new.self.items in
     record {
-      firsts = λ place fits.
-          rw c.deref.ensures.value at (c.in_ok-segments.ensures.values place fits)
-          ∙ ap (λ spans. last_over (contribution_covers place) None spans) (sym (reverse-reverse last_first))
-          ∙ last_over-reverse (contribution_covers place) (reverse last_first);
+      firsts = λ section_offset fits.
+          rw c.deref.ensures.value at (c.in_ok-segments.ensures.values section_offset fits)
+          ∙ ap (λ spans. last_over (contribution_covers section_offset) None spans) (sym (reverse-reverse last_first))
+          ∙ last_over-reverse (contribution_covers section_offset) (reverse last_first);
       at_most_two_each = rw (← c.deref.ensures.value) c.in_ok-segments.ensures.at_most_two_each;
     }

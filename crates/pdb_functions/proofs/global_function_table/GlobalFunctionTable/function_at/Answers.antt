@@ -1,5 +1,5 @@
 use Rattle.std.proofs.Common.{◌∙◌, sym}
-use Rattle.pdb_records.specs.Addresses.{is_same_place}
+use Rattle.pdb_records.specs.Addresses.{is_same_section_offset}
 use Rattle.pdb_functions.specs.GlobalFunctions.{GlobalFunction, global_function}
 use Rattle.pdb_functions.proofs.NeighbourLemmas.{passes_it, fails_it, none_it, at_from_last}
 use Rattle.pdb_functions.proofs.global_function_table.GlobalFunctionTable.function_at.Goals as goal
@@ -7,13 +7,13 @@ use Rattle.pdb_functions.proofs.global_function_table.GlobalFunctionTable.functi
 
 pub returns-in-Some : goal.returns-in-Some
 returns-in-Some c =
-    let here = λ (f : GlobalFunction). is_same_place f.start c.args.start in
+    let here = λ (f : GlobalFunction). is_same_section_offset f.start c.args.start in
     passes_it here (global_function c.in-Some.function) _ c.in-Some.ensures.found (sym c.eq.ensures ∙ c.if-eq.true)
     ∙ at_from_last c.args.start c.args.self.now c.last_up_to.ensures.ascend
 
 pub returns-in_default : goal.returns-in_default
 returns-in_default c =
-    let here = λ (f : GlobalFunction). is_same_place f.start c.args.start in
+    let here = λ (f : GlobalFunction). is_same_section_offset f.start c.args.start in
     elim c.in_default.branch [
       | in_default-via-in-Some+else-eq w ↦
           fails_it here (global_function w.in-Some.function) _ w.in-Some.ensures.found (sym w.eq.ensures ∙ w.if-eq.false)

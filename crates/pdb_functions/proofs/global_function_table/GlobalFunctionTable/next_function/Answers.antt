@@ -3,21 +3,21 @@ use Rattle.std.specs.Prelude.{◌==◌}
 use Rattle.pdb_functions.specs.GlobalFunctions.{GlobalFunction, global_function}
 use Rattle.pdb_functions.proofs.NeighbourLemmas.{passes_it, fails_it, none_it, not_eqb, next_from_first}
 use Rattle.pdb_functions.proofs.global_function_table.GlobalFunctionTable.next_function.Goals as goal
-use Rattle.pdb_functions.proofs.global_function_table.GlobalFunctionTable.next_function.Goals.{in_default-via-in-Some+else-next-place, in_default-via-in_default}
+use Rattle.pdb_functions.proofs.global_function_table.GlobalFunctionTable.next_function.Goals.{in_default-via-in-Some+else-next-section_offset, in_default-via-in_default}
 
 pub returns-in-Some : goal.returns-in-Some
 returns-in-Some c =
-    let here = λ (f : GlobalFunction). f.start.section == c.args.place.section in
-    passes_it here (global_function c.in-Some.next) _ c.in-Some.ensures.found (eq-eqb _ _ c.if-next-place.true)
-    ∙ next_from_first c.args.place c.args.self.now c.first_behind.ensures.ascend
+    let here = λ (f : GlobalFunction). f.start.section == c.args.section_offset.section in
+    passes_it here (global_function c.in-Some.next) _ c.in-Some.ensures.found (eq-eqb _ _ c.if-next-section_offset.true)
+    ∙ next_from_first c.args.section_offset c.args.self.now c.first_behind.ensures.ascend
 
 pub returns-in_default : goal.returns-in_default
 returns-in_default c =
-    let here = λ (f : GlobalFunction). f.start.section == c.args.place.section in
+    let here = λ (f : GlobalFunction). f.start.section == c.args.section_offset.section in
     elim c.in_default.branch [
-      | in_default-via-in-Some+else-next-place w ↦
-          fails_it here (global_function w.in-Some.next) _ w.in-Some.ensures.found (not_eqb _ _ w.if-next-place.false)
-          ∙ next_from_first c.args.place c.args.self.now c.first_behind.ensures.ascend
+      | in_default-via-in-Some+else-next-section_offset w ↦
+          fails_it here (global_function w.in-Some.next) _ w.in-Some.ensures.found (not_eqb _ _ w.if-next-section_offset.false)
+          ∙ next_from_first c.args.section_offset c.args.self.now c.first_behind.ensures.ascend
       | in_default-via-in_default w ↦
-          none_it here _ w.in_default.ensures.found ∙ next_from_first c.args.place c.args.self.now c.first_behind.ensures.ascend
+          none_it here _ w.in_default.ensures.found ∙ next_from_first c.args.section_offset c.args.self.now c.first_behind.ensures.ascend
     ]

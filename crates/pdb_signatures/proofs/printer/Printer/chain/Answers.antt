@@ -2,18 +2,18 @@ use Rattle.std.proofs.Common.{refl}
 use Rattle.std.specs.Prelude.{reverse}
 use Rattle.pdb_documents.specs.Plans.{Chain}
 use Rattle.pdb_documents.specs.Rules.{behind_pointer}
-use Rattle.pdb_documents.specs.Worlds.{formatter_world}
+use Rattle.pdb_documents.specs.PrintInputs.{formatter_inputs}
 use Rattle.pdb_signatures.proofs.TurnLemmas.{turned_some, turned_none}
 use Rattle.pdb_signatures.proofs.printer.Printer.chain.Goals as goal
 
 pub returns-in-None-clause-advances : goal.returns-in-None-clause-advances
 returns-in-None-clause-advances g c =
-    let w = formatter_world g.P.ModuleProvider.info c.args.self.now.standing.now c.args.self.now.position in
+    let w = formatter_inputs g.P.ModuleProvider.info c.args.self.now.type_inputs.now c.args.self.now.module_index in
     let failed = rw c.in-None.is at c.in_ok-enter.ensures.entered in
     turned_none w (Chain (reverse c.args.attributes.items) c.args.target.0) c.args.target.0 (behind_pointer w (reverse c.args.attributes.items)) c.args.progress.now _ _ _ refl (failed (behind_pointer w (reverse c.args.attributes.items)))
 
 pub returns-in_ok-behind_pointer-in-Some-clause-advances : goal.returns-in_ok-behind_pointer-in-Some-clause-advances
 returns-in_ok-behind_pointer-in-Some-clause-advances g c =
-    let w = formatter_world g.P.ModuleProvider.info c.args.self.now.standing.now c.args.self.now.position in
+    let w = formatter_inputs g.P.ModuleProvider.info c.args.self.now.type_inputs.now c.args.self.now.module_index in
     let entered = rw c.in-Some.is at c.in_ok-enter.ensures.entered in
     turned_some w (Chain (reverse c.args.attributes.items) c.args.target.0) c.args.target.0 (behind_pointer w (reverse c.args.attributes.items)) c.in-Some.type_data.now c.args.progress.now _ _ _ _ refl entered (c.in_ok-behind_pointer-in-Some.ensures w)

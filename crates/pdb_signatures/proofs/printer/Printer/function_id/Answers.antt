@@ -1,23 +1,23 @@
 use Rattle.std.proofs.Common.{sym}
 use Rattle.std.specs.Prelude.{◌∷◌, []}
 use Rattle.pdb_documents.specs.Ids.{function_id}
-use Rattle.pdb_documents.specs.Worlds.{formatter_world}
+use Rattle.pdb_documents.specs.PrintInputs.{formatter_inputs}
 use Rattle.pdb_signatures.proofs.TurnLemmas.{alone_entered}
 use Rattle.pdb_signatures.proofs.printer.Printer.function_id.Goals as goal
 
 pub returns-in-None-clause-advances : goal.returns-in-None-clause-advances
 returns-in-None-clause-advances g c =
-    let s = c.args.self.now.standing.now in
-    let position = c.args.self.now.position in
-    let w = formatter_world g.P.ModuleProvider.info s position in
+    let s = c.args.self.now.type_inputs.now in
+    let module_index = c.args.self.now.module_index in
+    let w = formatter_inputs g.P.ModuleProvider.info s module_index in
     let failed = rw c.in-None.is at c.in_ok-enter_alone.ensures.entered in
     failed (function_id w c.args.met.keys c.args.id.now (c.args.id.now.function_type.0 ∷ []))
 
 pub returns-in_ok-function_by_type-in-Some-clause-advances : goal.returns-in_ok-function_by_type-in-Some-clause-advances
 returns-in_ok-function_by_type-in-Some-clause-advances g c =
-    let s = c.args.self.now.standing.now in
-    let position = c.args.self.now.position in
-    let w = formatter_world g.P.ModuleProvider.info s position in
+    let s = c.args.self.now.type_inputs.now in
+    let module_index = c.args.self.now.module_index in
+    let w = formatter_inputs g.P.ModuleProvider.info s module_index in
     let entered = rw c.in-Some.is at c.in_ok-enter_alone.ensures.entered in
     let advances = c.in_ok-function_by_type-in-Some.ensures w (sym c.flags.ensures) _ in
-    alone_entered w c.args.id.now.function_type.0 (function_id w c.args.met.keys c.args.id.now) c.in-Some.type_data.now c.args.progress.now _ _ c.args.findings.now.failed _ entered advances
+    alone_entered w c.args.id.now.function_type.0 (function_id w c.args.met.keys c.args.id.now) c.in-Some.type_data.now c.args.progress.now _ _ c.args.cache.now.failed _ entered advances

@@ -1,19 +1,19 @@
 use Rattle.std.proofs.Common.{arith}
 use Rattle.pdb_types.specs.declared.error.Error.TheVariants.{ArgumentTypeNotArgumentList}
 use Rattle.pdb_types.specs.Errors.{Plain}
-use Rattle.pdb_documents.specs.Documents.{Told}
+use Rattle.pdb_documents.specs.Documents.{OfError}
 use Rattle.pdb_documents.specs.Plans.{failing}
 use Rattle.pdb_documents.specs.Progress.{open_in}
-use Rattle.pdb_documents.specs.Worlds.{formatter_world}
+use Rattle.pdb_documents.specs.PrintInputs.{formatter_inputs}
 use Rattle.pdb_signatures.proofs.OtherKinds.{on_list-other}
 use Rattle.pdb_signatures.proofs.TurnLemmas.{advances_fewer, advances_failed}
 use Rattle.pdb_signatures.proofs.printer.Printer.on_list.Goals as goal
 
 pub returns-in_default-clause-advances : goal.returns-in_default-clause-advances
 returns-in_default-clause-advances g c =
-    let s = c.args.self.now.standing.now in
-    let position = c.args.self.now.position in
-    let w = formatter_world g.P.ModuleProvider.info s position in
-    let failed = advances_failed w (Told (Plain ArgumentTypeNotArgumentList)) c.args.progress.now _ c.args.findings.now.failed c.requires.well c.fail.ensures in
-    let fewer = advances_fewer w (failing (Plain ArgumentTypeNotArgumentList)) 1 0 c.args.progress.now _ c.args.findings.now.failed _ (omega arith) failed in
+    let s = c.args.self.now.type_inputs.now in
+    let module_index = c.args.self.now.module_index in
+    let w = formatter_inputs g.P.ModuleProvider.info s module_index in
+    let failed = advances_failed w (OfError (Plain ArgumentTypeNotArgumentList)) c.args.progress.now _ c.args.cache.now.failed c.requires.well c.fail.ensures in
+    let fewer = advances_fewer w (failing (Plain ArgumentTypeNotArgumentList)) 1 0 c.args.progress.now _ c.args.cache.now.failed _ (omega arith) failed in
     rw (on_list-other w c.args.m.now c.args.may_say_const (open_in c.args.progress.now.steps) c.args.type_data.now c.in_default.not-ArgumentList) fewer

@@ -1,5 +1,5 @@
 use Rattle.std.proofs.Common.{arith, sym}
-use Rattle.pdb_documents.specs.Worlds.{formatter_world}
+use Rattle.pdb_documents.specs.PrintInputs.{formatter_inputs}
 use Rattle.pdb_signatures.proofs.GoesLemmas.{goes_then, goes_fewer}
 use Rattle.pdb_signatures.proofs.LoopLemmas.{left-falls, ended-goes, printed-goes, adds-then}
 use Rattle.pdb_documents.proofs.UnfoldingLemmas.{formatter-below}
@@ -7,44 +7,44 @@ use Rattle.pdb_signatures.proofs.printer.Printer.print.Goals as goal
 
 pub turns-smaller-in-Ended : goal.turns-smaller-in-Ended
 turns-smaller-in-Ended g c =
-    let s = c.args.self.now.standing.now in
-    let position = c.args.self.now.position in
-    let w = formatter_world g.P.ModuleProvider.info s position in
+    let s = c.args.self.now.type_inputs.now in
+    let module_index = c.args.self.now.module_index in
+    let w = formatter_inputs g.P.ModuleProvider.info s module_index in
     let taken = rw c.in-Ended.is at c.in_ok-next.ensures in
-    let goes = ended-goes w c.flags.result c.turns.progress c.next.new.self c.turns.findings.failed (sym c.flags.ensures) taken in
-    left-falls w (formatter-below g.P.ModuleProvider.info s position) _ _ _ _ goes
+    let goes = ended-goes w c.flags.result c.turns.progress c.next.new.self c.turns.cache.failed (sym c.flags.ensures) taken in
+    left-falls w (formatter-below g.P.ModuleProvider.info s module_index) _ _ _ _ goes
 
 pub turns-preserved-in-Ended : goal.turns-preserved-in-Ended
 turns-preserved-in-Ended g c =
-    let s = c.args.self.now.standing.now in
-    let position = c.args.self.now.position in
-    let w = formatter_world g.P.ModuleProvider.info s position in
+    let s = c.args.self.now.type_inputs.now in
+    let module_index = c.args.self.now.module_index in
+    let w = formatter_inputs g.P.ModuleProvider.info s module_index in
     let taken = rw c.in-Ended.is at c.in_ok-next.ensures in
-    let goes = ended-goes w c.flags.result c.turns.progress c.next.new.self c.turns.findings.failed (sym c.flags.ensures) taken in
+    let goes = ended-goes w c.flags.result c.turns.progress c.next.new.self c.turns.cache.failed (sym c.flags.ensures) taken in
     record {
-      fits = c.turns.invariant.fits;
+      is_cache = c.turns.invariant.is_cache;
       broken = c.turns.invariant.broken;
       goes = goes_fewer 0 (omega arith) (goes_then c.turns.invariant.goes goes);
     }
 
 pub turns-smaller : goal.turns-smaller
 turns-smaller g c =
-    let s = c.args.self.now.standing.now in
-    let position = c.args.self.now.position in
-    let w = formatter_world g.P.ModuleProvider.info s position in
+    let s = c.args.self.now.type_inputs.now in
+    let module_index = c.args.self.now.module_index in
+    let w = formatter_inputs g.P.ModuleProvider.info s module_index in
     let taken = rw c.in-Print.is at c.in_ok-next.ensures in
-    let goes = printed-goes w c.in-Print.task c.turns.progress c.next.new.self c.turn.new.progress c.turns.findings.failed _ taken.0 c.in_ok-turn-in-Print.ensures.advances in
-    left-falls w (formatter-below g.P.ModuleProvider.info s position) _ _ _ _ goes
+    let goes = printed-goes w c.in-Print.task c.turns.progress c.next.new.self c.turn.new.progress c.turns.cache.failed _ taken.0 c.in_ok-turn-in-Print.ensures.advances in
+    left-falls w (formatter-below g.P.ModuleProvider.info s module_index) _ _ _ _ goes
 
 pub turns-preserved : goal.turns-preserved
 turns-preserved g c =
-    let s = c.args.self.now.standing.now in
-    let position = c.args.self.now.position in
-    let w = formatter_world g.P.ModuleProvider.info s position in
+    let s = c.args.self.now.type_inputs.now in
+    let module_index = c.args.self.now.module_index in
+    let w = formatter_inputs g.P.ModuleProvider.info s module_index in
     let taken = rw c.in-Print.is at c.in_ok-next.ensures in
-    let goes = printed-goes w c.in-Print.task c.turns.progress c.next.new.self c.turn.new.progress c.turns.findings.failed _ taken.0 c.in_ok-turn-in-Print.ensures.advances in
+    let goes = printed-goes w c.in-Print.task c.turns.progress c.next.new.self c.turn.new.progress c.turns.cache.failed _ taken.0 c.in_ok-turn-in-Print.ensures.advances in
     record {
-      fits = c.in_ok-turn-in-Print.ensures.fits;
+      is_cache = c.in_ok-turn-in-Print.ensures.is_cache;
       broken = adds-then c.turns.invariant.broken c.in_ok-turn-in-Print.ensures.broken;
       goes = goes_fewer 0 (omega arith) (goes_then c.turns.invariant.goes goes);
     }

@@ -1,7 +1,7 @@
 use Rattle.std.proofs.Common.{◌∙◌, sym, ap}
 use Rattle.pdb_types.specs.Items.{index_number}
 use Rattle.pdb_types.proofs.AscendingLemmas.{first_take}
-use Rattle.pdb_types.proofs.KeptLemmas.{has_read, first_behind}
+use Rattle.pdb_types.proofs.CachedLemmas.{has_read, first_behind}
 use Rattle.pdb_types.proofs.items.ItemMap.find.Goals as goal
 
 pub invariant_of-self : goal.invariant_of-self

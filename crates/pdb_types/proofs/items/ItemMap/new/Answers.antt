@@ -1,7 +1,7 @@
 use Rattle.std.proofs.Common.{arith}
 use Rattle.pdb_types.specs.Items.{index_number}
 use Rattle.pdb_types.proofs.AscendingLemmas.{ascends_none}
-use Rattle.pdb_types.proofs.KeptLemmas.{knows_nothing}
+use Rattle.pdb_types.proofs.CachedLemmas.{knows_nothing}
 use Rattle.pdb_types.proofs.items.ItemMap.new.Goals as goal
 
 pub invariant_of-result : goal.invariant_of-result

@@ -1,6 +1,6 @@
 use Rattle.std.proofs.Common.{◌∙◌, sym}
 use Rattle.pdb_types.proofs.AscendingLemmas.{first_take}
-use Rattle.pdb_types.proofs.KeptLemmas.{knows_behind}
+use Rattle.pdb_types.proofs.CachedLemmas.{knows_behind}
 use Rattle.pdb_types.proofs.numbered_table.NumberedTable.get.Goals as goal
 
 pub returns-in-Some : goal.returns-in-Some

@@ -1,0 +1,13 @@
+use Rattle.pdb_addr2line.proofs.context.Context.frames_info.Goals as goal
+
+pub returns-clause-shown : goal.returns-clause-shown
+returns-clause-shown g c =
+    let records = rw (← c.self.view_is) at c.requires.records in
+    rw (← c.self.view_is)
+    (rw (c.self.invariant.shown, records) at c.frames_info_by.ensures.shown)
+
+pub returns-clause-failed : goal.returns-clause-failed
+returns-clause-failed g c =
+    let records = rw (← c.self.view_is) at c.requires.records in
+    rw (← c.self.view_is)
+    (rw (c.self.invariant.shown, records) at c.frames_info_by.ensures.failed)

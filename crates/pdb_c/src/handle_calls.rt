@@ -1,0 +1,74 @@
+ghost use Rattle.std.specs.Prelude.{◌≡◌, None};
+ghost use Rattle.pdb_report_lib.specs.declared.reports.Command.TheVariants.{Names, Frames};
+ghost use Rattle.pdb_c.specs.Answers.{Ends};
+ghost use Rattle.pdb_c.specs.Openings.{records_to_open, text_of_handle, Opens};
+
+use crate::answers::answer;
+use crate::handle::Handle;
+use crate::openings::{records_to_open, text_of_handle};
+use pdb_report_lib::Command;
+use std::alloc::Global;
+
+/// Reads the records in the bytes of a records file into a handle, and answers 0. Where there are none, or they have
+/// no context, the handle is closed, and the answer is the refusal's number. What it held before is given back first.
+#[unsafe(no_mangle)]
+pub extern "C" fn limberlime_open_unchecked(
+    alloc: Global,
+    records: &[u8],
+    handle: &mut Handle,
+) -> i64
+    ensures { Opens (records_to_open records.now) handle.new.held result }
+{
+    handle.close(alloc);
+    match records_to_open(alloc, records) {
+        Ok(opened) => {
+            handle.put(opened);
+            0
+        }
+        Err(refusal) => refusal.code(),
+    }
+}
+
+/// Writes the lines of the frames over addresses to the caller's buffer, as `pdb_report RECORDS frames ADDRESS...`
+/// prints them of the records that a handle holds, and answers the text's length in bytes; `wanted` is that length
+/// too. Where there is no such text, or it is longer than the buffer, nothing is written, and the answer is the
+/// refusal's number. The handle holds what it held.
+#[unsafe(no_mangle)]
+pub extern "C" fn limberlime_frames_of_unchecked(
+    alloc: Global,
+    handle: &mut Handle,
+    addresses: &[u32],
+    buffer: &mut [u8],
+    wanted: &mut usize,
+) -> i64
+    ensures text { Ends (text_of_handle Frames handle.old.held addresses.now) buffer.old buffer.new wanted.new result }
+    ensures held { handle.new.held ≡ handle.old.held }
+{
+    let found = text_of_handle(alloc, Command::Frames, handle, addresses);
+    answer(found, buffer, wanted)
+}
+
+/// Writes a line with the function of each address to the caller's buffer, as `pdb_report RECORDS names ADDRESS...`
+/// prints them. All else is as of [`limberlime_frames_of_unchecked`].
+#[unsafe(no_mangle)]
+pub extern "C" fn limberlime_names_of_unchecked(
+    alloc: Global,
+    handle: &mut Handle,
+    addresses: &[u32],
+    buffer: &mut [u8],
+    wanted: &mut usize,
+) -> i64
+    ensures text { Ends (text_of_handle Names handle.old.held addresses.now) buffer.old buffer.new wanted.new result }
+    ensures held { handle.new.held ≡ handle.old.held }
+{
+    let found = text_of_handle(alloc, Command::Names, handle, addresses);
+    answer(found, buffer, wanted)
+}
+
+/// Gives the records back that a handle holds. A handle that is closed stays so.
+#[unsafe(no_mangle)]
+pub extern "C" fn limberlime_close_unchecked(alloc: Global, handle: &mut Handle)
+    ensures { handle.new.held ≡ None }
+{
+    handle.close(alloc);
+}

@@ -1,0 +1,76 @@
+-- The rows of an inlined body: what its annotations say, one after the other.
+use Rattle.std.specs.Prelude.{ℕ, ◌+◌, ◌-◌, ◌/◌, ◌%◌, ◌^◌, ◌==◌, Bool, true, false, nat_le, List, [], ◌∷◌, ◌++◌}
+use Rattle.std.specs.Prelude.{Option, Some, None}
+use Rattle.std.specs.Prelude.{option_to_list, option_map, if◌then◌else◌}
+use Rattle.pdb_records.specs.declared.symbols.InlineRow.{InlineRow}
+use Rattle.pdb_codeview.specs.declared.annotations.Annotation.{Annotation}
+use Rattle.pdb_codeview.specs.declared.annotations.Annotation.TheVariants.{Start, Advance, Length, File, Line}
+use Rattle.pdb_codeview.specs.declared.annotations.Annotation.TheVariants.{AdvanceAndLine, LengthAndAdvance, Other}
+use Rattle.pdb_codeview.specs.declared.inline_rows.RowPosition.{RowPosition}
+
+-- a sum of 32 bits
+abbrev pub sum_of : ℕ → ℕ → ℕ
+sum_of a b = (a + b) % 2 ^ 32
+
+-- the line that a change leads to: half of it forward where it is even, back where it is odd
+abbrev pub moved_line : ℕ → ℕ → ℕ
+moved_line line change = if change % 2 == 0 then sum_of line (change / 2) else sum_of line (2 ^ 32 - change / 2)
+
+-- where reading stands behind an annotation: a start is counted from the function's, all else from where the code was
+abbrev pub moved : Annotation → RowPosition → RowPosition
+moved (Start n) p = record p { offset = sum_of p.start n }
+moved (Advance n) p = record p { offset = sum_of p.offset n }
+moved (Length n) p = record p { offset = sum_of p.offset n }
+moved (File f) p = record p { file = f }
+moved (Line c) p = record p { line = moved_line p.line c }
+moved (AdvanceAndLine n c) p = record p { offset = sum_of p.offset n; line = moved_line p.line c }
+moved (LengthAndAdvance l n) p = record p { offset = sum_of p.offset n }
+moved Other p = p
+
+-- a row starts where the code goes on further
+abbrev pub starts_row : Annotation → Bool
+starts_row (Advance n) = true
+starts_row (AdvanceAndLine n c) = true
+starts_row (LengthAndAdvance l n) = true
+starts_row a = false
+
+-- the length of a row that the annotation which starts it says
+abbrev pub own_length : Annotation → Option ℕ
+own_length (LengthAndAdvance l n) = Some l
+own_length a = None
+
+-- the row that starts at an annotation, where reading stands behind it
+abbrev pub new_row : Annotation → RowPosition → InlineRow
+new_row a p =
+    record { offset = p.offset; length = own_length a; file_index = record { 0 = p.file }; line_start = p.line }
+
+-- how far it is from one offset to another that isn't before it
+abbrev pub way : ℕ → ℕ → Option ℕ
+way from to = if nat_le from to then Some (to - from) else None
+
+-- a row before one that starts at this offset: with the length that its annotation says, else up to there
+abbrev pub closed_by : Option ℕ → ℕ → InlineRow → InlineRow
+closed_by (Some l) offset row = row
+closed_by None offset row = record row { length = way row.offset offset }
+
+abbrev pub closed : ℕ → InlineRow → InlineRow
+closed offset row = closed_by row.length offset row
+
+-- a row with this length, where it had none
+abbrev pub with_length : Option ℕ → ℕ → InlineRow → InlineRow
+with_length (Some l) n row = row
+with_length None n row = record row { length = Some n }
+
+-- the last row, with the length that an annotation behind it says
+abbrev pub lengthened : Annotation → Option InlineRow → Option InlineRow
+lengthened (Length n) last = option_map (λ row. with_length row.length n row) last
+lengthened a last = last
+
+-- the rows from here on: the last one stays open until another starts, or the annotations end
+abbrev pub rows_from : RowPosition → Option InlineRow → List Annotation → List InlineRow
+rows_from position last [] = option_to_list last
+rows_from position last (a ∷ annotations) =
+    if starts_row a then
+    option_to_list (option_map (closed (moved a position).offset) last)
+    ++ rows_from (moved a position) (Some (new_row a (moved a position))) annotations
+    else rows_from (moved a position) (lengthened a last) annotations

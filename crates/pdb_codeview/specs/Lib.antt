@@ -1,0 +1,3 @@
+pub mod Compressed
+pub mod InlineRows
+pub mod CrossModules

@@ -1,0 +1,20 @@
+//! What CodeView has of a module's code beside its symbols: files, lines, inlined functions with their rows, and the
+//! indices that modules take from one another.
+//!
+//! Each call reads one list, by its bytes. A list that is broken ends early, with one of the numbers of
+//! `pdb_msf::faults`.
+#![tactic(auto)]
+
+mod annotations;
+mod cross_modules;
+mod files;
+mod inline_rows;
+mod inline_sites;
+mod inlinees;
+mod lines;
+
+pub use cross_modules::{read_exports, read_imports};
+pub use files::{Files, read_files};
+pub use inline_sites::{CodeRecords, site_rows};
+pub use inlinees::{Inlinees, read_inlinees};
+pub use lines::read_lines;

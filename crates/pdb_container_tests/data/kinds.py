@@ -1,0 +1,486 @@
+#!/usr/bin/env python3
+"""Writes a PDB file with a record of each kind, by its bytes, and the records file that is wanted of it.
+
+Usage: kinds.py FOLDER
+
+FOLDER gets the files `stdin` (the PDB file) and `stdout` (the records file). Every record stands here twice, side by
+side: as the bytes that Microsoft's headers and LLVM's documents lay out, and as what docs/FORMAT.md has it as. Nothing
+is taken from the reader under test.
+"""
+import json
+import pathlib
+import struct
+import sys
+
+BLOCK = 512
+VERSION = 20040203
+CUT, BAD_NUMBER, APART = 1, 9, 10
+NO_FILE = 0xFFFFFFFF
+
+
+def u8(*numbers):
+    """Numbers of one byte."""
+    return struct.pack(f"<{len(numbers)}B", *numbers)
+
+
+def u16(*numbers):
+    """Numbers of two bytes."""
+    return struct.pack(f"<{len(numbers)}H", *numbers)
+
+
+def u32(*numbers):
+    """Numbers of four bytes."""
+    return struct.pack(f"<{len(numbers)}I", *numbers)
+
+
+def text(name):
+    """A text that a zero ends."""
+    return name + b"\0"
+
+
+def short(name):
+    """A text behind its length."""
+    return u8(len(name)) + name
+
+
+def aligned(data, fill=b"\0"):
+    """Bytes up to a multiple of four."""
+    return data + fill * (-len(data) % 4)
+
+
+def shown(name):
+    """A name as the records file has it: a text, or its bytes where they are no UTF-8."""
+    try:
+        return name.decode()
+    except UnicodeDecodeError:
+        return list(name)
+
+
+# --- types -----------------------------------------------------------------------------------------------------------
+
+PRIMITIVES = [
+    (0x00, "NoType"), (0x03, "Void"), (0x08, "HRESULT"), (0x10, "Char"), (0x11, "Short"), (0x12, "Long"),
+    (0x13, "Quad"), (0x14, "Octa"), (0x20, "UChar"), (0x21, "UShort"), (0x22, "ULong"), (0x23, "UQuad"),
+    (0x24, "UOcta"), (0x30, "Bool8"), (0x31, "Bool16"), (0x32, "Bool32"), (0x33, "Bool64"), (0x40, "F32"),
+    (0x41, "F64"), (0x42, "F80"), (0x43, "F128"), (0x44, "F48"), (0x45, "F32PP"), (0x46, "F16"),
+    (0x50, "Complex32"), (0x51, "Complex64"), (0x52, "Complex80"), (0x53, "Complex128"), (0x68, "I8"), (0x69, "U8"),
+    (0x70, "RChar"), (0x71, "WChar"), (0x72, "I16"), (0x73, "U16"), (0x74, "I32"), (0x75, "U32"), (0x76, "I64"),
+    (0x77, "U64"), (0x78, "I128"), (0x79, "U128"), (0x7A, "RChar16"), (0x7B, "RChar32"), (0x7C, "Char8"),
+]
+
+
+def primitives():
+    """What the compiler brings: each primitive, and each of the seven ways to point to it."""
+    return [{"index": mode * 256 + number, "kind": "Primitive", "primitive": name, "indirection": mode > 0}
+            for mode in range(8) for number, name in PRIMITIVES]
+
+
+def pointer(mode, attributes, size, const=False):
+    """A pointer to the type 0x74, by the bits of its attributes."""
+    return (0x1002, u32(0x74, attributes),
+            {"kind": "Pointer", "underlying_type": 0x74, "mode": mode, "is_const": const, "size": size})
+
+
+def class_of(leaf, kind, properties, size, front, name, unique=None, forward=False):
+    """A class, a struct or an interface of three members, with its size as it stands in the record."""
+    wanted = {"kind": "Class", "class_kind": kind, "name": shown(name)}
+    if unique is not None:
+        wanted["unique_name"] = shown(unique)
+    wanted.update({"size": size, "forward_reference": forward})
+    more = b"" if unique is None else text(unique)
+    return (leaf, u16(3, properties) + u32(0x1234, 0, 0) + front + text(name) + more, wanted)
+
+
+def union(properties, name, unique=None, forward=False):
+    """A union of sixteen bytes and two members."""
+    wanted = {"kind": "Union", "name": shown(name)}
+    if unique is not None:
+        wanted["unique_name"] = shown(unique)
+    wanted.update({"size": 16, "forward_reference": forward})
+    more = b"" if unique is None else text(unique)
+    return (0x1506, u16(2, properties) + u32(0x1234) + u16(16) + text(name) + more, wanted)
+
+
+def enumerate_of(front, kind, value):
+    """A value of an enumeration, with the number as it stands in the record."""
+    return (0x1502, u16(3) + front + text(b"Red"),
+            {"kind": "Enumerate", "name": "Red", "value": {"kind": kind, "value": value}})
+
+
+def other(leaf, name):
+    """A kind of type or id that is known by its name alone."""
+    return (leaf, u32(0, 0), {"kind": "Other", "kind_name": name})
+
+
+TYPES = [
+    (0x1001, u32(0x74) + u16(1), {"kind": "Modifier", "underlying_type": 0x74, "constant": True}),
+    (0x1001, u32(0x1000) + u16(6), {"kind": "Modifier", "underlying_type": 0x1000, "constant": False}),
+    pointer("Pointer", 0x1000C, 8),
+    pointer("Pointer", 0x800A | 0x400, 4, const=True),
+    pointer("LValueReference", 0x0C | 1 << 5, 8),
+    pointer("Member", 0x0A | 2 << 5, 4),
+    pointer("MemberFunction", 0x0C | 3 << 5 | 16 << 13, 16),
+    pointer("RValueReference", 0x0B | 4 << 5, 0),
+    (0x1002, u32(0x74, 7 << 5), {"error": {"stream": BAD_NUMBER}}),
+    (0x1008, u32(0x74) + u8(0, 0) + u16(2) + u32(0x100C),
+     {"kind": "Procedure", "return_type": 0x74, "is_constructor": False, "argument_list": 0x100C}),
+    (0x1008, u32(0) + u8(0, 2) + u16(0) + u32(0x100C),
+     {"kind": "Procedure", "is_constructor": True, "argument_list": 0x100C}),
+    (0x1009, u32(3, 0x1010, 0x1002) + u8(11, 2) + u16(1) + u32(0x100C, 0),
+     {"kind": "MemberFunction", "return_type": 3, "class_type": 0x1010, "this_pointer_type": 0x1002,
+      "is_constructor": True, "argument_list": 0x100C}),
+    (0x1201, u32(2, 0x74, 0x40), {"kind": "ArgumentList", "arguments": [0x74, 0x40]}),
+    (0x1009, u32(3, 0x1010, 0) + u8(0, 0) + u16(0) + u32(0x100C, 0),
+     {"kind": "MemberFunction", "return_type": 3, "class_type": 0x1010, "is_constructor": False,
+      "argument_list": 0x100C}),
+    (0x1201, u32(0), {"kind": "ArgumentList", "arguments": []}),
+    (0x1201, u32(2, 0x74), {"error": {"stream": CUT}}),
+    class_of(0x1504, "Class", 0, 12, u16(12), b"C"),
+    class_of(0x1505, "Struct", 0x200, 70000, u16(0x8004) + u32(70000), b"S", unique=b".?AUS@@"),
+    class_of(0x1505, "Struct", 0x280, 0, u16(0), b"S", unique=b".?AUS@@", forward=True),
+    class_of(0x1519, "Interface", 0, 5000000000, u16(0x800A) + struct.pack("<Q", 5000000000), b"I\xff"),
+    class_of(0x1505, "Struct", 0, 40000, u16(0x8002, 40000), b"W"),
+    (0x1505, u16(3, 0) + u32(0, 0, 0) + u16(0x8001) + struct.pack("<h", -1) + text(b"N"),
+     {"error": {"stream": BAD_NUMBER}}),
+    union(0, b"U"),
+    union(0x280, b"U", unique=b".?ATU@@", forward=True),
+    (0x1507, u16(2, 0) + u32(0x74, 0x1019) + text(b"E"),
+     {"kind": "Enumeration", "name": "E", "underlying_type": 0x74}),
+    enumerate_of(u16(7), "U16", 7),
+    enumerate_of(u16(0x8000) + struct.pack("<b", -2), "I8", -2),
+    enumerate_of(u16(0x8001) + struct.pack("<h", -300), "I16", -300),
+    enumerate_of(u16(0x8002, 40000), "U16", 40000),
+    enumerate_of(u16(0x8003) + struct.pack("<i", -70000), "I32", -70000),
+    enumerate_of(u16(0x8004) + u32(70000), "U32", 70000),
+    enumerate_of(u16(0x8009) + struct.pack("<q", -5000000000), "I64", -5000000000),
+    enumerate_of(u16(0x800A) + struct.pack("<Q", 5000000000), "U64", 5000000000),
+    (0x1502, u16(3, 0x8005) + u32(0) + text(b"Red"), {"error": {"stream": BAD_NUMBER}}),
+    (0x1503, u32(0x74, 0x23) + u16(24) + text(b""),
+     {"kind": "Array", "element_type": 0x74, "first": 24, "rest": []}),
+    (0x1503, u32(0x74, 0x23) + u16(0x800A) + struct.pack("<Q", 5000000000) + text(b""),
+     {"error": {"stream": BAD_NUMBER}}),
+    other(0x1203, "FieldList"),
+    other(0x1205, "Bitfield"),
+    other(0x1206, "MethodList"),
+    other(0x151D, "VirtualFunctionTable"),
+    (0x150B, u32(0), {"error": {"unimplemented": 0x150B}}),
+    (0x1504, u16(3), {"error": {"stream": CUT}}),
+]
+
+IDS = [
+    (0x1601, u32(0, 0x1009) + text(b"main"), {"kind": "Function", "function_type": 0x1009, "name": "main"}),
+    (0x1601, u32(0x1002, 0x1009) + text(b"f"),
+     {"kind": "Function", "scope": 0x1002, "function_type": 0x1009, "name": "f"}),
+    (0x1605, u32(0) + text(b"space"), {"kind": "String", "name": "space"}),
+    (0x1602, u32(0x1010, 0x100B) + text(b"C"),
+     {"kind": "MemberFunction", "parent": 0x1010, "function_type": 0x100B, "name": "C"}),
+    (0x1604, u32(1, 0x1002), {"kind": "StringList", "substrings": [0x1002]}),
+    other(0x1603, "BuildInfo"),
+    other(0x1606, "UserDefinedTypeSource"),
+    other(0x1607, "UserDefinedTypeSource"),
+    (0x1608, u32(0), {"error": {"unimplemented": 0x1608}}),
+    (0x1605, u32(0) + b"no end", {"error": {"stream": CUT}}),
+]
+
+
+def item_stream(items, first=0x1000):
+    """A stream of types or of ids: its header, and each record behind its length."""
+    records = b"".join(u16(len(content) + 2, leaf) + content for leaf, content, _ in items)
+    return u32(VERSION, 56, first, first + len(items), len(records)) + bytes(36) + records
+
+
+def item_list(items, first=0x1000):
+    """The items as the records file has them."""
+    return [{"index": first + number, **wanted} for number, (_, _, wanted) in enumerate(items)]
+
+
+# --- symbols ---------------------------------------------------------------------------------------------------------
+
+class Symbols:
+    """A list of symbols behind the number of its form, and what is wanted of each."""
+
+    def __init__(self, front):
+        self.data = front
+        self.wanted = []
+        self.ends = []
+
+    def passed(self, kind, content):
+        """A record that only fills room."""
+        self.data += u16(len(content) + 2, kind) + content
+
+    def put(self, kind, content, wanted, opens=None):
+        """A symbol. One that opens has the offset of its closing symbol put in at `opens`."""
+        if opens is not None:
+            self.ends.append((len(self.data) + 4 + opens, len(self.wanted)))
+        self.data += u16(len(content) + 2, kind) + content
+        self.wanted.append({"raw_kind": kind, **({} if wanted is None else {"data": wanted})})
+
+    def close(self, kind):
+        """The symbol that closes the last one that is open."""
+        at, opened = self.ends.pop()
+        self.data = self.data[:at] + u32(len(self.data)) + self.data[at + 4:]
+        self.wanted[opened]["data"]["end"] = len(self.wanted)
+        self.put(kind, b"", {"kind": "Other"})
+
+
+def name_of(kind, name):
+    """A symbol's name in the form of its kind."""
+    return short(name) if kind < 0x1100 else text(name)
+
+
+def put_procedure(symbols, kind, offset, name):
+    """A procedure of 32 bytes in section 1."""
+    content = u32(0, 0, 0, 32, 0, 0, 0x1009, offset) + u16(1) + u8(0) + name_of(kind, name)
+    symbols.put(kind, content, {"kind": "Procedure", "section": 1, "offset": offset, "len": 32, "name": shown(name),
+                                "end": 0, "type_index": 0x1009}, opens=4)
+
+
+def put_thunk(symbols, kind, offset, name):
+    """A thunk of six bytes in section 1."""
+    content = u32(0, 0, 0, offset) + u16(1, 6) + u8(0) + name_of(kind, name)
+    symbols.put(kind, content, {"kind": "Thunk", "section": 1, "offset": offset, "len": 6, "name": shown(name),
+                                "end": 0}, opens=4)
+
+
+def put_site(symbols, kind, inlinee, annotations, rows):
+    """A place where a function was inlined."""
+    front = u32(0, 0, inlinee) + (u32(1) if kind == 0x115D else b"")
+    symbols.put(kind, front + annotations, {"kind": "InlineSite", "inlinee": inlinee, "end": 0, "rows": rows}, opens=4)
+
+
+def row(offset, length, file_index, line):
+    """A row of a site."""
+    wanted = {"offset": offset}
+    if length is not None:
+        wanted["length"] = length
+    wanted.update({"file_index": file_index, "line_start": line})
+    return wanted
+
+
+def faulty(items, fault):
+    """What was read, and why no more."""
+    return {"items": items, "fault": fault}
+
+
+PROCEDURES = [(0x100A, b"local, old"), (0x100B, b"global, old"), (0x110F, b"local"), (0x1110, b"global"),
+              (0x1146, b"local by id"), (0x1147, b"global by id"), (0x1155, b"local, device"),
+              (0x1156, b"local by id, device")]
+
+# The annotations of a site in a procedure at offset 0x100 whose inlinee starts at line 50 of the first file: the
+# kinds by their numbers, then the rows. A number below 128 is a byte; of a change of line the lowest bit is the sign.
+SITES = [
+    # on 4: a row, which the next one ends; on 2 and line +3: a row; its length 5
+    (u8(3, 4, 11, 0x62, 4, 5),
+     [row(0x104, 2, 0, 50), row(0x106, 5, 0, 53)]),
+    # line -2, the second file, on 1: a row with no end
+    (u8(6, 5, 5, 8, 3, 1), [row(0x101, None, 1, 48)]),
+    # length 3 and on 0x81: a row with its own length; numbers of two and of four bytes
+    (u8(12, 3) + u8(0x80, 0x81) + u8(3) + u8(0xC0, 0x01, 0x00, 0x02) + u8(4, 1),
+     [row(0x181, 3, 0, 50), row(0x10183, 1, 0, 50)]),
+    # from 0x10 behind the procedure's start on; kinds that rows don't show; 0 ends the list
+    (u8(1, 0x10, 7, 1, 8, 1, 9, 2, 10, 3, 13, 1, 2, 0, 3, 2, 4, 2) + u8(0, 3, 9), [row(0x112, 2, 0, 50)]),
+    # the code goes on apart, in another section
+    (u8(3, 1, 2, 1), faulty([row(0x101, None, 0, 50)], APART)),
+    # a kind that isn't known
+    (u8(3, 1, 14, 1), faulty([row(0x101, None, 0, 50)], BAD_NUMBER)),
+    # a file whose entry starts elsewhere
+    (u8(5, 4, 3, 1, 4, 1), [row(0x101, 1, NO_FILE, 50)]),
+]
+
+
+def module_symbols():
+    """Each kind of symbol of a module."""
+    symbols = Symbols(u32(4))
+    for number, (kind, name) in enumerate(PROCEDURES):
+        put_procedure(symbols, kind, 0x200 + 32 * number, name)
+        symbols.close(6)
+    put_thunk(symbols, 0x0206, 0x400, b"thunk, old")
+    symbols.close(6)
+    put_thunk(symbols, 0x1102, 0x410, b"thunk\xe9")
+    symbols.close(6)
+    content = u32(0, 0, 8, 0, 0x500, 0x100) + u16(1, 1)
+    symbols.put(0x1132, content, {"kind": "SeparatedCode", "section": 1, "offset": 0x500, "len": 8,
+                                  "parent_section": 1, "parent_offset": 0x100, "end": 0}, opens=4)
+    symbols.close(6)
+    symbols.passed(0x0402, u16(0))
+    symbols.passed(0x0007, u32(0))
+    put_procedure(symbols, 0x1110, 0x100, b"with sites")
+    for number, (annotations, rows) in enumerate(SITES):
+        put_site(symbols, 0x114D if number % 2 == 0 else 0x115D, 0x1000, annotations, rows)
+        symbols.close(0x114E)
+    # a function that no inlinee names has no rows
+    put_site(symbols, 0x114D, 0x1003, u8(3, 4), [])
+    symbols.close(0x114E)
+    symbols.close(6)
+    symbols.put(0x110E, u32(0, 0x10) + u16(1) + text(b"public here"),
+                {"kind": "Public", "section": 1, "offset": 0x10, "name": "public here"})
+    symbols.put(0x1101, u32(0) + text(b"object"), {"kind": "Other"})
+    symbols.put(0x1110, u32(0, 0), None)
+    return symbols
+
+
+def global_symbols():
+    """Both kinds of public symbols, one of another kind, and one that is cut."""
+    symbols = Symbols(b"")
+    symbols.put(0x110E, u32(2, 0x20) + u16(1) + text(b"?f@@YAXXZ"),
+                {"kind": "Public", "section": 1, "offset": 0x20, "name": "?f@@YAXXZ"})
+    symbols.put(0x1009, u32(2, 0x30) + u16(1) + short(b"old\xff"),
+                {"kind": "Public", "section": 1, "offset": 0x30, "name": list(b"old\xff")})
+    symbols.put(0x1125, u32(0, 0, 0) + u16(1) + text(b"reference"), {"kind": "Other"})
+    symbols.put(0x110E, u32(2), None)
+    symbols.data += u16(60, 0x110E)
+    return symbols
+
+
+# --- lines, files, inlinees, imports, exports ------------------------------------------------------------------------
+
+TEXTS = b"\0a.cpp\0b.h\0c.obj\0"
+FIRST, SECOND, IMPORTED = 1, 7, 11
+
+
+def subsection(kind, content):
+    """A part of what is known of a module's code."""
+    return aligned(u32(kind, len(content)) + content)
+
+
+def lines():
+    """Rows of one function in two files: those of no line are passed over, and columns too."""
+    of_first = u32(0, 4, 12 + 4 * 8) + u32(0, 10 | 1 << 31, 4, 0xFEEFEE, 8, 0xF00F00, 12, 12 | 3 << 24)
+    of_second = u32(8, 1, 12 + 8) + u32(16, 99)
+    content = u32(0x100) + u16(1, 1) + u32(32) + of_first + of_second
+    wanted = {"section": 1, "offset": 0x100,
+              "lines": [{"offset": 0x100, "file_index": 0, "line_start": 10},
+                        {"offset": 0x10C, "file_index": 0, "line_start": 12},
+                        {"offset": 0x110, "file_index": 1, "line_start": 99}]}
+    return subsection(0xF2, content), wanted
+
+
+def module_code():
+    """The parts behind a module's symbols, and what is wanted of them."""
+    files = u32(FIRST) + u8(0, 0) + u16(0) + u32(SECOND) + u8(16, 1) + bytes(16)
+    inlinees = u32(0) + u32(0x1000, 0, 50)
+    imports = u32(IMPORTED, 2, 0x1001, 0x80001002)
+    exports = u32(0x1001, 0x2001, 0x1002, 0x2002)
+    rows, entry = lines()
+    short_rows = u32(0x200) + u16(1, 0) + u32(32) + u32(0, 2, 12 + 16) + u32(0, 1)
+    cut = {"section": 1, "offset": 0x200, "lines": faulty([], CUT)}
+    data = (subsection(0xF4, files) + subsection(0xF6, inlinees) + rows + subsection(0xF2, short_rows)
+            + subsection(0xF7, imports) + subsection(0xF8, exports) + subsection(0xF1, u32(0)))
+    return data, {
+        "line_program": {"entries": [entry, cut], "files": [FIRST, SECOND]},
+        "inlinees": [0x1000],
+        "imports": [{"module": IMPORTED, "locals": [0x1001, 0x80001002]}],
+        "exports": [{"local": 0x1001, "global": 0x2001}, {"local": 0x1002, "global": 0x2002}],
+    }
+
+
+def inlinees_of_more_files():
+    """The other form of the list of inlinees, of a module with nothing else."""
+    data = subsection(0xF6, u32(1) + u32(0x1000, 0, 50) + u32(2, 8, 8) + u32(0x1001, 0, 60) + u32(0))
+    return data, {"symbols": [], "line_program": {"entries": [], "files": []}, "inlinees": [0x1000, 0x1001],
+                  "imports": [], "exports": []}
+
+
+# --- the whole file --------------------------------------------------------------------------------------------------
+
+def module_header(stream, symbols, code, name):
+    """What the stream of debug information says of a module."""
+    front = bytes(34) + u16(stream) + u32(symbols, 0, code) + bytes(16)
+    return aligned(front + text(name) + text(b"library"))
+
+
+def contribution(section, offset, size, module, extra=b""):
+    """Bytes of a section that are a module's."""
+    return u16(section, 0) + u32(offset, size, 0x60000020) + u16(module, 0) + u32(0, 0) + extra
+
+
+def section_header(address, size, flags):
+    """The header of a section."""
+    return b".name\0\0\0" + u32(size, address) + bytes(20) + u32(flags)
+
+
+def debug_stream(modules):
+    """The header of the debug information, and its parts."""
+    contributions = u32(0xF12EBA2D) + contribution(1, 0, 0x80, 0) + contribution(1, 0x80, 0x900, 65535)
+    more = u16(*[0xFFFF] * 5, 9)
+    front = u32(0xFFFFFFFF, 19990903, 1) + u16(6, 0, 7, 0, 8, 0)
+    front += u32(len(modules), len(contributions), 0, 0, 0, 0, len(more), 0) + u16(0, 0x8664) + u32(0)
+    return front + modules + contributions + more
+
+
+def info_stream():
+    """The stream that names another one: a table of hashes with one entry."""
+    return u32(20000404, 0, 1) + bytes(16) + u32(7) + b"/names\0" + u32(1, 1, 1, 1, 0, 0, 5)
+
+
+def string_stream():
+    """The table of texts, each under its offset."""
+    return u32(0xEFFEEFFE, 1, len(TEXTS)) + TEXTS + u32(0, 0)
+
+
+def container(streams):
+    """A file with these streams, in blocks: the superblock, two maps of what is free, the streams, the directory."""
+    blocks = [b"", b"", b""]
+    numbers = []
+    for stream in streams:
+        own = []
+        for start in range(0, len(stream or b""), BLOCK):
+            own.append(len(blocks))
+            blocks.append(stream[start:start + BLOCK])
+        numbers.append(own)
+    directory = u32(len(streams), *[0xFFFFFFFF if s is None else len(s) for s in streams])
+    directory += b"".join(u32(*own) for own in numbers)
+    own = []
+    for start in range(0, len(directory), BLOCK):
+        own.append(len(blocks))
+        blocks.append(directory[start:start + BLOCK])
+    block_map = len(blocks)
+    blocks.append(u32(*own))
+    blocks[0] = b"Microsoft C/C++ MSF 7.00\r\n\x1aDS\0\0\0" + u32(BLOCK, 1, len(blocks), len(directory), 0, block_map)
+    return b"".join(block.ljust(BLOCK, b"\0") for block in blocks)
+
+
+def whole():
+    """The file and what is wanted of it."""
+    symbols = module_symbols()
+    code, info = module_code()
+    more, other_info = inlinees_of_more_files()
+    publics = global_symbols()
+    modules = (module_header(10, len(symbols.data), len(code), b"a.obj") + module_header(0xFFFF, 0, 0, b"* Linker *")
+               + module_header(11, 0, len(more), b"b\xff.obj") + module_header(12, 0, 0, b"c.obj")
+               + module_header(40, 0, 0, b"d.obj"))
+    sections = section_header(0x1000, 0x800, 0x60000020) + section_header(0x2000, 0x30, 0x40000040)
+    streams = [b"", info_stream(), item_stream(TYPES), debug_stream(modules), item_stream(IDS), string_stream(), b"",
+               None, publics.data, sections, symbols.data + code, more, None]
+    wanted = {
+        "version": 2,
+        "sections": [{"virtual_address": 0x1000, "virtual_size": 0x800, "execute": True},
+                     {"virtual_address": 0x2000, "virtual_size": 0x30, "execute": False}],
+        "address_map": [{"virtual_address": 0x1000, "virtual_size": 0x800},
+                        {"virtual_address": 0x2000, "virtual_size": 0x30}],
+        "global_symbols": faulty(publics.wanted, CUT),
+        "debug_information": {
+            "machine_type": "Amd64",
+            "modules": [{"name": "a.obj"}, {"name": "* Linker *"}, {"name": list(b"b\xff.obj")}, {"name": "c.obj"},
+                        {"name": "d.obj"}],
+            "section_contributions": [{"section": 1, "offset": 0, "size": 0x80, "module": 0},
+                                      {"section": 1, "offset": 0x80, "size": 0x900, "module": 65535}]},
+        "type_information": primitives() + item_list(TYPES),
+        "id_information": item_list(IDS),
+        "string_table": [{"ref": 0, "text": ""}, {"ref": 1, "text": "a.cpp"}, {"ref": 7, "text": "b.h"},
+                         {"ref": 11, "text": "c.obj"}],
+        "module_infos": [{"symbols": symbols.wanted, **info}, None, other_info, {"error": 2}, {"error": 2}],
+    }
+    return container(streams), json.dumps(wanted, separators=(",", ":")).encode() + b"\n"
+
+
+def main():
+    """Writes both files."""
+    folder = pathlib.Path(sys.argv[1])
+    given, wanted = whole()
+    (folder / "stdin").write_bytes(given)
+    (folder / "stdout").write_bytes(wanted)
+
+
+if __name__ == "__main__":
+    main()

@@ -1,3 +1,0 @@
-pub mod NameLemmas
-pub mod KeptNameLemmas
-pub mod FrameLemmas

@@ -1,4 +1,0 @@
-use Rattle.pdb_descriptions.proofs.frames.frames_of_function.Given as goal
-
-abbrev pub ghost-origin : goal.ghost-origin
-ghost-origin g a = g.records

@@ -1,4 +1,0 @@
-pub mod Names
-pub mod KeptNames
-pub mod Function
-pub mod Frames

@@ -1,0 +1,4 @@
+pub mod Names
+pub mod CachedNames
+pub mod Function
+pub mod Frames

@@ -1,0 +1,27 @@
+ghost use Rattle.std.specs.Prelude.{◌≡◌, []};
+
+use crate::cached_texts::CachedTexts;
+use crate::name_keys::SignatureKey;
+use pdb_types::ModuleProvider;
+use std::alloc::Global;
+
+/// Signatures of procedures that were printed once. The provider has the records of the procedures' modules, in which
+/// each symbol is of one procedure at most.
+#[derive(Drop)]
+pub(crate) struct CachedSignatures<'a, P: ModuleProvider> {
+    pub(crate) provider: &'a P,
+    pub(crate) texts: CachedTexts<SignatureKey>,
+}
+
+impl<'a, P: ModuleProvider> CachedSignatures<'a, P> {
+    /// Nothing yet. It takes no memory.
+    pub(crate) fn new(alloc: Global, provider: &'a P) -> Self
+        ensures texts { result.texts.entries.items ≡ [] }
+        ensures provider { result.provider ≡ provider.entry }
+    {
+        CachedSignatures {
+            provider,
+            texts: CachedTexts::new(alloc),
+        }
+    }
+}

@@ -1,0 +1,113 @@
+ghost use Rattle.std.specs.Prelude.{◌≡◌, true, [], ◌∷◌, ◌++◌, option_map, string_bytes, IfSome, IfOk, OnOk, OnErr};
+ghost use Rattle.pdb_function_info.specs.CachedNames.{HasText};
+
+use crate::name_keys::Item;
+use crate::positions::PositionTable;
+use pdb_frames::copy_of_name;
+use std::alloc::{AllocError, Global};
+
+/// What a text is cached by.
+pub(crate) trait TextKey: Copy + Ord + Drop {
+    /// Whether it is another key.
+    fn is(self, other: Self) -> bool
+        ensures { result ≡ true → self ≡ other };
+
+    /// What has the text. By that, a hint says where the text stands.
+    fn item(self) -> Item;
+}
+
+/// A text that was printed, if it can be.
+#[derive(Drop)]
+pub(crate) struct CachedText<K> {
+    pub(crate) key: K,
+    pub(crate) text: Option<String>,
+}
+
+/// Texts that were printed once.
+#[derive(Drop)]
+pub(crate) struct CachedTexts<K: TextKey> {
+    pub(crate) entries: Vec<CachedText<K>>,
+    positions: PositionTable<K>,
+}
+
+impl<K: TextKey> CachedTexts<K> {
+    /// Nothing yet. It takes no memory.
+    pub(crate) fn new(alloc: Global) -> Self
+        ensures { result.entries.items ≡ [] }
+    {
+        CachedTexts {
+            entries: Vec::new(alloc),
+            positions: PositionTable::new(alloc),
+        }
+    }
+
+    /// The text at a position, if it is cached by this key.
+    fn text_at(&self, position: usize, key: K) -> Option<&Option<String>>
+        ensures { IfSome result (λ text. HasText self.now.entries.items key (option_map string_bytes text.now)) }
+    {
+        let cached = self.entries.get(position)?;
+        if cached.key.is(key) {
+            Some(&cached.text)
+        } else {
+            None
+        }
+    }
+
+    /// The text that a hint leads to, if it is cached by this key.
+    fn text_by(&self, hint: Option<u32>, key: K) -> Option<&Option<String>>
+        ensures { IfSome result (λ text. HasText self.now.entries.items key (option_map string_bytes text.now)) }
+    {
+        let position = hint?;
+        self.text_at(position as usize, key)
+    }
+
+    /// The text of a key, if it stands where a hint says.
+    fn at_hint(&self, key: K) -> Option<&Option<String>>
+        ensures { IfSome result (λ text. HasText self.now.entries.items key (option_map string_bytes text.now)) }
+    {
+        for &hint in self.positions.hints(key.item()) {
+            if let Some(text) = self.text_by(hint, key) {
+                return Some(text);
+            }
+        }
+        None
+    }
+
+    /// The position of the text that was cached last by a key, where one was.
+    fn position(&mut self, key: K) -> Option<usize>
+        ensures { self.new.entries ≡ self.old.entries }
+    {
+        self.positions.find(&key, key.item())
+    }
+
+    /// A copy of the text of a key, where one is cached.
+    pub(crate) fn text(&mut self, key: K) -> Result<Option<Option<String>>, AllocError>
+        ensures text { IfOk result (λ cached. IfSome cached
+            (λ text. HasText self.old.entries.items key (option_map string_bytes text))) }
+        ensures same { self.new.entries ≡ self.old.entries }
+    {
+        if let Some(text) = self.at_hint(key) {
+            let text = copy_of_name(text)?;
+            return Ok(Some(text));
+        }
+        let Some(position) = self.position(key) else {
+            return Ok(None);
+        };
+        let Some(text) = self.text_at(position, key) else {
+            return Ok(None);
+        };
+        let text = copy_of_name(text)?;
+        Ok(Some(text))
+    }
+
+    /// Caches the text of a key.
+    pub(crate) fn put(&mut self, key: K, text: Option<String>) -> Result<(), AllocError>
+        ensures cached { OnOk result (self.new.entries.items
+            ≡ self.old.entries.items ++ record { key = key; text = text } ∷ []) }
+        ensures refused { OnErr result (self.new.entries.items ≡ self.old.entries.items) }
+    {
+        self.positions.push(key, key.item(), self.entries.len())?;
+        self.entries.push(CachedText { key, text })?;
+        Ok(())
+    }
+}

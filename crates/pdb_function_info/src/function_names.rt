@@ -1,0 +1,239 @@
+ghost use Rattle.std.specs.Prelude.{◌≡◌, Some, option_map, string_bytes, OnOk, OnErr, MatchResult};
+ghost use Rattle.pdb_records.specs.Names.{lossy};
+ghost use Rattle.pdb_types.specs.FailedParts.{with_met};
+ghost use Rattle.pdb_types.specs.TypeSizes.{size_of};
+ghost use Rattle.pdb_types.specs.declared.error.Error.TheVariants.{OutOfMemory};
+ghost use Rattle.pdb_functions.specs.Lookup.{found_function, procedures_of_module};
+ghost use Rattle.pdb_functions.specs.Procedures.{module_procedure};
+ghost use Rattle.pdb_functions.specs.SymbolNames.{name_by_symbol, GoesBySymbol};
+ghost use Rattle.pdb_documents.specs.Answers.{AnswersText};
+ghost use Rattle.pdb_documents.specs.BrokenParts.{AddsBroken};
+ghost use Rattle.pdb_documents.specs.Printed.{signature_run, id_run};
+ghost use Rattle.pdb_documents.specs.PrintInputs.{formatter_inputs};
+ghost use Rattle.pdb_frames.specs.Origins.{function_module};
+ghost use Rattle.pdb_function_info.specs.Names.{signature_text, procedure_name, failed_by_name, function_name};
+ghost use Rattle.pdb_function_info.specs.Names.{failed_by_function_name, id_name, failed_by_id};
+
+use crate::cached_names::{id_once, signature_once};
+use crate::cached_signatures::CachedSignatures;
+use crate::cached_texts::CachedTexts;
+use crate::name_keys::IdKey;
+use crate::names::{decorated_name_instead, text_of, text_of_name};
+use pdb_functions::{GlobalFunctionTable, ProcedureSymbolFunction, PublicOrProcedureSymbol};
+use pdb_records::{IdIndex, Module, TypeIndex};
+use pdb_signatures::TypeFormatter;
+use pdb_types::{ModuleProvider, Result};
+use std::alloc::Global;
+use std::marker::Model;
+
+/// The names of functions, as a formatter prints them. Each is printed once.
+///
+/// What is cached shows in no answer: it is what the formatter would print again, and printing it again would
+/// meet no part of the records broken that isn't remembered already.
+#[derive(Drop)]
+pub struct FunctionNames<'a, P: ModuleProvider> {
+    alloc: Global,
+    formatter: TypeFormatter<'a, P>,
+    signatures: CachedSignatures<'a, P>,
+    ids: CachedTexts<IdKey>,
+}
+
+// Clauses see the formatter, and the provider of the procedures' records.
+impl<'a, P: ModuleProvider> Model for FunctionNames<'a, P> {
+    ghost use Rattle.pdb_function_info.specs.CachedNames.{Namer, IsSignatureCache, IsIdCache};
+
+    ghost Value = { Namer P };
+
+    ghost view = { λ n. record {
+      type_inputs = n.formatter.type_inputs;
+      failed = n.formatter.failed;
+      provider = n.signatures.provider.now;
+    } };
+
+    ghost invariant = { λ n. record {
+      signatures : IsSignatureCache P.info (P.info n.signatures.provider.now) n.formatter
+          n.signatures.texts.entries.items;
+      ids : IsIdCache P.info n.formatter n.ids.entries.items;
+    } };
+}
+
+impl<'a, P: ModuleProvider> FunctionNames<'a, P> {
+    /// The names that a formatter prints of procedures whose records a provider has. It takes no memory.
+    pub fn new(alloc: Global, provider: &'a P, formatter: TypeFormatter<'a, P>) -> Self
+        ensures type_inputs { result.type_inputs ≡ formatter.entry.type_inputs }
+        ensures failed { result.failed ≡ formatter.entry.failed }
+        ensures provider { result.provider ≡ provider.now }
+    {
+        FunctionNames {
+            alloc,
+            formatter,
+            signatures: CachedSignatures::new(alloc, provider),
+            ids: CachedTexts::new(alloc),
+        }
+    }
+
+    /// The formatter back, with what it remembers.
+    pub fn into_type_formatter(self) -> TypeFormatter<'a, P>
+        ensures type_inputs { result.type_inputs ≡ self.entry.type_inputs }
+        ensures failed { result.failed ≡ self.entry.failed }
+    {
+        self.formatter
+    }
+
+    /// The formatter's modules, in their order.
+    pub fn modules(&self) -> &[Module]
+        ensures { result.now ≡ self.now.type_inputs.modules }
+    {
+        self.formatter.modules()
+    }
+
+    /// What [`TypeFormatter::get_type_size`] answers.
+    pub fn get_type_size(&mut self, module_index: usize, index: TypeIndex) -> Result<u64>
+        ensures size { MatchResult result
+            (λ size. size ≡ (size_of P.info self.old.type_inputs module_index index.0).size)
+            (λ e. e ≡ OutOfMemory) }
+        ensures type_inputs { self.new.type_inputs ≡ self.old.type_inputs }
+        ensures provider { self.new.provider ≡ self.old.provider }
+        ensures remembered { OnOk result (self.new.failed ≡
+            with_met self.old.failed (size_of P.info self.old.type_inputs module_index index.0).met) }
+        ensures unchanged { OnErr result (self.new.failed ≡ self.old.failed) }
+    {
+        self.formatter.get_type_size(module_index, index)
+    }
+
+    /// What [`TypeFormatter::format_function`] answers.
+    pub fn format_function(
+        &mut self,
+        name: &str,
+        module_index: usize,
+        index: TypeIndex,
+    ) -> Result<String>
+        ensures answer { AnswersText
+            (signature_run P.info self.old.type_inputs module_index name.now index.0 self.old.failed)
+            result self.new.failed }
+        ensures type_inputs { self.new.type_inputs ≡ self.old.type_inputs }
+        ensures provider { self.new.provider ≡ self.old.provider }
+        ensures broken { AddsBroken (formatter_inputs P.info self.old.type_inputs module_index)
+            self.old.failed self.new.failed }
+    {
+        self.formatter.format_function(name, module_index, index)
+    }
+
+    /// What [`TypeFormatter::format_id`] answers.
+    pub fn format_id(&mut self, module_index: usize, index: IdIndex) -> Result<String>
+        ensures answer { AnswersText
+            (id_run P.info self.old.type_inputs module_index index.0 self.old.failed)
+            result self.new.failed }
+        ensures type_inputs { self.new.type_inputs ≡ self.old.type_inputs }
+        ensures provider { self.new.provider ≡ self.old.provider }
+        ensures broken { AddsBroken (formatter_inputs P.info self.old.type_inputs module_index)
+            self.old.failed self.new.failed }
+    {
+        self.formatter.format_id(module_index, index)
+    }
+
+    /// The name of a function whose body was inlined, by its id as the module at this module index writes it, if
+    /// it can be printed. It is an error only where memory runs out.
+    pub(crate) fn name_of_id(&mut self, module_index: usize, id: IdIndex) -> Result<Option<String>>
+        ensures name { MatchResult result
+            (λ name. option_map string_bytes name ≡ id_name P.info self.old.type_inputs module_index id)
+            (λ e. e ≡ OutOfMemory) }
+        ensures type_inputs { self.new.type_inputs ≡ self.old.type_inputs }
+        ensures provider { self.new.provider ≡ self.old.provider }
+        ensures failed { OnOk result (self.new.failed
+            ≡ failed_by_id P.info self.old.type_inputs module_index id self.old.failed) }
+        ensures broken { AddsBroken (formatter_inputs P.info self.old.type_inputs module_index)
+            self.old.failed self.new.failed }
+    {
+        id_once(&mut self.formatter, &mut self.ids, module_index, id)
+    }
+
+    /// The name of a procedure of a module, if one is known.
+    pub(crate) fn name_of_procedure(
+        &mut self,
+        functions: &GlobalFunctionTable<'_>,
+        module_index: usize,
+        procedure: ProcedureSymbolFunction<'_>,
+    ) -> Result<Option<String>>
+        requires named { name_by_symbol procedure.symbol_index.0
+            (procedures_of_module (P.info self.old.provider) self.old.type_inputs.modules module_index)
+            ≡ Some procedure.name.now }
+        ensures name { MatchResult result
+            (λ name. option_map string_bytes name ≡ procedure_name P.info self.old.type_inputs
+            functions.now module_index (module_procedure procedure.entry))
+            (λ e. e ≡ OutOfMemory) }
+        ensures type_inputs { self.new.type_inputs ≡ self.old.type_inputs }
+        ensures provider { self.new.provider ≡ self.old.provider }
+        ensures failed { OnOk result (self.new.failed ≡ failed_by_name P.info self.old.type_inputs
+            functions.now module_index (module_procedure procedure.entry) self.old.failed) }
+        ensures broken { AddsBroken (formatter_inputs P.info self.old.type_inputs module_index)
+            self.old.failed self.new.failed }
+    {
+        if let Some(name) = decorated_name_instead(functions, procedure) {
+            let name = text_of(self.alloc, name)?;
+            return Ok(Some(name));
+        }
+        self.signature(module_index, procedure)
+    }
+
+    /// The signature of a procedure of a module, if it can be printed.
+    fn signature(
+        &mut self,
+        module_index: usize,
+        procedure: ProcedureSymbolFunction<'_>,
+    ) -> Result<Option<String>>
+        requires named { name_by_symbol procedure.symbol_index.0
+            (procedures_of_module (P.info self.old.provider) self.old.type_inputs.modules module_index)
+            ≡ Some procedure.name.now }
+        ensures text { MatchResult result
+            (λ text. option_map string_bytes text ≡ signature_text P.info self.old.type_inputs module_index
+            (lossy procedure.entry.name.now) procedure.entry.type_index.0)
+            (λ e. e ≡ OutOfMemory) }
+        ensures type_inputs { self.new.type_inputs ≡ self.old.type_inputs }
+        ensures provider { self.new.provider ≡ self.old.provider }
+        ensures failed { OnOk result (let run = signature_run P.info self.old.type_inputs module_index
+            (lossy procedure.entry.name.now) procedure.entry.type_index.0 self.old.failed in
+            self.new.failed ≡ run.failed) }
+        ensures broken { AddsBroken (formatter_inputs P.info self.old.type_inputs module_index)
+            self.old.failed self.new.failed }
+    {
+        signature_once(
+            self.alloc,
+            &mut self.formatter,
+            &mut self.signatures,
+            module_index,
+            procedure,
+        )
+    }
+
+    /// The name of a function that was found, if one is known.
+    pub(crate) fn name_of_function(
+        &mut self,
+        functions: &GlobalFunctionTable<'_>,
+        function: PublicOrProcedureSymbol<'_>,
+    ) -> Result<Option<String>>
+        requires named { GoesBySymbol (P.info self.old.provider) self.old.type_inputs.modules
+            (found_function function) }
+        ensures name { MatchResult result
+            (λ name. option_map string_bytes name ≡ function_name P.info self.old.type_inputs
+            functions.now (found_function function.entry))
+            (λ e. e ≡ OutOfMemory) }
+        ensures type_inputs { self.new.type_inputs ≡ self.old.type_inputs }
+        ensures provider { self.new.provider ≡ self.old.provider }
+        ensures failed { OnOk result (self.new.failed ≡ failed_by_function_name P.info self.old.type_inputs
+            functions.now (found_function function.entry) self.old.failed) }
+        ensures broken { AddsBroken
+            (formatter_inputs P.info self.old.type_inputs (function_module (found_function function.entry)))
+            self.old.failed self.new.failed }
+    {
+        match function {
+            PublicOrProcedureSymbol::Public(_, function) => {
+                let name = text_of_name(self.alloc, function.name)?;
+                Ok(name)
+            }
+            PublicOrProcedureSymbol::Procedure(module_index, procedure) => {
+                self.name_of_procedure(functions, module_index, procedure)
+            }
+        }
+    }
+}

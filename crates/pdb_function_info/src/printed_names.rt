@@ -1,0 +1,68 @@
+ghost use Rattle.std.specs.Prelude.{◌≡◌, ◌≢◌, None, option_map, string_bytes, OnOk, MatchResult};
+ghost use Rattle.pdb_types.specs.declared.error.Error.TheVariants.{OutOfMemory};
+ghost use Rattle.pdb_documents.specs.BrokenParts.{AddsBroken};
+ghost use Rattle.pdb_documents.specs.Printed.{signature_run};
+ghost use Rattle.pdb_documents.specs.PrintInputs.{formatter_inputs};
+ghost use Rattle.pdb_function_info.specs.Names.{signature_text, id_name, failed_by_id};
+
+use pdb_records::{IdIndex, TypeIndex};
+use pdb_signatures::TypeFormatter;
+use pdb_types::{Error, ModuleProvider, Result};
+
+/// No text, where there is an error in its place. Out of memory stays an error.
+fn no_text_for(error: Error) -> Result<Option<String>>
+    ensures { MatchResult result
+        (λ text. (text ≡ None) × (error ≢ OutOfMemory))
+        (λ e. e ≡ OutOfMemory) }
+{
+    match error {
+        Error::OutOfMemory => Err(Error::OutOfMemory),
+        _ => Ok(None),
+    }
+}
+
+/// The signature of a function, if it can be printed. It is an error only where memory runs out.
+pub(crate) fn signature_of<P: ModuleProvider>(
+    formatter: &mut TypeFormatter<'_, P>,
+    name: &str,
+    module_index: usize,
+    index: TypeIndex,
+) -> Result<Option<String>>
+    ensures text { MatchResult result
+        (λ text. option_map string_bytes text
+        ≡ signature_text P.info formatter.old.type_inputs module_index name.now index.0)
+        (λ e. e ≡ OutOfMemory) }
+    ensures type_inputs { formatter.new.type_inputs ≡ formatter.old.type_inputs }
+    ensures failed { OnOk result
+        (let run = signature_run P.info formatter.old.type_inputs module_index name.now index.0 formatter.old.failed in
+        formatter.new.failed ≡ run.failed) }
+    ensures broken { AddsBroken (formatter_inputs P.info formatter.old.type_inputs module_index)
+        formatter.old.failed formatter.new.failed }
+{
+    match formatter.format_function(name, module_index, index) {
+        Ok(text) => Ok(Some(text)),
+        Err(error) => no_text_for(error),
+    }
+}
+
+/// The name of a function whose body was inlined, by its id as the module at this module index writes it, if it
+/// can be printed. It is an error only where memory runs out.
+pub(crate) fn name_of_id<P: ModuleProvider>(
+    formatter: &mut TypeFormatter<'_, P>,
+    module_index: usize,
+    id: IdIndex,
+) -> Result<Option<String>>
+    ensures name { MatchResult result
+        (λ name. option_map string_bytes name ≡ id_name P.info formatter.old.type_inputs module_index id)
+        (λ e. e ≡ OutOfMemory) }
+    ensures type_inputs { formatter.new.type_inputs ≡ formatter.old.type_inputs }
+    ensures failed { OnOk result (formatter.new.failed
+        ≡ failed_by_id P.info formatter.old.type_inputs module_index id formatter.old.failed) }
+    ensures broken { AddsBroken (formatter_inputs P.info formatter.old.type_inputs module_index)
+        formatter.old.failed formatter.new.failed }
+{
+    match formatter.format_id(module_index, id) {
+        Ok(text) => Ok(Some(text)),
+        Err(error) => no_text_for(error),
+    }
+}

@@ -1,8 +1,0 @@
-use Rattle.std.proofs.Common.{arith}
-use Rattle.pdb_functions.proofs.KeyLemmas.{places_have_keys}
-use Rattle.pdb_functions.proofs.contribution_table.ModuleSectionContributionPlaced.keys.Goals as goal
-
-pub returns : goal.returns
-returns c =
-    let span = c.args.self.now in
-    places_have_keys _ _ span.section_index span.start_offset span.end_offset c.key.ensures.key c.key-2.ensures.key (omega arith)

@@ -1,0 +1,79 @@
+// What lies over section offsets, as tables of segments that are searched by the key of a section offset.
+
+ghost use Rattle.std.specs.Prelude.{◌≡◌, ◌+◌, ◌*◌, ◌^◌, ◌<◌, ◌≤◌, Bool, None, length, slice_get, option_and_then, IfOk};
+ghost use Rattle.pdb_records.specs.declared.addresses.PdbInternalSectionOffset.{PdbInternalSectionOffset};
+ghost use Rattle.pdb_ranges.specs.Probes.{digits};
+ghost use Rattle.pdb_ranges.specs.Segments.{value_at};
+ghost use Rattle.pdb_functions.specs.Keys.{key, HasKeys};
+ghost use Rattle.pdb_ranges.specs.Last.{last_over};
+
+use pdb_ranges::{Probes, Segment, Segments};
+use pdb_records::PdbInternalSectionOffset;
+use std::alloc::{AllocError, Global};
+
+/// The keys that a section has room for: more than twice as many as it has offsets, so that what starts in
+/// a section ends in its room.
+const ROOM: u64 = 0x4_0000_0000;
+
+/// The number of a section offset.
+pub(crate) fn key(section_offset: PdbInternalSectionOffset) -> u64
+    ensures key { result ≡ key section_offset }
+    ensures offset { section_offset.offset < 2 ^ 32 }
+    ensures room { result + 2 ^ 33 < 2 ^ 64 }
+{
+    u64::from(section_offset.section) * ROOM + u64::from(section_offset.offset)
+}
+
+/// The keys from a first one up to the one before an end.
+#[derive(Clone, Copy)]
+pub(crate) struct Keys {
+    pub(crate) start: u64,
+    pub(crate) end: u64,
+}
+
+/// What lies over the section offsets from a start up to an end, in one section.
+pub(crate) trait Span: Copy {
+    /// Whether it lies over a section offset.
+    ghost is_over: { PdbInternalSectionOffset → Self → Bool };
+
+    /// The keys of the section offsets that it lies over.
+    fn keys(&self) -> Keys
+        ensures { HasKeys result.start result.end (λ section_offset. is_over section_offset self.now) };
+}
+
+/// The table in which each section offset has the position of the last of the spans over it.
+pub(crate) fn segments_of<T: Span>(
+    alloc: Global,
+    spans: &[T],
+) -> Result<Segments<usize>, AllocError>
+    ensures values { IfOk result (λ table. (section_offset : PdbInternalSectionOffset) → section_offset.offset < 2 ^ 32
+        → option_and_then (slice_get spans.now) (value_at table (key section_offset))
+        ≡ last_over (T.is_over section_offset) None spans.now) }
+    ensures at_most_two_each { IfOk result (λ table. length table ≤ 2 * length spans.now) }
+{
+    let mut segments = Vec::new(alloc);
+    for (position, span) in spans.iter().enumerate() {
+        let Keys { start, end } = span.keys();
+        segments.push(Segment {
+            start,
+            end,
+            value: position,
+        })?;
+    }
+    let table = Segments::of_painted(alloc, &segments)?;
+    Ok(table)
+}
+
+/// The span whose position the table has for a section offset.
+pub(crate) fn find<T: Copy>(
+    spans: &[T],
+    table: &Segments<usize>,
+    section_offset: PdbInternalSectionOffset,
+    probes: &mut Probes,
+) -> Option<T>
+    ensures value { result ≡ option_and_then (slice_get spans.now) (value_at table.now (key section_offset)) }
+    ensures few { probes.new ≤ probes.old + digits (length table.now) }
+{
+    let position = table.find(key(section_offset), probes)?;
+    spans.get(position).copied()
+}

@@ -1,0 +1,8 @@
+-- The bytes of all blocks are those that were copied, and those of the blocks that are left.
+use Rattle.std.proofs.Common.{◌≡◌, ◌++◌, drop}
+use Rattle.pdb_msf.specs.Streams.{in_order}
+use Rattle.pdb_msf.proofs.streams.copied.Given as goal
+
+abbrev pub invariant-loop-number : goal.invariant-loop-number
+invariant-loop-number l =
+    in_order l.block_size l.file l.blocks ≡ l.bytes.items ++ in_order l.block_size l.file (drop l.number-index l.blocks)

@@ -1,0 +1,21 @@
+//! The streams of a PDB file, and their bytes. A PDB file is a container of the format MSF 7.00: blocks of one size,
+//! of which a directory says which ones make each stream.
+//!
+//! [`Container::open`] answers an error where the file as a whole can't be read, and [`Container::stream`] where a
+//! stream can't be, with one of the numbers of [`faults`]. [`Bytes`] is what is read off the front of a stream.
+#![tactic(auto)]
+
+mod bytes;
+mod container_fault;
+pub mod faults;
+mod msf;
+mod names;
+mod number_lists;
+mod streams;
+
+pub use bytes::{Bytes, u16_at, u32_at};
+pub use container_fault::ContainerFault;
+pub use msf::Container;
+pub use names::{copy_name, offset_of};
+pub use number_lists::take_numbers;
+pub use streams::StreamBytes;

@@ -1,0 +1,113 @@
+ghost use Rattle.std.specs.Prelude.{◌≡◌, ◌≤◌, ◌*◌, length, take, IfOk, IfSome};
+ghost use Rattle.pdb_msf.specs.Streams.{block, stream, bytes_of};
+
+use crate::faults::{BLOCK_OUTSIDE, Fault};
+use std::alloc::Global;
+
+/// The bytes of a stream: in the file itself where its blocks follow one another there, else a copy.
+#[derive(Drop)]
+pub enum StreamBytes<'a> {
+    InPlace(&'a [u8]),
+    Copied(Vec<u8>),
+}
+
+impl StreamBytes<'_> {
+    /// The bytes.
+    pub fn as_slice(&self) -> &[u8]
+        ensures { result.now ≡ bytes_of self.now }
+    {
+        match self {
+            StreamBytes::InPlace(bytes) => bytes,
+            StreamBytes::Copied(bytes) => bytes.as_slice(),
+        }
+    }
+}
+
+/// The bytes of the stream that stands in these blocks of the file, in their order, and is so long.
+///
+/// [`BLOCK_OUTSIDE`] where a block doesn't lie in the file as a whole.
+pub fn read_stream<'a>(
+    alloc: Global,
+    file: &'a [u8],
+    block_size: usize,
+    stream_length: usize,
+    blocks: &[u32],
+) -> Result<StreamBytes<'a>, Fault>
+    ensures { IfOk result (λ bytes. bytes_of bytes ≡ stream block_size file.now stream_length blocks.now) }
+{
+    if let Some(bytes) = in_place(file, block_size, stream_length, blocks) {
+        return Ok(StreamBytes::InPlace(bytes));
+    }
+    let bytes = copied(alloc, file, block_size, stream_length, blocks)?;
+    Ok(StreamBytes::Copied(bytes))
+}
+
+// Where the block of this number starts in a file of such blocks.
+fn block_start(block_size: usize, number: u32) -> Option<usize>
+    ensures { IfSome result (λ start. start ≡ number * block_size) }
+{
+    (number as usize).checked_mul(block_size)
+}
+
+// The bytes of the block of this number, where the file has the whole of it.
+fn block_of(file: &[u8], block_size: usize, number: u32) -> Option<&[u8]>
+    ensures { IfSome result (λ bytes. bytes.now ≡ block block_size file.now number) }
+{
+    let start = block_start(block_size, number)?;
+    if file.len() < start {
+        return None;
+    }
+    let (_, bytes) = file.split_at(start);
+    if bytes.len() < block_size {
+        return None;
+    }
+    let (bytes, _) = bytes.split_at(block_size);
+    Some(bytes)
+}
+
+// The stream's bytes in the file, where its blocks follow one another.
+fn in_place<'a>(
+    file: &'a [u8],
+    block_size: usize,
+    stream_length: usize,
+    blocks: &[u32],
+) -> Option<&'a [u8]>
+    ensures { IfSome result (λ bytes. bytes.now ≡ stream block_size file.now stream_length blocks.now) }
+{
+    let first = *blocks.first()?;
+    let start = block_start(block_size, first)?;
+    let mut end = start;
+    for &number in blocks {
+        if block_start(block_size, number)? != end {
+            return None;
+        }
+        end = end.checked_add(block_size)?;
+    }
+    if end - start < stream_length || file.len() < end {
+        return None;
+    }
+    let (_, bytes) = file.split_at(start);
+    let (bytes, _) = bytes.split_at(stream_length);
+    Some(bytes)
+}
+
+// The stream's bytes, block by block.
+fn copied(
+    alloc: Global,
+    file: &[u8],
+    block_size: usize,
+    stream_length: usize,
+    blocks: &[u32],
+) -> Result<Vec<u8>, Fault>
+    ensures { IfOk result (λ bytes. bytes.items ≡ stream block_size file.now stream_length blocks.now) }
+{
+    let mut bytes = Vec::with_capacity(alloc, stream_length.saturating_add(block_size))?;
+    for &number in blocks {
+        let Some(block) = block_of(file, block_size, number) else {
+            return Err(Fault::Broken(BLOCK_OUTSIDE));
+        };
+        bytes.extend_from_slice(block)?;
+    }
+    bytes.truncate(stream_length);
+    Ok(bytes)
+}

@@ -1,0 +1,113 @@
+-- How a run of the program ends.
+use Rattle.std.specs.Prelude.{◌≡◌, ◌⊎◌, Bool, true, false, List, ℕ, Option, Some, None, Result, Ok, Err, string_bytes}
+use Rattle.std.specs.Io.KnownBytes.{Keeps}
+use Rattle.std.specs.declared.io.ErrorKind.{ErrorKind}
+use Rattle.std.specs.declared.io.ErrorKind.TheVariants as kind
+use Rattle.pdb_types.specs.declared.error.Error.TheVariants.{OutOfMemory}
+use Rattle.pdb_json_values.specs.declared.faults.RecordFault.{RecordFault}
+use Rattle.pdb_json_values.specs.Faults.{IsFaultOf}
+use Rattle.pdb_json.specs.RecordsFile.{records_of_files, module_files_of}
+use Rattle.pdb_report_lib.specs.declared.stops.Stop.{Stop}
+use Rattle.pdb_report_lib.specs.declared.stops.Stop.TheVariants.{Refused, Usage, CannotRead}
+use Rattle.pdb_report_lib.specs.declared.stops.Stop.TheVariants.{CannotReadModule, CannotWrite}
+use Rattle.pdb_report_lib.specs.declared.stops.Stop.TheVariants as stop
+use Rattle.pdb_report_lib.specs.Stops.{EndsOverFile}
+use Rattle.pdb_report_lib.specs.Sinks.{SinkState}
+use Rattle.pdb_report_lib.specs.Arguments.{Asked}
+use Rattle.pdb_report_lib.specs.ModulePaths.{module_path}
+
+-- the system had no memory
+abbrev pub is_out_of_memory : ErrorKind → Bool
+is_out_of_memory kind.OutOfMemory = true
+is_out_of_memory _ = false
+
+-- a file can't be read, and is shown by its path; or memory ran out
+abbrev pub IsReadStop : List ℕ → Stop → Type 0
+IsReadStop path (CannotRead shown) = shown.now ≡ path
+IsReadStop path (Refused error) = error ≡ OutOfMemory
+IsReadStop path (stop.Records shown fault) = ⊥
+IsReadStop path (CannotReadModule shown) = ⊥
+IsReadStop path Usage = ⊥
+IsReadStop path CannotWrite = ⊥
+
+-- the module file at a path can't be read, and is shown by its path; or memory ran out
+abbrev pub IsModuleReadStop : List ℕ → Stop → Type 0
+IsModuleReadStop path (CannotReadModule shown) = string_bytes shown ≡ path
+IsModuleReadStop path (Refused error) = error ≡ OutOfMemory
+IsModuleReadStop path (CannotRead shown) = ⊥
+IsModuleReadStop path (stop.Records shown fault) = ⊥
+IsModuleReadStop path Usage = ⊥
+IsModuleReadStop path CannotWrite = ⊥
+
+-- a module file of a records file with these bytes can't be read, and is shown by its path, for some name; or these
+-- bytes show no module files; or memory ran out
+abbrev pub AreModuleReadStops : List ℕ → List ℕ → Stop → Type 0
+AreModuleReadStops records bytes (CannotReadModule shown) =
+    (name : List ℕ) × (string_bytes shown ≡ module_path records name)
+AreModuleReadStops records bytes (Refused error) = error ≡ OutOfMemory
+AreModuleReadStops records bytes (stop.Records shown fault) =
+    (shown.now ≡ records) × IsFaultOf fault (module_files_of bytes)
+AreModuleReadStops records bytes (CannotRead shown) = ⊥
+AreModuleReadStops records bytes Usage = ⊥
+AreModuleReadStops records bytes CannotWrite = ⊥
+
+-- why a run ends early whose words ask for nothing: memory ran out, or it shows how to ask; the sink is as it was
+abbrev pub StopsUnasked : SinkState → SinkState → Stop → Type 0
+StopsUnasked before after Usage = after ≡ before
+StopsUnasked before after (Refused error) = (error ≡ OutOfMemory) × (after ≡ before)
+StopsUnasked before after (CannotRead path) = ⊥
+StopsUnasked before after (CannotReadModule path) = ⊥
+StopsUnasked before after (stop.Records path fault) = ⊥
+StopsUnasked before after CannotWrite = ⊥
+
+-- a run ends as it does over the bytes of some file and of its module files, and what the sink holds back is handed on
+pub record EndsOverSomeFile {A : Type 0} (asked : Asked) (before after : SinkState) (result : Result A Stop)
+    : Type 0 where
+  pub bytes : List ℕ
+  pub files : List (List ℕ)
+  pub written : SinkState
+  pub ends : EndsOverFile asked.records asked.command asked.addresses (records_of_files bytes files)
+      before written result
+  pub same : Keeps written.held after.held
+  pub unchanged : after.failed ≡ written.failed
+
+-- a sink took what it does over the bytes of some file and of its module files, and refused to hand it on
+pub record EndsAtFlush (A : Type 0) (asked : Asked) (before after : SinkState) : Type 0 where
+  pub bytes : List ℕ
+  pub files : List (List ℕ)
+  pub written : SinkState
+  pub ended : Result A Stop
+  pub ends : EndsOverFile asked.records asked.command asked.addresses (records_of_files bytes files)
+      before written ended
+  pub same : Keeps written.held after.held
+  pub failed : after.failed ≡ true
+
+-- some bytes show no module files, for this fault, which is shown with the file's path; the sink is as it was
+pub record StopsWithoutModules (asked : Asked) (before after : SinkState) (path : List ℕ) (fault : RecordFault)
+    : Type 0 where
+  pub shown : path ≡ asked.records
+  pub bytes : List ℕ
+  pub refused : IsFaultOf fault (module_files_of bytes)
+  pub same : after ≡ before
+
+-- why a run ends early whose words ask for something: a file can't be read, and is shown by its path, or memory ran
+-- out before a text was written; or it ends over what the files hold; or the sink refused to hand the texts on
+abbrev pub StopsAsked : Type 0 → Asked → SinkState → SinkState → Stop → Type 0
+StopsAsked A asked before after Usage = ⊥
+StopsAsked A asked before after (Refused error) =
+    ((error ≡ OutOfMemory) × (after ≡ before)) ⊎ EndsOverSomeFile {A = A} asked before after (Err (Refused error))
+StopsAsked A asked before after (CannotRead path) = (path.now ≡ asked.records) × (after ≡ before)
+StopsAsked A asked before after (CannotReadModule path) =
+    ((name : List ℕ) × (string_bytes path ≡ module_path asked.records name)) × (after ≡ before)
+StopsAsked A asked before after (stop.Records path fault) =
+    StopsWithoutModules asked before after path.now fault
+    ⊎ EndsOverSomeFile {A = A} asked before after (Err (stop.Records path fault))
+StopsAsked A asked before after CannotWrite =
+    EndsOverSomeFile {A = A} asked before after (Err CannotWrite) ⊎ EndsAtFlush A asked before after
+
+-- how a run ends, by what its words ask for
+abbrev pub EndsRun : {A : Type 0} → Option Asked → SinkState → SinkState → Result A Stop → Type 0
+EndsRun None before after (Ok done) = ⊥
+EndsRun None before after (Err why) = StopsUnasked before after why
+EndsRun (Some asked) before after (Ok done) = EndsOverSomeFile asked before after (Ok done)
+EndsRun {A = A} (Some asked) before after (Err why) = StopsAsked A asked before after why

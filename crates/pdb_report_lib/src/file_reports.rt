@@ -1,0 +1,99 @@
+ghost use Rattle.std.specs.Prelude.{OnOk, IfErr};
+ghost use Rattle.pdb_json.specs.ModuleFiles.{contents};
+ghost use Rattle.pdb_addr2line.specs.ContextData.{default_flags, context_of};
+ghost use Rattle.pdb_json.specs.RecordsFile.{records_of_files};
+ghost use Rattle.pdb_report_lib.specs.FileReports.{opened, TakesTexts, EndsOver};
+ghost use Rattle.pdb_report_lib.specs.Stops.{Ends, EndsOverFile};
+
+use crate::arguments::Request;
+use crate::reports::{ReportFault, report};
+use crate::sinks::Sink;
+use crate::stops::Stop;
+use pdb_addr2line::ContextPdbData;
+use pdb_addr2line::pdb::PDB;
+use pdb_json::{RecordFault, read_records_with};
+use std::alloc::Global;
+
+/// Writes what a request asks for, over records whose streams were read.
+fn report_data<W: Sink>(
+    alloc: Global,
+    request: &Request<'_>,
+    context_data: &ContextPdbData<'_>,
+    sink: &mut W,
+) -> Result<(), ReportFault>
+    ensures lines { OnOk result (TakesTexts request.now.command request.now.addresses.items
+        (context_of default_flags context_data.now) (W.state sink.old) (W.state sink.new)) }
+    ensures fault { IfErr result (EndsOver request.now.command request.now.addresses.items
+        (context_of default_flags context_data.now) (W.state sink.old) (W.state sink.new)) }
+{
+    let mut context = context_data.make_context()?;
+    report(
+        alloc,
+        &mut context,
+        request.command,
+        &request.addresses,
+        sink,
+    )
+}
+
+/// Writes what a request asks for, over records.
+fn report_records<W: Sink>(
+    alloc: Global,
+    request: &Request<'_>,
+    records: PDB,
+    sink: &mut W,
+) -> Result<(), ReportFault>
+    ensures lines { OnOk result (TakesTexts
+        request.now.command request.now.addresses.items (opened records) (W.state sink.old) (W.state sink.new)) }
+    ensures fault { IfErr result (EndsOver
+        request.now.command request.now.addresses.items (opened records) (W.state sink.old) (W.state sink.new)) }
+{
+    let data = ContextPdbData::try_from_pdb(alloc, records)?;
+    report_data(alloc, request, &data, sink)
+}
+
+/// Writes what a request asks for, over what was read of its records file.
+///
+/// # Errors
+///
+/// [`Stop::Records`] with the path and the fault where the file holds no records, [`Stop::Refused`] where the
+/// records or an address are refused or memory ran out, and [`Stop::CannotWrite`] where the sink refused a text. The
+/// sink holds nothing of it then but the texts of the addresses before one that had an error, or for which there was
+/// no memory.
+pub fn report_read<'w, W: Sink>(
+    alloc: Global,
+    request: &Request<'w>,
+    read: Result<PDB, RecordFault>,
+    sink: &mut W,
+) -> Result<(), Stop<'w>>
+    ensures { Ends request.now.records.now request.now.command request.now.addresses.items read
+        (W.state sink.old) (W.state sink.new) result }
+{
+    match read {
+        Ok(records) => {
+            report_records(alloc, request, records, sink)?;
+            Ok(())
+        }
+        Err(fault) => Err(Stop::Records(request.records, fault)),
+    }
+}
+
+/// Writes what a request asks for, over the bytes of its records file and of the module files that this one names.
+///
+/// # Errors
+///
+/// As [`report_read`] for what is read of the bytes.
+pub fn report_file<'w, W: Sink>(
+    alloc: Global,
+    request: &Request<'w>,
+    bytes: &[u8],
+    files: &[Vec<u8>],
+    sink: &mut W,
+) -> Result<(), Stop<'w>>
+    ensures { EndsOverFile request.now.records.now request.now.command request.now.addresses.items
+        (records_of_files bytes.now (contents files.now))
+        (W.state sink.old) (W.state sink.new) result }
+{
+    let read = read_records_with(alloc, bytes, files);
+    report_read(alloc, request, read, sink)
+}

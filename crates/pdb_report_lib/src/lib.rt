@@ -1,0 +1,21 @@
+//! What the program `pdb_report` writes: of each address that it is asked about a line with the function
+//! there, or a line for each frame; or a line for each function of the program.
+#![tactic(auto)]
+
+mod arguments;
+mod file_reports;
+pub mod laws;
+mod module_paths;
+mod printed_frames;
+mod printed_lines;
+mod reports;
+mod runs;
+mod sinks;
+mod stops;
+
+pub use arguments::{Request, parse, parse_address};
+pub use file_reports::{report_file, report_read};
+pub use reports::{Command, ReportFault, report};
+pub use runs::{ran_out_of_memory, run};
+pub use sinks::{Out, Sink, SinkFault};
+pub use stops::Stop;

@@ -1,0 +1,262 @@
+ghost use Rattle.std.specs.Prelude.{◌≡◌, [], ◌∷◌, map, option_map, Ok, OnOk, OnErr, IfErr, MatchResult};
+ghost use Rattle.pdb_types.specs.declared.error.Error.TheVariants.{OutOfMemory};
+ghost use Rattle.pdb_report_lib.specs.declared.reports.ReportFault.TheVariants.{Lookup, Write};
+ghost use Rattle.pdb_addr2line.specs.declared.calls.Call.TheVariants.{FindFrames};
+ghost use Rattle.pdb_types.specs.Outcomes.{Gives};
+ghost use Rattle.pdb_function_info.specs.Function.{function_view};
+ghost use Rattle.pdb_addr2line.specs.Calls.{after_frames, after_calls};
+ghost use Rattle.pdb_addr2line.specs.Lookups.{function_at, frames_answered};
+ghost use Rattle.pdb_addr2line.specs.Functions.{functions_at, functions_of, start_addresses};
+ghost use Rattle.pdb_addr2line.specs.Functions.{after_function, after_functions, OnlyGainsBroken, IsCutShort};
+ghost use Rattle.pdb_report_lib.specs.PrintedLines.{list_text};
+ghost use Rattle.pdb_report_lib.specs.Reports.{function_text, stack_text, addresses_text, report_text};
+ghost use Rattle.pdb_report_lib.specs.Reports.{TakesText, EndsAtOnce, EndsAmidTexts, EndsListEarly, EndsEarly};
+ghost use Rattle.pdb_report_lib.specs.Reports.{report_calls, IsLeft, IsLeftAmid, IsLeftByFrames};
+
+use crate::printed_frames::frames_text;
+use crate::printed_lines::{line_of, list_line};
+use crate::sinks::{Sink, SinkFault};
+use pdb_addr2line::{Context, Error, Function, FunctionFrames, ModuleProvider};
+use std::alloc::{AllocError, Global};
+
+/// What is asked of the program.
+#[derive(Clone, Copy)]
+pub enum Command {
+    /// The function that each address lies in.
+    Names,
+    /// The functions in whose code each address lies, with files and lines, from inside to outside.
+    Frames,
+    /// All functions of the program, by where they start. No addresses are asked about.
+    List,
+}
+
+/// Why a report ended early.
+#[derive(Debug, Drop)]
+pub enum ReportFault {
+    /// A look-up had no answer. The sink holds the texts of the addresses before it, or in a list the lines of
+    /// the functions before it.
+    Lookup(Error),
+    /// The sink refused a piece of text.
+    Write,
+}
+
+impl From<Error> for ReportFault {
+    ghost from_gives = { λ e r. r ≡ Lookup e };
+
+    fn from(error: Error) -> ReportFault {
+        ReportFault::Lookup(error)
+    }
+}
+
+impl From<AllocError> for ReportFault {
+    ghost from_gives = { λ _ r. r ≡ Lookup OutOfMemory };
+
+    fn from(_error: AllocError) -> ReportFault {
+        ReportFault::Lookup(Error::OutOfMemory)
+    }
+}
+
+impl From<SinkFault> for ReportFault {
+    ghost from_gives = { λ _ r. r ≡ Write };
+
+    fn from(_fault: SinkFault) -> ReportFault {
+        ReportFault::Write
+    }
+}
+
+/// The function over an address. What the context met broken on the way is broken.
+fn look_up<P: ModuleProvider>(
+    context: &mut Context<'_, P>,
+    address: u32,
+) -> Result<Option<Function>, Error>
+    ensures answer { MatchResult result
+        (λ found. option_map function_view found ≡ function_at P.info context.old.inputs address)
+        (λ e. e ≡ OutOfMemory) }
+    ensures shown { OnOk result (context.new ≡ after_function P.info context.old address) }
+    ensures gains { OnlyGainsBroken P.info context.old context.new }
+{
+    context.find_function(address)
+}
+
+/// The frames over an address. What the context met broken on the way is broken.
+fn look_up_frames<'a, P: ModuleProvider>(
+    context: &mut Context<'a, P>,
+    address: u32,
+) -> Result<Option<FunctionFrames<'a>>, Error>
+    ensures answer { Gives (λ f. f) result (frames_answered P.info context.old address) }
+    ensures shown { OnOk result (context.new ≡ after_frames P.info context.old address) }
+    ensures gains { OnOk result (OnlyGainsBroken P.info context.old context.new) }
+    ensures left { IfErr result (λ e. IsLeftByFrames P.info context.old address (Lookup e) context.new) }
+{
+    context.find_frames(address)
+}
+
+/// Writes the line of one address, after its look-up.
+fn put_function<P: ModuleProvider, W: Sink>(
+    alloc: Global,
+    context: &mut Context<'_, P>,
+    address: u32,
+    sink: &mut W,
+) -> Result<(), ReportFault>
+    ensures inputs { context.new.inputs ≡ context.old.inputs }
+    ensures shown { OnOk result (context.new ≡ after_function P.info context.old address) }
+    ensures gains { OnlyGainsBroken P.info context.old context.new }
+    ensures text { OnOk result
+        (TakesText (function_text P.info context.old.inputs address) (W.state sink.old) (W.state sink.new)) }
+    ensures fault { IfErr result
+        (EndsAtOnce (function_text P.info context.old.inputs address) (W.state sink.old) (W.state sink.new)) }
+{
+    let function = look_up(context, address)?;
+    let line = line_of(alloc, address, &function)?;
+    sink.put(line.as_bytes())?;
+    Ok(())
+}
+
+/// Writes the lines of the frames of one address, after its look-up.
+fn put_frames<P: ModuleProvider, W: Sink>(
+    alloc: Global,
+    context: &mut Context<'_, P>,
+    address: u32,
+    sink: &mut W,
+) -> Result<(), ReportFault>
+    ensures inputs { context.new.inputs ≡ context.old.inputs }
+    ensures code_failed { OnOk result (context.new.code_failed ≡ context.old.code_failed) }
+    ensures shown { OnOk result (context.new ≡ after_frames P.info context.old address) }
+    ensures left { IfErr result (λ fault. IsLeftByFrames P.info context.old address fault context.new) }
+    ensures text { OnOk result
+        (let text = stack_text P.info context.old.inputs context.old.code_failed address in
+        TakesText text (W.state sink.old) (W.state sink.new)) }
+    ensures fault { IfErr result
+        (let text = stack_text P.info context.old.inputs context.old.code_failed address in
+        EndsAtOnce text (W.state sink.old) (W.state sink.new)) }
+{
+    let frames = look_up_frames(context, address)?;
+    let text = frames_text(alloc, address, &frames)?;
+    sink.put(text.as_bytes())?;
+    Ok(())
+}
+
+/// Writes the line of the function over a start address, after its look-up: nothing where there is none.
+fn put_listed<P: ModuleProvider, W: Sink>(
+    alloc: Global,
+    context: &mut Context<'_, P>,
+    start: u32,
+    sink: &mut W,
+) -> Result<(), ReportFault>
+    ensures inputs { context.new.inputs ≡ context.old.inputs }
+    ensures shown { OnOk result (context.new ≡ after_function P.info context.old start) }
+    ensures gains { OnlyGainsBroken P.info context.old context.new }
+    ensures text { OnOk result (TakesText
+        (Ok (list_text (functions_at P.info context.old.inputs (start ∷ [])))) (W.state sink.old) (W.state sink.new)) }
+    ensures fault { IfErr result (EndsListEarly [] (W.state sink.old) (W.state sink.new)) }
+{
+    let Some(function) = look_up(context, start)? else {
+        return Ok(());
+    };
+    let line = list_line(alloc, &function)?;
+    sink.put(line.as_bytes())?;
+    Ok(())
+}
+
+/// Writes the lines of the functions over addresses, in order. The line of an address is written whole after
+/// its look-up.
+fn report_names<P: ModuleProvider, W: Sink>(
+    alloc: Global,
+    context: &mut Context<'_, P>,
+    addresses: &[u32],
+    sink: &mut W,
+) -> Result<(), ReportFault>
+    ensures inputs { context.new.inputs ≡ context.old.inputs }
+    ensures shown { OnOk result (context.new ≡ after_functions P.info context.old addresses.now) }
+    ensures cut_short { OnErr result (IsCutShort P.info context.old context.new addresses.now) }
+    ensures text { OnOk result (TakesText (addresses_text (function_text P.info context.old.inputs) addresses.now)
+        (W.state sink.old) (W.state sink.new)) }
+    ensures fault { IfErr result (EndsAmidTexts
+        (function_text P.info context.old.inputs) addresses.now (W.state sink.old) (W.state sink.new)) }
+{
+    for address in addresses {
+        put_function(alloc, context, *address, sink)?;
+    }
+    Ok(())
+}
+
+/// Writes the lines of the frames over addresses, in order. The lines of an address are written whole after
+/// its look-up.
+fn report_frames<P: ModuleProvider, W: Sink>(
+    alloc: Global,
+    context: &mut Context<'_, P>,
+    addresses: &[u32],
+    sink: &mut W,
+) -> Result<(), ReportFault>
+    ensures inputs { context.new.inputs ≡ context.old.inputs }
+    ensures shown { OnOk result
+        (context.new ≡ after_calls P.info context.old (map FindFrames addresses.now)) }
+    ensures left { IfErr result (IsLeftAmid P.info context.old context.new addresses.now) }
+    ensures text { OnOk result
+        (let text_of = stack_text P.info context.old.inputs context.old.code_failed in
+        TakesText (addresses_text text_of addresses.now) (W.state sink.old) (W.state sink.new)) }
+    ensures fault { IfErr result
+        (let text_of = stack_text P.info context.old.inputs context.old.code_failed in
+        EndsAmidTexts text_of addresses.now (W.state sink.old) (W.state sink.new)) }
+{
+    for address in addresses {
+        put_frames(alloc, context, *address, sink)?;
+    }
+    Ok(())
+}
+
+/// Writes the lines of all functions, by where they start. The line of a function is written whole after its
+/// look-up.
+fn report_list<P: ModuleProvider, W: Sink>(
+    alloc: Global,
+    context: &mut Context<'_, P>,
+    sink: &mut W,
+) -> Result<(), ReportFault>
+    ensures inputs { context.new.inputs ≡ context.old.inputs }
+    ensures shown { OnOk result (context.new
+        ≡ after_functions P.info context.old (start_addresses P.info context.old.inputs)) }
+    ensures cut_short { OnErr result
+        (IsCutShort P.info context.old context.new (start_addresses P.info context.old.inputs)) }
+    ensures text { OnOk result (TakesText
+        (Ok (list_text (functions_of P.info context.old.inputs))) (W.state sink.old) (W.state sink.new)) }
+    ensures fault { IfErr result
+        (EndsListEarly (functions_of P.info context.old.inputs) (W.state sink.old) (W.state sink.new)) }
+{
+    let starts = context.start_addresses()?;
+    for start in &starts {
+        put_listed(alloc, context, *start, sink)?;
+    }
+    Ok(())
+}
+
+/// Writes what is asked of the program: of each address, in order, or of each function. Each text is written
+/// whole after its look-up. A list doesn't look at the addresses.
+///
+/// # Errors
+///
+/// [`ReportFault::Lookup`] at the first address whose look-up has an error, or where memory runs out, and
+/// [`ReportFault::Write`] where the sink refused a text.
+pub fn report<P: ModuleProvider, W: Sink>(
+    alloc: Global,
+    context: &mut Context<'_, P>,
+    command: Command,
+    addresses: &[u32],
+    sink: &mut W,
+) -> Result<(), ReportFault>
+    ensures inputs { context.new.inputs ≡ context.old.inputs }
+    // What failed afterwards is what fails by the calls that the report stands for.
+    ensures shown { OnOk result
+        (context.new ≡ after_calls P.info context.old (report_calls command addresses.now)) }
+    ensures left { IfErr result (IsLeft P.info context.old context.new command addresses.now) }
+    ensures text { OnOk result
+        (let text = report_text P.info context.old.inputs context.old.code_failed command addresses.now in
+        TakesText text (W.state sink.old) (W.state sink.new)) }
+    ensures fault { IfErr result (EndsEarly P.info context.old.inputs context.old.code_failed
+        command addresses.now (W.state sink.old) (W.state sink.new)) }
+{
+    match command {
+        Command::Names => report_names(alloc, context, addresses, sink),
+        Command::Frames => report_frames(alloc, context, addresses, sink),
+        Command::List => report_list(alloc, context, sink),
+    }
+}

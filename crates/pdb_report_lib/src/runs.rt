@@ -1,0 +1,103 @@
+ghost use Rattle.std.specs.Prelude.{◌≡◌, IfErr, map, string_bytes};
+ghost use Rattle.std.specs.IoError.{error_kind};
+ghost use Rattle.pdb_report_lib.specs.Arguments.{asked};
+ghost use Rattle.pdb_report_lib.specs.ModulePaths.{module_path};
+ghost use Rattle.pdb_report_lib.specs.Runs.{EndsRun, IsReadStop, IsModuleReadStop, AreModuleReadStops};
+ghost use Rattle.pdb_report_lib.specs.Runs.{is_out_of_memory};
+
+use crate::arguments::parse;
+use crate::file_reports::report_file;
+use crate::module_paths::module_path;
+use crate::sinks::{Out, Sink};
+use crate::stops::Stop;
+use pdb_addr2line::Error;
+use pdb_json::module_files;
+use std::rt::Files;
+use std::{fs, io};
+
+/// Does what the words of a command line ask for: reads the records file and then the module files that it names,
+/// and writes the report. What the writer holds back is handed on at the end.
+///
+/// # Errors
+///
+/// Each [`Stop`]. Out of memory is [`Stop::Refused`], but over a records file [`Stop::Records`].
+pub fn run<'w, R: Files + AllocGlobal, W: io::Write>(
+    rt: &R,
+    words: &'w [String],
+    out: &mut Out<W>,
+) -> Result<(), Stop<'w>>
+    ensures { EndsRun (asked (map string_bytes words.now))
+        (⟦<Out<W> as Sink>⟧.state out.old) (⟦<Out<W> as Sink>⟧.state out.new) result }
+{
+    let Ok(request) = parse(rt.alloc(), words) else {
+        return Err(Stop::Refused(Error::OutOfMemory));
+    };
+    let Some(request) = request else {
+        return Err(Stop::Usage);
+    };
+    let bytes = read_file(rt, request.records)?;
+    let files = read_module_files(rt, request.records, &bytes)?;
+    let ended = report_file(rt.alloc(), &request, &bytes, &files, out);
+    match out.flush() {
+        Ok(()) => ended,
+        Err(_) => Err(Stop::CannotWrite),
+    }
+}
+
+/// The bytes of the file at a path.
+fn read_file<'w, R: Files + AllocGlobal>(rt: &R, path: &'w str) -> Result<Vec<u8>, Stop<'w>>
+    ensures { IfErr result (IsReadStop path.now) }
+{
+    match fs::read(rt, path) {
+        Ok(bytes) => Ok(bytes),
+        Err(error) if ran_out_of_memory(&error) => Err(Stop::Refused(Error::OutOfMemory)),
+        Err(_) => Err(Stop::CannotRead(path)),
+    }
+}
+
+/// The bytes of the module files that a records file names, in order.
+fn read_module_files<'w, R: Files + AllocGlobal>(
+    rt: &R,
+    records: &'w str,
+    bytes: &[u8],
+) -> Result<Vec<Vec<u8>>, Stop<'w>>
+    ensures { IfErr result (AreModuleReadStops records.now bytes.now) }
+{
+    let names = match module_files(rt.alloc(), bytes) {
+        Ok(names) => names,
+        Err(fault) => return Err(Stop::Records(records, fault)),
+    };
+    let mut files = Vec::new(rt.alloc());
+    for name in &names {
+        let file = read_module_file(rt, records, name.as_str())?;
+        if files.push(file).is_err() {
+            return Err(Stop::Refused(Error::OutOfMemory));
+        }
+    }
+    Ok(files)
+}
+
+/// The bytes of the module file of this name.
+fn read_module_file<'w, R: Files + AllocGlobal>(
+    rt: &R,
+    records: &str,
+    name: &str,
+) -> Result<Vec<u8>, Stop<'w>>
+    ensures { IfErr result (IsModuleReadStop (module_path records.now name.now)) }
+{
+    let Ok(path) = module_path(rt.alloc(), records, name) else {
+        return Err(Stop::Refused(Error::OutOfMemory));
+    };
+    match fs::read(rt, path.as_str()) {
+        Ok(bytes) => Ok(bytes),
+        Err(error) if ran_out_of_memory(&error) => Err(Stop::Refused(Error::OutOfMemory)),
+        Err(_) => Err(Stop::CannotReadModule(path)),
+    }
+}
+
+/// Whether the system had no memory.
+pub fn ran_out_of_memory(error: &io::Error) -> bool
+    ensures { result ≡ is_out_of_memory (error_kind error.now) }
+{
+    matches!(error.kind(), io::ErrorKind::OutOfMemory)
+}

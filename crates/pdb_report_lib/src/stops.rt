@@ -1,0 +1,52 @@
+ghost use Rattle.std.specs.Prelude.{◌≡◌};
+ghost use Rattle.pdb_report_lib.specs.Stops.{status_of, stop_of};
+
+use crate::reports::ReportFault;
+use pdb_addr2line::Error;
+use pdb_json::RecordFault;
+
+/// Why a run of the program ended early. Its text is the line that the program prints.
+#[derive(Debug, Drop, thiserror::Error)]
+pub enum Stop<'w> {
+    /// The records were refused, or there was no memory.
+    #[error("pdb_report: {0}")]
+    Refused(Error),
+    /// The command line asked for nothing.
+    #[error("usage: pdb_report RECORDS (frames|names ADDRESS...|list)")]
+    Usage,
+    /// The records file could not be read.
+    #[error("pdb_report: cannot read {0}")]
+    CannotRead(&'w str),
+    /// The module file at this path could not be read.
+    #[error("pdb_report: cannot read {0}")]
+    CannotReadModule(String),
+    /// The records file holds no records.
+    #[error("pdb_report: {0}: {1}")]
+    Records(&'w str, RecordFault),
+    /// What was answered could not be written.
+    #[error("pdb_report: cannot write")]
+    CannotWrite,
+}
+
+impl Stop<'_> {
+    /// The exit status that goes with it.
+    pub fn status(&self) -> u8
+        ensures { result ≡ status_of self.now }
+    {
+        match self {
+            Stop::Refused(_) => 1,
+            _ => 2,
+        }
+    }
+}
+
+impl<'w> From<ReportFault> for Stop<'w> {
+    ghost from_gives = { λ fault stop. stop ≡ stop_of fault };
+
+    fn from(fault: ReportFault) -> Stop<'w> {
+        match fault {
+            ReportFault::Lookup(error) => Stop::Refused(error),
+            ReportFault::Write => Stop::CannotWrite,
+        }
+    }
+}

@@ -1,0 +1,92 @@
+//! Runs the report over the records files beside it, and compares what it writes with what is wanted.
+//!
+//! `runs.txt` has a line `$ pdb_report WORD ..` for each run, then the lines that are wanted on standard
+//! output and on standard error, and a line `status N`. A run that ends well is made again into writers that
+//! refuse: one for each room that is too small for its text, and one that doesn't hand on what it took.
+#![tactic(auto)]
+
+mod runs;
+mod writers;
+
+use pdb_report_lib::{Out, run};
+use runs::{Run, next_run};
+use std::alloc::{AllocError, Global};
+use std::process::ExitCode;
+use std::rt::Files;
+use std::{fs, io};
+
+/// The file with the runs.
+const RUNS: &str = "runs.txt";
+
+fn main(rt: HostRuntime) -> io::Result<ExitCode> {
+    let text = fs::read_to_string(&rt, RUNS)?;
+    let differing = compare(&rt, text.as_str())?;
+    Ok(if differing == 0 {
+        ExitCode::SUCCESS
+    } else {
+        ExitCode::FAILURE
+    })
+}
+
+/// Compares each run, prints those that differ and how many there are, and counts those that differ.
+fn compare<R: Files + Print + AllocGlobal>(rt: &R, text: &str) -> io::Result<u64> {
+    let mut rest = text;
+    let mut runs: u64 = 0;
+    let mut differing: u64 = 0;
+    for _ in 0..text.len() {
+        let Some((run, others)) = next_run(rest) else {
+            break;
+        };
+        rest = others;
+        runs = runs.saturating_add(1);
+        if !is_as_wanted(rt, &run)? {
+            differing = differing.saturating_add(1);
+        }
+    }
+    println!(rt; "{runs} runs, {differing} differ")?;
+    Ok(differing)
+}
+
+/// Whether a run writes what is wanted. One that differs is printed.
+fn is_as_wanted<R: Files + Print + AllocGlobal>(rt: &R, run: &Run<'_>) -> io::Result<bool> {
+    let (text, status) = outcome(rt, run.command)?;
+    if text.as_str() == run.wanted && status == run.status {
+        return is_refused_as_wanted(rt, run);
+    }
+    println!(rt; "{}", run.command)?;
+    println!(rt; "{text}status {status}")?;
+    Ok(false)
+}
+
+/// Whether a run ends as it should in writers that refuse. One that differs is printed.
+fn is_refused_as_wanted<R: Files + Print + AllocGlobal>(rt: &R, run: &Run<'_>) -> io::Result<bool> {
+    if writers::end_as_they_should(rt, run)? {
+        return Ok(true);
+    }
+    println!(rt; "{} differs where it can't write", run.command)?;
+    Ok(false)
+}
+
+/// What a run writes on standard output and then on standard error, and its status.
+fn outcome<R: Files + AllocGlobal>(rt: &R, command: &str) -> io::Result<(String, u64)> {
+    let alloc = rt.alloc();
+    let words = words_of(alloc, command)?;
+    let mut out = Out::new(Vec::new(alloc));
+    let ended = run(rt, &words, &mut out);
+    let mut text = String::from_utf8_lossy(alloc, out.into_inner().as_slice())?;
+    let Err(stop) = ended else {
+        return Ok((text, 0));
+    };
+    let line = format!(in alloc; "{stop}\n")?;
+    text.push_str(line.as_str())?;
+    Ok((text, u64::from(stop.status())))
+}
+
+/// The words of a command line.
+fn words_of(alloc: Global, command: &str) -> Result<Vec<String>, AllocError> {
+    let mut words = Vec::new(alloc);
+    for word in command.split_whitespace() {
+        words.push(String::from_str(alloc, word)?)?;
+    }
+    Ok(words)
+}

@@ -1,0 +1,124 @@
+//! Runs into writers that refuse.
+
+use crate::runs::Run;
+use crate::words_of;
+use pdb_report_lib::{Out, Stop, run};
+use std::alloc::Global;
+use std::io;
+use std::rt::Files;
+
+/// The longest text that is written into writers with ever more room.
+const LONGEST: usize = 256;
+
+/// Takes some bytes, so many at a time, and then refuses.
+#[derive(Drop)]
+struct Narrow {
+    held: Vec<u8>,
+    room: usize,
+    at_once: usize,
+    /// Whether it refuses to hand on what it took.
+    holds_back: bool,
+    /// How often it refused bytes.
+    refusals: usize,
+}
+
+impl Narrow {
+    /// A writer with this much room.
+    fn new(alloc: Global, room: usize) -> Narrow {
+        Narrow {
+            held: Vec::new(alloc),
+            room,
+            at_once: usize::MAX,
+            holds_back: false,
+            refusals: 0,
+        }
+    }
+}
+
+impl io::Write for Narrow {
+    fn write(&mut self, bytes: &[u8]) -> io::Result<usize> {
+        if self.room == 0 && !bytes.is_empty() {
+            self.refusals = self.refusals.saturating_add(1);
+            return Err(io::Error::from(io::ErrorKind::WriteZero));
+        }
+        let taken = bytes.len().min(self.room).min(self.at_once);
+        self.held.extend_from_slice(&bytes[..taken])?;
+        self.room -= taken;
+        Ok(taken)
+    }
+
+    fn flush(&mut self) -> io::Result<()> {
+        if self.holds_back {
+            return Err(io::Error::from(io::ErrorKind::WriteZero));
+        }
+        Ok(())
+    }
+}
+
+/// Whether a run that ends well, and has a text that isn't long, ends as it should in writers that refuse: with
+/// each room that is too small, and where what was written can't be handed on. A writer that takes a byte at a
+/// time takes the whole text.
+pub(crate) fn end_as_they_should<R: Files + AllocGlobal>(
+    rt: &R,
+    run: &Run<'_>,
+) -> io::Result<bool> {
+    if run.status != 0 || run.wanted.len() > LONGEST {
+        return Ok(true);
+    }
+    Ok(
+        is_refused_at_each_room(rt, run)?
+            && is_refused_at_flush(rt, run)?
+            && is_taken_bytewise(rt, run)?,
+    )
+}
+
+/// Whether a run is refused by each writer with too little room.
+fn is_refused_at_each_room<R: Files + AllocGlobal>(rt: &R, run: &Run<'_>) -> io::Result<bool> {
+    for room in 0..run.wanted.len() {
+        if !is_refused_at(rt, run, room)? {
+            return Ok(false);
+        }
+    }
+    Ok(true)
+}
+
+/// Whether a run into a writer with too little room fills that, hands on nothing more, and says that it can't write.
+fn is_refused_at<R: Files + AllocGlobal>(rt: &R, run: &Run<'_>, room: usize) -> io::Result<bool> {
+    let mut out = Out::new(Narrow::new(rt.alloc(), room));
+    let refused = is_refused(rt, run.command, &mut out)?;
+    let writer = out.into_inner();
+    Ok(
+        refused
+            && writer.refusals == 1
+            && run.wanted.as_bytes().get(..room) == Some(writer.held.as_slice()),
+    )
+}
+
+/// Whether a run says that it can't write where its writer doesn't hand on what it took.
+fn is_refused_at_flush<R: Files + AllocGlobal>(rt: &R, run: &Run<'_>) -> io::Result<bool> {
+    let mut writer = Narrow::new(rt.alloc(), usize::MAX);
+    writer.holds_back = true;
+    let mut out = Out::new(writer);
+    let refused = is_refused(rt, run.command, &mut out)?;
+    Ok(refused && run.wanted.as_bytes() == out.into_inner().held.as_slice())
+}
+
+/// Whether a run into a writer that takes a byte at a time writes its whole text.
+fn is_taken_bytewise<R: Files + AllocGlobal>(rt: &R, run: &Run<'_>) -> io::Result<bool> {
+    let mut writer = Narrow::new(rt.alloc(), usize::MAX);
+    writer.at_once = 1;
+    let mut out = Out::new(writer);
+    let refused = is_refused(rt, run.command, &mut out)?;
+    Ok(!refused && run.wanted.as_bytes() == out.into_inner().held.as_slice())
+}
+
+/// Whether a run says that it can't write.
+fn is_refused<R: Files + AllocGlobal>(
+    rt: &R,
+    command: &str,
+    out: &mut Out<Narrow>,
+) -> io::Result<bool> {
+    let words = words_of(rt.alloc(), command)?;
+    let ended = run(rt, &words, out);
+    Ok(matches!(ended, Err(Stop::CannotWrite)))
+}

@@ -1,5 +1,0 @@
-use Rattle.pdb_reporting.proofs.ListLemmas.{unwritten}
-use Rattle.pdb_reporting.proofs.reports.put_listed.Goals as goal
-
-pub returns-in_err-line-clause-fault : goal.returns-in_err-line-clause-fault
-returns-in_err-line-clause-fault g c = unwritten _ (g.W.Sink.state c.args.sink.now) c.from_residual-in_err-line.ensures.1

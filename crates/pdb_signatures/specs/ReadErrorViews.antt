@@ -1,0 +1,14 @@
+-- Why a type can't be read, as the code has it.
+use Rattle.std.specs.Prelude.{◌≡◌}
+use Rattle.pdb_types.specs.declared.read_error.ReadError.{ReadError}
+use Rattle.pdb_types.specs.declared.read_error.ReadError.TheVariants as code
+use Rattle.pdb_types.specs.Errors.{error_view}
+use Rattle.pdb_types.specs.ReadError.{ReadErrorView, Missing, Unimplemented, Refused, Broken}
+
+-- this is the view of why something can't be read, a read error; out of memory has none
+abbrev pub IsViewOf : ReadError → ReadErrorView → Type 0
+IsViewOf code.OutOfMemory read_error_view = ⊥
+IsViewOf (code.Missing number) read_error_view = read_error_view ≡ Missing number
+IsViewOf (code.Unimplemented kind) read_error_view = read_error_view ≡ Unimplemented kind
+IsViewOf (code.Refused e) read_error_view = read_error_view ≡ Refused (error_view e)
+IsViewOf (code.Broken part e) read_error_view = read_error_view ≡ Broken part (error_view e)

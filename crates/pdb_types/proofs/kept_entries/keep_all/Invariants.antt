@@ -1,7 +1,0 @@
-use Rattle.std.proofs.Common.{take}
-use Rattle.pdb_types.specs.KeptEntries.{Knows}
-use Rattle.pdb_types.proofs.kept_entries.keep_all.Given as goal
-
--- the entries so far are known
-abbrev pub invariant-loop-entry : goal.invariant-loop-entry
-invariant-loop-entry g l = Knows g.T.Numbered.number_of (take l.entry-index l.entries) l.known

@@ -1,0 +1,52 @@
+ghost use Rattle.std.specs.Prelude.{◌≡◌};
+
+use crate::error::Error;
+use std::alloc::AllocError;
+
+/// A part of the records that may be broken by itself, by module index.
+#[derive(Clone, Copy, PartialEq, Eq, PartialOrd, Ord)]
+pub enum Part {
+    /// What a module imports.
+    Imports(usize),
+    /// What a module exports.
+    Exports(usize),
+}
+
+/// Why something could not be read.
+#[derive(Drop)]
+pub enum ReadError {
+    /// No entry has this number.
+    Missing(u32),
+    /// The entry is of a kind, with this number, that the reader of the records doesn't know.
+    Unimplemented(u16),
+    /// There is no answer, and no part of the records is to blame.
+    Refused(Error),
+    /// A part of the records is broken, with this error.
+    Broken(Part, Error),
+    /// There was no memory to read it. A later try may succeed.
+    OutOfMemory,
+}
+
+impl From<pdb_records::Error> for ReadError {
+    ghost use Rattle.pdb_types.specs.ReadError.{read_error_by};
+
+    ghost from_gives = { λ e r. r ≡ read_error_by e };
+
+    fn from(error: pdb_records::Error) -> ReadError {
+        match error {
+            pdb_records::Error::TypeNotFound(number) => ReadError::Missing(number),
+            pdb_records::Error::UnimplementedTypeKind(kind) => ReadError::Unimplemented(kind),
+            other => ReadError::Refused(Error::from(other)),
+        }
+    }
+}
+
+impl From<AllocError> for ReadError {
+    ghost use Rattle.pdb_types.specs.declared.read_error.ReadError.TheVariants.{OutOfMemory};
+
+    ghost from_gives = { λ _ r. r ≡ OutOfMemory };
+
+    fn from(_error: AllocError) -> ReadError {
+        ReadError::OutOfMemory
+    }
+}

@@ -1,0 +1,60 @@
+ghost use Rattle.std.specs.Prelude.{◌≡◌, [], None};
+
+use crate::exports::ExportTable;
+use crate::failed_parts::FailedParts;
+use crate::items::{IdMap, ItemMap, TypeMap};
+use crate::type_sizes::TypeSize;
+use pdb_records::{IdInformation, TypeInformation};
+use std::alloc::Global;
+use std::collections::BTreeMap;
+
+/// A question for a size: the module index of the module that asks, and the index as it writes it.
+#[derive(Clone, Copy, PartialEq, Eq, PartialOrd, Ord)]
+pub(crate) struct Asked {
+    pub(crate) module_index: usize,
+    pub(crate) index: u32,
+}
+
+/// The type cache: what was found of the records so far. It grows, and is asked before the records are read again.
+///
+/// Of all this, later answers show the parts that failed alone.
+#[derive(Drop)]
+pub struct TypeCache<'a> {
+    /// The entries of types.
+    pub(crate) types: TypeMap<'a>,
+    /// The entries of ids.
+    pub(crate) ids: IdMap<'a>,
+    /// Module indices, by the references of the modules' names.
+    pub(crate) named: BTreeMap<u32, usize>,
+    /// What modules export, by module index.
+    pub(crate) exports: BTreeMap<usize, ExportTable<'a>>,
+    /// The sizes of forward references, by their numbers: of all of them, or nothing yet.
+    pub(crate) forward_sizes: Option<BTreeMap<u32, u64>>,
+    /// Sizes of types.
+    pub(crate) sizes: BTreeMap<Asked, TypeSize>,
+    /// The parts of the records that were met broken.
+    pub failed: FailedParts,
+}
+
+impl<'a> TypeCache<'a> {
+    /// Nothing yet. It takes no memory.
+    pub(crate) fn new(alloc: Global, types: &'a TypeInformation, ids: &'a IdInformation) -> Self
+        ensures types { result.types ≡ types.now.items }
+        ensures ids { result.ids ≡ ids.now.items }
+        ensures named { result.named.entries ≡ [] }
+        ensures exports { result.exports.entries ≡ [] }
+        ensures forward { result.forward_sizes ≡ None }
+        ensures sizes { result.sizes.entries ≡ [] }
+        ensures failed { result.failed ≡ [] }
+    {
+        TypeCache {
+            types: ItemMap::new(alloc, types),
+            ids: ItemMap::new(alloc, ids),
+            named: BTreeMap::new(alloc),
+            exports: BTreeMap::new(alloc),
+            forward_sizes: None,
+            sizes: BTreeMap::new(alloc),
+            failed: FailedParts::new(alloc),
+        }
+    }
+}

@@ -1,0 +1,332 @@
+use pdb_functions::{
+    ContributionTable, GlobalFunctionTable, ModuleSectionContribution, compute_global_functions,
+    compute_section_contributions, laws,
+};
+use pdb_records::{
+    DebugInformation, ImageSectionHeader, MachineType, PdbInternalSectionOffset, PublicSymbol,
+    RawString, Reading, S_PUB32, SectionContribution, StreamError, Symbol, SymbolData,
+};
+use pdb_types::{Error, Result};
+use std::alloc::{AllocError, Global};
+
+/// A contribution: its section, its offset, its size and its module.
+type Given = (u16, u32, u32, usize);
+
+/// The merged contributions, and where those that count start.
+type Merged = (
+    Vec<ModuleSectionContribution>,
+    Vec<PdbInternalSectionOffset>,
+);
+
+/// Contributions in no order. Two of one module have a gap between them, one lies in no code, and one is empty.
+static GIVEN: [Given; 6] = [
+    (1, 0x40, 0x10, 1),
+    (1, 0, 0x10, 0),
+    (1, 0x20, 0x10, 0),
+    (2, 0x10, 0x10, 3),
+    (1, 0x60, 0, 2),
+    (1, 0xffff_fff0, 0x0f, 4),
+];
+
+/// A section of code, and one that holds none.
+static SECTIONS: [ImageSectionHeader; 2] = [
+    ImageSectionHeader {
+        virtual_address: 0x1000,
+        virtual_size: 0x2_0000,
+        execute: true,
+    },
+    ImageSectionHeader {
+        virtual_address: 0x3_0000,
+        virtual_size: 0x100,
+        execute: false,
+    },
+];
+
+/// A section offset, by its section and its offset.
+fn section_offset(section: u16, offset: u32) -> PdbInternalSectionOffset {
+    PdbInternalSectionOffset { section, offset }
+}
+
+/// A merged contribution, by its section, its start and end, and its module.
+fn run(
+    section_index: u16,
+    start_offset: u32,
+    end_offset: u32,
+    module_index: usize,
+) -> ModuleSectionContribution {
+    ModuleSectionContribution {
+        section_index,
+        start_offset,
+        end_offset,
+        module_index,
+    }
+}
+
+/// What [`GIVEN`] is merged into.
+fn counted() -> [ModuleSectionContribution; 3] {
+    [
+        run(1, 0, 0x30, 0),
+        run(1, 0x40, 0x50, 1),
+        run(1, 0xffff_fff0, 0xffff_ffff, 4),
+    ]
+}
+
+/// Where those of [`GIVEN`] that count start.
+fn starts() -> [PdbInternalSectionOffset; 4] {
+    [
+        section_offset(1, 0x40),
+        section_offset(1, 0),
+        section_offset(1, 0x20),
+        section_offset(1, 0xffff_fff0),
+    ]
+}
+
+/// The debug information that holds these contributions.
+fn debug_information(alloc: Global, given: &[Given]) -> Result<DebugInformation, AllocError> {
+    let mut items = Vec::new(alloc);
+    for &(section, offset, size, module) in given {
+        items.push(SectionContribution {
+            offset: section_offset(section, offset),
+            size,
+            module,
+        })?;
+    }
+    Ok(DebugInformation {
+        machine_type: Ok(MachineType::Amd64),
+        modules: Reading {
+            items: Vec::new(alloc),
+            fault: None,
+        },
+        section_contributions: Reading { items, fault: None },
+    })
+}
+
+/// What contributions to these sections are merged into, and where those that count start.
+fn merged_in(
+    alloc: Global,
+    sections: &[ImageSectionHeader],
+    given: &[Given],
+    fault: Option<StreamError>,
+) -> Result<Merged> {
+    let mut debug = debug_information(alloc, given)?;
+    debug.section_contributions.fault = fault;
+    compute_section_contributions(alloc, &debug, sections)
+}
+
+/// What these contributions are merged into, and where those that count start.
+fn merged(alloc: Global, given: &[Given]) -> Result<Merged> {
+    merged_in(alloc, &SECTIONS, given, None)
+}
+
+/// Whether [`GIVEN`] is merged into those that count.
+fn is_merged(alloc: Global) -> bool {
+    match merged(alloc, &GIVEN) {
+        Ok((merged, section_offsets)) => {
+            merged.as_slice() == counted().as_slice()
+                && section_offsets.as_slice() == starts().as_slice()
+        }
+        Err(_) => false,
+    }
+}
+
+#[test]
+fn contributions_and_where_they_start(rt: HostRuntime) {
+    assert!(rt; is_merged(rt.alloc()));
+    laws::merged_contributions_are_apart();
+    laws::merged_contributions_hold_all();
+    laws::merged_contributions_hold_no_other_module();
+    laws::order_of_contributions_agrees_with_equality();
+}
+
+/// Two sections of code.
+static CODE: [ImageSectionHeader; 2] = [
+    ImageSectionHeader {
+        virtual_address: 0x1000,
+        virtual_size: 0x100,
+        execute: true,
+    },
+    ImageSectionHeader {
+        virtual_address: 0x2000,
+        virtual_size: 0x100,
+        execute: true,
+    },
+];
+
+/// Whether contributions to those sections are merged into others, of which the third number is the end.
+fn are_merged_into(alloc: Global, given: &[Given], wanted: &[Given]) -> bool {
+    match merged_in(alloc, &CODE, given, None) {
+        Ok((merged, _)) => are(&merged, wanted),
+        Err(_) => false,
+    }
+}
+
+/// Whether merged contributions are those, of which the third number is the end.
+fn are(merged: &[ModuleSectionContribution], wanted: &[Given]) -> bool {
+    if merged.len() != wanted.len() {
+        return false;
+    }
+    for (at, &(section, start, end, module)) in wanted.iter().enumerate() {
+        if merged[at] != run(section, start, end, module) {
+            return false;
+        }
+    }
+    true
+}
+
+/// Contributions in reading order, and what they are merged into, by section, start, end and module: one
+/// that ends below the one ahead of it, modules that take turns, the same in reverse, one that starts below
+/// the one ahead of it, and a module that comes back in a section where nothing stands between.
+static MERGED: [(&[Given], &[Given]); 5] = [
+    (&[(1, 0, 0x20, 0), (1, 0, 0x10, 0)], &[(1, 0, 0x20, 0)]),
+    (
+        &[(1, 0, 0x20, 0), (1, 0x30, 0x10, 0), (1, 0x20, 0x10, 1)],
+        &[(1, 0, 0x20, 0), (1, 0x20, 0x30, 1), (1, 0x30, 0x40, 0)],
+    ),
+    (
+        &[(1, 0x20, 0x10, 1), (1, 0x30, 0x10, 0), (1, 0, 0x20, 0)],
+        &[(1, 0, 0x20, 0), (1, 0x20, 0x30, 1), (1, 0x30, 0x40, 0)],
+    ),
+    (&[(1, 0x10, 0x10, 0), (1, 0, 0x30, 0)], &[(1, 0, 0x30, 0)]),
+    (
+        &[(1, 0, 0x10, 0), (2, 0, 0x10, 1), (1, 0x30, 0x10, 0)],
+        &[(1, 0, 0x40, 0), (2, 0, 0x10, 1)],
+    ),
+];
+
+#[test]
+fn modules_take_turns(rt: HostRuntime) {
+    laws::contributions_in_reading_order_stay();
+    for (given, wanted) in &MERGED {
+        assert!(rt; are_merged_into(rt.alloc(), given, wanted));
+    }
+}
+
+/// Why these contributions are refused.
+fn refusal(alloc: Global, given: &[Given]) -> Option<Error> {
+    match merged(alloc, given) {
+        Ok(_) => None,
+        Err(error) => Some(error),
+    }
+}
+
+/// Whether contributions of which two overlap are refused for the fault behind them.
+fn is_fault_first(alloc: Global) -> bool {
+    let given = [(1, 0, 0x20, 0), (1, 0x10, 0x20, 1)];
+    matches!(
+        merged_in(alloc, &CODE, &given, Some(StreamError(9))),
+        Err(Error::PdbError(pdb_records::Error::Stream(StreamError(9))))
+    )
+}
+
+#[test]
+fn refused_contributions(rt: HostRuntime) {
+    laws::contributions_are_refused_for();
+    assert!(rt; is_fault_first(rt.alloc()));
+    let before_overlap = [
+        (1, 0, 0x20, 0),
+        (1, 0x10, 0x20, 1),
+        (1, 0xffff_fff0, 0x20, 3),
+    ];
+    let first = refusal(rt.alloc(), &before_overlap);
+    assert!(rt; matches!(first, Some(Error::SectionContributionEndTooLarge(3, 1))));
+    let too_large = refusal(rt.alloc(), &[(1, 0xffff_fff0, 0x20, 0)]);
+    assert!(rt; matches!(too_large, Some(Error::SectionContributionEndTooLarge(0, 1))));
+    let overlapping = refusal(rt.alloc(), &[(1, 0, 0x20, 0), (1, 0x10, 0x20, 1)]);
+    assert!(rt;
+        matches!(
+            overlapping,
+            Some(Error::OverlappingSectionContributions(1, 0, 1))
+        )
+    );
+}
+
+/// Three thousand contributions, one behind the other, each of another module.
+fn side_by_side(alloc: Global) -> Result<Vec<Given>, AllocError> {
+    let mut given = Vec::new(alloc);
+    for at in 0..3000u32 {
+        given.push((1u16, 0x10 * at, 0x10u32, at as usize))?;
+    }
+    Ok(given)
+}
+
+/// Whether a table of those contributions finds the ones over some section offsets.
+fn is_table_of_thousands(table: &ContributionTable) -> bool {
+    table.contribution_over(section_offset(1, 0)) == Some(run(1, 0, 0x10, 0))
+        && table.contribution_over(section_offset(1, 0x7fff)) == Some(run(1, 0x7ff0, 0x8000, 0x7ff))
+        && table.contribution_over(section_offset(2, 0)).is_none()
+}
+
+/// Whether contributions make such a table.
+fn make_table_of_thousands(alloc: Global, counted: Vec<ModuleSectionContribution>) -> bool {
+    match ContributionTable::new(alloc, counted) {
+        Ok(table) => is_table_of_thousands(&table),
+        Err(_) => false,
+    }
+}
+
+/// Whether contributions all start something, and make such a table when they are merged.
+fn are_thousands_found(alloc: Global, given: &[Given]) -> bool {
+    match merged(alloc, given) {
+        Ok((counted, starts)) => starts.len() == 3000 && make_table_of_thousands(alloc, counted),
+        Err(_) => false,
+    }
+}
+
+#[test]
+fn thousands_of_contributions(rt: HostRuntime) -> Result<(), AllocError> {
+    let given = side_by_side(rt.alloc())?;
+    assert!(rt; are_thousands_found(rt.alloc(), &given));
+    Ok(())
+}
+
+/// Three thousand public symbols, one behind the other.
+fn publics(alloc: Global) -> Result<Vec<Symbol>, AllocError> {
+    let mut symbols = Vec::new(alloc);
+    for at in 0..3000u32 {
+        symbols.push(Symbol {
+            raw_kind: S_PUB32,
+            content: Some(SymbolData::Public(PublicSymbol {
+                offset: section_offset(1, 0x10 * at),
+                name: RawString(Vec::new(alloc)),
+            })),
+        })?;
+    }
+    Ok(symbols)
+}
+
+/// Whether a function is found over, at and behind a section offset.
+fn finds_functions(functions: &GlobalFunctionTable<'_>) -> bool {
+    let over = functions.function_over(section_offset(1, 0x1f));
+    let at = functions.function_at(section_offset(1, 8));
+    let next = functions.next_function(section_offset(1, 0xbb70));
+    let (Some(over), Some(at), Some(next)) = (over, at, next) else {
+        return false;
+    };
+    over.start_offset.offset == 0x10
+        && over.name.is_some()
+        && at.name.is_none()
+        && next.start_offset.offset == 0x2_0000
+}
+
+/// Whether these are the functions of three thousand symbols and two starts.
+fn are_thousands(functions: &GlobalFunctionTable<'_>) -> bool {
+    functions.len() == 3002 && functions.as_slice().len() == 3002 && finds_functions(functions)
+}
+
+/// Whether symbols and two starts have such functions.
+fn have_thousands(alloc: Global, symbols: &[Symbol]) -> bool {
+    let starts = [section_offset(1, 8), section_offset(1, 0)];
+    match compute_global_functions(alloc, &SECTIONS, symbols, &starts) {
+        Ok(functions) => are_thousands(&functions),
+        Err(_) => false,
+    }
+}
+
+#[test]
+fn thousands_of_global_functions(rt: HostRuntime) -> Result<(), AllocError> {
+    let symbols = publics(rt.alloc())?;
+    laws::first_global_function_of_each_start_is_kept();
+    laws::first_procedure_of_each_start_is_kept();
+    assert!(rt; have_thousands(rt.alloc(), &symbols));
+    Ok(())
+}

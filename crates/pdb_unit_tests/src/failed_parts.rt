@@ -1,0 +1,60 @@
+use pdb_records::StreamError;
+use pdb_types::{Error, FailedParts, Part};
+use std::alloc::{AllocError, Global};
+
+/// A fault of a stream.
+fn fault() -> Error {
+    Error::from(StreamError(9))
+}
+
+/// Whether a part that is met broken answers this, and has failed then.
+fn fails_with(
+    alloc: Global,
+    failed: &mut FailedParts,
+    part: Part,
+    wanted: &str,
+) -> Result<bool, AllocError> {
+    let error = failed.ask(part, fault())?;
+    let text = format!(in alloc; "{error}")?;
+    Ok(text.as_str() == wanted && failed.has_failed(part))
+}
+
+/// Whether a part that has not failed answers its own error once, and from then on that it failed.
+fn fails_once(
+    alloc: Global,
+    failed: &mut FailedParts,
+    part: Part,
+    again: &str,
+) -> Result<bool, AllocError> {
+    Ok(
+        !failed.has_failed(part)
+            && fails_with(alloc, failed, part, "PDB error: stream error 9")?
+            && fails_with(alloc, failed, part, again)?
+            && fails_with(alloc, failed, part, again)?,
+    )
+}
+
+/// Whether a part has failed from when it was met broken on, and not when none was.
+fn is_added(failed: &mut FailedParts, part: Part) -> bool {
+    failed.add_met(None).is_ok()
+        && !failed.has_failed(part)
+        && failed.add_met(Some(part)).is_ok()
+        && failed.has_failed(part)
+}
+
+/// Whether parts that are met broken fail once, and one that is added has failed.
+fn parts_fail(alloc: Global, failed: &mut FailedParts) -> Result<bool, AllocError> {
+    let imports = "Getting the module imports was unsuccessful";
+    let exports = "Getting the module exports was unsuccessful";
+    Ok(
+        fails_once(alloc, failed, Part::Imports(3), imports)?
+            && fails_once(alloc, failed, Part::Exports(3), exports)?
+            && is_added(failed, Part::Imports(0)),
+    )
+}
+
+#[test]
+fn a_part_answers_its_own_error_once(rt: HostRuntime) {
+    let mut failed = FailedParts::new(rt.alloc());
+    assert!(rt; matches!(parts_fail(rt.alloc(), &mut failed), Ok(true)));
+}

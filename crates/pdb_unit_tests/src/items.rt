@@ -1,0 +1,176 @@
+use pdb_records::{
+    ClassKind, ClassType, IdData, IdIndex, IdInformation, Item, ItemInformation, RawString,
+    Reading, StreamError, StringId, TypeData, TypeIndex, TypeInformation,
+};
+use pdb_types::{ItemIndex, ItemMap, Result, TypeSizeCache};
+use std::alloc::{AllocError, Global};
+
+/// The classes of the types: the index, the name and the size of each, with 0 for a forward reference.
+static CLASSES: [(u32, &str, u64); 5] = [
+    (0xfff, "T", 9),
+    (0x1000, "S", 0),
+    (0x1003, "S", 12),
+    (0x1005, "S", 20),
+    (0x1000, "S", 40),
+];
+
+/// An index, a name, and the size of what has that name behind the index.
+type Size<'a> = (u32, &'a str, Option<u64>);
+
+/// Sizes, one for each way in which the look-up can end.
+static SIZES: [Size<'static>; 4] = [
+    (0x1000, "S", Some(12)),
+    (0x1003, "S", Some(20)),
+    (0x1000, "T", None),
+    (0x3000, "S", None),
+];
+
+/// A name, as the records have it.
+fn raw_string(alloc: Global, text: &str) -> Result<RawString, AllocError> {
+    Ok(RawString(Vec::from_slice(alloc, text.as_bytes())?))
+}
+
+/// A list with one string under the index 7, and this fault behind it.
+fn ids(alloc: Global, fault: Option<StreamError>) -> Result<IdInformation, AllocError> {
+    let name = raw_string(alloc, "text")?;
+    let mut items = Vec::new(alloc);
+    items.push(Item {
+        index: IdIndex(7),
+        content: Ok(IdData::String(StringId { name })),
+    })?;
+    Ok(ItemInformation {
+        items: Reading { items, fault },
+    })
+}
+
+/// Whether an index is that of a string.
+fn is_string(map: &mut ItemMap<'_, IdIndex, IdData>, index: IdIndex) -> bool {
+    match map.try_get(index) {
+        Ok(item) => matches!(&item.content, Ok(IdData::String(_))),
+        Err(_) => false,
+    }
+}
+
+/// Whether an index has no entry, for this reason.
+fn is_missing(
+    alloc: Global,
+    map: &mut ItemMap<'_, IdIndex, IdData>,
+    index: IdIndex,
+    wanted: &str,
+) -> Result<bool, AllocError> {
+    match map.try_get(index) {
+        Ok(_) => Ok(false),
+        Err(error) => Ok(format!(in alloc; "{error}")?.as_str() == wanted),
+    }
+}
+
+/// Whether the string is found, and another index is missing for this reason.
+fn answers(
+    alloc: Global,
+    map: &mut ItemMap<'_, IdIndex, IdData>,
+    wanted: &str,
+) -> Result<bool, AllocError> {
+    Ok(is_string(map, IdIndex(7)) && is_missing(alloc, map, IdIndex(8), wanted)?)
+}
+
+/// Whether a map answers so, and does it again.
+fn answers_twice(
+    alloc: Global,
+    map: &mut ItemMap<'_, IdIndex, IdData>,
+    wanted: &str,
+) -> Result<bool, AllocError> {
+    Ok(answers(alloc, map, wanted)? && answers(alloc, map, wanted)?)
+}
+
+/// Whether the list with this fault answers so.
+fn list_answers(
+    alloc: Global,
+    fault: Option<StreamError>,
+    wanted: &str,
+) -> Result<bool, AllocError> {
+    let ids = ids(alloc, fault)?;
+    answers_twice(alloc, &mut ItemMap::new(alloc, &ids), wanted)
+}
+
+#[test]
+fn ids_are_found_by_their_index_and_a_fault_stays(rt: HostRuntime) {
+    assert!(rt; IdIndex(7).number() == 7 && TypeIndex(8).number() == 8);
+    let unknown = list_answers(rt.alloc(), None, "PDB error: type 0x8 not found");
+    assert!(rt; matches!(unknown, Ok(true)));
+    let fault = Some(StreamError(5));
+    let faulty = list_answers(rt.alloc(), fault, "PDB error: stream error 5");
+    assert!(rt; matches!(faulty, Ok(true)));
+}
+
+/// The size that the public look-up answers for a name behind an index.
+fn size_for(
+    alloc: Global,
+    types: &TypeInformation,
+    index: TypeIndex,
+    name: &RawString,
+) -> Result<Option<u64>> {
+    let mut map = ItemMap::new(alloc, types);
+    let mut cache = TypeSizeCache::new();
+    cache.get_size_for_forward_reference(index, name, &mut map)
+}
+
+/// Whether that is this size.
+fn has_size(alloc: Global, types: &TypeInformation, size: &Size<'_>) -> bool {
+    let &(index, name, wanted) = size;
+    let Ok(name) = raw_string(alloc, name) else {
+        return false;
+    };
+    match size_for(alloc, types, TypeIndex(index), &name) {
+        Ok(size) => size == wanted,
+        Err(_) => false,
+    }
+}
+
+/// Whether types have all of [`SIZES`].
+fn have_sizes(alloc: Global, types: &TypeInformation) -> bool {
+    for size in &SIZES {
+        if !has_size(alloc, types, size) {
+            return false;
+        }
+    }
+    true
+}
+
+/// A class or, of size 0, a forward reference to one.
+fn class(
+    alloc: Global,
+    index: u32,
+    name: &str,
+    size: u64,
+) -> Result<Item<TypeIndex, TypeData>, AllocError> {
+    let class = ClassType {
+        class_kind: ClassKind::Class,
+        name: raw_string(alloc, name)?,
+        unique_name: None,
+        size,
+        forward_reference: size == 0,
+    };
+    Ok(Item {
+        index: TypeIndex(index),
+        content: Ok(TypeData::Class(class)),
+    })
+}
+
+/// Types with a forward reference to `S` and definitions of it behind.
+fn types(alloc: Global) -> Result<TypeInformation, AllocError> {
+    let mut items = Vec::new(alloc);
+    for &(index, name, size) in &CLASSES {
+        items.push(class(alloc, index, name, size)?)?;
+    }
+    let fault = None;
+    Ok(ItemInformation {
+        items: Reading { items, fault },
+    })
+}
+
+#[test]
+fn the_first_definition_behind_an_index_has_the_size(rt: HostRuntime) -> Result<(), AllocError> {
+    let types = types(rt.alloc())?;
+    assert!(rt; have_sizes(rt.alloc(), &types));
+    Ok(())
+}

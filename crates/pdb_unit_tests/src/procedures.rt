@@ -1,0 +1,241 @@
+use crate::modules::{is_fault, module_of};
+use pdb_functions::{
+    BasicModuleInfo, ModuleSectionContribution, ProcedureSymbolFunction, PublicOrProcedureSymbol,
+    PublicSymbolFunctionOrPlaceholder, global_function_in, laws,
+};
+use pdb_records::{
+    ModuleInfo, PdbInternalSectionOffset, ProcedureSymbol, RawString, S_GPROC32, S_LPROC32,
+    S_SEPCODE, S_THUNK32, SeparatedCodeSymbol, StreamError, Symbol, SymbolData, SymbolIndex,
+    ThunkSymbol, TypeIndex,
+};
+use pdb_types::Error;
+use std::alloc::{AllocError, Global};
+
+/// A procedure: its offset, its length, its name, the positions of its symbol and its end, and its type.
+type Shown<'a> = (u32, u32, &'a [u8], usize, usize, u32);
+
+/// Procedures of which one is empty and one starts where another does, with code apart and a thunk.
+static CODE: [Code<'static>; 6] = [
+    Code::Procedure(S_GPROC32, 0x40, 0x10, b"f"),
+    Code::Separated(0x80, 0x40),
+    Code::Separated(0x90, 0x40),
+    Code::Procedure(S_LPROC32, 0x20, 0, b"empty"),
+    Code::Procedure(S_LPROC32, 0x40, 8, b"later"),
+    Code::Thunk(0x10),
+];
+
+/// The procedures that those are.
+static PROCEDURES: [Shown<'static>; 3] = [
+    (0x10, 6, b"t", 5, 6, 0),
+    (0x40, 0x10, b"f", 0, 9, 7),
+    (0x80, 4, b"f", 1, 8, 7),
+];
+
+/// A section offset in the first section.
+fn section_offset(offset: u32) -> PdbInternalSectionOffset {
+    PdbInternalSectionOffset { section: 1, offset }
+}
+
+/// A piece of code, as its symbol shows it.
+#[derive(Clone, Copy)]
+enum Code<'a> {
+    /// A procedure: its kind, its offset, its length and its name.
+    Procedure(u16, u32, u32, &'a [u8]),
+    /// Code apart from its body: its offset, and that of the procedure that it belongs to.
+    Separated(u32, u32),
+    /// A thunk: its offset.
+    Thunk(u32),
+}
+
+/// What a module gives.
+#[derive(Clone, Copy)]
+enum Wanted<'a> {
+    /// These procedures, in this order.
+    Procedures(&'a [Shown<'a>]),
+    /// Three thousand procedures.
+    Thousands,
+    /// A refusal for this fault.
+    Fault(StreamError),
+}
+
+/// The symbol that shows a piece of code.
+fn symbol(alloc: Global, code: Code<'_>) -> Result<Symbol, AllocError> {
+    let (raw_kind, content) = match code {
+        Code::Procedure(raw_kind, offset, len, name) => (
+            raw_kind,
+            SymbolData::Procedure(ProcedureSymbol {
+                offset: section_offset(offset),
+                len,
+                name: RawString(name.to_vec(alloc)?),
+                end: SymbolIndex(9),
+                type_index: TypeIndex(7),
+            }),
+        ),
+        Code::Separated(offset, parent) => (
+            S_SEPCODE,
+            SymbolData::SeparatedCode(SeparatedCodeSymbol {
+                offset: section_offset(offset),
+                len: 4,
+                parent_offset: section_offset(parent),
+                end: SymbolIndex(8),
+            }),
+        ),
+        Code::Thunk(offset) => (
+            S_THUNK32,
+            SymbolData::Thunk(ThunkSymbol {
+                offset: section_offset(offset),
+                len: 6,
+                name: RawString(b"t".to_vec(alloc)?),
+                end: SymbolIndex(6),
+            }),
+        ),
+    };
+    Ok(Symbol {
+        raw_kind,
+        content: Some(content),
+    })
+}
+
+/// The symbols that show pieces of code.
+fn symbols(alloc: Global, code: &[Code<'_>]) -> Result<Vec<Symbol>, AllocError> {
+    let mut symbols = Vec::new(alloc);
+    for piece in code {
+        symbols.push(symbol(alloc, *piece)?)?;
+    }
+    Ok(symbols)
+}
+
+/// Whether a procedure is this one.
+fn is_procedure(procedure: &ProcedureSymbolFunction<'_>, wanted: &Shown<'_>) -> bool {
+    let &(offset, len, bytes, position, end, type_index) = wanted;
+    let name: &RawString = procedure.name;
+    procedure.offset == section_offset(offset)
+        && procedure.len == len
+        && name.0.as_slice() == bytes
+        && procedure.symbol_index == SymbolIndex(position)
+        && procedure.end_symbol_index == SymbolIndex(end)
+        && procedure.type_index == TypeIndex(type_index)
+}
+
+/// Whether procedures are these, in this order.
+fn are_procedures(procedures: &[ProcedureSymbolFunction<'_>], wanted: &[Shown<'_>]) -> bool {
+    let mut rest = wanted;
+    for procedure in procedures {
+        match rest {
+            [first, behind @ ..] if is_procedure(procedure, first) => rest = behind,
+            _ => return false,
+        }
+    }
+    rest.is_empty()
+}
+
+/// Whether there are three thousand procedures, with one over a section offset and none over another.
+fn are_thousands(basic: &BasicModuleInfo<'_>) -> bool {
+    let Some(over) = basic.procedure_over(section_offset(0x104)) else {
+        return false;
+    };
+    over.offset.offset == 0x100
+        && basic.procedures().len() == 3000
+        && basic.procedure_over(section_offset(0x1_0000)).is_none()
+}
+
+/// Whether a module was read as is wanted.
+fn is_read_as(basic: &BasicModuleInfo<'_>, wanted: Wanted<'_>) -> bool {
+    match wanted {
+        Wanted::Procedures(procedures) => are_procedures(basic.procedures(), procedures),
+        Wanted::Thousands => are_thousands(basic),
+        Wanted::Fault(_) => false,
+    }
+}
+
+/// Whether a module is refused as is wanted.
+fn is_refused_as(error: &Error, wanted: Wanted<'_>) -> bool {
+    match wanted {
+        Wanted::Fault(fault) => is_fault(error, fault),
+        _ => false,
+    }
+}
+
+/// Whether a module holds its symbols and its procedures are as is wanted, or it is refused so.
+fn gives(alloc: Global, info: &ModuleInfo, wanted: Wanted<'_>) -> bool {
+    match BasicModuleInfo::try_from_module_info(alloc, info) {
+        Ok(basic) => {
+            basic.module_info().symbols.items.len() == info.symbols.items.len()
+                && is_read_as(&basic, wanted)
+        }
+        Err(error) => is_refused_as(&error, wanted),
+    }
+}
+
+/// Whether a module of these pieces of code, with this fault behind them, gives what is wanted.
+fn code_gives(
+    alloc: Global,
+    code: &[Code<'_>],
+    fault: Option<StreamError>,
+    wanted: Wanted<'_>,
+) -> bool {
+    match symbols(alloc, code) {
+        Ok(symbols) => gives(alloc, &module_of(alloc, symbols, fault), wanted),
+        Err(_) => false,
+    }
+}
+
+#[test]
+fn procedures_by_their_starts(rt: HostRuntime) {
+    laws::pick_covers_with_greatest_start();
+    assert!(rt; code_gives(rt.alloc(), &CODE, None, Wanted::Procedures(&PROCEDURES)));
+}
+
+#[test]
+fn module_with_a_fault(rt: HostRuntime) {
+    let fault = StreamError(3);
+    assert!(rt; code_gives(rt.alloc(), &[], Some(fault), Wanted::Fault(fault)));
+}
+
+/// Three thousand procedures, the last in the code first, each with the start of the next one in it.
+fn descending(alloc: Global) -> Result<Vec<Code<'static>>, AllocError> {
+    let mut code = Vec::new(alloc);
+    for at in 0..3000u32 {
+        code.push(Code::Procedure(S_GPROC32, 0x10 * (2999 - at), 0x18, b"f"))?;
+    }
+    Ok(code)
+}
+
+#[test]
+fn thousands_of_procedures(rt: HostRuntime) -> Result<(), AllocError> {
+    let code = descending(rt.alloc())?;
+    assert!(rt; code_gives(rt.alloc(), &code, None, Wanted::Thousands));
+    Ok(())
+}
+
+/// What a global function that starts at an offset is in the contribution of module 5 from 0x10 on.
+fn found_from(offset: u32) -> Option<PublicOrProcedureSymbol<'static>> {
+    let contribution = ModuleSectionContribution {
+        section_index: 1,
+        start_offset: 0x10,
+        end_offset: 0x20,
+        module_index: 5,
+    };
+    let function = PublicSymbolFunctionOrPlaceholder {
+        start_offset: section_offset(offset),
+        name: None,
+    };
+    global_function_in(contribution, Some(function))
+}
+
+#[test]
+fn global_function_of_a_contribution(rt: HostRuntime) {
+    assert!(rt; found_from(0x0f).is_none());
+    assert!(rt;
+        matches!(
+            found_from(0x10),
+            Some(PublicOrProcedureSymbol::Public(5, _))
+        )
+    );
+    assert!(rt;
+        matches!(
+            found_from(0x18),
+            Some(PublicOrProcedureSymbol::Public(5, _))
+        )
+    );
+}

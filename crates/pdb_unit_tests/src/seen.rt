@@ -1,0 +1,115 @@
+use pdb_documents::seen::{Seen, SeenError};
+use pdb_records::TypeIndex;
+use pdb_types::Error;
+use std::alloc::{AllocError, Global};
+use std::collections::BTreeSet;
+
+/// Whether a set has the numbers below this one, in their order, and no others.
+fn has_numbers_below(set: &BTreeSet<TypeIndex>, end: u32) -> bool {
+    let mut wanted: u32 = 0;
+    for index in set {
+        if index.0 != wanted {
+            return false;
+        }
+        wanted = wanted.saturating_add(1);
+    }
+    wanted == end
+}
+
+/// Whether a level that is entered with nothing takes in two numbers.
+fn holds_empty_level(seen: &mut Seen<'_>) -> bool {
+    let mut level = seen.new_level();
+    level.insert(TypeIndex(4)).is_ok()
+        && level.insert(TypeIndex(5)).is_ok()
+        && has_numbers_below(level.set, 6)
+}
+
+/// Whether the level of the number 3 is as before when another level was inside.
+fn is_inner_level(level: &mut Seen<'_>) -> bool {
+    has_numbers_below(level.set, 4) && holds_empty_level(level) && has_numbers_below(level.set, 4)
+}
+
+/// Whether no level is entered with a number, and none is taken out by that.
+fn refuses_level(seen: &mut Seen<'_>, index: TypeIndex) -> bool {
+    seen.insert_one(index).is_err()
+}
+
+/// Whether a level is entered with the number 3.
+fn holds_inner_level(seen: &mut Seen<'_>) -> bool {
+    match seen.insert_one(TypeIndex(3)) {
+        Ok(mut level) => is_inner_level(&mut level),
+        Err(_) => false,
+    }
+}
+
+/// Whether the level of the number 1 takes in another number, and is as before when two levels were inside.
+fn is_outer_level(level: &mut Seen<'_>) -> bool {
+    level.insert(TypeIndex(0)).is_err()
+        && refuses_level(level, TypeIndex(0))
+        && refuses_level(level, TypeIndex(1))
+        && has_numbers_below(level.set, 2)
+        && level.insert(TypeIndex(2)).is_ok()
+        && has_numbers_below(level.set, 3)
+        && holds_inner_level(level)
+        && has_numbers_below(level.set, 3)
+}
+
+/// Whether a level is entered with the number 1.
+fn holds_outer_level(seen: &mut Seen<'_>) -> bool {
+    match seen.insert_one(TypeIndex(1)) {
+        Ok(mut level) => is_outer_level(&mut level),
+        Err(_) => false,
+    }
+}
+
+/// Whether a set has what it had when levels were entered, before it is lent back.
+fn holds_levels(alloc: Global, set: &mut BTreeSet<TypeIndex>) -> bool {
+    let mut seen = Seen::new(alloc, set);
+    holds_outer_level(&mut seen) && has_numbers_below(seen.set, 1)
+}
+
+#[test]
+fn levels_take_out_what_they_put_in(rt: HostRuntime) {
+    let mut set = BTreeSet::new(rt.alloc());
+    assert!(rt; set.insert(TypeIndex(0)).is_ok());
+    assert!(rt; holds_levels(rt.alloc(), &mut set) && has_numbers_below(&set, 1));
+}
+
+/// Whether an error has this text.
+fn prints(alloc: Global, error: SeenError, wanted: &str) -> Result<bool, AllocError> {
+    let error = Error::from(error);
+    Ok(format!(in alloc; "{error}")?.as_str() == wanted)
+}
+
+/// Whether an index is refused with this text.
+fn is_refused(
+    alloc: Global,
+    seen: &mut Seen<'_>,
+    index: TypeIndex,
+    wanted: &str,
+) -> Result<bool, AllocError> {
+    match seen.insert(index) {
+        Ok(()) => Ok(false),
+        Err(error) => prints(alloc, error, wanted),
+    }
+}
+
+/// Whether an index is put into a set, and is circular from then on.
+fn is_circular_once_put_in(
+    alloc: Global,
+    set: &mut BTreeSet<TypeIndex>,
+) -> Result<bool, AllocError> {
+    let index = TypeIndex(4097);
+    let mut seen = Seen::new(alloc, set);
+    let is_put_in = seen.insert(index).is_ok();
+    let is_circular = is_refused(alloc, &mut seen, index, "Type with index 4097 is circular");
+    Ok(is_put_in && is_circular?)
+}
+
+#[test]
+fn an_index_that_is_open_is_circular(rt: HostRuntime) {
+    let mut set = BTreeSet::new(rt.alloc());
+    assert!(rt; matches!(is_circular_once_put_in(rt.alloc(), &mut set), Ok(true)));
+    let shown = prints(rt.alloc(), SeenError::OutOfMemory, "Out of memory");
+    assert!(rt; matches!(shown, Ok(true)));
+}

@@ -1,0 +1,93 @@
+/* Prints what pdb_report prints of addresses, with the records read once for all of them:
+ *
+ *     opened RECORDS (frames|names) ADDRESS...
+ *
+ * Each address is a question of its own. An address is a hexadecimal number. The status is 1 where the library refuses,
+ * and 2 for all else.
+ */
+#include <string.h>
+
+#include "input.h"
+
+typedef int64_t (*opened_call)(struct limberlime_handle *, const uint32_t *, size_t, uint8_t *, size_t, size_t *);
+
+/* A buffer that grows where a text does not fit it, and is used for all questions. */
+struct buffer {
+    uint8_t *bytes;
+    size_t capacity;
+};
+
+/* Asks for one address, with more room where the text is longer than the buffer. */
+static int64_t ask(opened_call call, struct limberlime_handle *handle, uint32_t address, struct buffer *buffer)
+{
+    size_t wanted = 0;
+    int64_t length = call(handle, &address, 1, buffer->bytes, buffer->capacity, &wanted);
+    if (length == LIMBERLIME_BUFFER_TOO_SMALL) {
+        uint8_t *larger = realloc(buffer->bytes, wanted);
+        if (larger == NULL)
+            return LIMBERLIME_OUT_OF_MEMORY;
+        buffer->bytes = larger;
+        buffer->capacity = wanted;
+        length = call(handle, &address, 1, buffer->bytes, buffer->capacity, &wanted);
+    }
+    return length;
+}
+
+/* Asks for each address in turn. */
+static int print_answers(opened_call call, struct limberlime_handle *handle, const uint32_t *addresses, size_t count)
+{
+    struct buffer buffer = {malloc(256), 256};
+    int64_t length = buffer.bytes == NULL ? LIMBERLIME_OUT_OF_MEMORY : 0;
+    for (size_t i = 0; length >= 0 && i < count; i++) {
+        length = ask(call, handle, addresses[i], &buffer);
+        if (length > 0)
+            fwrite(buffer.bytes, 1, (size_t)length, stdout);
+    }
+    if (length < 0)
+        fprintf(stderr, "opened: %s\n", refusal_name(length));
+    free(buffer.bytes);
+    return length < 0 ? 1 : 0;
+}
+
+/* Opens the records, asks, and closes them. */
+static int print_opened(opened_call call, const uint8_t *records, size_t length, const uint32_t *addresses,
+                        size_t count)
+{
+    struct limberlime_handle handle = LIMBERLIME_CLOSED;
+    int64_t answer = limberlime_open(records, length, &handle);
+    if (answer < 0) {
+        fprintf(stderr, "opened: %s\n", refusal_name(answer));
+        return 1;
+    }
+    int status = print_answers(call, &handle, addresses, count);
+    limberlime_close(&handle);
+    return status;
+}
+
+int main(int argc, char **argv)
+{
+    opened_call call = NULL;
+    if (argc >= 4 && strcmp(argv[2], "frames") == 0)
+        call = limberlime_frames_of;
+    if (argc >= 4 && strcmp(argv[2], "names") == 0)
+        call = limberlime_names_of;
+    if (call == NULL) {
+        fprintf(stderr, "usage: opened RECORDS (frames|names) ADDRESS...\n");
+        return 2;
+    }
+    size_t length, count = (size_t)argc - 3;
+    uint8_t *records = read_file(argv[1], &length);
+    uint32_t *addresses = read_addresses(argv + 3, count);
+    int status = 2;
+    if (records == NULL)
+        fprintf(stderr, "opened: cannot read %s\n", argv[1]);
+    else if (addresses == NULL)
+        fprintf(stderr, "opened: an address is a hexadecimal number of 32 bits\n");
+    else
+        status = print_opened(call, records, length, addresses, count);
+    if (fflush(stdout) != 0)
+        status = 2;
+    free(addresses);
+    free(records);
+    return status;
+}
