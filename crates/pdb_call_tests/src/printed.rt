@@ -126,19 +126,30 @@ fn answers_each_refusal(
     true
 }
 
-/// Whether a formatter answers a question as is wanted. Where a text is wanted, writers that refuse are tried
-/// first, and the formatter then answers as before.
+/// Whether a formatter writes what is wanted, and answers as is wanted.
+fn answers_whole(
+    alloc: Global,
+    formatter: &mut TypeFormatter<'_, ContextPdbData<'_>>,
+    question: PrintedQuestion<'_>,
+) -> bool {
+    let mut text = String::new(alloc);
+    let outcome = emit(formatter, &mut text, question);
+    is_wanted(alloc, &outcome, question.outcome) && text.as_str() == question.text
+}
+
+/// Whether a formatter answers a question as is wanted, also to writers that refuse. Where a text is wanted these
+/// come first, and the formatter then answers as before. Where an error is wanted they come last, since a part of
+/// the records that is met broken answers its own error once.
 pub(crate) fn answers(
     alloc: Global,
     formatter: &mut TypeFormatter<'_, ContextPdbData<'_>>,
     question: PrintedQuestion<'_>,
 ) -> bool {
-    if question.outcome == "ok" && !answers_each_refusal(alloc, formatter, question) {
-        return false;
+    if question.outcome == "ok" {
+        return answers_each_refusal(alloc, formatter, question)
+            && answers_whole(alloc, formatter, question);
     }
-    let mut text = String::new(alloc);
-    let outcome = emit(formatter, &mut text, question);
-    is_wanted(alloc, &outcome, question.outcome) && text.as_str() == question.text
+    answers_whole(alloc, formatter, question) && answers_each_refusal(alloc, formatter, question)
 }
 
 /// The flags of these bits.
