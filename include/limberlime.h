@@ -84,7 +84,8 @@ void limberlime_close_unchecked(struct limberlime_handle *handle);
  *     text.
  *
  * Answers the length of the text that was written, in bytes, or a number of enum limberlime_refusal. To learn the
- * length alone, give a capacity of 0. Where one address is refused, nothing is written of the others.
+ * length alone, give a capacity of 0, with a buffer that is not null all the same. Where one address is refused,
+ * nothing is written of the others.
  */
 static inline int64_t limberlime_frames(const uint8_t *records, size_t records_length, const uint32_t *addresses,
                                         size_t address_count, uint8_t *buffer, size_t capacity, size_t *wanted)
