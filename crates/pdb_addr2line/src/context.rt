@@ -70,7 +70,6 @@ fn tables_of<'a>(
 /// records would answer. Of what happens between two questions it remembers one thing that later answers
 /// show: which parts of the records it met broken. Such a part answers its own error when it is met first, and
 /// from then on that it failed before.
-#[derive(Drop)]
 pub struct Context<'a, P: ModuleProvider> {
     pub(crate) alloc: Global,
     pub(crate) provider: &'a P,
@@ -81,6 +80,22 @@ pub struct Context<'a, P: ModuleProvider> {
     pub(crate) code_failed: FailedCodeParts,
     pub(crate) tables: Tables<'a>,
     pub(crate) caches: Caches<'a, P>,
+}
+
+impl<P: ModuleProvider> Drop for Context<'_, P> {
+    fn drop(self) {
+        let Context {
+            alloc: _,
+            provider: _,
+            address_map: _,
+            global_symbols: _,
+            debug_information: _,
+            names: _,
+            code_failed: _,
+            tables: _,
+            caches: _,
+        } = self;
+    }
 }
 
 impl<'a, P: ModuleProvider> Model for Context<'a, P> {
@@ -186,7 +201,18 @@ impl<'a, P: ModuleProvider> Context<'a, P> {
         ensures type_inputs { result.type_inputs ≡ self.entry.inputs.type_inputs }
         ensures failed { result.failed ≡ self.entry.failed }
     {
-        self.names.into_type_formatter()
+        let Context {
+            alloc: _,
+            provider: _,
+            address_map: _,
+            global_symbols: _,
+            debug_information: _,
+            names,
+            code_failed: _,
+            tables: _,
+            caches: _,
+        } = self;
+        names.into_type_formatter()
     }
 
     /// How many starts of functions are known from public symbols, contributions and ends of sections.

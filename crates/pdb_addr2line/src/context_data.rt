@@ -24,10 +24,18 @@ enum MaybeOwned<'p> {
 /// Holds the records of a program, and makes a [`Context`] over them.
 ///
 /// What a context answers may borrow from the records, so they have an owner of their own.
-#[derive(Drop)]
 pub struct ContextPdbData<'p> {
     alloc: Global,
     maybe_owned: MaybeOwned<'p>,
+}
+
+impl Drop for ContextPdbData<'_> {
+    fn drop(self) {
+        let ContextPdbData {
+            alloc: _,
+            maybe_owned: _,
+        } = self;
+    }
 }
 
 impl<'p> Model for ContextPdbData<'p> {

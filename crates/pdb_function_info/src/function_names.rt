@@ -30,12 +30,22 @@ use std::marker::Model;
 ///
 /// What is cached shows in no answer: it is what the formatter would print again, and printing it again would
 /// meet no part of the records broken that isn't remembered already.
-#[derive(Drop)]
 pub struct FunctionNames<'a, P: ModuleProvider> {
     alloc: Global,
     formatter: TypeFormatter<'a, P>,
     signatures: CachedSignatures<'a, P>,
     ids: CachedTexts<IdKey>,
+}
+
+impl<P: ModuleProvider> Drop for FunctionNames<'_, P> {
+    fn drop(self) {
+        let FunctionNames {
+            alloc: _,
+            formatter: _,
+            signatures: _,
+            ids: _,
+        } = self;
+    }
 }
 
 // Clauses see the formatter, and the provider of the procedures' records.
@@ -77,7 +87,13 @@ impl<'a, P: ModuleProvider> FunctionNames<'a, P> {
         ensures type_inputs { result.type_inputs ≡ self.entry.type_inputs }
         ensures failed { result.failed ≡ self.entry.failed }
     {
-        self.formatter
+        let FunctionNames {
+            alloc: _,
+            formatter,
+            signatures: _,
+            ids: _,
+        } = self;
+        formatter
     }
 
     /// The formatter's modules, in their order.

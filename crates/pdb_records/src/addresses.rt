@@ -48,9 +48,14 @@ impl AddressRange {
 }
 
 /// The sections of a program in order. The first has the number 1, and none has one past 65535.
-#[derive(Drop)]
 pub struct AddressMap {
     pub sections: Vec<AddressRange>,
+}
+
+impl Drop for AddressMap {
+    fn drop(self) {
+        let AddressMap { sections: _ } = self;
+    }
 }
 
 impl Model for AddressMap {

@@ -15,17 +15,32 @@ pub enum MachineType {
 }
 
 /// What was compiled into the program, and where it went.
-#[derive(Drop)]
 pub struct DebugInformation {
     pub machine_type: Result<MachineType, StreamError>,
     pub modules: Reading<Module>,
     pub section_contributions: Reading<SectionContribution>,
 }
 
+impl Drop for DebugInformation {
+    fn drop(self) {
+        let DebugInformation {
+            machine_type: _,
+            modules: _,
+            section_contributions: _,
+        } = self;
+    }
+}
+
 /// A file that was linked into the program.
-#[derive(Clone, Drop)]
+#[derive(Clone)]
 pub struct Module {
     pub name: RawString,
+}
+
+impl Drop for Module {
+    fn drop(self) {
+        let Module { name: _ } = self;
+    }
 }
 
 /// A run of a section that came from one module.

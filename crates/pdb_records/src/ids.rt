@@ -10,7 +10,6 @@ pub struct IdIndex(pub u32);
 pub type IdInformation = ItemInformation<IdIndex, IdData>;
 
 /// What an entry of the ids says.
-#[derive(Drop)]
 pub enum IdData {
     MemberFunction(MemberFunctionId),
     Function(FunctionId),
@@ -20,16 +19,36 @@ pub enum IdData {
     Other(UnhandledId),
 }
 
+impl Drop for IdData {
+    fn drop(self) {
+        match self {
+            IdData::MemberFunction(_) => {}
+            IdData::Function(_) => {}
+            IdData::String(_) => {}
+            IdData::StringList(_) => {}
+            IdData::Other(_) => {}
+        }
+    }
+}
+
 /// A function of a class.
-#[derive(Drop)]
 pub struct MemberFunctionId {
     pub parent: TypeIndex,
     pub function_type: TypeIndex,
     pub name: RawString,
 }
 
+impl Drop for MemberFunctionId {
+    fn drop(self) {
+        let MemberFunctionId {
+            parent: _,
+            function_type: _,
+            name: _,
+        } = self;
+    }
+}
+
 /// A function of no class.
-#[derive(Drop)]
 pub struct FunctionId {
     /// The namespace that it stands in, where there is one.
     pub scope: Option<IdIndex>,
@@ -37,16 +56,36 @@ pub struct FunctionId {
     pub name: RawString,
 }
 
+impl Drop for FunctionId {
+    fn drop(self) {
+        let FunctionId {
+            scope: _,
+            function_type: _,
+            name: _,
+        } = self;
+    }
+}
+
 /// A text, as the name of a namespace.
-#[derive(Drop)]
 pub struct StringId {
     pub name: RawString,
 }
 
+impl Drop for StringId {
+    fn drop(self) {
+        let StringId { name: _ } = self;
+    }
+}
+
 /// A text in pieces.
-#[derive(Drop)]
 pub struct StringListId {
     pub substrings: Vec<TypeIndex>,
+}
+
+impl Drop for StringListId {
+    fn drop(self) {
+        let StringListId { substrings: _ } = self;
+    }
 }
 
 impl Model for StringListId {
@@ -59,10 +98,15 @@ impl Model for StringListId {
 }
 
 /// An id of a kind that is read and not printed.
-#[derive(Drop)]
 pub struct UnhandledId {
     /// What the kind is called.
     pub kind_name: String,
+}
+
+impl Drop for UnhandledId {
+    fn drop(self) {
+        let UnhandledId { kind_name: _ } = self;
+    }
 }
 
 impl Model for UnhandledId {

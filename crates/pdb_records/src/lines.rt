@@ -12,10 +12,18 @@ use std::marker::Model;
 pub struct FileIndex(pub u32);
 
 /// The source lines of a module's code.
-#[derive(Drop)]
 pub struct LineProgram {
     pub entries: Vec<SymbolLines>,
     pub files: Vec<FileInfo>,
+}
+
+impl Drop for LineProgram {
+    fn drop(self) {
+        let LineProgram {
+            entries: _,
+            files: _,
+        } = self;
+    }
 }
 
 impl Model for LineProgram {
@@ -27,10 +35,18 @@ impl Model for LineProgram {
 }
 
 /// The line rows of the function that starts at a section offset.
-#[derive(Drop)]
 pub struct SymbolLines {
     pub offset: PdbInternalSectionOffset,
     pub lines: Reading<LineInfo>,
+}
+
+impl Drop for SymbolLines {
+    fn drop(self) {
+        let SymbolLines {
+            offset: _,
+            lines: _,
+        } = self;
+    }
 }
 
 /// The code from an offset on comes from a line.

@@ -16,7 +16,6 @@ const LOCAL_BITS: u32 = 20;
 const MODULE_BITS: u32 = 11;
 
 /// What is known of one module.
-#[derive(Drop)]
 pub struct ModuleInfo {
     pub symbols: Reading<Symbol>,
     pub line_program: Result<LineProgram, StreamError>,
@@ -26,6 +25,18 @@ pub struct ModuleInfo {
     pub exports: Result<CrossModuleExports, StreamError>,
 }
 
+impl Drop for ModuleInfo {
+    fn drop(self) {
+        let ModuleInfo {
+            symbols: _,
+            line_program: _,
+            inlinees: _,
+            imports: _,
+            exports: _,
+        } = self;
+    }
+}
+
 /// A function whose body stands in a module's code.
 #[derive(Clone, Copy)]
 pub struct Inlinee {
@@ -33,9 +44,14 @@ pub struct Inlinee {
 }
 
 /// What a module takes from others.
-#[derive(Drop)]
 pub struct CrossModuleImports {
     pub modules: Vec<ImportedModule>,
+}
+
+impl Drop for CrossModuleImports {
+    fn drop(self) {
+        let CrossModuleImports { modules: _ } = self;
+    }
 }
 
 impl Model for CrossModuleImports {
@@ -48,12 +64,20 @@ impl Model for CrossModuleImports {
 }
 
 /// What a module takes from one other.
-#[derive(Drop)]
 pub struct ImportedModule {
     /// Where the other module's name stands in the string table.
     pub module: StringRef,
     /// The numbers that the other module exports them under.
     pub locals: Vec<u32>,
+}
+
+impl Drop for ImportedModule {
+    fn drop(self) {
+        let ImportedModule {
+            module: _,
+            locals: _,
+        } = self;
+    }
 }
 
 impl Model for ImportedModule {
@@ -65,9 +89,14 @@ impl Model for ImportedModule {
 }
 
 /// What a module offers to others: a number of its own, and the index of the type or id.
-#[derive(Drop)]
 pub struct CrossModuleExports {
     pub exports: Vec<(u32, u32)>,
+}
+
+impl Drop for CrossModuleExports {
+    fn drop(self) {
+        let CrossModuleExports { exports: _ } = self;
+    }
 }
 
 impl Model for CrossModuleExports {

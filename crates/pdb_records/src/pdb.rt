@@ -9,7 +9,6 @@ use crate::types::TypeInformation;
 use std::marker::Model;
 
 /// All records of a program, each stream read or failed on its own.
-#[derive(Drop)]
 pub struct PDB {
     /// The headers of the sections, or `None` where the records hold none.
     pub sections: Result<Option<Vec<ImageSectionHeader>>, StreamError>,
@@ -21,6 +20,21 @@ pub struct PDB {
     pub string_table: Result<StringTable, StreamError>,
     /// What is known of each module, in the order of the list of modules.
     pub module_infos: Vec<Result<Option<ModuleInfo>, StreamError>>,
+}
+
+impl Drop for PDB {
+    fn drop(self) {
+        let PDB {
+            sections: _,
+            address_map: _,
+            global_symbols: _,
+            debug_information: _,
+            type_information: _,
+            id_information: _,
+            string_table: _,
+            module_infos: _,
+        } = self;
+    }
 }
 
 impl Model for PDB {

@@ -8,8 +8,14 @@ use std::borrow::CowStr;
 use std::marker::Model;
 
 /// A name as it stands in the records: bytes that are UTF-8 by convention alone.
-#[derive(Clone, Drop)]
+#[derive(Clone)]
 pub struct RawString(pub Vec<u8>);
+
+impl Drop for RawString {
+    fn drop(self) {
+        let RawString(_) = self;
+    }
+}
 
 impl Model for RawString {
     ghost use Rattle.std.specs.Prelude.{ℕ, List};

@@ -2,12 +2,17 @@ use crate::error::StreamError;
 use std::marker::Model;
 
 /// What could be read of a list: its items in order and, where the reading stopped early, why.
-#[derive(Drop)]
 pub struct Reading<T> {
     /// The items that were read.
     pub items: Vec<T>,
     /// Why nothing follows them, or `None` where the list ended.
     pub fault: Option<StreamError>,
+}
+
+impl<T: Drop> Drop for Reading<T> {
+    fn drop(self) {
+        let Reading { items: _, fault: _ } = self;
+    }
 }
 
 impl<T> Model for Reading<T> {

@@ -10,9 +10,14 @@ use std::marker::Model;
 pub struct StringRef(pub u32);
 
 /// The texts that several parts of the records share, as names of files and modules.
-#[derive(Drop)]
 pub struct StringTable {
     pub strings: Vec<(StringRef, RawString)>,
+}
+
+impl Drop for StringTable {
+    fn drop(self) {
+        let StringTable { strings: _ } = self;
+    }
 }
 
 impl Model for StringTable {

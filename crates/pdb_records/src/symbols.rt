@@ -10,13 +10,17 @@ use crate::types::TypeIndex;
 pub struct SymbolIndex(pub usize);
 
 /// The symbols of the whole program.
-#[derive(Drop)]
 pub struct SymbolTable {
     pub symbols: Reading<Symbol>,
 }
 
+impl Drop for SymbolTable {
+    fn drop(self) {
+        let SymbolTable { symbols: _ } = self;
+    }
+}
+
 /// One symbol of a list. The kind decides whether it counts, and the content decides how.
-#[derive(Drop)]
 pub struct Symbol {
     /// The number of its kind, as [`S_GPROC32`](crate::S_GPROC32).
     pub raw_kind: u16,
@@ -24,8 +28,16 @@ pub struct Symbol {
     pub content: Option<SymbolData>,
 }
 
+impl Drop for Symbol {
+    fn drop(self) {
+        let Symbol {
+            raw_kind: _,
+            content: _,
+        } = self;
+    }
+}
+
 /// What a symbol holds.
-#[derive(Drop)]
 pub enum SymbolData {
     Public(PublicSymbol),
     Procedure(ProcedureSymbol),
@@ -36,8 +48,20 @@ pub enum SymbolData {
     Other,
 }
 
+impl Drop for SymbolData {
+    fn drop(self) {
+        match self {
+            SymbolData::Public(_) => {}
+            SymbolData::Procedure(_) => {}
+            SymbolData::SeparatedCode(_) => {}
+            SymbolData::Thunk(_) => {}
+            SymbolData::InlineSite(_) => {}
+            SymbolData::Other => {}
+        }
+    }
+}
+
 /// A name that is visible outside its module.
-#[derive(Drop)]
 pub struct PublicSymbol {
     /// Where what it names starts.
     pub offset: PdbInternalSectionOffset,
@@ -45,8 +69,13 @@ pub struct PublicSymbol {
     pub name: RawString,
 }
 
+impl Drop for PublicSymbol {
+    fn drop(self) {
+        let PublicSymbol { offset: _, name: _ } = self;
+    }
+}
+
 /// A procedure.
-#[derive(Drop)]
 pub struct ProcedureSymbol {
     /// Where it starts.
     pub offset: PdbInternalSectionOffset,
@@ -60,8 +89,19 @@ pub struct ProcedureSymbol {
     pub type_index: TypeIndex,
 }
 
+impl Drop for ProcedureSymbol {
+    fn drop(self) {
+        let ProcedureSymbol {
+            offset: _,
+            len: _,
+            name: _,
+            end: _,
+            type_index: _,
+        } = self;
+    }
+}
+
 /// Code of a procedure that stands apart from its body, as for an error that is seldom met.
-#[derive(Drop)]
 pub struct SeparatedCodeSymbol {
     /// Where the code starts.
     pub offset: PdbInternalSectionOffset,
@@ -73,8 +113,18 @@ pub struct SeparatedCodeSymbol {
     pub end: SymbolIndex,
 }
 
+impl Drop for SeparatedCodeSymbol {
+    fn drop(self) {
+        let SeparatedCodeSymbol {
+            offset: _,
+            len: _,
+            parent_offset: _,
+            end: _,
+        } = self;
+    }
+}
+
 /// A short piece of code that leads to a procedure.
-#[derive(Drop)]
 pub struct ThunkSymbol {
     /// Where it starts.
     pub offset: PdbInternalSectionOffset,
@@ -85,8 +135,18 @@ pub struct ThunkSymbol {
     pub end: SymbolIndex,
 }
 
+impl Drop for ThunkSymbol {
+    fn drop(self) {
+        let ThunkSymbol {
+            offset: _,
+            len: _,
+            name: _,
+            end: _,
+        } = self;
+    }
+}
+
 /// A place in a procedure where a call was replaced by the callee's body.
-#[derive(Drop)]
 pub struct InlineSiteSymbol {
     /// What was called.
     pub inlinee: IdIndex,
@@ -94,6 +154,16 @@ pub struct InlineSiteSymbol {
     pub end: SymbolIndex,
     /// The code of the body, row by row.
     pub rows: Reading<InlineRow>,
+}
+
+impl Drop for InlineSiteSymbol {
+    fn drop(self) {
+        let InlineSiteSymbol {
+            inlinee: _,
+            end: _,
+            rows: _,
+        } = self;
+    }
 }
 
 /// A run of an inlined body's code that comes from one line.

@@ -8,24 +8,36 @@ use std::marker::Model;
 pub struct TypeIndex(pub u32);
 
 /// An entry of a list of types or ids.
-#[derive(Drop)]
 pub struct Item<I, D> {
     pub index: I,
     /// What the entry says, or why it could not be read.
     pub content: Result<D, Error>,
 }
 
+impl<I: Drop, D: Drop> Drop for Item<I, D> {
+    fn drop(self) {
+        let Item {
+            index: _,
+            content: _,
+        } = self;
+    }
+}
+
 /// A list of types or ids. Of several entries with one index, the first counts.
-#[derive(Drop)]
 pub struct ItemInformation<I, D> {
     pub items: Reading<Item<I, D>>,
+}
+
+impl<I: Drop, D: Drop> Drop for ItemInformation<I, D> {
+    fn drop(self) {
+        let ItemInformation { items: _ } = self;
+    }
 }
 
 /// The types of a program.
 pub type TypeInformation = ItemInformation<TypeIndex, TypeData>;
 
 /// What an entry of the types says.
-#[derive(Drop)]
 pub enum TypeData {
     Primitive(PrimitiveType),
     Class(ClassType),
@@ -40,6 +52,25 @@ pub enum TypeData {
     ArgumentList(ArgumentList),
     /// A kind that is read and not printed.
     Other(UnhandledType),
+}
+
+impl Drop for TypeData {
+    fn drop(self) {
+        match self {
+            TypeData::Primitive(_) => {}
+            TypeData::Class(_) => {}
+            TypeData::MemberFunction(_) => {}
+            TypeData::Procedure(_) => {}
+            TypeData::Pointer(_) => {}
+            TypeData::Array(_) => {}
+            TypeData::Union(_) => {}
+            TypeData::Enumeration(_) => {}
+            TypeData::Enumerate(_) => {}
+            TypeData::Modifier(_) => {}
+            TypeData::ArgumentList(_) => {}
+            TypeData::Other(_) => {}
+        }
+    }
 }
 
 /// A type that the compiler brings, or a pointer to one.
@@ -107,7 +138,6 @@ pub enum ClassKind {
 }
 
 /// A class, a struct or an interface.
-#[derive(Drop)]
 pub struct ClassType {
     pub class_kind: ClassKind,
     pub name: RawString,
@@ -117,6 +147,18 @@ pub struct ClassType {
     pub size: u64,
     /// Whether only its name is known here.
     pub forward_reference: bool,
+}
+
+impl Drop for ClassType {
+    fn drop(self) {
+        let ClassType {
+            class_kind: _,
+            name: _,
+            unique_name: _,
+            size: _,
+            forward_reference: _,
+        } = self;
+    }
 }
 
 /// The type of a function that belongs to a class.
@@ -160,11 +202,20 @@ pub struct PointerType {
 }
 
 /// An array. Its dimensions are sizes in bytes, and it has at least one.
-#[derive(Drop)]
 pub struct ArrayType {
     pub element_type: TypeIndex,
     pub first: u32,
     pub rest: Vec<u32>,
+}
+
+impl Drop for ArrayType {
+    fn drop(self) {
+        let ArrayType {
+            element_type: _,
+            first: _,
+            rest: _,
+        } = self;
+    }
 }
 
 impl Model for ArrayType {
@@ -176,7 +227,6 @@ impl Model for ArrayType {
 }
 
 /// A union.
-#[derive(Drop)]
 pub struct UnionType {
     pub name: RawString,
     /// The name under which definition and forward references find each other, where there is one.
@@ -187,18 +237,42 @@ pub struct UnionType {
     pub forward_reference: bool,
 }
 
+impl Drop for UnionType {
+    fn drop(self) {
+        let UnionType {
+            name: _,
+            unique_name: _,
+            size: _,
+            forward_reference: _,
+        } = self;
+    }
+}
+
 /// An enumeration of named values.
-#[derive(Drop)]
 pub struct EnumerationType {
     pub name: RawString,
     pub underlying_type: TypeIndex,
 }
 
+impl Drop for EnumerationType {
+    fn drop(self) {
+        let EnumerationType {
+            name: _,
+            underlying_type: _,
+        } = self;
+    }
+}
+
 /// One named value of an enumeration.
-#[derive(Drop)]
 pub struct EnumerateType {
     pub name: RawString,
     pub value: Variant,
+}
+
+impl Drop for EnumerateType {
+    fn drop(self) {
+        let EnumerateType { name: _, value: _ } = self;
+    }
 }
 
 /// A number of the width and sign that it was declared with.
@@ -222,9 +296,14 @@ pub struct ModifierType {
 }
 
 /// The types of a function's arguments, in order.
-#[derive(Drop)]
 pub struct ArgumentList {
     pub arguments: Vec<TypeIndex>,
+}
+
+impl Drop for ArgumentList {
+    fn drop(self) {
+        let ArgumentList { arguments: _ } = self;
+    }
 }
 
 impl Model for ArgumentList {
@@ -237,10 +316,15 @@ impl Model for ArgumentList {
 }
 
 /// A type of a kind that is read and not printed.
-#[derive(Drop)]
 pub struct UnhandledType {
     /// What the kind is called.
     pub kind_name: String,
+}
+
+impl Drop for UnhandledType {
+    fn drop(self) {
+        let UnhandledType { kind_name: _ } = self;
+    }
 }
 
 impl Model for UnhandledType {

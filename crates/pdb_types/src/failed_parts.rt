@@ -9,9 +9,14 @@ use std::collections::BTreeSet;
 use std::marker::Model;
 
 /// The parts of the records that were met broken.
-#[derive(Drop)]
 pub struct FailedParts {
     parts: BTreeSet<Part>,
+}
+
+impl Drop for FailedParts {
+    fn drop(self) {
+        let FailedParts { parts: _ } = self;
+    }
 }
 
 impl Model for FailedParts {

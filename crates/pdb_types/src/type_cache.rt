@@ -18,7 +18,6 @@ pub(crate) struct Asked {
 /// The type cache: what was found of the records so far. It grows, and is asked before the records are read again.
 ///
 /// Of all this, later answers show the parts that failed alone.
-#[derive(Drop)]
 pub struct TypeCache<'a> {
     /// The entries of types.
     pub(crate) types: TypeMap<'a>,
@@ -34,6 +33,20 @@ pub struct TypeCache<'a> {
     pub(crate) sizes: BTreeMap<Asked, TypeSize>,
     /// The parts of the records that were met broken.
     pub failed: FailedParts,
+}
+
+impl Drop for TypeCache<'_> {
+    fn drop(self) {
+        let TypeCache {
+            types: _,
+            ids: _,
+            named: _,
+            exports: _,
+            forward_sizes: _,
+            sizes: _,
+            failed: _,
+        } = self;
+    }
 }
 
 impl<'a> TypeCache<'a> {
