@@ -3,8 +3,8 @@
 //! Nothing here reads a file. A reader of the binary container, or of a records file, fills these
 //! records in; whatever the records say, the crates above give an answer or a named error.
 //!
-//! Each record has a drop of its own in place of a derived one, which would be proved again in each crate that lets
-//! a record go.
+//! Each record that is not `Copy` has a drop of its own in place of a derived one, which would be proved again in each
+//! crate that lets such a record go.
 #![tactic(auto)]
 
 mod addresses;
