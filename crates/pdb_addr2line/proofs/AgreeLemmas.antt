@@ -1,5 +1,6 @@
 -- The function info and the frames info of a function agree.
-use Rattle.std.proofs.Common.{◌≡◌, ◌∙◌, ℕ, ◌+◌, ◌-◌, ◌<◌, ◌^◌, ◌==◌, ◌&&◌, Bool, true, false, cond, List, [], ◌∷◌, refl, sym, ap, arith, inl, inr}
+use Rattle.std.proofs.Common.{◌≡◌, ◌∙◌, ℕ, ◌+◌, ◌-◌, ◌<◌, ◌^◌, ◌==◌, ◌&&◌, Bool, true, false, cond, List, [], ◌∷◌, refl}
+use Rattle.std.proofs.Common.{sym, ap, arith, inl, inr}
 use Rattle.std.proofs.lemmas.Bool.{cases_lt, and_parts, eqb-true, ltb-true, lt-ltb, le-ltb}
 use Rattle.std.specs.Prelude.{Option, Some, None, Ok, find, option_map, option_and_then, nat_lt}
 use Rattle.pdb_records.specs.Addresses.{rva, rva_of, numbered_section}
@@ -69,16 +70,19 @@ address_between sections section first later a b less is_a is_b =
     rw (sum, lt-ltb b.0 (2 ^ 32) small) refl
 
 -- a global function ends where its size ends
-global_ends : (sections : List AddressRange) (globals : List GlobalFunction) (f : GlobalFunction) (start : Rva) (end : Option ℕ)
+global_ends : (sections : List AddressRange) (globals : List GlobalFunction) (f : GlobalFunction) (start : Rva)
+    (end : Option ℕ)
     → rva sections f.start ≡ Some start → global_end sections (next_global f.start globals) ≡ Some end
-    → option_and_then (sum_in_32_bits start.0) (option_map (λ next. next.start.offset - f.start.offset) (next_global f.start globals)) ≡ end
+    → option_and_then (sum_in_32_bits start.0)
+    (option_map (λ next. next.start.offset - f.start.offset) (next_global f.start globals)) ≡ end
 global_ends sections globals f start end starts ends = by_next (next_global f.start globals) refl ends where
   by_address : (next : GlobalFunction) → next_global f.start globals ≡ Some next → (address : Option Rva)
       → rva sections next.start ≡ address → option_map (λ a. Some a.0) address ≡ Some end
       → sum_in_32_bits start.0 (next.start.offset - f.start.offset) ≡ end
   by_address next is None at_none none = absurd cc
   by_address next is (Some b) at_b shown =
-      let passes = found_passes (λ g. (g.start.section == f.start.section) && nat_lt f.start.offset g.start.offset) globals next is in
+      let passes = found_passes (λ g. (g.start.section == f.start.section) && nat_lt f.start.offset g.start.offset)
+      globals next is in
       let parts = and_parts (next.start.section == f.start.section) (nat_lt f.start.offset next.start.offset) passes in
       let section : next.start.section ≡ f.start.section = eqb-true next.start.section f.start.section parts.0 in
       let less : f.start.offset < next.start.offset = ltb-true f.start.offset next.start.offset parts.1 in
@@ -92,7 +96,8 @@ global_ends sections globals f start end starts ends = by_next (next_global f.st
   by_next (Some next) is shown = by_address next is (rva sections next.start) refl shown
 
 -- the function info of a function by where it starts and ends and by its name
-pub record IsInfoOf {P : Type 0} (info : P → ProviderInfos) (s : ContextInputs P) (found : FoundFunction) (start : Rva) (f : FunctionInfo) : Type 0 where
+pub record IsInfoOf {P : Type 0} (info : P → ProviderInfos) (s : ContextInputs P) (found : FoundFunction)
+    (start : Rva) (f : FunctionInfo) : Type 0 where
   pub start_rva : start.0 ≡ f.start_rva
   pub end_rva : option_and_then (sum_in_32_bits start.0) (function_size (global_functions_of s) found) ≡ f.end_rva
   pub name : function_name info s.type_inputs (global_functions_of s) found ≡ f.name
@@ -115,7 +120,8 @@ name_in None = None
 name_in (Some f) = f.name
 
 -- the function info of a function that starts here
-is_info_of : {P : Type 0} (info : P → ProviderInfos) (s : ContextInputs P) (found : FoundFunction) (start : Rva) (f : FunctionInfo)
+is_info_of : {P : Type 0} (info : P → ProviderInfos) (s : ContextInputs P) (found : FoundFunction) (start : Rva)
+    (f : FunctionInfo)
     → rva s.address_map (function_start found) ≡ Some start
     → info_of info s.type_inputs s.address_map (global_functions_of s) found ≡ Some f → IsInfoOf info s found start f
 is_info_of info s (found_procedure m p) start f starts shown =
@@ -135,11 +141,13 @@ is_info_of info s (found_global m g) start f starts shown =
     }
 
 -- the function info of the function over an address and its frames info there agree
-pub agreed : {P : Type 0} (info : P → ProviderInfos) (s : ContextInputs P) (address : ℕ) (f : FunctionInfo) (shown : FramesInfo)
+pub agreed : {P : Type 0} (info : P → ProviderInfos) (s : ContextInputs P) (address : ℕ) (f : FunctionInfo)
+    (shown : FramesInfo)
     → function_at info s address ≡ Some f → frames_at info s address ≡ Ok (Some shown) → Agree f shown
 agreed {P = P} info s address f shown is answered = by_found (found_at info s address) refl is where
   by_found : (found : Option FoundFunction) → found_at info s address ≡ found
-      → option_and_then (info_of info s.type_inputs s.address_map (global_functions_of s)) found ≡ Some f → Agree f shown
+      → option_and_then (info_of info s.type_inputs s.address_map (global_functions_of s)) found ≡ Some f
+      → Agree f shown
   by_found None over none = absurd cc
   by_found (Some found) over here =
       let somewhere = shown_somewhere info s address found shown over answered in

@@ -13,9 +13,11 @@ use Rattle.pdb_documents.specs.Ids.{id_of_index}
 use Rattle.pdb_documents.specs.Printed.{document_of}
 use Rattle.pdb_documents.specs.Signatures.{signature}
 use Rattle.pdb_documents.specs.PrintInputs.{formatter_inputs}
-use Rattle.pdb_addr2line.specs.Calls.{AnswerView, FramesView, TextView, answer_to, after_call, answers_to, printed, text_unless, successful, fresh}
+use Rattle.pdb_addr2line.specs.Calls.{AnswerView, FramesView, TextView, answer_to, after_call, answers_to, printed}
+use Rattle.pdb_addr2line.specs.Calls.{text_unless, successful, fresh}
 use Rattle.pdb_addr2line.specs.declared.calls.Call.{Call}
-use Rattle.pdb_addr2line.specs.declared.calls.Call.TheVariants.{FindFunction, FindFrames, Functions, FunctionCount, TypeSize, FormatFunction, FormatId}
+use Rattle.pdb_addr2line.specs.declared.calls.Call.TheVariants.{FindFunction, FindFrames, Functions, FunctionCount}
+use Rattle.pdb_addr2line.specs.declared.calls.Call.TheVariants.{TypeSize, FormatFunction, FormatId}
 use Rattle.pdb_addr2line.specs.Functions.{after_function, after_functions, start_addresses}
 use Rattle.pdb_addr2line.specs.Lookups.{frames_at, frames_answered, blamed_at, answered_refusal}
 use Rattle.pdb_function_info.specs.Names.{faultless}
@@ -51,7 +53,8 @@ frames_view_of frames = option_map (λ f. FramesView (Ok f)) frames
 
 -- frames are answered alike, unless they are refused, whatever failed before
 same_frames : {P : Type 0} (info : P → ProviderInfos) (c c' : ContextState P) (address : ℕ) → c.inputs ≡ c'.inputs
-    → successful (FramesView (frames_answered info c address)) ≡ successful (FramesView (frames_answered info c' address))
+    → successful (FramesView (frames_answered info c address)) ≡ successful
+    (FramesView (frames_answered info c' address))
 same_frames info c c' address same =
     ap frames_view_of (
     answer_of_view c.code_failed (blamed_at info c.inputs address) (frames_at info c.inputs address)

@@ -11,18 +11,26 @@ use Rattle.pdb_addr2line.specs.Lookups.{found_at}
 use Rattle.pdb_addr2line.specs.ContextInputs.{ContextInputs, contributions_of, global_functions_of}
 
 -- what lies over a section offset
-pub over_goes_by_symbol : {P : Type 0} (info : P → ProviderInfos) (s : ContextInputs P) (section_offset : PdbInternalSectionOffset) (found : FoundFunction)
-    → Some found ≡ function_over (info s.provider) s.type_inputs.modules (contributions_of s) (global_functions_of s) section_offset
+pub over_goes_by_symbol : {P : Type 0} (info : P → ProviderInfos) (s : ContextInputs P)
+    (section_offset : PdbInternalSectionOffset) (found : FoundFunction)
+    → Some found ≡ function_over (info s.provider) s.type_inputs.modules (contributions_of s)
+    (global_functions_of s) section_offset
     → GoesBySymbol (info s.provider) s.type_inputs.modules found
 over_goes_by_symbol info s section_offset found is =
-    subst (λ o. IfSome o (GoesBySymbol (info s.provider) s.type_inputs.modules)) (sym is) (over_by_symbol (info s.provider) s.type_inputs.modules (contributions_of s) (global_functions_of s) section_offset)
+    subst (λ o. IfSome o (GoesBySymbol (info s.provider) s.type_inputs.modules)) (sym is)
+    (over_by_symbol (info s.provider) s.type_inputs.modules (contributions_of s) (global_functions_of s) section_offset)
 
 -- what lies over an address
-pub at_goes_by_symbol : {P : Type 0} (info : P → ProviderInfos) (s : ContextInputs P) (address : ℕ) (found : FoundFunction) → Some found ≡ found_at info s address → GoesBySymbol (info s.provider) s.type_inputs.modules found
+pub at_goes_by_symbol : {P : Type 0} (info : P → ProviderInfos) (s : ContextInputs P) (address : ℕ)
+    (found : FoundFunction) → Some found ≡ found_at info s address
+    → GoesBySymbol (info s.provider) s.type_inputs.modules found
 at_goes_by_symbol info s address found is =
-    subst (λ o. IfSome o (GoesBySymbol (info s.provider) s.type_inputs.modules)) (sym is) (of_section_offset (internal_offset s.address_map (record { 0 = address })))
+    subst (λ o. IfSome o (GoesBySymbol (info s.provider) s.type_inputs.modules)) (sym is)
+    (of_section_offset (internal_offset s.address_map (record { 0 = address })))
   where
     of_section_offset : (section_offset : Option PdbInternalSectionOffset)
-        → IfSome (option_and_then (function_over (info s.provider) s.type_inputs.modules (contributions_of s) (global_functions_of s)) section_offset) (GoesBySymbol (info s.provider) s.type_inputs.modules)
+        → IfSome (option_and_then (function_over (info s.provider) s.type_inputs.modules (contributions_of s)
+        (global_functions_of s)) section_offset) (GoesBySymbol (info s.provider) s.type_inputs.modules)
     of_section_offset None = tt
-    of_section_offset (Some section_offset) = over_by_symbol (info s.provider) s.type_inputs.modules (contributions_of s) (global_functions_of s) section_offset
+    of_section_offset (Some section_offset) = over_by_symbol (info s.provider) s.type_inputs.modules
+        (contributions_of s) (global_functions_of s) section_offset

@@ -15,14 +15,16 @@ use Rattle.pdb_functions.specs.Lookup.{FoundFunction}
 use Rattle.pdb_frames.specs.Frame.{FrameInfo, FramesInfo}
 use Rattle.pdb_frames.specs.Origins.{Origin, function_module, function_start, origin}
 use Rattle.pdb_addr2line.specs.FrameLaws.{EndIn}
-use Rattle.pdb_function_info.specs.Frames.{Strings, own_frame, inlined_frames, origin_frames, function_frames, function_size}
+use Rattle.pdb_function_info.specs.Frames.{Strings, own_frame, inlined_frames, origin_frames, function_frames}
+use Rattle.pdb_function_info.specs.Frames.{function_size}
 use Rattle.pdb_function_info.specs.Function.{sum_in_32_bits}
 use Rattle.pdb_addr2line.specs.Lookups.{found_at, frames_of, frames_at, records_of}
 use Rattle.pdb_function_info.specs.Names.{function_name, id_name}
 use Rattle.pdb_addr2line.specs.ContextInputs.{ContextInputs, global_functions_of}
 
 -- the frames of a function that was found
-abbrev pub frames_answered : {P : Type 0} → (P → ProviderInfos) → ContextInputs P → ℕ → FoundFunction → Result (List FrameInfo) Error
+abbrev pub frames_answered : {P : Type 0} → (P → ProviderInfos) → ContextInputs P → ℕ → FoundFunction
+    → Result (List FrameInfo) Error
 frames_answered info s x found =
     function_frames s.strings (id_name info s.type_inputs (function_module found))
     (function_name info s.type_inputs (global_functions_of s) found) (records_of info s found) found x
@@ -36,7 +38,8 @@ shown_with globals found start frames = record {
 }
 
 -- the frames info of a function, by where it starts and by its frames
-pub record AreFramesOf {P : Type 0} (info : P → ProviderInfos) (s : ContextInputs P) (x : ℕ) (found : FoundFunction) (shown : FramesInfo) : Type 0 where
+pub record AreFramesOf {P : Type 0} (info : P → ProviderInfos) (s : ContextInputs P) (x : ℕ) (found : FoundFunction)
+    (shown : FramesInfo) : Type 0 where
   pub start : Rva
   pub starts : rva s.address_map (function_start found) ≡ Some start
   pub frames : frames_answered info s x found ≡ Ok shown.frames
@@ -44,35 +47,40 @@ pub record AreFramesOf {P : Type 0} (info : P → ProviderInfos) (s : ContextInp
   pub end_rva : shown.end_rva ≡ option_and_then (sum_in_32_bits start.0) (function_size (global_functions_of s) found)
 
 -- the frames info of a function has a start and frames
-are_frames_of : {P : Type 0} (info : P → ProviderInfos) (s : ContextInputs P) (x : ℕ) (found : FoundFunction) (shown : FramesInfo)
+are_frames_of : {P : Type 0} (info : P → ProviderInfos) (s : ContextInputs P) (x : ℕ) (found : FoundFunction)
+    (shown : FramesInfo)
     → frames_of info s x found ≡ Ok (Some shown) → AreFramesOf info s x found shown
-are_frames_of {P = P} info s x found shown answered = by_start (rva s.address_map (function_start found)) refl answered where
-  by_frames : (start : Rva) → rva s.address_map (function_start found) ≡ Some start
-      → (frames : Result (List FrameInfo) Error) → frames_answered info s x found ≡ frames
-      → and_then frames (λ list. Ok (Some (shown_with (global_functions_of s) found start list))) ≡ Ok (Some shown)
-      → AreFramesOf info s x found shown
-  by_frames start starts (Err e) are refused = absurd cc
-  by_frames start starts (Ok list) are answer =
-      let same : shown_with (global_functions_of s) found start list ≡ shown = cc in
-      let lists : list ≡ shown.frames = ap (λ (t : FramesInfo). t.frames) same in
-      record {
-        start = start;
-        starts = starts;
-        frames = rw lists at are;
-        start_rva = sym (ap (λ (t : FramesInfo). t.start_rva) same);
-        end_rva = sym (ap (λ (t : FramesInfo). t.end_rva) same);
-      }
+are_frames_of {P = P} info s x found shown answered =
+    by_start (rva s.address_map (function_start found)) refl answered where
+      by_frames : (start : Rva) → rva s.address_map (function_start found) ≡ Some start
+          → (frames : Result (List FrameInfo) Error) → frames_answered info s x found ≡ frames
+          → and_then frames (λ list. Ok (Some (shown_with (global_functions_of s) found start list))) ≡ Ok (Some shown)
+          → AreFramesOf info s x found shown
+      by_frames start starts (Err e) are refused = absurd cc
+      by_frames start starts (Ok list) are answer =
+          let same : shown_with (global_functions_of s) found start list ≡ shown = cc in
+          let lists : list ≡ shown.frames = ap (λ (t : FramesInfo). t.frames) same in
+          record {
+            start = start;
+            starts = starts;
+            frames = rw lists at are;
+            start_rva = sym (ap (λ (t : FramesInfo). t.start_rva) same);
+            end_rva = sym (ap (λ (t : FramesInfo). t.end_rva) same);
+          }
 
-  by_start : (start : Option Rva) → rva s.address_map (function_start found) ≡ start
-      → option_map_or (λ here. and_then (frames_answered info s x found) (λ list. Ok (Some (shown_with (global_functions_of s) found here list)))) start (Ok None) ≡ Ok (Some shown)
-      → AreFramesOf info s x found shown
-  by_start None starts none = absurd cc
-  by_start (Some start) starts answer = by_frames start starts (frames_answered info s x found) refl answer
+      by_start : (start : Option Rva) → rva s.address_map (function_start found) ≡ start
+          → option_map_or (λ here. and_then (frames_answered info s x found)
+          (λ list. Ok (Some (shown_with (global_functions_of s) found here list)))) start (Ok None) ≡ Ok (Some shown)
+          → AreFramesOf info s x found shown
+      by_start None starts none = absurd cc
+      by_start (Some start) starts answer = by_frames start starts (frames_answered info s x found) refl answer
 
 -- the frames info over an address is that of the function over it, at the address's offset
-pub shown_at : {P : Type 0} (info : P → ProviderInfos) (s : ContextInputs P) (address : ℕ) (section_offset : PdbInternalSectionOffset)
+pub shown_at : {P : Type 0} (info : P → ProviderInfos) (s : ContextInputs P) (address : ℕ)
+    (section_offset : PdbInternalSectionOffset)
     (found : FoundFunction) (shown : FramesInfo)
-    → internal_offset s.address_map (record { 0 = address }) ≡ Some section_offset → found_at info s address ≡ Some found
+    → internal_offset s.address_map (record { 0 = address }) ≡ Some section_offset
+    → found_at info s address ≡ Some found
     → frames_at info s address ≡ Ok (Some shown) → AreFramesOf info s section_offset.offset found shown
 shown_at info s address section_offset found shown lies over answered =
     let there = rw lies at over in
@@ -103,10 +111,12 @@ pub shown_somewhere : {P : Type 0} (info : P → ProviderInfos) (s : ContextInpu
 shown_somewhere {P = P} info s address found shown over answered =
     by_section_offset (internal_offset s.address_map (record { 0 = address })) refl
   where
-    by_section_offset : (section_offset : Option PdbInternalSectionOffset) → internal_offset s.address_map (record { 0 = address }) ≡ section_offset
+    by_section_offset : (section_offset : Option PdbInternalSectionOffset)
+        → internal_offset s.address_map (record { 0 = address }) ≡ section_offset
         → (x : ℕ) × AreFramesOf info s x found shown
     by_section_offset None lies = let none = rw lies at answered in absurd cc
-    by_section_offset (Some section_offset) lies = (section_offset.offset, shown_at info s address section_offset found shown lies over answered)
+    by_section_offset (Some section_offset) lies =
+        (section_offset.offset, shown_at info s address section_offset found shown lies over answered)
 
 -- the frames over an address end in the one that has the name of the function over it
 pub ended_in_name : {P : Type 0} (info : P → ProviderInfos) (s : ContextInputs P) (address : ℕ)

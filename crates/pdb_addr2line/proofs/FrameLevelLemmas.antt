@@ -40,7 +40,8 @@ and_then-ok (Ok a) next b is = (a, refl, is)
 and_then-ok (Err e) next b is = absurd cc
 
 -- what isn't refused is the answer
-pub unless-ok : {A : Type 0} (refusal : Option Error) (answer : Result A Error) (a : A) → unless refusal answer ≡ Ok a → answer ≡ Ok a
+pub unless-ok : {A : Type 0} (refusal : Option Error) (answer : Result A Error) (a : A) → unless refusal answer ≡ Ok a
+    → answer ≡ Ok a
 unless-ok None answer a is = is
 unless-ok (Some e) answer a is = absurd cc
 
@@ -57,13 +58,15 @@ known_inlinees info known is = by_program (streamed info.line_program) is where
   ids_in (Err e) = []
 
   by_fault : (program : Lines) (fault : Option StreamError)
-      → and_then (unless (option_map (λ f. PdbError (Stream f)) fault) (Ok info.inlinees.items)) (λ items. Ok (known_with program items)) ≡ Ok known
+      → and_then (unless (option_map (λ f. PdbError (Stream f)) fault) (Ok info.inlinees.items))
+      (λ items. Ok (known_with program items)) ≡ Ok known
       → known.inlinees ≡ inlinee_ids info.inlinees.items
   by_fault program None shown = sym (ap ids_in shown)
   by_fault program (Some fault) shown = absurd cc
 
   by_program : (program : Result Lines Error)
-      → and_then program (λ lines. and_then (read_whole info.inlinees) (λ items. Ok (known_with lines items))) ≡ Ok known
+      → and_then program (λ lines. and_then (read_whole info.inlinees) (λ items. Ok (known_with lines items)))
+      ≡ Ok known
       → known.inlinees ≡ inlinee_ids info.inlinees.items
   by_program (Ok program) shown = by_fault program info.inlinees.fault shown
   by_program (Err e) shown = absurd cc
@@ -110,12 +113,15 @@ level_frames strings name_of name (Some info) found x frames is =
     rw (← same, ← origin_levels info found x o here.1) (simp (length-append, length-reverse, length-map) (omega arith))
 
 -- over an address there is a frame for each level, and that of the function
-pub frames_by_level : {P : Type 0} (info : P → ProviderInfos) (s : ContextInputs P) (address : ℕ) (section_offset : PdbInternalSectionOffset)
+pub frames_by_level : {P : Type 0} (info : P → ProviderInfos) (s : ContextInputs P) (address : ℕ)
+    (section_offset : PdbInternalSectionOffset)
     (found : FoundFunction) (shown : FramesInfo)
-    → internal_offset s.address_map (record { 0 = address }) ≡ Some section_offset → found_at info s address ≡ Some found
+    → internal_offset s.address_map (record { 0 = address }) ≡ Some section_offset
+    → found_at info s address ≡ Some found
     → frames_at info s address ≡ Ok (Some shown)
     → length shown.frames ≡ levels_over (records_of info s found) found section_offset.offset + 1
 frames_by_level info s address section_offset found shown lies over answered =
     let is = shown_at info s address section_offset found shown lies over answered in
     level_frames s.strings (id_name info s.type_inputs (function_module found))
-    (function_name info s.type_inputs (global_functions_of s) found) (records_of info s found) found section_offset.offset shown.frames is.frames
+    (function_name info s.type_inputs (global_functions_of s) found)
+    (records_of info s found) found section_offset.offset shown.frames is.frames

@@ -18,7 +18,8 @@ use Rattle.pdb_functions.specs.Procedures.{ModuleProcedure}
 use Rattle.pdb_inline.specs.InlineRanges.{inline_ranges}
 use Rattle.pdb_inline.specs.InlineStacks.{inline_stack, IsSoleOver}
 use Rattle.pdb_inline.specs.declared.inline_ranges.InlineRange.{InlineRange}
-use Rattle.pdb_inline.proofs.DirectlyInsideLemmas.{entry_of_site, stack_directly_inside}
+use Rattle.pdb_inline.proofs.DirectlyInsideLemmas.{stack_directly_inside}
+use Rattle.pdb_inline.proofs.StackEntryLemmas.{entry_of_site}
 use Rattle.pdb_inline.proofs.NestingLemmas.{procedure_nested}
 use Rattle.pdb_frames.specs.ExtendedInfo.{ExtendedInfo, inlinee_ids, extended_info}
 use Rattle.pdb_frames.specs.Frame.{FrameInfo, FramesInfo}
@@ -50,7 +51,8 @@ known_program : (info : ModuleInfo) (known : ExtendedInfo) → extended_info inf
     → info.line_program ≡ Ok known.line_program
 known_program info known is = by_stream info.line_program refl is where
   by_stream : (program : Result Lines StreamError) → info.line_program ≡ program
-      → and_then (streamed program) (λ lines. and_then (read_whole info.inlinees) (λ items. Ok (known_with lines items))) ≡ Ok known
+      → and_then (streamed program)
+      (λ lines. and_then (read_whole info.inlinees) (λ items. Ok (known_with lines items))) ≡ Ok known
       → info.line_program ≡ Ok known.line_program
   by_stream (Err fault) here shown = absurd cc
   by_stream (Ok program) here shown =
@@ -58,9 +60,12 @@ known_program info known is = by_stream info.line_program refl is where
       let same : program ≡ known.line_program = ap known_in items.2 in
       rw same at here
 
--- where the code of a procedure comes from: its line program is the module's, and its stack that of the procedure's ranges
-origin_parts : (info : ModuleInfo) (m : ℕ) (p : ModuleProcedure) (x : ℕ) (o : Origin) → origin info (found_procedure m p) x ≡ Ok o
-    → (info.line_program ≡ Ok o.line_program) × (o.stack ≡ inline_stack (inline_ranges (inlinee_ids info.inlinees.items) (sites_of info p)) x)
+-- where the code of a procedure comes from: its line program is the module's, and its stack that of the procedure's
+-- ranges
+origin_parts : (info : ModuleInfo) (m : ℕ) (p : ModuleProcedure) (x : ℕ) (o : Origin)
+    → origin info (found_procedure m p) x ≡ Ok o
+    → (info.line_program ≡ Ok o.line_program) ×
+    (o.stack ≡ inline_stack (inline_ranges (inlinee_ids info.inlinees.items) (sites_of info p)) x)
 origin_parts info m p x o is =
     let known = and_then-ok (extended_info info) _ o is in
     let row = and_then-ok (function_row known.0.line_program p.offset x) _ o known.2 in
@@ -77,11 +82,13 @@ origin_parts info m p x o is =
 
 -- counted from outside, behind the function's own frame, each frame is that of an entry of the stack
 frame_of_entry : (f : InlineRange → FrameInfo) (own : FrameInfo) (stack : List InlineRange) (frames : List FrameInfo)
-    (level : ℕ) (frame : FrameInfo) → frames ≡ reverse (map f stack) ++ own ∷ [] → slice_get (reverse frames) (level + 1) ≡ Some frame
+    (level : ℕ) (frame : FrameInfo) → frames ≡ reverse (map f stack) ++ own ∷ []
+    → slice_get (reverse frames) (level + 1) ≡ Some frame
     → (range : InlineRange) × (slice_get stack level ≡ Some range) × (frame ≡ f range)
 frame_of_entry f own stack frames level frame is got =
     let turned : reverse frames ≡ own ∷ map f stack =
-    rw is (reverse-append (reverse (map f stack)) (own ∷ []) ∙ ap (λ (xs : List FrameInfo). own ∷ xs) (reverse-reverse (map f stack))) in
+    rw is (reverse-append (reverse (map f stack)) (own ∷ []) ∙ ap (λ (xs : List FrameInfo). own ∷ xs)
+    (reverse-reverse (map f stack))) in
     let there : slice_get (map f stack) level ≡ Some frame = rw (turned, add-one level) at got in
     by_entry (slice_get stack level) refl (sym (slice_get-map f stack level) ∙ there)
   where
@@ -137,18 +144,24 @@ nested_frames strings name_of name info m p x frames level frame under is sole f
         read = parts.0;
         shown = two.2;
       };
-      directly = stack_directly_inside ids sites x level outer.0 inner.0 one.0 two.0 nested sole outer.1 inner.1 range_in under_in outer.2 inner.2;
+      directly = stack_directly_inside ids sites x level outer.0 inner.0 one.0 two.0 nested sole outer.1 inner.1
+          range_in under_in outer.2 inner.2;
     }
 
 -- the same for the frames over an address
-pub frames_nested : {P : Type 0} (infos : P → ProviderInfos) (s : ContextInputs P) (address : ℕ) (section_offset : PdbInternalSectionOffset)
+pub frames_nested : {P : Type 0} (infos : P → ProviderInfos) (s : ContextInputs P) (address : ℕ)
+    (section_offset : PdbInternalSectionOffset)
     (m : ℕ) (p : ModuleProcedure) (info : ModuleInfo) (shown : FramesInfo) (level : ℕ) (frame under : FrameInfo)
-    → internal_offset s.address_map (record { 0 = address }) ≡ Some section_offset → found_at infos s address ≡ Some (found_procedure m p)
+    → internal_offset s.address_map (record { 0 = address }) ≡ Some section_offset
+    → found_at infos s address ≡ Some (found_procedure m p)
     → records_of infos s (found_procedure m p) ≡ Some info → frames_at infos s address ≡ Ok (Some shown)
     → IsSoleOver (inlinee_ids info.inlinees.items) (sites_of info p) section_offset.offset
-    → slice_get (reverse shown.frames) (level + 1) ≡ Some frame → slice_get (reverse shown.frames) (level + 2) ≡ Some under
+    → slice_get (reverse shown.frames) (level + 1) ≡ Some frame
+    → slice_get (reverse shown.frames) (level + 2) ≡ Some under
     → AreNestedFrames s.strings (id_name infos s.type_inputs m) info p section_offset.offset level frame under
-frames_nested infos s address section_offset m p info shown level frame under lies over records answered sole first second =
+frames_nested infos s address section_offset m p info shown level frame under lies over records answered sole first
+    second =
     let is = shown_at infos s address section_offset (found_procedure m p) shown lies over answered in
-    nested_frames s.strings (id_name infos s.type_inputs m) (function_name infos s.type_inputs (global_functions_of s) (found_procedure m p))
+    nested_frames s.strings (id_name infos s.type_inputs m)
+    (function_name infos s.type_inputs (global_functions_of s) (found_procedure m p))
     info m p section_offset.offset shown.frames level frame under (rw records at is.frames) sole first second

@@ -1,5 +1,6 @@
 -- The functions of a program, answered one by one.
-use Rattle.std.proofs.Common.{◌≡◌, ◌∙◌, ℕ, true, false, List, [], ◌∷◌, ◌++◌, refl, sym, ap, append_assoc, MatchResult, OnOk, OnErr}
+use Rattle.std.proofs.Common.{◌≡◌, ◌∙◌, ℕ, true, false, List, [], ◌∷◌, ◌++◌, refl, sym, ap, append_assoc, MatchResult}
+use Rattle.std.proofs.Common.{OnOk, OnErr}
 use Rattle.std.specs.Prelude.{Option, Some, None, Result, Ok, Err, option_map}
 use Rattle.std.specs.Option.{is_some}
 use Rattle.std.specs.Result.{result_transpose}
@@ -23,28 +24,36 @@ passing_stays {info = info} {before = before} {passed = passed} passes =
     ap (λ c. c.inputs) passes.shown ∙ inputs_stay info before passed
 
 -- the first address that is left
-first_left : {P : Type 0} {info : P → ProviderInfos} {before between : ContextState P} {all passed rest left : List ℕ} {address : ℕ}
-    → Passes info before between all passed rest → rest ≡ address ∷ left → Passes info before between all passed (address ∷ left)
+first_left : {P : Type 0} {info : P → ProviderInfos} {before between : ContextState P} {all passed rest left : List ℕ}
+    {address : ℕ}
+    → Passes info before between all passed rest → rest ≡ address ∷ left
+    → Passes info before between all passed (address ∷ left)
 first_left passes first = rw first at passes
 
 -- one address more is passed
-passes_more : {P : Type 0} {info : P → ProviderInfos} {before between after : ContextState P} {all passed left : List ℕ} {address : ℕ}
+passes_more : {P : Type 0} {info : P → ProviderInfos} {before between after : ContextState P}
+    {all passed left : List ℕ} {address : ℕ}
     → Passes info before between all passed (address ∷ left)
     → function_at info before.inputs address ≡ None → after ≡ after_function info between address
     → Passes info before after all (passed ++ address ∷ []) left
-passes_more {info = info} {before = before} {between = between} {passed = passed} {left = left} {address = address} passes nothing shown =
+passes_more {info = info} {before = before} {between = between} {passed = passed} {left = left}
+    {address = address} passes nothing shown =
     let alone : functions_at info before.inputs (address ∷ []) ≡ [] = rw nothing refl in
     record {
       parts = passes.parts ∙ sym (append_assoc passed (address ∷ []) left);
-      none = filter_map-append (function_at info before.inputs) passed (address ∷ []) ∙ (ap (λ xs. xs ++ functions_at info before.inputs (address ∷ [])) passes.none ∙ alone);
-      shown = shown ∙ (ap (λ c. after_function info c address) passes.shown ∙ sym (fold-append (after_function info) before passed (address ∷ [])));
+      none = filter_map-append (function_at info before.inputs) passed (address ∷ []) ∙
+          (ap (λ xs. xs ++ functions_at info before.inputs (address ∷ [])) passes.none ∙ alone);
+      shown = shown ∙ (ap (λ c. after_function info c address) passes.shown ∙ sym
+          (fold-append (after_function info) before passed (address ∷ [])));
     }
 
 -- an address that nothing is answered for is passed
-pub passed_here : {P : Type 0} (info : P → ProviderInfos) (before between after : ContextState P) (all passed rest left : List ℕ) (address : ℕ)
+pub passed_here : {P : Type 0} (info : P → ProviderInfos) (before between after : ContextState P)
+    (all passed rest left : List ℕ) (address : ℕ)
     (found : Result (Option Function) Error)
     → Passes info before between all passed rest → rest ≡ address ∷ left
-    → MatchResult found (λ f. option_map function_view f ≡ function_at info between.inputs address) (λ e. e ≡ OutOfMemory)
+    → MatchResult found (λ f. option_map function_view f ≡ function_at info between.inputs address)
+    (λ e. e ≡ OutOfMemory)
     → OnOk found (after ≡ after_function info between address)
     → is_some (result_transpose found) ≡ false
     → Passes info before after all (passed ++ address ∷ []) left
@@ -52,20 +61,26 @@ passed_here info before between after all passed rest left address (Ok None) pas
     let none : function_at info before.inputs address ≡ None =
     ap (λ s. function_at info s address) (sym (passing_stays passes)) ∙ sym answer in
     passes_more (first_left passes first) none shown
-passed_here info before between after all passed rest left address (Ok (Some f)) passes first answer shown nothing = absurd (cc)
-passed_here info before between after all passed rest left address (Err e) passes first answer shown nothing = absurd (cc)
+passed_here info before between after all passed rest left address (Ok (Some f)) passes first answer shown nothing =
+    absurd (cc)
+passed_here info before between after all passed rest left address (Err e) passes first answer shown nothing =
+    absurd (cc)
 
 -- what is answered for an address is answered next
-pub shown_here : {P : Type 0} (info : P → ProviderInfos) (before between after : ContextState P) (all passed rest left : List ℕ) (address : ℕ)
+pub shown_here : {P : Type 0} (info : P → ProviderInfos) (before between after : ContextState P)
+    (all passed rest left : List ℕ) (address : ℕ)
     (found : Result (Option Function) Error)
     → Passes info before between all passed rest → rest ≡ address ∷ left
-    → MatchResult found (λ f. option_map function_view f ≡ function_at info between.inputs address) (λ e. e ≡ OutOfMemory)
+    → MatchResult found (λ f. option_map function_view f ≡ function_at info between.inputs address)
+    (λ e. e ≡ OutOfMemory)
     → OnOk found (after ≡ after_function info between address)
     → OnErr found (OnlyGainsBroken info between after)
     → is_some (result_transpose found) ≡ true
     → Continues info before after all left (result_transpose found)
-shown_here info before between after all passed rest left address (Ok None) passes first answer shown interrupted something = absurd (cc)
-shown_here info before between after all passed rest left address (Ok (Some f)) passes first answer shown interrupted something =
+shown_here info before between after all passed rest left address
+    (Ok None) passes first answer shown interrupted something = absurd (cc)
+shown_here info before between after all passed rest left address
+    (Ok (Some f)) passes first answer shown interrupted something =
     record {
       passed = passed;
       address = address;
@@ -74,7 +89,8 @@ shown_here info before between after all passed rest left address (Ok (Some f)) 
       function = ap (λ s. function_at info s address) (sym (passing_stays passes)) ∙ sym answer;
       shown = shown;
     }
-shown_here info before between after all passed rest left address (Err e) passes first answer shown interrupted something =
+shown_here info before between after all passed rest left address
+    (Err e) passes first answer shown interrupted something =
     record {
       passed = passed;
       address = address;

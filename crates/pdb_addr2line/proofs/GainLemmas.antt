@@ -19,7 +19,8 @@ all_of_both holds (part ∷ first) second all_first all_second =
     (all_first.0, all_of_both holds first second all_first.1 all_second)
 
 -- parts that are broken for one module that asks are broken for some
-broken_for_some : {P : Type 0} (info : P → ProviderInfos) (type_inputs : TypeInputs P) (module_index : ℕ) (parts : List Part)
+broken_for_some : {P : Type 0} (info : P → ProviderInfos) (type_inputs : TypeInputs P) (module_index : ℕ)
+    (parts : List Part)
     → AllByRecursion (IsBroken (formatter_inputs info type_inputs module_index)) parts
     → AllByRecursion (IsBrokenForSome info type_inputs) parts
 broken_for_some info type_inputs module_index [] all = all
@@ -32,7 +33,8 @@ pub gains_nothing : {P : Type 0} (info : P → ProviderInfos) (type_inputs : Typ
 gains_nothing info type_inputs failed = record { added = []; broken = _; is = refl }
 
 -- what one module that asks meets broken is broken
-pub gains_of_one : {P : Type 0} (info : P → ProviderInfos) (type_inputs : TypeInputs P) (old new : Parts) → GainsBroken info type_inputs old new
+pub gains_of_one : {P : Type 0} (info : P → ProviderInfos) (type_inputs : TypeInputs P) (old new : Parts)
+    → GainsBroken info type_inputs old new
     → GainsBrokenParts info type_inputs old new
 gains_of_one info type_inputs old new gains = record {
   added = gains.1.added;
@@ -47,11 +49,13 @@ pub gains_twice : {P : Type 0} (info : P → ProviderInfos) (type_inputs : TypeI
 gains_twice info type_inputs old between new first second = record {
   added = first.added ++ second.added;
   broken = all_of_both (IsBrokenForSome info type_inputs) first.added second.added first.broken second.broken;
-  is = second.is ∙ ap (λ failed. with_parts failed second.added) first.is ∙ with_parts-append old first.added second.added;
+  is = second.is ∙ ap (λ failed. with_parts failed second.added) first.is
+      ∙ with_parts-append old first.added second.added;
 }
 
 -- a context only gains broken parts, where one module that asked met them
-pub gains_by_one : {P : Type 0} (info : P → ProviderInfos) (before after : ContextState P) → after.inputs ≡ before.inputs
+pub gains_by_one : {P : Type 0} (info : P → ProviderInfos) (before after : ContextState P)
+    → after.inputs ≡ before.inputs
     → GainsBroken info before.inputs.type_inputs before.failed after.failed → after.code_failed ≡ before.code_failed
     → OnlyGainsBroken info before after
 gains_by_one info before after inputs gains code = record {

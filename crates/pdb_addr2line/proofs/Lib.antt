@@ -7,5 +7,6 @@ pub mod CallLemmas
 pub mod FunctionLemmas
 pub mod FunctionStepLemmas
 pub mod StartLemmas
+pub mod NumberListLemmas
 pub mod RunLemmas
 pub mod FoundLemmas

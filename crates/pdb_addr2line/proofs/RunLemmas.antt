@@ -1,8 +1,10 @@
 -- A list of calls, call by call.
-use Rattle.std.proofs.Common.{◌≡◌, ◌∙◌, ℕ, ◌+◌, ◌<◌, List, [], ◌∷◌, ◌++◌, length, take, drop, map, get_or, sym, ap, refl, append_assoc}
+use Rattle.std.proofs.Common.{◌≡◌, ◌∙◌, ℕ, ◌+◌, ◌<◌, List, [], ◌∷◌, ◌++◌, length, take, drop, map, get_or, sym, ap}
+use Rattle.std.proofs.Common.{refl, append_assoc}
 use Rattle.std.proofs.lemmas.List.{take_more, take-append-drop, map-append}
 use Rattle.pdb_types.specs.TypeInputs.{ProviderInfos}
-use Rattle.pdb_addr2line.specs.Calls.{AnswerView, answer_view, Appends, StopsEarly, answer_to, answers_to, after_call, after_calls}
+use Rattle.pdb_addr2line.specs.Calls.{AnswerView, answer_view, Appends, StopsEarly, answer_to, answers_to, after_call}
+use Rattle.pdb_addr2line.specs.Calls.{after_calls}
 use Rattle.pdb_addr2line.specs.declared.calls.Answer.{Answer}
 use Rattle.pdb_addr2line.specs.declared.calls.Call.{Call}
 use Rattle.pdb_addr2line.specs.declared.calls.Call.TheVariants.{FindFunction}
@@ -28,14 +30,17 @@ appends_more : (before between after : List Answer) (first second : List AnswerV
 appends_more before between after first second one two = record {
   appended = one.appended ++ two.appended;
   is = two.is ∙ ap (λ answers. answers ++ two.appended) one.is ∙ append_assoc before one.appended two.appended;
-  shown = map-append answer_view one.appended two.appended ∙ ap (λ shown. shown ++ map answer_view two.appended) one.shown
+  shown = map-append answer_view one.appended two.appended ∙ ap
+      (λ shown. shown ++ map answer_view two.appended) one.shown
       ∙ ap (λ shown. first ++ shown) two.shown;
 }
 
 -- a context once one call more is made
-pub after_one_call_more : {P : Type 0} (info : P → ProviderInfos) (c between after : ContextState P) (calls : List Call) (i : ℕ)
+pub after_one_call_more : {P : Type 0} (info : P → ProviderInfos) (c between after : ContextState P)
+    (calls : List Call) (i : ℕ)
     → i < length calls → between ≡ after_calls info c (take i calls)
-    → after ≡ after_call info between (get_or calls i (FindFunction 0)) → after ≡ after_calls info c (take (i + 1) calls)
+    → after ≡ after_call info between (get_or calls i (FindFunction 0))
+    → after ≡ after_calls info c (take (i + 1) calls)
 after_one_call_more info c between after calls i below so_far next =
     let call = get_or calls i (FindFunction 0) in
     next ∙ ap (λ state. after_call info state call) so_far
@@ -55,7 +60,8 @@ answers_one_more info c between calls i before answers after below so_far first 
     let both = appends_more before answers after _ _ first here in
     let all : answers_to info c (take (i + 1) calls)
     ≡ answers_to info c (take i calls) ++ answers_to info (after_calls info c (take i calls)) (call ∷ []) =
-    ap (answers_to info c) (take_more calls i (FindFunction 0) below) ∙ answers_of_both info c (take i calls) (call ∷ []) in
+    ap (answers_to info c) (take_more calls i (FindFunction 0) below) ∙ answers_of_both info c (take i calls)
+    (call ∷ []) in
     rw all both
 
 -- the calls so far, the next one, and those behind it are all

@@ -1,18 +1,15 @@
 -- Start addresses ascend, and hold all starts.
-use Rattle.std.proofs.Common.{zero, suc, ◌≡◌, ◌∙◌, ◌⊎◌, ◌↔◌, ℕ, ◌+◌, ◌<◌, List, [], ◌∷◌, ◌++◌, length, get_or, drop, map, inl, inr, refl, sym, ap, arith}
+use Rattle.std.proofs.Common.{zero, suc, ◌≡◌, ◌∙◌, ◌⊎◌, ◌↔◌, ℕ, ◌+◌, ◌<◌, List, [], ◌∷◌, ◌++◌, length, get_or, drop}
+use Rattle.std.proofs.Common.{map, inl, inr, refl, sym, ap, arith}
 use Rattle.std.specs.Prelude.{Option, Some, None, slice_get}
 use Rattle.std.specs.BTreeSet.{insert_key}
-use Rattle.std.specs.List.{AllByRecursion, Contains}
+use Rattle.std.specs.List.{Contains}
 use Rattle.std.specs.Option.{option_map_or}
-use Rattle.std.specs.Ordering.{nat_cmp, match_ordering}
-use Rattle.std.specs.declared.cmp.Ordering.{Ordering}
-use Rattle.std.specs.declared.cmp.Ordering.TheVariants.{Less, Equal, Greater}
-use Rattle.std.proofs.lemmas.Cmp.{ranked}
+use Rattle.std.specs.Ordering.{nat_cmp}
 use Rattle.std.proofs.lemmas.List.{drop_more, map-append}
 use Rattle.std.proofs.lemmas.Option.{slice_get-get_or}
 use Rattle.std.proofs.lemmas.List.Sums.{fold-append}
-use Rattle.std.proofs.lemmas.List.Elements.{Contains-append_left, Contains-append_right, Contains-append_cases, Contains-push_cases}
-use Rattle.std.proofs.lemmas.Map.Lookups.{exact_unsigned}
+use Rattle.std.proofs.lemmas.List.Elements.{Contains-append_left, Contains-append_right, Contains-append_cases}
 use Rattle.pdb_records.specs.Addresses.{rva}
 use Rattle.pdb_records.specs.declared.addresses.Rva.{Rva}
 use Rattle.pdb_records.specs.declared.addresses.AddressRange.{AddressRange}
@@ -23,128 +20,44 @@ use Rattle.pdb_functions.specs.GlobalFunctions.{GlobalFunction}
 use Rattle.pdb_functions.specs.Lookup.{procedures_of_module}
 use Rattle.pdb_functions.specs.Procedures.{ModuleProcedure, provided_procedures}
 use Rattle.pdb_addr2line.specs.FunctionLaws.{Ascend, IsProcedureStart, IsStart}
-use Rattle.pdb_addr2line.specs.Functions.{procedures_of_modules, start_section_offsets, with_start, with_starts, start_addresses}
+use Rattle.pdb_addr2line.specs.Functions.{procedures_of_modules, start_section_offsets, with_start, with_starts}
+use Rattle.pdb_addr2line.specs.Functions.{start_addresses}
 use Rattle.pdb_addr2line.specs.ContextInputs.{ContextInputs, global_functions_of}
-
--- ---- a number put among others
-
--- what is below all numbers of a list and below another is below all, with that one put among them
-below_put : (a k : ℕ) (ks : List ℕ) → a < k → AllByRecursion (λ b. a < b) ks → AllByRecursion (λ b. a < b) (insert_key nat_cmp ks k)
-below_put a k [] first others = (first, tt)
-below_put a k (x ∷ xs) first others = by_order (nat_cmp k x) (below_put a k xs first others.1) where
-  by_order : (o : Ordering) → AllByRecursion (λ b. a < b) (insert_key nat_cmp xs k) → AllByRecursion (λ b. a < b) (match_ordering o (k ∷ x ∷ xs) (x ∷ xs) (x ∷ insert_key nat_cmp xs k))
-  by_order Less rest = (first, others)
-  by_order Equal rest = others
-  by_order Greater rest = (others.0, rest)
-
--- what is below the first of numbers that are all above another is below them
-below_all : (a b : ℕ) (ks : List ℕ) → a < b → AllByRecursion (λ c. b < c) ks → AllByRecursion (λ c. a < c) ks
-below_all a b [] first others = tt
-below_all a b (x ∷ xs) first others =
-    let next : b < x = others.0 in
-    (omega (arith, first, next), below_all a b xs first others.1)
-
--- numbers that ascend do so with another put among them
-ascend_put : (k : ℕ) (ks : List ℕ) → Ascend ks → Ascend (insert_key nat_cmp ks k)
-ascend_put k [] up = (tt, tt)
-ascend_put k (x ∷ xs) up = by_order (nat_cmp k x) refl (ascend_put k xs up.1) where
-  by_order : (o : Ordering) → o ≡ nat_cmp k x → Ascend (insert_key nat_cmp xs k) → Ascend (match_ordering o (k ∷ x ∷ xs) (x ∷ xs) (x ∷ insert_key nat_cmp xs k))
-  by_order Less is rest = let below : k < x = ranked k x Less is in ((below, below_all k x xs below up.0), up)
-  by_order Equal is rest = up
-  by_order Greater is rest = let above : x < k = ranked k x Greater is in (below_put x k xs above up.0, rest)
-
--- an element of a list with one in front
-in_front : {X : Type 0} (x y : X) (xs : List X) → Contains (x ∷ xs) y → (x ≡ y) ⊎ Contains xs y
-in_front x y xs held = by_part (Contains-append_cases (x ∷ []) xs y held) where
-  by_one : Contains [] y ⊎ (x ≡ y) → (x ≡ y) ⊎ Contains xs y
-  by_one (inl none) = let below = none.1 in absurd (omega (arith, below))
-  by_one (inr same) = inl same
-
-  by_part : Contains (x ∷ []) y ⊎ Contains xs y → (x ≡ y) ⊎ Contains xs y
-  by_part (inl one) = by_one (Contains-push_cases [] x y one)
-  by_part (inr rest) = inr rest
-
--- the one in front is an element
-front : {X : Type 0} (x : X) (xs : List X) → Contains (x ∷ xs) x
-front x xs = (0, omega arith, refl)
-
--- and so are those behind
-behind : {X : Type 0} (x y : X) (xs : List X) → Contains xs y → Contains (x ∷ xs) y
-behind x y xs held = Contains-append_right (x ∷ []) xs y held
-
--- with a number put among others there are that one and the others
-put_cases : (k q : ℕ) (ks : List ℕ) → Contains (insert_key nat_cmp ks k) q → Contains ks q ⊎ (k ≡ q)
-put_cases k q [] held = by_front (in_front k q [] held) where
-  by_front : (k ≡ q) ⊎ Contains [] q → Contains [] q ⊎ (k ≡ q)
-  by_front (inl same) = inr same
-  by_front (inr none) = inl none
-put_cases k q (x ∷ xs) held = by_order (nat_cmp k x) held (put_cases k q xs) where
-  by_front : (k ≡ q) ⊎ Contains (x ∷ xs) q → Contains (x ∷ xs) q ⊎ (k ≡ q)
-  by_front (inl same) = inr same
-  by_front (inr rest) = inl rest
-
-  by_rest : Contains xs q ⊎ (k ≡ q) → Contains (x ∷ xs) q ⊎ (k ≡ q)
-  by_rest (inl rest) = inl (behind x q xs rest)
-  by_rest (inr same) = inr same
-
-  by_first : (x ≡ q) ⊎ Contains (insert_key nat_cmp xs k) q → (Contains (insert_key nat_cmp xs k) q → Contains xs q ⊎ (k ≡ q)) → Contains (x ∷ xs) q ⊎ (k ≡ q)
-  by_first (inl same) next = inl (rw same (front q xs))
-  by_first (inr rest) next = by_rest (next rest)
-
-  by_order : (o : Ordering) → Contains (match_ordering o (k ∷ x ∷ xs) (x ∷ xs) (x ∷ insert_key nat_cmp xs k)) q
-      → (Contains (insert_key nat_cmp xs k) q → Contains xs q ⊎ (k ≡ q)) → Contains (x ∷ xs) q ⊎ (k ≡ q)
-  by_order Less h next = by_front (in_front k q (x ∷ xs) h)
-  by_order Equal h next = inl h
-  by_order Greater h next = by_first (in_front x q (insert_key nat_cmp xs k) h) next
-
--- the number that is put is there
-put_in : (k : ℕ) (ks : List ℕ) → Contains (insert_key nat_cmp ks k) k
-put_in k [] = front k []
-put_in k (x ∷ xs) = by_order (nat_cmp k x) refl (put_in k xs) where
-  by_order : (o : Ordering) → nat_cmp k x ≡ o → Contains (insert_key nat_cmp xs k) k → Contains (match_ordering o (k ∷ x ∷ xs) (x ∷ xs) (x ∷ insert_key nat_cmp xs k)) k
-  by_order Less is rest = front k (x ∷ xs)
-  by_order Equal is rest = let same : k ≡ x = exact_unsigned k x is in rw same (front x xs)
-  by_order Greater is rest = behind x k (insert_key nat_cmp xs k) rest
-
--- the others stay
-put_contains : (k q : ℕ) (ks : List ℕ) → Contains ks q → Contains (insert_key nat_cmp ks k) q
-put_contains k q [] held = behind k q [] held
-put_contains k q (x ∷ xs) held = by_order (nat_cmp k x) (put_contains k q xs) where
-  by_front : (x ≡ q) ⊎ Contains xs q → (Contains xs q → Contains (insert_key nat_cmp xs k) q) → Contains (x ∷ insert_key nat_cmp xs k) q
-  by_front (inl same) next = rw same (front q (insert_key nat_cmp xs k))
-  by_front (inr rest) next = behind x q (insert_key nat_cmp xs k) (next rest)
-
-  by_order : (o : Ordering) → (Contains xs q → Contains (insert_key nat_cmp xs k) q) → Contains (match_ordering o (k ∷ x ∷ xs) (x ∷ xs) (x ∷ insert_key nat_cmp xs k)) q
-  by_order Less next = behind k q (x ∷ xs) held
-  by_order Equal next = held
-  by_order Greater next = by_front (in_front x q xs held) next
+use Rattle.pdb_addr2line.proofs.NumberListLemmas.{ascend_put, in_front, front, behind, put_cases, put_in, put_contains}
 
 -- ---- the addresses of section offsets
 
 -- one of these section offsets has the address
-record HasSectionOffset (sections : List AddressRange) (section_offsets : List PdbInternalSectionOffset) (address : ℕ) : Type 0 where
+record HasSectionOffset (sections : List AddressRange) (section_offsets : List PdbInternalSectionOffset)
+    (address : ℕ) : Type 0 where
   section_offset : PdbInternalSectionOffset
   listed : Contains section_offsets section_offset
   at : rva sections section_offset ≡ Some (record { 0 = address })
 
 -- the list stays in order with the address of one section offset more
-ascend_start : (sections : List AddressRange) (starts : List ℕ) (section_offset : PdbInternalSectionOffset) → Ascend starts → Ascend (with_start sections starts section_offset)
+ascend_start : (sections : List AddressRange) (starts : List ℕ) (section_offset : PdbInternalSectionOffset)
+    → Ascend starts → Ascend (with_start sections starts section_offset)
 ascend_start sections starts section_offset up = by_address (rva sections section_offset) where
-  by_address : (found : Option Rva) → Ascend (option_map_or (λ address. insert_key nat_cmp starts address.0) found starts)
+  by_address : (found : Option Rva)
+      → Ascend (option_map_or (λ address. insert_key nat_cmp starts address.0) found starts)
   by_address None = up
   by_address (Some address) = ascend_put address.0 starts up
 
 -- the list stays in order with the addresses of section offsets
-ascend_starts : (sections : List AddressRange) (starts : List ℕ) (section_offsets : List PdbInternalSectionOffset) → Ascend starts → Ascend (with_starts sections starts section_offsets)
+ascend_starts : (sections : List AddressRange) (starts : List ℕ) (section_offsets : List PdbInternalSectionOffset)
+    → Ascend starts → Ascend (with_starts sections starts section_offsets)
 ascend_starts sections starts [] up = up
 ascend_starts sections starts (section_offset ∷ section_offsets) up =
-    ascend_starts sections (with_start sections starts section_offset) section_offsets (ascend_start sections starts section_offset up)
+    ascend_starts sections (with_start sections starts section_offset) section_offsets
+    (ascend_start sections starts section_offset up)
 
 -- with the address of one section offset more there are that one and the others
 start_cases : (sections : List AddressRange) (starts : List ℕ) (section_offset : PdbInternalSectionOffset) (q : ℕ)
-    → Contains (with_start sections starts section_offset) q → Contains starts q ⊎ (rva sections section_offset ≡ Some (record { 0 = q }))
+    → Contains (with_start sections starts section_offset) q
+    → Contains starts q ⊎ (rva sections section_offset ≡ Some (record { 0 = q }))
 start_cases sections starts section_offset q held = by_address (rva sections section_offset) refl held where
-  by_put : (address : Rva) → rva sections section_offset ≡ Some address → Contains starts q ⊎ (address.0 ≡ q) → Contains starts q ⊎ (rva sections section_offset ≡ Some (record { 0 = q }))
+  by_put : (address : Rva) → rva sections section_offset ≡ Some address → Contains starts q ⊎ (address.0 ≡ q)
+      → Contains starts q ⊎ (rva sections section_offset ≡ Some (record { 0 = q }))
   by_put address at (inl before) = inl before
   by_put address at (inr same) = inr (at ∙ ap (λ (n : ℕ). Some (record { 0 = n })) same)
 
@@ -158,7 +71,8 @@ start_cases sections starts section_offset q held = by_address (rva sections sec
 start_contains : (sections : List AddressRange) (starts : List ℕ) (section_offset : PdbInternalSectionOffset) (q : ℕ)
     → Contains starts q → Contains (with_start sections starts section_offset) q
 start_contains sections starts section_offset q held = by_address (rva sections section_offset) where
-  by_address : (found : Option Rva) → Contains (option_map_or (λ address. insert_key nat_cmp starts address.0) found starts) q
+  by_address : (found : Option Rva)
+      → Contains (option_map_or (λ address. insert_key nat_cmp starts address.0) found starts) q
   by_address None = held
   by_address (Some address) = put_contains address.0 q starts held
 
@@ -168,36 +82,54 @@ start_in : (sections : List AddressRange) (starts : List ℕ) (section_offset : 
 start_in sections starts section_offset q at = rw at (put_in q starts)
 
 -- with the addresses of section offsets there are those and the others
-starts_cases : (sections : List AddressRange) (starts : List ℕ) (section_offsets : List PdbInternalSectionOffset) (q : ℕ)
-    → Contains (with_starts sections starts section_offsets) q → Contains starts q ⊎ HasSectionOffset sections section_offsets q
+starts_cases : (sections : List AddressRange) (starts : List ℕ) (section_offsets : List PdbInternalSectionOffset)
+    (q : ℕ)
+    → Contains (with_starts sections starts section_offsets) q
+    → Contains starts q ⊎ HasSectionOffset sections section_offsets q
 starts_cases sections starts [] q held = inl held
-starts_cases sections starts (section_offset ∷ section_offsets) q held = by_rest (starts_cases sections (with_start sections starts section_offset) section_offsets q held) where
-  by_first : Contains starts q ⊎ (rva sections section_offset ≡ Some (record { 0 = q })) → Contains starts q ⊎ HasSectionOffset sections (section_offset ∷ section_offsets) q
-  by_first (inl before) = inl before
-  by_first (inr at) = inr (record { section_offset = section_offset; listed = front section_offset section_offsets; at = at })
+starts_cases sections starts (section_offset ∷ section_offsets) q held =
+    by_rest (starts_cases sections (with_start sections starts section_offset) section_offsets q held) where
+      by_first : Contains starts q ⊎ (rva sections section_offset ≡ Some (record { 0 = q }))
+          → Contains starts q ⊎ HasSectionOffset sections (section_offset ∷ section_offsets) q
+      by_first (inl before) = inl before
+      by_first (inr at) = inr (record
+          { section_offset = section_offset; listed = front section_offset section_offsets; at = at })
 
-  by_rest : Contains (with_start sections starts section_offset) q ⊎ HasSectionOffset sections section_offsets q → Contains starts q ⊎ HasSectionOffset sections (section_offset ∷ section_offsets) q
-  by_rest (inl first) = by_first (start_cases sections starts section_offset q first)
-  by_rest (inr rest) = inr (record { section_offset = rest.section_offset; listed = behind section_offset rest.section_offset section_offsets rest.listed; at = rest.at })
+      by_rest : Contains (with_start sections starts section_offset) q ⊎ HasSectionOffset sections section_offsets q
+          → Contains starts q ⊎ HasSectionOffset sections (section_offset ∷ section_offsets) q
+      by_rest (inl first) = by_first (start_cases sections starts section_offset q first)
+      by_rest (inr rest) = inr (record {
+        section_offset = rest.section_offset;
+        listed =
+            behind section_offset rest.section_offset section_offsets rest.listed;
+        at = rest.at;
+      })
 
 -- the others stay
-starts_contain : (sections : List AddressRange) (starts : List ℕ) (section_offsets : List PdbInternalSectionOffset) (q : ℕ)
+starts_contain : (sections : List AddressRange) (starts : List ℕ) (section_offsets : List PdbInternalSectionOffset)
+    (q : ℕ)
     → Contains starts q → Contains (with_starts sections starts section_offsets) q
 starts_contain sections starts [] q held = held
 starts_contain sections starts (section_offset ∷ section_offsets) q held =
-    starts_contain sections (with_start sections starts section_offset) section_offsets q (start_contains sections starts section_offset q held)
+    starts_contain sections (with_start sections starts section_offset) section_offsets q
+    (start_contains sections starts section_offset q held)
 
 -- the address of each section offset is there
-starts_in : (sections : List AddressRange) (starts : List ℕ) (section_offsets : List PdbInternalSectionOffset) (section_offset : PdbInternalSectionOffset) (q : ℕ)
-    → Contains section_offsets section_offset → rva sections section_offset ≡ Some (record { 0 = q }) → Contains (with_starts sections starts section_offsets) q
+starts_in : (sections : List AddressRange) (starts : List ℕ) (section_offsets : List PdbInternalSectionOffset)
+    (section_offset : PdbInternalSectionOffset) (q : ℕ)
+    → Contains section_offsets section_offset → rva sections section_offset ≡ Some (record { 0 = q })
+    → Contains (with_starts sections starts section_offsets) q
 starts_in sections starts [] section_offset q listed at = let below = listed.1 in absurd (omega (arith, below))
 starts_in sections starts (first ∷ section_offsets) section_offset q listed at =
-    by_front (in_front first section_offset section_offsets listed) (λ rest. starts_in sections (with_start sections starts first) section_offsets section_offset q rest at)
+    by_front (in_front first section_offset section_offsets listed)
+    (λ rest. starts_in sections (with_start sections starts first) section_offsets section_offset q rest at)
   where
-    by_front : (first ≡ section_offset) ⊎ Contains section_offsets section_offset → (Contains section_offsets section_offset → Contains (with_starts sections starts (first ∷ section_offsets)) q)
+    by_front : (first ≡ section_offset) ⊎ Contains section_offsets section_offset
+        → (Contains section_offsets section_offset → Contains (with_starts sections starts (first ∷ section_offsets)) q)
         → Contains (with_starts sections starts (first ∷ section_offsets)) q
     by_front (inl same) next =
-        starts_contain sections (with_start sections starts first) section_offsets q (start_in sections starts first q (rw same at))
+        starts_contain sections (with_start sections starts first) section_offsets q
+        (start_in sections starts first q (rw same at))
     by_front (inr rest) next = next rest
 
 -- the addresses of two lists of section offsets, the one after the other
@@ -206,27 +138,37 @@ pub with_starts_append : (sections : List AddressRange) (starts : List ℕ) (xs 
 with_starts_append sections starts xs ys = fold-append (with_start sections) starts xs ys
 
 -- the addresses of the procedures of a module, and then those of the modules behind it
-pub with_starts_of_module : (sections : List AddressRange) (starts : List ℕ) (infos : ProviderInfos) (at : ℕ) (m : Module) (ms : List Module)
+pub with_starts_of_module : (sections : List AddressRange) (starts : List ℕ) (infos : ProviderInfos) (at : ℕ)
+    (m : Module) (ms : List Module)
     → with_starts sections starts (map (λ p. p.offset) (procedures_of_modules infos at (m ∷ ms)))
-    ≡ with_starts sections (with_starts sections starts (map (λ p. p.offset) (provided_procedures (infos at m)))) (map (λ p. p.offset) (procedures_of_modules infos (at + 1) ms))
+    ≡ with_starts sections (with_starts sections starts (map (λ p. p.offset) (provided_procedures (infos at m))))
+    (map (λ p. p.offset) (procedures_of_modules infos (at + 1) ms))
 with_starts_of_module sections starts infos at m ms =
-    ap (with_starts sections starts) (map-append (λ (p : ModuleProcedure). p.offset) (provided_procedures (infos at m)) (procedures_of_modules infos (at + 1) ms))
-    ∙ with_starts_append sections starts (map (λ p. p.offset) (provided_procedures (infos at m))) (map (λ p. p.offset) (procedures_of_modules infos (at + 1) ms))
+    ap (with_starts sections starts)
+    (map-append (λ (p : ModuleProcedure). p.offset) (provided_procedures (infos at m))
+    (procedures_of_modules infos (at + 1) ms))
+    ∙ with_starts_append sections starts (map (λ p. p.offset) (provided_procedures (infos at m)))
+    (map (λ p. p.offset) (procedures_of_modules infos (at + 1) ms))
 
 -- the procedures of the module at a module index are those that the provider answers for it
-procedures_here : (infos : ProviderInfos) (modules : List Module) (at : ℕ) (m : Module) → slice_get modules at ≡ Some m → procedures_of_module infos modules at ≡ provided_procedures (infos at m)
+procedures_here : (infos : ProviderInfos) (modules : List Module) (at : ℕ) (m : Module)
+    → slice_get modules at ≡ Some m → procedures_of_module infos modules at ≡ provided_procedures (infos at m)
 procedures_here infos modules at m is = rw is refl
 
 -- the addresses of the procedures of the modules from a module index on: first those of the module there
-pub with_starts_of_next : (sections : List AddressRange) (starts : List ℕ) (infos : ProviderInfos) (at : ℕ) (modules : List Module) → at < length modules
+pub with_starts_of_next : (sections : List AddressRange) (starts : List ℕ) (infos : ProviderInfos) (at : ℕ)
+    (modules : List Module) → at < length modules
     → with_starts sections starts (map (λ p. p.offset) (procedures_of_modules infos at (drop at modules)))
-    ≡ with_starts sections (with_starts sections starts (map (λ p. p.offset) (procedures_of_module infos modules at))) (map (λ p. p.offset) (procedures_of_modules infos (at + 1) (drop (at + 1) modules)))
+    ≡ with_starts sections (with_starts sections starts (map (λ p. p.offset) (procedures_of_module infos modules at)))
+    (map (λ p. p.offset) (procedures_of_modules infos (at + 1) (drop (at + 1) modules)))
 with_starts_of_next sections starts infos at modules below =
     let none : Module = record { name = [] } in
     let rest = drop (at + 1) modules in
-    ap (λ ms. with_starts sections starts (map (λ (p : ModuleProcedure). p.offset) (procedures_of_modules infos at ms))) (drop_more modules at none below)
+    ap (λ ms. with_starts sections starts
+    (map (λ (p : ModuleProcedure). p.offset) (procedures_of_modules infos at ms))) (drop_more modules at none below)
     ∙ (with_starts_of_module sections starts infos at (get_or modules at none) rest
-    ∙ ap (λ ps. with_starts sections (with_starts sections starts (map (λ (p : ModuleProcedure). p.offset) ps)) (map (λ (p : ModuleProcedure). p.offset) (procedures_of_modules infos (at + 1) rest)))
+    ∙ ap (λ ps. with_starts sections (with_starts sections starts (map (λ (p : ModuleProcedure). p.offset) ps))
+    (map (λ (p : ModuleProcedure). p.offset) (procedures_of_modules infos (at + 1) rest)))
     (sym (procedures_here infos modules at (get_or modules at none) (slice_get-get_or modules at none below))))
 
 -- ---- the section offsets of functions
@@ -238,7 +180,8 @@ image {X = X} f (x ∷ xs) y held = by_front (in_front (f x) y (map f xs) held) 
   by_rest : (z : X) × Contains xs z × (f z ≡ y) → (z : X) × Contains (x ∷ xs) z × (f z ≡ y)
   by_rest of = (of.0, behind x of.0 xs of.1, of.2)
 
-  by_front : (f x ≡ y) ⊎ Contains (map f xs) y → (Contains (map f xs) y → (z : X) × Contains xs z × (f z ≡ y)) → (z : X) × Contains (x ∷ xs) z × (f z ≡ y)
+  by_front : (f x ≡ y) ⊎ Contains (map f xs) y → (Contains (map f xs) y → (z : X) × Contains xs z × (f z ≡ y))
+      → (z : X) × Contains (x ∷ xs) z × (f z ≡ y)
   by_front (inl same) next = (x, front x xs, same)
   by_front (inr rest) next = by_rest (next rest)
 
@@ -257,13 +200,16 @@ record IsListed (infos : ProviderInfos) (at : ℕ) (ms : List Module) (p : Modul
   is : slice_get ms index ≡ Some m
   listed : Contains (provided_procedures (infos (at + index) m)) p
 
-listed_from : (infos : ProviderInfos) (at : ℕ) (ms : List Module) (p : ModuleProcedure) → Contains (procedures_of_modules infos at ms) p → IsListed infos at ms p
+listed_from : (infos : ProviderInfos) (at : ℕ) (ms : List Module) (p : ModuleProcedure)
+    → Contains (procedures_of_modules infos at ms) p → IsListed infos at ms p
 listed_from infos at [] p held = let below = held.1 in absurd (omega (arith, below))
 listed_from infos at (m ∷ ms) p held =
-    by_part (Contains-append_cases (provided_procedures (infos at m)) (procedures_of_modules infos (at + 1) ms) p held) (listed_from infos (at + 1) ms p)
+    by_part (Contains-append_cases (provided_procedures (infos at m))
+    (procedures_of_modules infos (at + 1) ms) p held) (listed_from infos (at + 1) ms p)
   where
     by_part : Contains (provided_procedures (infos at m)) p ⊎ Contains (procedures_of_modules infos (at + 1) ms) p
-        → (Contains (procedures_of_modules infos (at + 1) ms) p → IsListed infos (at + 1) ms p) → IsListed infos at (m ∷ ms) p
+        → (Contains (procedures_of_modules infos (at + 1) ms) p → IsListed infos (at + 1) ms p)
+        → IsListed infos at (m ∷ ms) p
     by_part (inl first) next =
         let same : at + 0 ≡ at = omega arith in
         record { index = 0; m = m; is = refl; listed = rw same first }
@@ -272,18 +218,21 @@ listed_from infos at (m ∷ ms) p held =
         let same : at + suc of.index ≡ (at + 1) + of.index = omega arith in
         record { index = suc of.index; m = of.m; is = of.is; listed = rw same of.listed }
 
-listed_in : (infos : ProviderInfos) (at : ℕ) (ms : List Module) (p : ModuleProcedure) (index : ℕ) (m : Module) → slice_get ms index ≡ Some m
+listed_in : (infos : ProviderInfos) (at : ℕ) (ms : List Module) (p : ModuleProcedure) (index : ℕ) (m : Module)
+    → slice_get ms index ≡ Some m
     → Contains (provided_procedures (infos (at + index) m)) p → Contains (procedures_of_modules infos at ms) p
 listed_in infos at [] p index m is listed = absurd (cc)
 listed_in infos at (first ∷ ms) p zero m is listed =
     let same : first ≡ m = cc in
     let here : at + 0 ≡ at = omega arith in
     let held : Contains (provided_procedures (infos at m)) p = rw here at listed in
-    Contains-append_left (provided_procedures (infos at first)) (procedures_of_modules infos (at + 1) ms) p (rw same held)
+    Contains-append_left (provided_procedures (infos at first)) (procedures_of_modules infos (at + 1) ms) p
+    (rw same held)
 listed_in infos at (first ∷ ms) p (suc index) m is listed =
     let moved : at + suc index ≡ (at + 1) + index = omega arith in
     let held : Contains (provided_procedures (infos ((at + 1) + index) m)) p = rw moved at listed in
-    Contains-append_right (provided_procedures (infos at first)) (procedures_of_modules infos (at + 1) ms) p (listed_in infos (at + 1) ms p index m is held)
+    Contains-append_right (provided_procedures (infos at first)) (procedures_of_modules infos (at + 1) ms) p
+    (listed_in infos (at + 1) ms p index m is held)
 
 -- ---- the laws
 
@@ -291,7 +240,8 @@ pub starts_ascend : {P : Type 0} (info : P → ProviderInfos) (s : ContextInputs
 starts_ascend info s = ascend_starts s.address_map [] (start_section_offsets info s) tt
 
 -- an address is among them exactly where a function starts there
-pub starts_are : {P : Type 0} (info : P → ProviderInfos) (s : ContextInputs P) (address : ℕ) → Contains (start_addresses info s) address ↔ IsStart info s address
+pub starts_are : {P : Type 0} (info : P → ProviderInfos) (s : ContextInputs P) (address : ℕ)
+    → Contains (start_addresses info s) address ↔ IsStart info s address
 starts_are {P = P} info s address = (shown, held) where
   infos : ProviderInfos
   infos = info s.provider
@@ -302,14 +252,16 @@ starts_are {P = P} info s address = (shown, held) where
   globals : List GlobalFunction
   globals = global_functions_of s
 
-  listed_as : (p : ModuleProcedure) → IsListed infos 0 s.type_inputs.modules p → rva s.address_map p.offset ≡ Some (record { 0 = address }) → IsProcedureStart info s address
+  listed_as : (p : ModuleProcedure) → IsListed infos 0 s.type_inputs.modules p
+      → rva s.address_map p.offset ≡ Some (record { 0 = address }) → IsProcedureStart info s address
   listed_as p of at =
       let same : 0 + of.index ≡ of.index = omega arith in
       let held : Contains (provided_procedures (infos of.index of.m)) p = rw same at of.listed in
       record { module_index = of.index; procedure = p; listed = rw of.is held; at = at }
 
   by_part : (found : HasSectionOffset s.address_map (start_section_offsets info s) address)
-      → Contains (map (λ f. f.start) globals) found.section_offset ⊎ Contains (map (λ p. p.offset) procedures) found.section_offset → IsStart info s address
+      → Contains (map (λ f. f.start) globals) found.section_offset ⊎ Contains
+      (map (λ p. p.offset) procedures) found.section_offset → IsStart info s address
   by_part found (inl first) =
       let of = image (λ (f : GlobalFunction). f.start) globals found.section_offset first in
       inl (record { function = of.0; listed = of.1; at = rw of.2 found.at })
@@ -317,15 +269,18 @@ starts_are {P = P} info s address = (shown, held) where
       let of = image (λ (p : ModuleProcedure). p.offset) procedures found.section_offset second in
       inr (listed_as of.0 (listed_from infos 0 s.type_inputs.modules of.0 of.1) (rw of.2 found.at))
 
-  by_section_offset : Contains [] address ⊎ HasSectionOffset s.address_map (start_section_offsets info s) address → IsStart info s address
+  by_section_offset : Contains [] address ⊎ HasSectionOffset s.address_map (start_section_offsets info s) address
+      → IsStart info s address
   by_section_offset (inl none) = let below = none.1 in absurd (omega (arith, below))
   by_section_offset (inr found) =
-      by_part found (Contains-append_cases (map (λ f. f.start) globals) (map (λ p. p.offset) procedures) found.section_offset found.listed)
+      by_part found (Contains-append_cases (map (λ f. f.start) globals)
+      (map (λ p. p.offset) procedures) found.section_offset found.listed)
 
   shown : Contains (start_addresses info s) address → IsStart info s address
   shown h = by_section_offset (starts_cases s.address_map [] (start_section_offsets info s) address h)
 
-  in_module : (module_index : ℕ) (p : ModuleProcedure) (found : Option Module) → slice_get s.type_inputs.modules module_index ≡ found
+  in_module : (module_index : ℕ) (p : ModuleProcedure) (found : Option Module)
+      → slice_get s.type_inputs.modules module_index ≡ found
       → Contains (procedures_of_module infos s.type_inputs.modules module_index) p → Contains procedures p
   in_module module_index p None is h =
       let none : Contains {X = ModuleProcedure} [] p = rw is at h in
@@ -337,11 +292,16 @@ starts_are {P = P} info s address = (shown, held) where
 
   held : IsStart info s address → Contains (start_addresses info s) address
   held (inl g) =
-      let in_globals : Contains (map (λ f. f.start) globals) g.function.start = in_image (λ (f : GlobalFunction). f.start) globals g.function g.listed in
+      let in_globals : Contains (map (λ f. f.start) globals) g.function.start =
+      in_image (λ (f : GlobalFunction). f.start) globals g.function g.listed in
       starts_in s.address_map [] (start_section_offsets info s) g.function.start address
-      (Contains-append_left (map (λ f. f.start) globals) (map (λ p. p.offset) procedures) g.function.start in_globals) g.at
+      (Contains-append_left (map (λ f. f.start) globals) (map (λ p. p.offset) procedures) g.function.start in_globals)
+      g.at
   held (inr p) =
-      let listed : Contains procedures p.procedure = in_module p.module_index p.procedure (slice_get s.type_inputs.modules p.module_index) refl p.listed in
-      let in_procedures : Contains (map (λ p. p.offset) procedures) p.procedure.offset = in_image (λ (p : ModuleProcedure). p.offset) procedures p.procedure listed in
+      let listed : Contains procedures p.procedure =
+      in_module p.module_index p.procedure (slice_get s.type_inputs.modules p.module_index) refl p.listed in
+      let in_procedures : Contains (map (λ p. p.offset) procedures) p.procedure.offset =
+      in_image (λ (p : ModuleProcedure). p.offset) procedures p.procedure listed in
       starts_in s.address_map [] (start_section_offsets info s) p.procedure.offset address
-      (Contains-append_right (map (λ f. f.start) globals) (map (λ p. p.offset) procedures) p.procedure.offset in_procedures) p.at
+      (Contains-append_right (map (λ f. f.start) globals)
+      (map (λ p. p.offset) procedures) p.procedure.offset in_procedures) p.at

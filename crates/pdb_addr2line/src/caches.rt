@@ -1,11 +1,7 @@
 ghost use Rattle.std.specs.Prelude.{◌≡◌, Some, None, option_map, IfOk, IfSome};
 ghost use Rattle.std.specs.Option.{option_copied};
-ghost use Rattle.pdb_functions.specs.Lookup.{procedures_of_module};
 ghost use Rattle.pdb_functions.specs.ModuleInfos.{readable_info};
-ghost use Rattle.pdb_functions.specs.Procedures.{module_procedure};
-ghost use Rattle.pdb_functions.specs.Spans.{procedure_covers};
 ghost use Rattle.pdb_functions.specs.SymbolNames.{GoesBySymbol};
-ghost use Rattle.pdb_ranges.specs.Pick.{pick};
 ghost use Rattle.pdb_types.specs.Outcomes.{Gives};
 ghost use Rattle.pdb_functions.specs.Lookup.{found_function};
 ghost use Rattle.pdb_documents.specs.BrokenParts.{AddsBroken};
@@ -19,8 +15,8 @@ ghost use Rattle.pdb_function_info.specs.Frames.{info_of_frames, failed_by_frame
 use crate::context::Tables;
 use pdb_frames::{CodeCache, CodePart, FunctionFrames, function_module};
 use pdb_function_info::{FunctionNames, frames_info};
-use pdb_functions::{BasicModuleInfoCache, ProcedureSymbolFunction, PublicOrProcedureSymbol};
-use pdb_records::{AddressMap, Module, ModuleInfo, PdbInternalSectionOffset};
+use pdb_functions::{BasicModuleInfoCache, PublicOrProcedureSymbol};
+use pdb_records::{AddressMap, Module, ModuleInfo};
 use pdb_types::{ModuleProvider, Result};
 use std::alloc::{AllocError, Global};
 
@@ -47,40 +43,6 @@ impl<'a, P: ModuleProvider> Caches<'a, P> {
             code: CodeCache::new(alloc),
             starts: None,
         }
-    }
-}
-
-/// The procedure over a section offset, of the module at a module index.
-pub(crate) fn procedure_in<'a, P: ModuleProvider>(
-    infos: &mut BasicModuleInfoCache<'a, P>,
-    modules: &[Module],
-    module_index: usize,
-    section_offset: PdbInternalSectionOffset,
-) -> Result<Option<ProcedureSymbolFunction<'a>>, AllocError>
-    ensures found { IfOk result (λ found. option_map module_procedure found
-        ≡ pick (procedure_covers section_offset) (λ p. p.offset.offset)
-        (procedures_of_module (P.info infos.old.provider) modules.now module_index)) }
-    ensures provider { infos.new.provider ≡ infos.old.provider }
-{
-    match infos.get_basic_module_info(modules, module_index)? {
-        Some(info) => Ok(info.procedure_over(section_offset)),
-        None => Ok(None),
-    }
-}
-
-/// The records of the module at a module index, where there are any that can be read.
-pub(crate) fn readable_info<'a, P: ModuleProvider>(
-    infos: &mut BasicModuleInfoCache<'a, P>,
-    modules: &[Module],
-    module_index: usize,
-) -> Result<Option<&'a ModuleInfo>, AllocError>
-    ensures info { IfOk result (λ info. option_copied info
-        ≡ readable_info (P.info infos.old.provider) modules.now module_index) }
-    ensures provider { infos.new.provider ≡ infos.old.provider }
-{
-    match infos.get_basic_module_info(modules, module_index)? {
-        Some(info) => Ok(Some(info.module_info())),
-        None => Ok(None),
     }
 }
 
@@ -146,9 +108,9 @@ pub(crate) fn part_blamed_by<'a, P: ModuleProvider>(
     ensures starts { caches.new.starts ≡ caches.old.starts }
 {
     let module_index = function_module(function);
-    let Some(info) = readable_info(&mut caches.infos, modules, module_index)? else {
+    let Some(info) = caches.infos.get_basic_module_info(modules, module_index)? else {
         return Ok(None);
     };
-    let part = caches.code.part_to_blame(info, function)?;
+    let part = caches.code.part_to_blame(info.module_info(), function)?;
     Ok(Some(part))
 }

@@ -19,7 +19,7 @@ ghost use Rattle.pdb_addr2line.specs.Lookups.{frames_of, failed_by_frames_of, fa
 ghost use Rattle.pdb_addr2line.specs.Lookups.{records_of, blamed_for, answered_refusal, failed_by_refusal};
 ghost use Rattle.pdb_addr2line.specs.Lookups.{frames_answered, code_failed_after, answered_error, with_blamed};
 
-use crate::caches::{frames_info_by, part_blamed_by, procedure_in, readable_info};
+use crate::caches::{frames_info_by, part_blamed_by};
 use crate::context::Context;
 use pdb_frames::{CodePart, FunctionFrames, function_module};
 use pdb_function_info::{Function, function_info};
@@ -117,32 +117,6 @@ impl<'a, P: ModuleProvider> Context<'a, P> {
         ensures broken { GainsBroken P.info self.old.inputs.type_inputs self.old.failed self.new.failed }
     {
         let module_info = self.readable_info(function_module(found))?;
-        self.frames_answer_by(found, module_info, offset)
-    }
-
-    /// The same, by the records of the function's module.
-    fn frames_answer_by(
-        &mut self,
-        found: PublicOrProcedureSymbol<'a>,
-        module_info: Option<&'a ModuleInfo>,
-        offset: u32,
-    ) -> Result<Option<FunctionFrames<'a>>>
-        requires named { GoesBySymbol (P.info self.old.inputs.provider) self.old.inputs.type_inputs.modules
-            (found_function found) }
-        requires records { option_copied module_info
-            ≡ records_of P.info self.old.inputs (found_function found) }
-        ensures shown { let blamed = blamed_for P.info self.old.inputs (found_function found.entry) in
-            Gives (λ f. f) result (answered_refusal self.old.code_failed blamed
-            (frames_of P.info self.old.inputs offset (found_function found.entry))) }
-        ensures inputs { self.new.inputs ≡ self.old.inputs }
-        ensures failed { ButForMemory result (self.new.failed
-            ≡ failed_by_frames_of P.info self.old.inputs offset self.old.failed (found_function found.entry)) }
-        ensures code_failed { let blamed = blamed_for P.info self.old.inputs (found_function found.entry) in
-            ButForMemory result (self.new.code_failed ≡ failed_by_refusal self.old.code_failed blamed
-            (frames_of P.info self.old.inputs offset (found_function found.entry))) }
-        ensures code_unchanged { IfErr result (λ e. e ≡ OutOfMemory → self.new.code_failed ≡ self.old.code_failed) }
-        ensures broken { GainsBroken P.info self.old.inputs.type_inputs self.old.failed self.new.failed }
-    {
         match self.frames_info(found, module_info, offset) {
             Ok(frames) => Ok(frames),
             Err(error) => {
@@ -326,13 +300,11 @@ impl<'a, P: ModuleProvider> Context<'a, P> {
         ensures unchanged { self.new ≡ self.old }
     {
         let modules = self.names.modules();
-        let found = procedure_in(
-            &mut self.caches.infos,
-            modules,
-            module_index,
-            section_offset,
-        )?;
-        Ok(found)
+        let infos = &mut self.caches.infos;
+        match infos.get_basic_module_info(modules, module_index)? {
+            Some(info) => Ok(info.procedure_over(section_offset)),
+            None => Ok(None),
+        }
     }
 
     /// The records of the module at a module index, where there are any and its symbols have no fault.
@@ -344,7 +316,10 @@ impl<'a, P: ModuleProvider> Context<'a, P> {
         ensures unchanged { self.new ≡ self.old }
     {
         let modules = self.names.modules();
-        let info = readable_info(&mut self.caches.infos, modules, module_index)?;
-        Ok(info)
+        let infos = &mut self.caches.infos;
+        match infos.get_basic_module_info(modules, module_index)? {
+            Some(info) => Ok(Some(info.module_info())),
+            None => Ok(None),
+        }
     }
 }

@@ -36,7 +36,8 @@ use Rattle.pdb_function_info.specs.Frames.{function_frames}
 use Rattle.pdb_function_info.specs.Names.{function_name, id_name}
 use Rattle.pdb_addr2line.specs.Calls.{TextView, answer_to, answers_to, after_call, printed, text_unless}
 use Rattle.pdb_addr2line.specs.declared.calls.Call.{Call}
-use Rattle.pdb_addr2line.specs.declared.calls.Call.TheVariants.{FindFunction, FindFrames, Functions, FunctionCount, TypeSize, FormatFunction, FormatId}
+use Rattle.pdb_addr2line.specs.declared.calls.Call.TheVariants.{FindFunction, FindFrames, Functions, FunctionCount}
+use Rattle.pdb_addr2line.specs.declared.calls.Call.TheVariants.{TypeSize, FormatFunction, FormatId}
 use Rattle.pdb_addr2line.specs.Lookups.{frames_at, frames_of, found_at, records_of, answered_refusal}
 use Rattle.pdb_addr2line.specs.ContextInputs.{ContextInputs, ContextState, global_functions_of}
 use Rattle.pdb_laws.specs.PrintErrors.{IsPrintError}
@@ -72,17 +73,20 @@ refused_by_fault (Some fault) answer = tt
 refused_info : (info : ModuleInfo) → IsRefusedByCode (extended_info info)
 refused_info info =
     refused_in_steps (streamed info.line_program) _ (refused_by_stream info.line_program)
-    (λ program. refused_in_steps (read_whole info.inlinees) _ (refused_by_fault info.inlinees.fault info.inlinees.items) (λ inlinees. tt))
+    (λ program. refused_in_steps (read_whole info.inlinees) _
+    (refused_by_fault info.inlinees.fault info.inlinees.items) (λ inlinees. tt))
 
 -- the rows of a function
 refused_rows : (program : Lines) (start : PdbInternalSectionOffset) → IsRefusedByCode (function_rows program start)
 refused_rows program start = by_entry (lines_at start program.entries) refl where
-  by_entry : (entry : Option (Read _)) → lines_at start program.entries ≡ entry → IsRefusedByCode (function_rows program start)
+  by_entry : (entry : Option (Read _)) → lines_at start program.entries ≡ entry
+      → IsRefusedByCode (function_rows program start)
   by_entry None is = rw is tt
   by_entry (Some rows) is = rw is (refused_by_fault rows.fault rows.items)
 
 -- the row over an offset
-refused_row : (program : Lines) (start : PdbInternalSectionOffset) (x : ℕ) → IsRefusedByCode (function_row program start x)
+refused_row : (program : Lines) (start : PdbInternalSectionOffset) (x : ℕ)
+    → IsRefusedByCode (function_row program start x)
 refused_row program start x = refused_in_steps (function_rows program start) _ (refused_rows program start) (λ rows. tt)
 
 -- the ranges of a function's code
@@ -95,8 +99,10 @@ refused_ranges inlinees info (found_procedure m p) = refused_by_fault _ _
 refused_origin : (info : ModuleInfo) (found : FoundFunction) (x : ℕ) → IsRefusedByCode (origin info found x)
 refused_origin info found x =
     refused_in_steps (extended_info info) _ (refused_info info) (λ known.
-    refused_in_steps (function_row known.line_program (function_start found) x) _ (refused_row known.line_program (function_start found) x) (λ row.
-    refused_in_steps (function_ranges known.inlinees info found) _ (refused_ranges known.inlinees info found) (λ ranges. tt)))
+    refused_in_steps (function_row known.line_program (function_start found) x) _
+    (refused_row known.line_program (function_start found) x) (λ row.
+    refused_in_steps (function_ranges known.inlinees info found) _ (refused_ranges known.inlinees info found)
+    (λ ranges. tt)))
 
 -- the frames of a function
 refused_frames : (strings : _) (name_of : _) (name : _) (records : Option ModuleInfo) (found : FoundFunction) (x : ℕ)
@@ -106,8 +112,10 @@ refused_frames strings name_of name (Some info) found x =
     refused_in_steps (origin info found x) _ (refused_origin info found x) (λ o. tt)
 
 -- what is made of something that may be absent
-refused_option : {A B : Type 0} (r : Result B Error) (o : Option A) (next : A → Result B Error) (absent : Result B Error)
-    → r ≡ option_map_or next o absent → ((a : A) → IsRefusedByCode (next a)) → IsRefusedByCode absent → IsRefusedByCode r
+refused_option : {A B : Type 0} (r : Result B Error) (o : Option A) (next : A → Result B Error)
+    (absent : Result B Error)
+    → r ≡ option_map_or next o absent → ((a : A) → IsRefusedByCode (next a)) → IsRefusedByCode absent
+    → IsRefusedByCode r
 refused_option r o next absent is some none = rw is (refused_where_there o next absent some none)
 
 -- the frames of a function that was found
@@ -117,14 +125,19 @@ refused_found info s x found =
     let name_of = id_name info s.type_inputs (function_module found) in
     let name = function_name info s.type_inputs (global_functions_of s) found in
     let records = records_of info s found in
-    refused_option {A = Rva} (frames_of info s x found) (rva s.address_map (function_start found)) _ (Ok None) refl (λ start.
-    refused_in_steps (function_frames s.strings name_of name records found x) _ (refused_frames s.strings name_of name records found x) (λ frames. tt {0})) (tt {0})
+    refused_option {A = Rva} (frames_of info s x found) (rva s.address_map (function_start found)) _ (Ok None) refl
+    (λ start.
+    refused_in_steps (function_frames s.strings name_of name records found x) _
+    (refused_frames s.strings name_of name records found x) (λ frames. tt {0})) (tt {0})
 
 -- the frames over an address
-refused_at : {P : Type 0} (info : P → ProviderInfos) (s : ContextInputs P) (address : ℕ) → IsRefusedByCode (frames_at info s address)
+refused_at : {P : Type 0} (info : P → ProviderInfos) (s : ContextInputs P) (address : ℕ)
+    → IsRefusedByCode (frames_at info s address)
 refused_at info s address =
-    refused_option {A = PdbInternalSectionOffset} (frames_at info s address) (internal_offset s.address_map (record { 0 = address })) _ (Ok None) refl (λ section_offset.
-    refused_where_there (found_at info s address) (frames_of info s section_offset.offset) (Ok None) (refused_found info s section_offset.offset) (tt {0})) (tt {0})
+    refused_option {A = PdbInternalSectionOffset} (frames_at info s address)
+    (internal_offset s.address_map (record { 0 = address })) _ (Ok None) refl (λ section_offset.
+    refused_where_there (found_at info s address) (frames_of info s section_offset.offset) (Ok None)
+    (refused_found info s section_offset.offset) (tt {0})) (tt {0})
 
 -- a part that failed before says so
 refused_part : (p : CodePart) → IsCodeError (unsuccessful_code p)
@@ -154,23 +167,28 @@ printed_or_refused r refused = by_fault r.fault refl where
   by_fault (Some failure) is = refused failure is
 
 -- one answer
-holds_one : {P : Type 0} (info : P → ProviderInfos) (c : ContextState P) (call : Call) → HoldsErrorOfRecords (answer_to info c call)
+holds_one : {P : Type 0} (info : P → ProviderInfos) (c : ContextState P) (call : Call)
+    → HoldsErrorOfRecords (answer_to info c call)
 holds_one info c (FindFunction address) = tt
-holds_one info c (FindFrames address) = refused_as_shown c.code_failed _ (frames_at info c.inputs address) (refused_at info c.inputs address)
+holds_one info c (FindFrames address) = refused_as_shown c.code_failed _ (frames_at info c.inputs address)
+    (refused_at info c.inputs address)
 holds_one info c Functions = tt
 holds_one info c FunctionCount = tt
 holds_one info c (TypeSize m index) = tt
 holds_one info c (FormatFunction name m index) =
     let s = c.inputs.type_inputs in
     let w = formatter_inputs info s m in
-    let reads = print_inputs_are_good IsPrintError print_errors.reading (link_inputs info s) s.types s.ids s.pointer_size s.flags m in
+    let reads = print_inputs_are_good IsPrintError print_errors.reading
+    (link_inputs info s) s.types s.ids s.pointer_size s.flags m in
     let below = print_inputs-below (link_inputs info s) s.types s.ids s.pointer_size s.flags m in
     printed_or_refused (signature_run info s m name.now index.0 c.failed) (λ failure is.
-    refused_for w reads (document-unfolds w below (signature w name.now index.0)) (good_signature IsPrintError print_errors w reads name.now index.0) c.failed failure is)
+    refused_for w reads (document-unfolds w below (signature w name.now index.0))
+    (good_signature IsPrintError print_errors w reads name.now index.0) c.failed failure is)
 holds_one info c (FormatId m index) =
     let s = c.inputs.type_inputs in
     let w = formatter_inputs info s m in
-    let reads = print_inputs_are_good IsPrintError print_errors.reading (link_inputs info s) s.types s.ids s.pointer_size s.flags m in
+    let reads = print_inputs_are_good IsPrintError print_errors.reading
+    (link_inputs info s) s.types s.ids s.pointer_size s.flags m in
     let below = print_inputs-below (link_inputs info s) s.types s.ids s.pointer_size s.flags m in
     printed_or_refused (id_run info s m index.0 c.failed) (λ failure is.
     refused_for w reads (document-unfolds w below (id_of_index index.0)) tt c.failed failure is)

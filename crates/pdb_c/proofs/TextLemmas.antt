@@ -64,13 +64,15 @@ taken_text (Err e) before after taken next = absurd taken
 
 -- addresses of which one is refused
 addresses_refused : (text_of : ℕ → Result (List ℕ) Error) (addresses : List ℕ) (before after : SinkState)
-    (error : Error) → error ≢ OutOfMemory → EndsAt text_of addresses before after error → addresses_text text_of addresses ≡ Err error
+    (error : Error) → error ≢ OutOfMemory → EndsAt text_of addresses before after error
+    → addresses_text text_of addresses ≡ Err error
 addresses_refused f addresses before after error other ends =
     taken_text (addresses_text f (take ends.done addresses)) before after ends.taken
     (λ b is. text_refused f addresses ends.done ends.address error b ends.next is (ends.refused other))
 
 -- a report that ends early at a look-up, but not where memory ran out, has that look-up's error for its text
-pub report_refused : {P : Type 0} (info : P → ProviderInfos) (inputs : ContextInputs P) (command : Command) (addresses : List ℕ)
+pub report_refused : {P : Type 0} (info : P → ProviderInfos) (inputs : ContextInputs P) (command : Command)
+    (addresses : List ℕ)
     (before after : SinkState) (error : Error)
     → error ≢ OutOfMemory → EndsEarly info inputs [] command addresses before after (Lookup error)
     → report_text info inputs [] command addresses ≡ Err error
@@ -111,7 +113,8 @@ fault_shown (fault.ModuleNotJson path) read is other = rw is refl
 fault_shown fault.OutOfMemory read is other = absurd (other refl)
 
 -- records with no context
-pub context_refused : (command : Command) (made : Result (ContextInputs Records) Error) (addresses : List ℕ) (error : Error)
+pub context_refused : (command : Command) (made : Result (ContextInputs Records) Error) (addresses : List ℕ)
+    (error : Error)
     → (error ≢ OutOfMemory → made ≡ Err error) → refusal_of_records error ≢ refusal.OutOfMemory
     → text_over command made addresses ≡ Err (refusal_of_records error)
 context_refused command made addresses error gives other =

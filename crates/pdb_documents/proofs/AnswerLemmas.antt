@@ -16,8 +16,11 @@ error_view_of_failure (code_failure.TypeNotFound index) = refl
 error_view_of_failure (code_failure.OfError e) = refl
 
 -- a run that failed fails with the error of its failure
-pub fails_with : (failure : code.Failure) (r : Run) (text : List ℕ) (failed : Parts) (e : Error) → r ≡ record { text = text; fault = Some (failure_of failure); failed = failed } → e ≡ error_of failure → FailsWith r e failed
+pub fails_with : (failure : code.Failure) (r : Run) (text : List ℕ) (failed : Parts) (e : Error)
+    → r ≡ record { text = text; fault = Some (failure_of failure); failed = failed } → e ≡ error_of failure
+    → FailsWith r e failed
 fails_with failure r text failed e ran is = record {
-  error = ap (λ (x : Run). option_map failure_error x.fault) ran ∙ ap Some (error_view_of_failure failure ∙ ap error_view (sym is));
+  error = ap (λ (x : Run). option_map failure_error x.fault) ran ∙ ap Some
+      (error_view_of_failure failure ∙ ap error_view (sym is));
   failed = ap (λ (x : Run). x.failed) ran;
 }

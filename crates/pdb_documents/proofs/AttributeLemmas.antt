@@ -1,5 +1,6 @@
 -- The pointers of a chain, of which the last collected stands last in a vector and first in the definitions.
-use Rattle.std.proofs.Common.{◌≡◌, ◌∙◌, ℕ, ◌+◌, ◌<◌, ◌≤◌, Bool, List, [], ◌∷◌, ◌++◌, reverse, length, get_or, set, take, sym, ap, arith}
+use Rattle.std.proofs.Common.{◌≡◌, ◌∙◌, ℕ, ◌+◌, ◌<◌, ◌≤◌, Bool, List, [], ◌∷◌, ◌++◌, reverse, length, get_or, set, take}
+use Rattle.std.proofs.Common.{sym, ap, arith}
 use Rattle.std.proofs.lemmas.List.{take_more, take_more_set, reverse-append, take_all, length-set}
 use Rattle.pdb_documents.specs.Attributes.{Attribute, with_target}
 
@@ -15,14 +16,16 @@ set-last xs n y last =
     sym (take_all (n + 1) (set xs n y) no_more) ∙ take_more_set xs n y within
 
 -- a list is what stands before its last element, and that element
-last-split : (xs : List Attribute) (n : ℕ) (x : Attribute) → n + 1 ≡ length xs → x ≡ get_or xs n x → xs ≡ take n xs ++ (x ∷ [])
+last-split : (xs : List Attribute) (n : ℕ) (x : Attribute) → n + 1 ≡ length xs → x ≡ get_or xs n x
+    → xs ≡ take n xs ++ (x ∷ [])
 last-split xs n x last is =
     let within : n < length xs = omega arith in
     let no_more : length xs ≤ n + 1 = omega arith in
     sym (take_all (n + 1) xs no_more) ∙ (take_more xs n x within ∙ ap (λ a. take n xs ++ (a ∷ [])) (sym is))
 
 -- to write the last of a vector is to write the first of the definitions
-pub with_target-last : (constant : Bool) (xs : List Attribute) (n : ℕ) (x : Attribute) → n + 1 ≡ length xs → x ≡ get_or xs n x → reverse (set xs n (pointing_to constant x)) ≡ with_target constant (reverse xs)
+pub with_target-last : (constant : Bool) (xs : List Attribute) (n : ℕ) (x : Attribute) → n + 1 ≡ length xs
+    → x ≡ get_or xs n x → reverse (set xs n (pointing_to constant x)) ≡ with_target constant (reverse xs)
 with_target-last constant xs n x last is =
     let y : Attribute = pointing_to constant x in
     ap reverse (set-last xs n y last) ∙ (reverse-append (take n xs) (y ∷ [])

@@ -1,10 +1,13 @@
 -- The document that is computed of a plan is the one that it unfolds to.
 use Rattle.std.proofs.Common.{◌≡◌, ℕ, zero, suc, ◌+◌, ◌*◌, ◌^◌, ◌<◌, ◌≤◌, inl, inr, List, arith, mul-le-mul_right}
-use Rattle.pdb_records.specs.declared.types.TypeData.TheVariants.{Primitive, Class, MemberFunction, Procedure, Pointer, Array, Union, Enumeration, Enumerate, Modifier, ArgumentList, Other}
+use Rattle.pdb_records.specs.declared.types.TypeData.TheVariants.{Primitive, Class, MemberFunction, Procedure, Pointer}
+use Rattle.pdb_records.specs.declared.types.TypeData.TheVariants.{Array, Union, Enumeration, Enumerate, Modifier}
+use Rattle.pdb_records.specs.declared.types.TypeData.TheVariants.{ArgumentList, Other}
 use Rattle.pdb_types.specs.FailedParts.{Parts}
 use Rattle.pdb_documents.specs.Documents.{Document, Run, run}
 use Rattle.pdb_documents.specs.PrintInputs.{PrintInputs}
-use Rattle.pdb_documents.specs.Plans.{Task, Index, OfType, MethodArguments, Chain, BehindModifier, Modified, Elements, Id, Plan, Done, Later, Seq, Buffered, Catch}
+use Rattle.pdb_documents.specs.Plans.{Task, Index, OfType, MethodArguments, Chain, BehindModifier, Modified, Elements}
+use Rattle.pdb_documents.specs.Plans.{Id, Plan, Done, Later, Seq, Buffered, Catch}
 use Rattle.pdb_documents.specs.Rules.{rule}
 use Rattle.pdb_documents.specs.Unfolding.{Unfolds, done, later, seq, buffered, catch, Runs}
 use Rattle.pdb_documents.specs.Printed.{plan_document, task_document, enough_for, document_of}
@@ -14,11 +17,14 @@ use Rattle.pdb_documents.proofs.FallLemmas.{rule-each}
 use Rattle.pdb_documents.proofs.UnfoldingLemmas.{each_unit}
 
 -- a plan unfolds to the document that is computed of it, where its tasks do
-pub plan-unfolds : (w : PrintInputs) (next : List ℕ → Task → Document) (P : List ℕ → Task → Type 0) → ((inside : List ℕ) (task : Task) → P inside task → Unfolds w (Later inside task) (next inside task)) → (p : Plan) → EachTask P p → Unfolds w p (plan_document next p)
+pub plan-unfolds : (w : PrintInputs) (next : List ℕ → Task → Document) (P : List ℕ → Task → Type 0)
+    → ((inside : List ℕ) (task : Task) → P inside task → Unfolds w (Later inside task) (next inside task))
+    → (p : Plan) → EachTask P p → Unfolds w p (plan_document next p)
 unfolding plan_document
 plan-unfolds w next P some (Done d) each = done
 plan-unfolds w next P some (Later inside task) each = some inside task each
-plan-unfolds w next P some (Seq p q) each = seq (plan-unfolds w next P some p each.0) (plan-unfolds w next P some q each.1)
+plan-unfolds w next P some (Seq p q) each =
+    seq (plan-unfolds w next P some p each.0) (plan-unfolds w next P some q each.1)
 plan-unfolds w next P some (Buffered p after_sigil after_other) each = buffered (plan-unfolds w next P some p each)
 plan-unfolds w next P some (Catch p) each = catch (plan-unfolds w next P some p each)
 
@@ -61,35 +67,47 @@ times_left n inside task = room n inside task * (n + 4) + rank n task
 
 -- less room leaves fewer times
 fewer-left : (n f g r s : ℕ) → f < g → r < n + 4 → f * (n + 4) + r < g * (n + 4) + s
-fewer-left n f g r s less below = let more : suc f * (n + 4) ≤ g * (n + 4) = mul-le-mul_right (n + 4) less in omega (arith, more)
+fewer-left n f g r s less below = let more : suc f * (n + 4) ≤ g * (n + 4) = mul-le-mul_right (n + 4) less in
+    omega (arith, more)
 
 -- as much room and a lower rank leave fewer times
 lower-left : (n f g r s : ℕ) → f ≤ g → r < s → f * (n + 4) + r < g * (n + 4) + s
-lower-left n f g r s within lower = let more : f * (n + 4) ≤ g * (n + 4) = mul-le-mul_right (n + 4) within in omega (arith, more)
+lower-left n f g r s within lower = let more : f * (n + 4) ≤ g * (n + 4) = mul-le-mul_right (n + 4) within in
+    omega (arith, more)
 
 -- a task that comes before another has fewer times left
-before-left : (n : ℕ) (inside : List ℕ) (task : Task) (inside' : List ℕ) (task' : Task) → Before n inside task inside' task' → times_left n inside' task' < times_left n inside task
+before-left : (n : ℕ) (inside : List ℕ) (task : Task) (inside' : List ℕ) (task' : Task)
+    → Before n inside task inside' task' → times_left n inside' task' < times_left n inside task
 before-left n inside task inside' task' before = elim before [
-  | inl fewer ↦ fewer-left n (room n inside' task') (room n inside task) (rank n task') (rank n task) fewer (rank-below n task')
-  | inr as_many ↦ lower-left n (room n inside' task') (room n inside task) (rank n task') (rank n task) as_many.0 as_many.1
+  | inl fewer ↦ fewer-left n (room n inside' task') (room n inside task) (rank n task') (rank n task) fewer
+      (rank-below n task')
+  | inr as_many ↦ lower-left n (room n inside' task') (room n inside task) (rank n task')
+      (rank n task) as_many.0 as_many.1
 ]
 
 -- a task unfolds to the document that is computed of it, with enough times
-pub task-unfolds : (n : ℕ) (w : PrintInputs) → IsBelow n w → (times : ℕ) (inside : List ℕ) (task : Task) → times_left n inside task < times → Unfolds w (Later inside task) (task_document w times inside task)
+pub task-unfolds : (n : ℕ) (w : PrintInputs) → IsBelow n w → (times : ℕ) (inside : List ℕ) (task : Task)
+    → times_left n inside task < times → Unfolds w (Later inside task) (task_document w times inside task)
 unfolding task_document
 task-unfolds n w below zero inside task enough = absurd (omega arith)
 task-unfolds n w below (suc times) inside task enough =
-    later (plan-unfolds w (task_document w times) (Before n inside task) (λ inside' task' before. task-unfolds n w below times inside' task' (let less = before-left n inside task inside' task' before in omega arith)) (rule w inside task) (rule-each n w below inside task))
+    later (plan-unfolds w (task_document w times) (Before n inside task)
+    (λ inside' task' before. task-unfolds n w below times inside' task'
+    (let less = before-left n inside task inside' task' before in omega arith)) (rule w inside task)
+    (rule-each n w below inside task))
 
 -- there are enough times for each task
 enough-times : (n : ℕ) (inside : List ℕ) (task : Task) → times_left n inside task < enough_for n
 enough-times n inside task =
-    let enough : times_left n inside task < (n + 2) * (n + 4) + 0 = fewer-left n (room n inside task) (n + 2) (rank n task) 0 (room-below n inside task) (rank-below n task) in
+    let enough : times_left n inside task < (n + 2) * (n + 4) + 0 =
+    fewer-left n (room n inside task) (n + 2) (rank n task) 0 (room-below n inside task) (rank-below n task) in
     omega arith
 
 -- each plan unfolds to the document that is computed of it
-pub document-by : (n : ℕ) (w : PrintInputs) → IsBelow n w → (p : Plan) → Unfolds w p (plan_document (task_document w (enough_for n)) p)
-document-by n w below p = plan-unfolds w (task_document w (enough_for n)) (λ inside task. Unit {0}) (λ inside task each. task-unfolds n w below (enough_for n) inside task (enough-times n inside task)) p (each_unit p)
+pub document-by : (n : ℕ) (w : PrintInputs) → IsBelow n w → (p : Plan)
+    → Unfolds w p (plan_document (task_document w (enough_for n)) p)
+document-by n w below p = plan-unfolds w (task_document w (enough_for n)) (λ inside task. Unit {0})
+    (λ inside task each. task-unfolds n w below (enough_for n) inside task (enough-times n inside task)) p (each_unit p)
 
 -- each plan unfolds to its document, where only indices of 32 bits lead to types and to ids
 pub document-unfolds : (w : PrintInputs) → IsBelow (2 ^ 32) w → (p : Plan) → Unfolds w p (document_of w p)
@@ -97,5 +115,6 @@ unfolding document_of
 document-unfolds w below p = document-by (2 ^ 32) w below p
 
 -- what printing a plan does is what printing its document does
-pub document-runs : (w : PrintInputs) → IsBelow (2 ^ 32) w → (p : Plan) (failed : Parts) (r : Run) → Runs w p failed r → run (document_of w p) failed ≡ r
+pub document-runs : (w : PrintInputs) → IsBelow (2 ^ 32) w → (p : Plan) (failed : Parts) (r : Run) → Runs w p failed r
+    → run (document_of w p) failed ≡ r
 document-runs w below p failed r runs = runs (document_of w p) (document-unfolds w below p)

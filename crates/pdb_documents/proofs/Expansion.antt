@@ -7,35 +7,44 @@ use Rattle.pdb_documents.specs.PrintInputs.{PrintInputs}
 use Rattle.pdb_documents.specs.Plans.{Task, Plan, Done, Later, Seq, Buffered, Catch}
 use Rattle.pdb_documents.specs.Rules.{rule}
 use Rattle.pdb_documents.specs.Unfolding.{done, Runs}
-use Rattle.pdb_documents.proofs.UnfoldingLemmas.{UnfoldsToSome, seq-some, buffered-some, catch-some, later-some, unfolds_once}
+use Rattle.pdb_documents.proofs.UnfoldingLemmas.{UnfoldsToSome, seq-some, buffered-some, catch-some, later-some}
+use Rattle.pdb_documents.proofs.UnfoldingLemmas.{unfolds_once}
 
 -- a document of two plans, where each has one
-abbrev pub seq-expanded : (w : PrintInputs) (p q : Plan) → Option (UnfoldsToSome w p) → Option (UnfoldsToSome w q) → Option (UnfoldsToSome w (Seq p q))
+abbrev pub seq-expanded : (w : PrintInputs) (p q : Plan) → Option (UnfoldsToSome w p) → Option (UnfoldsToSome w q)
+    → Option (UnfoldsToSome w (Seq p q))
 seq-expanded w p q None second = None
 seq-expanded w p q (Some a) None = None
 seq-expanded w p q (Some a) (Some b) = Some (seq-some w p q a b)
 
 -- a document of a plan, by those of its tasks
-abbrev pub expanded : (w : PrintInputs) → ((inside : List ℕ) (task : Task) → Option (UnfoldsToSome w (Later inside task))) → (p : Plan) → Option (UnfoldsToSome w p)
+abbrev pub expanded : (w : PrintInputs)
+    → ((inside : List ℕ) (task : Task) → Option (UnfoldsToSome w (Later inside task))) → (p : Plan)
+    → Option (UnfoldsToSome w p)
 expanded w next (Done d) = Some (d, done)
 expanded w next (Later inside task) = next inside task
 expanded w next (Seq p q) = seq-expanded w p q (expanded w next p) (expanded w next q)
-expanded w next (Buffered p after_sigil after_other) = option_map (buffered-some w p after_sigil after_other) (expanded w next p)
+expanded w next (Buffered p after_sigil after_other) =
+    option_map (buffered-some w p after_sigil after_other) (expanded w next p)
 expanded w next (Catch p) = option_map (catch-some w p) (expanded w next p)
 
 -- a document of a task, where its rules go no deeper than this
-abbrev pub task-expanded : (w : PrintInputs) → ℕ → (inside : List ℕ) (task : Task) → Option (UnfoldsToSome w (Later inside task))
+abbrev pub task-expanded : (w : PrintInputs) → ℕ → (inside : List ℕ) (task : Task)
+    → Option (UnfoldsToSome w (Later inside task))
 task-expanded w zero inside task = None
-task-expanded w (suc depth) inside task = option_map (later-some w inside task) (expanded w (task-expanded w depth) (rule w inside task))
+task-expanded w (suc depth) inside task =
+    option_map (later-some w inside task) (expanded w (task-expanded w depth) (rule w inside task))
 
 -- what printing a plan does, where its rules go no deeper than this
 abbrev pub run-expanded : (w : PrintInputs) → ℕ → Plan → Parts → Option Run
 run-expanded w depth p failed = option_map (λ some. run some.0 failed) (expanded w (task-expanded w depth) p)
 
 -- what printing a plan does is what printing each document of it does
-pub run-each : (w : PrintInputs) (depth : ℕ) (p : Plan) (failed : Parts) (r : Run) → run-expanded w depth p failed ≡ Some r → Runs w p failed r
+pub run-each : (w : PrintInputs) (depth : ℕ) (p : Plan) (failed : Parts) (r : Run)
+    → run-expanded w depth p failed ≡ Some r → Runs w p failed r
 run-each w depth p failed r is d unfolds =
-    (elim (expanded w (task-expanded w depth) p) as (λ o. option_map (λ some. run some.0 failed) o ≡ Some r → run d failed ≡ r) [
+    (elim (expanded w (task-expanded w depth) p) as (λ o. option_map (λ some. run some.0 failed) o ≡ Some r
+    → run d failed ≡ r) [
       | None ↦ λ e. cc
       | Some some ↦ λ e. let same : d ≡ some.0 = unfolds_once unfolds some.1 in cc
     ]) is

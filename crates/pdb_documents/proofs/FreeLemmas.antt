@@ -24,7 +24,8 @@ free_le (suc n) i indices = grind (arith, common_steps, free_le n i indices, cas
 pub free_lt : (n i : ℕ) (indices : List ℕ) → i < n → is_among i indices ≡ false → free n (i ∷ indices) < free n indices
 unfolding free
 free_lt zero i indices below absent = absurd (omega arith)
-free_lt (suc n) i indices below absent = grind (arith, common_steps, free_lt n i indices, free_le n i indices, cases_eq n i)
+free_lt (suc n) i indices below absent =
+    grind (arith, common_steps, free_lt n i indices, free_le n i indices, cases_eq n i)
 
 -- no more are free than there are
 pub free_at_most : (n : ℕ) (indices : List ℕ) → free n indices ≤ n
@@ -32,7 +33,8 @@ unfolding free
 free_at_most zero indices = omega arith
 free_at_most (suc n) indices =
     let before = free_at_most n indices in
-    elim (is_among n indices) as (λ b. cond b (free n indices) (suc (free n indices)) ≤ suc n) [ true ↦ omega arith | false ↦ omega arith ]
+    elim (is_among n indices) as (λ b. cond b (free n indices) (suc (free n indices)) ≤ suc n)
+    [ true ↦ omega arith | false ↦ omega arith ]
 
 -- as many are free of indices as of others that have the same numbers among them
 pub free-same : (n : ℕ) (a b : List ℕ) → ((q : ℕ) → is_among q a ≡ is_among q b) → free n a ≡ free n b
@@ -52,18 +54,24 @@ in_either_order true false c = refl
 in_either_order false b c = refl
 
 -- a number is among indices with one more, in its place, where it is among them behind it
-pub among-inserted : (q index : ℕ) (indices : List ℕ) → is_among q (insert_key nat_cmp indices index) ≡ is_among q (index ∷ indices)
+pub among-inserted : (q index : ℕ) (indices : List ℕ)
+    → is_among q (insert_key nat_cmp indices index) ≡ is_among q (index ∷ indices)
 among-inserted q index [] = refl
 among-inserted q index (first ∷ rest) =
     let again : is_among q (insert_key nat_cmp rest index) ≡ is_among q (index ∷ rest) = among-inserted q index rest in
-    (elim (nat_cmp index first) as (λ o. nat_cmp index first ≡ o → is_among q (match_ordering o (index ∷ first ∷ rest) (first ∷ rest) (first ∷ insert_key nat_cmp rest index)) ≡ is_among q (index ∷ first ∷ rest)) [
+    (elim (nat_cmp index first) as (λ o. nat_cmp index first ≡ o
+    → is_among q (match_ordering o (index ∷ first ∷ rest) (first ∷ rest) (first ∷ insert_key nat_cmp rest index))
+    ≡ is_among q (index ∷ first ∷ rest)) [
       | Less ↦ λ e. refl
-      | Equal ↦ λ e. let same : index ≡ first = exact_unsigned index first e in rw same (once_or_twice (nat_eq q first) (is_among q rest))
+      | Equal ↦ λ e. let same : index ≡ first = exact_unsigned index first e in
+          rw same (once_or_twice (nat_eq q first) (is_among q rest))
       | Greater ↦ λ e. rw again (in_either_order (nat_eq q first) (nat_eq q index) (is_among q rest))
     ]) refl
 
 -- an index that was not among these, put in its place, leaves less free
-pub free-inserted : (n i : ℕ) (indices : List ℕ) → i < n → is_among i indices ≡ false → free n (insert_key nat_cmp indices i) < free n indices
+pub free-inserted : (n i : ℕ) (indices : List ℕ) → i < n → is_among i indices ≡ false
+    → free n (insert_key nat_cmp indices i) < free n indices
 free-inserted n i indices below absent =
-    let same : free n (insert_key nat_cmp indices i) ≡ free n (i ∷ indices) = free-same n (insert_key nat_cmp indices i) (i ∷ indices) (λ q. among-inserted q i indices) in
+    let same : free n (insert_key nat_cmp indices i) ≡ free n (i ∷ indices) =
+    free-same n (insert_key nat_cmp indices i) (i ∷ indices) (λ q. among-inserted q i indices) in
     rw same (free_lt n i indices below absent)

@@ -9,7 +9,9 @@ use Rattle.pdb_records.specs.declared.ids.MemberFunctionId.{MemberFunctionId}
 use Rattle.pdb_records.specs.declared.types.TypeIndex.{TypeIndex}
 use Rattle.pdb_records.specs.declared.types.MemberFunctionType.{MemberFunctionType}
 use Rattle.pdb_records.specs.declared.types.TypeData.{TypeData}
-use Rattle.pdb_records.specs.declared.types.TypeData.TheVariants.{Primitive, Class, MemberFunction, Procedure, Pointer, Array, Union, Enumeration, Enumerate, Modifier, ArgumentList, Other}
+use Rattle.pdb_records.specs.declared.types.TypeData.TheVariants.{Primitive, Class, MemberFunction, Procedure, Pointer}
+use Rattle.pdb_records.specs.declared.types.TypeData.TheVariants.{Array, Union, Enumeration, Enumerate, Modifier}
+use Rattle.pdb_records.specs.declared.types.TypeData.TheVariants.{ArgumentList, Other}
 use Rattle.pdb_documents.specs.Flags.{without_return_type, without_arguments}
 use Rattle.pdb_documents.specs.Functions.{function_arguments}
 use Rattle.pdb_documents.specs.Ids.{method_id, scope, function_id, id_by_kind}
@@ -19,16 +21,26 @@ use Rattle.pdb_documents.proofs.FreeLemmas.{free_at_most}
 use Rattle.pdb_documents.proofs.RuleLemmas.{EachTask, room, on_read-each, returned-each, types_between-each}
 
 -- a function's arguments
-function_arguments-each : (P : List ℕ → Task → Type 0) (w : PrintInputs) (inside : List ℕ) (list : TypeIndex) → P inside (Index list.0) → EachTask P (function_arguments w inside list)
+function_arguments-each : (P : List ℕ → Task → Type 0) (w : PrintInputs) (inside : List ℕ) (list : TypeIndex)
+    → P inside (Index list.0) → EachTask P (function_arguments w inside list)
 function_arguments-each P w inside list each =
-    elim (without_arguments w.flags) as (λ b. EachTask P (cond b (written []) (written (codes "(") ▸ Later inside (Index list.0) ▸ written (codes ")")))) [ true ↦ tt | false ↦ (tt, (each, tt)) ]
+    elim (without_arguments w.flags) as (λ b. EachTask P
+    (cond b (written []) (written (codes "(") ▸ Later inside (Index list.0) ▸ written (codes ")"))))
+    [ true ↦ tt | false ↦ (tt, (each, tt)) ]
 
 -- a function of a class
-method_id-each : (P : List ℕ → Task → Type 0) (w : PrintInputs) (method : MemberFunctionId) (inside : List ℕ) (type : TypeData) → ((i : ℕ) → P inside (Index i)) → ((m : MemberFunctionType) → P inside (MethodArguments m true)) → EachTask P (method_id w method inside type)
+method_id-each : (P : List ℕ → Task → Type 0) (w : PrintInputs) (method : MemberFunctionId) (inside : List ℕ)
+    (type : TypeData) → ((i : ℕ) → P inside (Index i))
+    → ((m : MemberFunctionType) → P inside (MethodArguments m true)) → EachTask P (method_id w method inside type)
 method_id-each P w method inside (Primitive p) index arguments = tt
 method_id-each P w method inside (Class c) index arguments = tt
-method_id-each P w method inside (MemberFunction m) index arguments =
-    (tt, (returned-each P inside (m.is_constructor || without_return_type w.flags) (Some m.return_type) index, (index method.parent.0, (tt, (tt, arguments m)))))
+method_id-each P w method inside (MemberFunction m) index arguments = (
+  tt,
+  (
+    returned-each P inside (m.is_constructor || without_return_type w.flags) (Some m.return_type) index,
+    (index method.parent.0, (tt, (tt, arguments m))),
+  ),
+)
 method_id-each P w method inside (Procedure p) index arguments = tt
 method_id-each P w method inside (Pointer p) index arguments = tt
 method_id-each P w method inside (Array a) index arguments = tt
@@ -40,17 +52,25 @@ method_id-each P w method inside (ArgumentList list) index arguments = tt
 method_id-each P w method inside (Other kind) index arguments = tt
 
 -- the scope of a function
-scope-each : (P : List ℕ → Task → Type 0) (met inside : List ℕ) (index : Option IdIndex) → ((i : ℕ) → P inside (Id met i)) → EachTask P (scope met inside index)
+scope-each : (P : List ℕ → Task → Type 0) (met inside : List ℕ) (index : Option IdIndex)
+    → ((i : ℕ) → P inside (Id met i)) → EachTask P (scope met inside index)
 scope-each P met inside None each = tt
 scope-each P met inside (Some index) each = (each index.0, tt)
 
 -- a function of no class
-function_id-each : (P : List ℕ → Task → Type 0) (w : PrintInputs) (met : List ℕ) (function : FunctionId) (inside : List ℕ) (type : TypeData) → ((i : ℕ) → P inside (Index i)) → ((i : ℕ) → P inside (Id met i)) → EachTask P (function_id w met function inside type)
+function_id-each : (P : List ℕ → Task → Type 0) (w : PrintInputs) (met : List ℕ) (function : FunctionId)
+    (inside : List ℕ) (type : TypeData) → ((i : ℕ) → P inside (Index i)) → ((i : ℕ) → P inside (Id met i))
+    → EachTask P (function_id w met function inside type)
 function_id-each P w met function inside (Primitive p) index id = tt
 function_id-each P w met function inside (Class c) index id = tt
 function_id-each P w met function inside (MemberFunction m) index id = tt
-function_id-each P w met function inside (Procedure p) index id =
-    (returned-each P inside (p.is_constructor || without_return_type w.flags) p.return_type index, (scope-each P met inside function.scope id, (tt, function_arguments-each P w inside p.argument_list (index p.argument_list.0))))
+function_id-each P w met function inside (Procedure p) index id = (
+  returned-each P inside (p.is_constructor || without_return_type w.flags) p.return_type index,
+  (
+    scope-each P met inside function.scope id,
+    (tt, function_arguments-each P w inside p.argument_list (index p.argument_list.0)),
+  ),
+)
 function_id-each P w met function inside (Pointer p) index id = tt
 function_id-each P w met function inside (Array a) index id = tt
 function_id-each P w met function inside (Union u) index id = tt
@@ -61,13 +81,20 @@ function_id-each P w met function inside (ArgumentList list) index id = tt
 function_id-each P w met function inside (Other kind) index id = tt
 
 -- an id, by its kind: it leaves types with the room that they have, and its scope, of which these ids were met
-pub id_by_kind-each : (n : ℕ) (w : PrintInputs) (P : List ℕ → Task → Type 0) (met : List ℕ) (content : IdData) → ((further : List ℕ) (task : Task) → room n further task ≤ n → P further task) → ((further : List ℕ) (i : ℕ) → P further (Id met i)) → EachTask P (id_by_kind w met content)
+pub id_by_kind-each : (n : ℕ) (w : PrintInputs) (P : List ℕ → Task → Type 0) (met : List ℕ) (content : IdData)
+    → ((further : List ℕ) (task : Task) → room n further task ≤ n → P further task)
+    → ((further : List ℕ) (i : ℕ) → P further (Id met i)) → EachTask P (id_by_kind w met content)
 id_by_kind-each n w P met (id.MemberFunction method) type scope =
     let inside = method.function_type.0 ∷ [] in
-    on_read-each P (w.read method.function_type.0) (method_id w method inside) (λ found is. method_id-each P w method inside found (λ i. type inside (Index i) (free_at_most n inside)) (λ m. type inside (MethodArguments m true) (free_at_most n inside)))
+    on_read-each P (w.read method.function_type.0) (method_id w method inside)
+    (λ found is. method_id-each P w method inside found (λ i. type inside (Index i) (free_at_most n inside))
+    (λ m. type inside (MethodArguments m true) (free_at_most n inside)))
 id_by_kind-each n w P met (id.Function function) type scope =
     let inside = function.function_type.0 ∷ [] in
-    on_read-each P (w.read function.function_type.0) (function_id w met function inside) (λ found is. function_id-each P w met function inside found (λ i. type inside (Index i) (free_at_most n inside)) (λ i. scope inside i))
+    on_read-each P (w.read function.function_type.0) (function_id w met function inside)
+    (λ found is. function_id-each P w met function inside found (λ i. type inside (Index i) (free_at_most n inside))
+    (λ i. scope inside i))
 id_by_kind-each n w P met (id.String string) type scope = tt
-id_by_kind-each n w P met (id.StringList substrings) type scope = (tt, (types_between-each P (codes "\" \"") [] substrings (λ i. type [] (Index i) (free_at_most n [])), tt))
+id_by_kind-each n w P met (id.StringList substrings) type scope =
+    (tt, (types_between-each P (codes "\" \"") [] substrings (λ i. type [] (Index i) (free_at_most n [])), tt))
 id_by_kind-each n w P met (id.Other kind) type scope = tt

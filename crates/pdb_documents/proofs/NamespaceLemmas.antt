@@ -9,20 +9,25 @@ use Rattle.std.proofs.lemmas.Bool.{and_from, and_parts, ltb-true, lt-ltb, false_
 use Rattle.pdb_documents.specs.Namespaces.{is_hash}
 
 -- where each byte is a digit, the test of all of them says so
-digits-tested : (radix : ℕ) (bytes : List ℕ) → AllDigits radix bytes → list_all (λ digit. is_digit digit radix) bytes ≡ true
+digits-tested : (radix : ℕ) (bytes : List ℕ) → AllDigits radix bytes
+    → list_all (λ digit. is_digit digit radix) bytes ≡ true
 digits-tested radix [] digits = refl
 digits-tested radix (byte ∷ bytes) digits = and_from _ _ (lt-ltb _ _ digits.0) (digits-tested radix bytes digits.1)
 
 -- and where the test says so, each byte is a digit
-tested-digits : (radix : ℕ) (bytes : List ℕ) → list_all (λ digit. is_digit digit radix) bytes ≡ true → AllDigits radix bytes
+tested-digits : (radix : ℕ) (bytes : List ℕ) → list_all (λ digit. is_digit digit radix) bytes ≡ true
+    → AllDigits radix bytes
 tested-digits radix [] tested = tt
-tested-digits radix (byte ∷ bytes) tested = let parts = and_parts _ _ tested in (ltb-true _ _ parts.0, tested-digits radix bytes parts.1)
+tested-digits radix (byte ∷ bytes) tested = let parts =
+    and_parts _ _ tested in (ltb-true _ _ parts.0, tested-digits radix bytes parts.1)
 
 -- a text is a hash where it can be read as a number of 32 bits
-pub hash-parsed : {E : Type 0} (text : List ℕ) (parsed : Result ℕ E) → ParsesUnsigned 32 16 text parsed → is_ok parsed ≡ is_hash text
+pub hash-parsed : {E : Type 0} (text : List ℕ) (parsed : Result ℕ E) → ParsesUnsigned 32 16 text parsed
+    → is_ok parsed ≡ is_hash text
 hash-parsed text (Ok number) parses =
     let hexadecimals = without_leading_plus text in
-    sym (and_from _ _ (and_from _ _ (lt-ltb _ _ parses.0.0.0) (digits-tested 16 hexadecimals parses.0.0.1)) (lt-ltb _ _ parses.0.1))
+    sym (and_from _ _ (and_from _ _ (lt-ltb _ _ parses.0.0.0) (digits-tested 16 hexadecimals parses.0.0.1))
+    (lt-ltb _ _ parses.0.1))
 hash-parsed text (Err e) parses =
     let hexadecimals = without_leading_plus text in
     sym (false_from_ne_true (is_hash text) (λ yes.

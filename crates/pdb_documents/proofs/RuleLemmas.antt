@@ -1,15 +1,20 @@
--- What each rule leaves to be printed comes earlier: either less indices are free to open, or as many and the task ranks lower.
+-- What each rule leaves to be printed comes earlier: either less indices are free to open, or as many and the task
+-- ranks lower.
 use Rattle.std.proofs.Common.{◌≡◌, ℕ, ◌+◌, ◌<◌, ◌≤◌, ◌⊎◌, Bool, true, false, cond, List, [], ◌∷◌, refl}
 use Rattle.std.specs.Prelude.{Option, Some, None, Result, Ok, Err}
 use Rattle.pdb_records.specs.declared.types.TypeIndex.{TypeIndex}
 use Rattle.pdb_records.specs.declared.types.MemberFunctionType.{MemberFunctionType}
 use Rattle.pdb_records.specs.declared.ids.IdData.{IdData}
 use Rattle.pdb_records.specs.declared.types.TypeData.{TypeData}
-use Rattle.pdb_records.specs.declared.types.TypeData.TheVariants.{Primitive, Class, MemberFunction, Procedure, Pointer, Array, Union, Enumeration, Enumerate, Modifier, ArgumentList, Other}
+use Rattle.pdb_records.specs.declared.types.TypeData.TheVariants.{Primitive, Class, MemberFunction, Procedure, Pointer}
+use Rattle.pdb_records.specs.declared.types.TypeData.TheVariants.{Array, Union, Enumeration, Enumerate, Modifier}
+use Rattle.pdb_records.specs.declared.types.TypeData.TheVariants.{ArgumentList, Other}
 use Rattle.pdb_documents.specs.Flags.{without_arguments}
 use Rattle.pdb_types.specs.ReadError.{ReadErrorView}
 use Rattle.pdb_documents.specs.PrintInputs.{PrintInputs}
-use Rattle.pdb_documents.specs.Plans.{Task, Index, OfType, MethodArguments, Chain, BehindModifier, Modified, Elements, Id, Plan, Done, Later, Seq, Buffered, Catch, written, circular, is_among, on_read, on_printed, opened, opening}
+use Rattle.pdb_documents.specs.Plans.{Task, Index, OfType, MethodArguments, Chain, BehindModifier, Modified, Elements}
+use Rattle.pdb_documents.specs.Plans.{Id, Plan, Done, Later, Seq, Buffered, Catch, written, circular, is_among, on_read}
+use Rattle.pdb_documents.specs.Plans.{on_printed, opened, opening}
 use Rattle.pdb_documents.specs.Functions.{returned, further_types, types_between}
 use Rattle.pdb_documents.specs.Methods.{arguments_behind, this_of, method_list, on_list, method_arguments}
 use Rattle.pdb_documents.specs.Wording.{comma}
@@ -47,48 +52,72 @@ room n inside other = free n inside
 
 -- one place comes before another: there is less room, or as much and the task ranks lower
 abbrev pub Before : ℕ → List ℕ → Task → List ℕ → Task → Type 0
-Before n inside task inside' task' = (room n inside' task' < room n inside task) ⊎ ((room n inside' task' ≤ room n inside task) × (rank n task' < rank n task))
+Before n inside task inside' task' = (room n inside' task' < room n inside task) ⊎
+    ((room n inside' task' ≤ room n inside task) × (rank n task' < rank n task))
 
 -- what follows what is needed
-pub on_read-each : {A : Type 0} → (P : List ℕ → Task → Type 0) (entry : Result A ReadErrorView) (next : A → Plan) → ((answer : A) → entry ≡ Ok answer → EachTask P (next answer)) → EachTask P (on_read entry next)
+pub on_read-each : {A : Type 0} → (P : List ℕ → Task → Type 0) (entry : Result A ReadErrorView) (next : A → Plan)
+    → ((answer : A) → entry ≡ Ok answer → EachTask P (next answer)) → EachTask P (on_read entry next)
 on_read-each P (Ok answer) next each = each answer refl
 on_read-each P (Err read_error_view) next each = tt
 
 -- what follows what is printed where it stands
-pub on_printed-each : {A : Type 0} → (P : List ℕ → Task → Type 0) (entry : Result A ReadErrorView) (next : A → Plan) → ((answer : A) → entry ≡ Ok answer → EachTask P (next answer)) → EachTask P (on_printed entry next)
+pub on_printed-each : {A : Type 0} → (P : List ℕ → Task → Type 0) (entry : Result A ReadErrorView) (next : A → Plan)
+    → ((answer : A) → entry ≡ Ok answer → EachTask P (next answer)) → EachTask P (on_printed entry next)
 on_printed-each P (Ok answer) next each = each answer refl
 on_printed-each P (Err read_error_view) next each = tt
 
 -- an index that opens
-pub opened-each : (P : List ℕ → Task → Type 0) (inside : List ℕ) (i : ℕ) (plan : Plan) → (is_among i inside ≡ false → EachTask P plan) → EachTask P (opened inside i plan)
+pub opened-each : (P : List ℕ → Task → Type 0) (inside : List ℕ) (i : ℕ) (plan : Plan)
+    → (is_among i inside ≡ false → EachTask P plan) → EachTask P (opened inside i plan)
 opened-each P inside i plan each =
-    (elim (is_among i inside) as (λ b. is_among i inside ≡ b → EachTask P (cond b (circular i) plan)) [ true ↦ λ e. tt | false ↦ λ e. each e ]) refl
+    (elim (is_among i inside) as (λ b. is_among i inside ≡ b
+    → EachTask P (cond b (circular i) plan)) [ true ↦ λ e. tt | false ↦ λ e. each e ]) refl
 
 -- an index that opens and is read: less is free behind it
-pub opening-each : (n : ℕ) (w : PrintInputs) → IsBelow n w → (P : List ℕ → Task → Type 0) (inside : List ℕ) (i : ℕ) (next : List ℕ → TypeData → Plan) → ((type : TypeData) → free n (i ∷ inside) < free n inside → EachTask P (next (i ∷ inside) type)) → EachTask P (opening w inside i next)
+pub opening-each : (n : ℕ) (w : PrintInputs) → IsBelow n w
+    → (P : List ℕ → Task → Type 0) (inside : List ℕ) (i : ℕ) (next : List ℕ → TypeData → Plan)
+    → ((type : TypeData) → free n (i ∷ inside) < free n inside → EachTask P (next (i ∷ inside) type))
+    → EachTask P (opening w inside i next)
 opening-each n w below P inside i next each =
-    opened-each P inside i (on_read (w.read i) (next (i ∷ inside))) (λ absent. on_read-each P (w.read i) (next (i ∷ inside)) (λ type found. each type (free_lt n i inside (below.types i type found) absent)))
+    opened-each P inside i (on_read (w.read i) (next (i ∷ inside)))
+    (λ absent. on_read-each P (w.read i) (next (i ∷ inside))
+    (λ type found. each type (free_lt n i inside (below.types i type found) absent)))
 
 -- the type that a function returns
-pub returned-each : (P : List ℕ → Task → Type 0) (inside : List ℕ) (left_out : Bool) (index : Option TypeIndex) → ((i : ℕ) → P inside (Index i)) → EachTask P (returned inside left_out index)
+pub returned-each : (P : List ℕ → Task → Type 0) (inside : List ℕ) (left_out : Bool) (index : Option TypeIndex)
+    → ((i : ℕ) → P inside (Index i)) → EachTask P (returned inside left_out index)
 returned-each P inside left_out None each = tt
 returned-each P inside true (Some index) each = tt
 returned-each P inside false (Some index) each = (each index.0, tt)
 
 -- further types
-pub further_types-each : (P : List ℕ → Task → Type 0) (separator inside : List ℕ) (list : List TypeIndex) → ((i : ℕ) → P inside (Index i)) → EachTask P (further_types separator inside list)
+pub further_types-each : (P : List ℕ → Task → Type 0) (separator inside : List ℕ) (list : List TypeIndex)
+    → ((i : ℕ) → P inside (Index i)) → EachTask P (further_types separator inside list)
 further_types-each P separator inside [] each = tt
-further_types-each P separator inside (next ∷ rest) each = (tt, (each next.0, further_types-each P separator inside rest each))
+further_types-each P separator inside (next ∷ rest) each =
+    (tt, (each next.0, further_types-each P separator inside rest each))
 
 -- types with a separator between them
-pub types_between-each : (P : List ℕ → Task → Type 0) (separator inside : List ℕ) (list : List TypeIndex) → ((i : ℕ) → P inside (Index i)) → EachTask P (types_between separator inside list)
+pub types_between-each : (P : List ℕ → Task → Type 0) (separator inside : List ℕ) (list : List TypeIndex)
+    → ((i : ℕ) → P inside (Index i)) → EachTask P (types_between separator inside list)
 types_between-each P separator inside [] each = tt
-types_between-each P separator inside (next ∷ rest) each = (each next.0, further_types-each P separator inside rest each)
+types_between-each P separator inside (next ∷ rest) each =
+    (each next.0, further_types-each P separator inside rest each)
 
 -- a method's list of arguments
-pub on_list-each : (P : List ℕ → Task → Type 0) (w : PrintInputs) (m : MemberFunctionType) (may_say_const : Bool) (inside : List ℕ) (type : TypeData) → ((i : ℕ) → P inside (Index i)) → EachTask P (on_list w m may_say_const inside type)
+pub on_list-each : (P : List ℕ → Task → Type 0) (w : PrintInputs) (m : MemberFunctionType) (may_say_const : Bool)
+    (inside : List ℕ) (type : TypeData) → ((i : ℕ) → P inside (Index i))
+    → EachTask P (on_list w m may_say_const inside type)
 on_list-each P w m may_say_const inside (ArgumentList list) each =
-    on_read-each P (this_of w m.class_type m.this_pointer_type) (method_list w inside may_say_const list) (λ this error_view. (tt, (types_between-each P (comma w.flags) inside (arguments_behind this.argument list) each, tt)))
+    on_read-each P (this_of w m.class_type m.this_pointer_type) (method_list w inside may_say_const list)
+    (λ this error_view. (
+      tt,
+      (
+        types_between-each P (comma w.flags) inside (arguments_behind this.argument list) each,
+        tt,
+      ),
+    ))
 on_list-each P w m may_say_const inside (Primitive p) each = tt
 on_list-each P w m may_say_const inside (Class c) each = tt
 on_list-each P w m may_say_const inside (MemberFunction f) each = tt
@@ -102,9 +131,15 @@ on_list-each P w m may_say_const inside (Modifier f) each = tt
 on_list-each P w m may_say_const inside (Other kind) each = tt
 
 -- a method's arguments
-pub method_arguments-each : (n : ℕ) (w : PrintInputs) → IsBelow n w → (P : List ℕ → Task → Type 0) (inside : List ℕ) (m : MemberFunctionType) (may_say_const : Bool) → ((further : List ℕ) (i : ℕ) → free n further < free n inside → P further (Index i)) → EachTask P (method_arguments w inside m may_say_const)
+pub method_arguments-each : (n : ℕ) (w : PrintInputs) → IsBelow n w
+    → (P : List ℕ → Task → Type 0) (inside : List ℕ) (m : MemberFunctionType) (may_say_const : Bool)
+    → ((further : List ℕ) (i : ℕ) → free n further < free n inside → P further (Index i))
+    → EachTask P (method_arguments w inside m may_say_const)
 method_arguments-each n w below P inside m may_say_const each =
-    elim (without_arguments w.flags) as (λ b. EachTask P (cond b (written []) (opening w inside m.argument_list.0 (on_list w m may_say_const)))) [
+    elim (without_arguments w.flags) as (λ b. EachTask P
+    (cond b (written []) (opening w inside m.argument_list.0 (on_list w m may_say_const)))) [
       | true ↦ tt
-      | false ↦ opening-each n w below P inside m.argument_list.0 (on_list w m may_say_const) (λ type less. on_list-each P w m may_say_const (m.argument_list.0 ∷ inside) type (λ i. each (m.argument_list.0 ∷ inside) i less))
+      | false ↦ opening-each n w below P inside m.argument_list.0 (on_list w m may_say_const)
+          (λ type less. on_list-each P w m may_say_const (m.argument_list.0 ∷ inside) type
+          (λ i. each (m.argument_list.0 ∷ inside) i less))
     ]

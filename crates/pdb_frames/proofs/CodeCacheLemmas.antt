@@ -14,7 +14,8 @@ use Rattle.pdb_types.proofs.TypeCacheLemmas.{is_cache_of_nothing, is_cache_same,
 use Rattle.pdb_types.specs.Outcomes.{Gives}
 use Rattle.pdb_types.specs.declared.error.Error.{Error}
 use Rattle.pdb_inline.specs.declared.inline_ranges.InlineRange.{InlineRange}
-use Rattle.pdb_frames.specs.CodeCaches.{Records, IsExtendedInfoCache, function_cmp, HasProgram, IsEntryCache, IsLineCache, procedure_cmp, procedure_ranges, IsRangeCache}
+use Rattle.pdb_frames.specs.CodeCaches.{Records, IsExtendedInfoCache, function_cmp, HasProgram, IsEntryCache}
+use Rattle.pdb_frames.specs.CodeCaches.{IsLineCache, procedure_cmp, procedure_ranges, IsRangeCache}
 use Rattle.pdb_frames.specs.ExtendedInfo.{extended_info_view, extended_info}
 use Rattle.pdb_frames.specs.FunctionRows.{row_in}
 use Rattle.pdb_frames.specs.Lines.{function_row}
@@ -59,29 +60,42 @@ some_same : {T : Type 0} (a b : T) → Some a ≡ Some b → a ≡ b
 some_same a b same = cc
 
 -- an answer that is the definition's is what it gives
-pub gives_same : {A : Type 0} (answer definition : Result A Error) → answer ≡ definition → Gives (λ a. a) answer definition
+pub gives_same : {A : Type 0} (answer definition : Result A Error) → answer ≡ definition
+    → Gives (λ a. a) answer definition
 gives_same (Ok a) definition same = sym same
 gives_same (Err e) definition same = λ _. sym same
 
 -- nothing is cached of any module's code
 pub infos_new : (records : Records) (m : BTreeMap ℕ ExtendedModuleInfo) → m.entries ≡ [] → IsExtendedInfoCache records m
 unfolding IsExtendedInfoCache
-infos_new records m empty = is_cache_of_nothing nat_cmp (λ module_index known. option_map extended_info (records module_index) ≡ Some (Ok (extended_info_view known))) m empty
+infos_new records m empty = is_cache_of_nothing nat_cmp
+    (λ module_index known. option_map extended_info (records module_index) ≡ Some (Ok (extended_info_view known))) m
+    empty
 
 -- what is cached stays
-pub infos_same : (records : Records) (m n : BTreeMap ℕ ExtendedModuleInfo) → n.entries ≡ m.entries → IsExtendedInfoCache records m → IsExtendedInfoCache records n
+pub infos_same : (records : Records) (m n : BTreeMap ℕ ExtendedModuleInfo) → n.entries ≡ m.entries
+    → IsExtendedInfoCache records m → IsExtendedInfoCache records n
 unfolding IsExtendedInfoCache
-infos_same records m n same is_cache = is_cache_same nat_cmp (λ module_index known. option_map extended_info (records module_index) ≡ Some (Ok (extended_info_view known))) m n same is_cache
+infos_same records m n same is_cache =
+    is_cache_same nat_cmp (λ module_index known. option_map extended_info (records module_index) ≡ Some
+    (Ok (extended_info_view known))) m n same is_cache
 
 -- one more module
-pub infos_more : (records : Records) (module_index : ℕ) (info : ModuleInfo) (known : ExtendedModuleInfo) (m n : BTreeMap ℕ ExtendedModuleInfo) → records module_index ≡ Some info → extended_info info ≡ Ok (extended_info_view known) → Updates nat_cmp m n module_index (Some known) → IsExtendedInfoCache records m → IsExtendedInfoCache records n
+pub infos_more : (records : Records) (module_index : ℕ) (info : ModuleInfo) (known : ExtendedModuleInfo)
+    (m n : BTreeMap ℕ ExtendedModuleInfo) → records module_index ≡ Some info
+    → extended_info info ≡ Ok (extended_info_view known) → Updates nat_cmp m n module_index (Some known)
+    → IsExtendedInfoCache records m → IsExtendedInfoCache records n
 unfolding IsExtendedInfoCache
 infos_more records module_index info known m n there read updates is_cache =
-    is_cache_more nat_cmp nat_cmp-IsAntisymmetric (λ module_index known. option_map extended_info (records module_index) ≡ Some (Ok (extended_info_view known))) m n module_index known updates
+    is_cache_more nat_cmp nat_cmp-IsAntisymmetric
+    (λ module_index known. option_map extended_info (records module_index) ≡ Some (Ok (extended_info_view known))) m n
+    module_index known updates
     (ap (λ o. option_map extended_info o) there ∙ ap (λ r. Some r) read) is_cache
 
 -- what is cached of a module is what is known of its code
-pub infos_found : (records : Records) (module_index : ℕ) (info : ModuleInfo) (known : ExtendedModuleInfo) (m : BTreeMap ℕ ExtendedModuleInfo) → records module_index ≡ Some info → IsExtendedInfoCache records m → get nat_cmp m module_index ≡ Some known → extended_info info ≡ Ok (extended_info_view known)
+pub infos_found : (records : Records) (module_index : ℕ) (info : ModuleInfo) (known : ExtendedModuleInfo)
+    (m : BTreeMap ℕ ExtendedModuleInfo) → records module_index ≡ Some info → IsExtendedInfoCache records m
+    → get nat_cmp m module_index ≡ Some known → extended_info info ≡ Ok (extended_info_view known)
 unfolding IsExtendedInfoCache
 infos_found records module_index info known m there is_cache got =
     some_same _ _ (sym (ap (λ o. option_map extended_info o) there) ∙ is_cache module_index known got)
@@ -100,20 +114,27 @@ unfolding IsEntryCache
 entries_new records m empty = is_cache_of_nothing nat_cmp (IsCachedProgram records) m empty
 
 -- line programs that are cached stay
-pub entries_same : (records : Records) (m n : BTreeMap ℕ Lines) → n.entries ≡ m.entries → IsEntryCache records m → IsEntryCache records n
+pub entries_same : (records : Records) (m n : BTreeMap ℕ Lines) → n.entries ≡ m.entries → IsEntryCache records m
+    → IsEntryCache records n
 unfolding IsEntryCache
 entries_same records m n same is_cache = is_cache_same nat_cmp (IsCachedProgram records) m n same is_cache
 
 -- one more line program
-pub entries_more : (records : Records) (module_index : ℕ) (program : Lines) (m n : BTreeMap ℕ Lines) → HasProgram records module_index program → Updates nat_cmp m n module_index (Some program) → IsEntryCache records m → IsEntryCache records n
+pub entries_more : (records : Records) (module_index : ℕ) (program : Lines) (m n : BTreeMap ℕ Lines)
+    → HasProgram records module_index program → Updates nat_cmp m n module_index (Some program)
+    → IsEntryCache records m → IsEntryCache records n
 unfolding IsEntryCache
 entries_more records module_index program m n there updates is_cache =
-    is_cache_more nat_cmp nat_cmp-IsAntisymmetric (IsCachedProgram records) m n module_index program updates there is_cache
+    is_cache_more nat_cmp nat_cmp-IsAntisymmetric
+    (IsCachedProgram records) m n module_index program updates there is_cache
 
 -- the line program that is cached of a module is its own
-pub entries_found : (records : Records) (module_index : ℕ) (program cached : Lines) (m : BTreeMap ℕ Lines) → HasProgram records module_index program → IsEntryCache records m → get nat_cmp m module_index ≡ Some cached → cached ≡ program
+pub entries_found : (records : Records) (module_index : ℕ) (program cached : Lines) (m : BTreeMap ℕ Lines)
+    → HasProgram records module_index program → IsEntryCache records m → get nat_cmp m module_index ≡ Some cached
+    → cached ≡ program
 unfolding IsEntryCache
-entries_found records module_index program cached m there is_cache got = one_program _ cached program (is_cache module_index cached got) there
+entries_found records module_index program cached m there is_cache got =
+    one_program _ cached program (is_cache module_index cached got) there
 
 -- rows fit a function
 abbrev AreCachedRows : Records → FunctionKey → Read LineInfo → Type 0
@@ -127,45 +148,61 @@ unfolding IsLineCache
 lines_new records m empty = is_cache_of_nothing function_cmp (AreCachedRows records) m empty
 
 -- rows that are cached stay
-pub lines_same : (records : Records) (m n : BTreeMap FunctionKey (Read LineInfo)) → n.entries ≡ m.entries → IsLineCache records m → IsLineCache records n
+pub lines_same : (records : Records) (m n : BTreeMap FunctionKey (Read LineInfo)) → n.entries ≡ m.entries
+    → IsLineCache records m → IsLineCache records n
 unfolding IsLineCache
 lines_same records m n same is_cache = is_cache_same function_cmp (AreCachedRows records) m n same is_cache
 
 -- the rows of one more function
-pub lines_more : (records : Records) (key : FunctionKey) (program : Lines) (rows : Read LineInfo) (m n : BTreeMap FunctionKey (Read LineInfo)) → HasProgram records key.module_index program → ((x : ℕ) → row_in rows x ≡ function_row program (record { section = key.section; offset = key.offset }) x) → Updates function_cmp m n key (Some rows) → IsLineCache records m → IsLineCache records n
+pub lines_more : (records : Records) (key : FunctionKey) (program : Lines) (rows : Read LineInfo)
+    (m n : BTreeMap FunctionKey (Read LineInfo)) → HasProgram records key.module_index program
+    → ((x : ℕ) → row_in rows x ≡ function_row program (record { section = key.section; offset = key.offset }) x)
+    → Updates function_cmp m n key (Some rows) → IsLineCache records m → IsLineCache records n
 unfolding IsLineCache
 lines_more records key program rows m n there read updates is_cache =
     is_cache_more function_cmp function_cmp-apart (AreCachedRows records) m n key rows updates
     (λ other here. let same = one_program _ other program here there in rw same read) is_cache
 
 -- the rows that are cached of a function are its line program's
-pub lines_found : (records : Records) (key : FunctionKey) (program : Lines) (rows : Read LineInfo) (m : BTreeMap FunctionKey (Read LineInfo)) → HasProgram records key.module_index program → IsLineCache records m → get function_cmp m key ≡ Some rows → (x : ℕ) → row_in rows x ≡ function_row program (record { section = key.section; offset = key.offset }) x
+pub lines_found : (records : Records) (key : FunctionKey) (program : Lines) (rows : Read LineInfo)
+    (m : BTreeMap FunctionKey (Read LineInfo)) → HasProgram records key.module_index program → IsLineCache records m
+    → get function_cmp m key ≡ Some rows → (x : ℕ)
+    → row_in rows x ≡ function_row program (record { section = key.section; offset = key.offset }) x
 unfolding IsLineCache
 lines_found records key program rows m there is_cache got = is_cache key rows got program there
 
 -- ranges fit a procedure
 abbrev AreCachedRanges : Records → ProcedureKey → List InlineRange → Type 0
-AreCachedRanges records key ranges = option_map (λ info. procedure_ranges info key.symbol key.end) (records key.module_index) ≡ Some (Ok ranges)
+AreCachedRanges records key ranges = option_map (λ info. procedure_ranges info key.symbol key.end)
+    (records key.module_index) ≡ Some (Ok ranges)
 
 -- no ranges are cached
-pub ranges_new : (records : Records) (m : BTreeMap ProcedureKey (List InlineRange)) → m.entries ≡ [] → IsRangeCache records m
+pub ranges_new : (records : Records) (m : BTreeMap ProcedureKey (List InlineRange)) → m.entries ≡ []
+    → IsRangeCache records m
 unfolding IsRangeCache
 ranges_new records m empty = is_cache_of_nothing procedure_cmp (AreCachedRanges records) m empty
 
 -- ranges that are cached stay
-pub ranges_same : (records : Records) (m n : BTreeMap ProcedureKey (List InlineRange)) → n.entries ≡ m.entries → IsRangeCache records m → IsRangeCache records n
+pub ranges_same : (records : Records) (m n : BTreeMap ProcedureKey (List InlineRange)) → n.entries ≡ m.entries
+    → IsRangeCache records m → IsRangeCache records n
 unfolding IsRangeCache
 ranges_same records m n same is_cache = is_cache_same procedure_cmp (AreCachedRanges records) m n same is_cache
 
 -- the ranges of one more procedure
-pub ranges_more : (records : Records) (key : ProcedureKey) (info : ModuleInfo) (ranges : List InlineRange) (m n : BTreeMap ProcedureKey (List InlineRange)) → records key.module_index ≡ Some info → procedure_ranges info key.symbol key.end ≡ Ok ranges → Updates procedure_cmp m n key (Some ranges) → IsRangeCache records m → IsRangeCache records n
+pub ranges_more : (records : Records) (key : ProcedureKey) (info : ModuleInfo) (ranges : List InlineRange)
+    (m n : BTreeMap ProcedureKey (List InlineRange)) → records key.module_index ≡ Some info
+    → procedure_ranges info key.symbol key.end ≡ Ok ranges → Updates procedure_cmp m n key (Some ranges)
+    → IsRangeCache records m → IsRangeCache records n
 unfolding IsRangeCache
 ranges_more records key info ranges m n there read updates is_cache =
     is_cache_more procedure_cmp procedure_cmp-apart (AreCachedRanges records) m n key ranges updates
     (ap (λ o. option_map (λ info. procedure_ranges info key.symbol key.end) o) there ∙ ap (λ r. Some r) read) is_cache
 
 -- the ranges that are cached of a procedure are its own
-pub ranges_found : (records : Records) (key : ProcedureKey) (info : ModuleInfo) (ranges : List InlineRange) (m : BTreeMap ProcedureKey (List InlineRange)) → records key.module_index ≡ Some info → IsRangeCache records m → get procedure_cmp m key ≡ Some ranges → procedure_ranges info key.symbol key.end ≡ Ok ranges
+pub ranges_found : (records : Records) (key : ProcedureKey) (info : ModuleInfo) (ranges : List InlineRange)
+    (m : BTreeMap ProcedureKey (List InlineRange)) → records key.module_index ≡ Some info → IsRangeCache records m
+    → get procedure_cmp m key ≡ Some ranges → procedure_ranges info key.symbol key.end ≡ Ok ranges
 unfolding IsRangeCache
 ranges_found records key info ranges m there is_cache got =
-    some_same _ _ (sym (ap (λ o. option_map (λ info. procedure_ranges info key.symbol key.end) o) there) ∙ is_cache key ranges got)
+    some_same _ _ (sym (ap (λ o. option_map (λ info. procedure_ranges info key.symbol key.end) o) there)
+    ∙ is_cache key ranges got)

@@ -16,17 +16,24 @@ unfolding AreLent
 lent_none strings slots empty = All-same (IsLent strings) slots [] empty (All-nil (IsLent strings))
 
 -- one more slot without a name
-pub lent_nowhere : (strings : Strings) (slots : List (Option LentName)) → AreLent strings slots → AreLent strings (slots ++ None ∷ [])
+pub lent_nowhere : (strings : Strings) (slots : List (Option LentName)) → AreLent strings slots
+    → AreLent strings (slots ++ None ∷ [])
 unfolding AreLent
 lent_nowhere strings slots are = All-push (IsLent strings) slots None are tt
 
 -- one more name that is lent
-pub lent_put : {Z : Type 0} (strings : Strings) (names : BTreeMap ℕ (CowStr Z)) (slots : List (Option LentName)) (slot : ℕ) (lent : LentName) → KnowsNames strings names → option_map cow_str_bytes (get nat_cmp names lent.number) ≡ Some lent.name.now → AreLent strings slots → AreLent strings (slice_set slots slot (Some lent))
+pub lent_put : {Z : Type 0} (strings : Strings) (names : BTreeMap ℕ (CowStr Z)) (slots : List (Option LentName))
+    (slot : ℕ) (lent : LentName) → KnowsNames strings names
+    → option_map cow_str_bytes (get nat_cmp names lent.number) ≡ Some lent.name.now → AreLent strings slots
+    → AreLent strings (slice_set slots slot (Some lent))
 unfolding AreLent
-lent_put strings names slots slot lent knows got are = All-set (IsLent strings) slots slot (Some lent) (sym (knows lent.number) ∙ got) are
+lent_put strings names slots slot lent knows got are =
+    All-set (IsLent strings) slots slot (Some lent) (sym (knows lent.number) ∙ got) are
 
 -- a name at a slot is lent
-pub lent_at : (strings : Strings) (slots : List (Option LentName)) (slot : ℕ) (lent : LentName) → AreLent strings slots → Some (Some lent) ≡ slice_get slots slot → text_under strings lent.number ≡ Some lent.name.now
+pub lent_at : (strings : Strings) (slots : List (Option LentName)) (slot : ℕ) (lent : LentName)
+    → AreLent strings slots → Some (Some lent) ≡ slice_get slots slot
+    → text_under strings lent.number ≡ Some lent.name.now
 unfolding AreLent
 lent_at strings slots slot lent are got =
     let within = slice_get_within slots slot (Some lent) (sym got) in

@@ -1,20 +1,14 @@
 -- Runs of contributions: their order, and that they are apart.
-use Rattle.std.proofs.Common.{◌≡◌, ◌<◌, ◌≤◌, true, false, List, [], ◌∷◌, Option, Some, None, refl, inl, inr, arith}
-use Rattle.std.specs.Prelude.{◌⊎◌, nat_lt}
+use Rattle.std.proofs.Common.{◌≡◌, List, [], ◌∷◌, Option, Some, None, refl, inl, inr, arith}
 use Rattle.std.specs.List.{AllByRecursion}
-use Rattle.std.specs.Ordering.{nat_cmp, MatchOrdering}
-use Rattle.std.specs.declared.cmp.Ordering.{Ordering}
-use Rattle.std.specs.declared.cmp.Ordering.TheVariants.{Less, Equal, Greater}
 use Rattle.std.specs.Cmp.{IsTotalOrder, IsStrictWeakOrder}
-use Rattle.std.proofs.lemmas.Cmp.{then_total, on_total, nat_cmp_total, ranked}
+use Rattle.std.proofs.lemmas.Cmp.{then_total, on_total, nat_cmp_total}
 use Rattle.std.proofs.lemmas.List.Sorted.{ranks_by}
 use Rattle.pdb_types.specs.declared.error.Error.{Error}
 use Rattle.pdb_functions.specs.declared.contributions.ModuleSectionContribution.{ModuleSectionContribution}
 use Rattle.pdb_types.specs.Outcomes.{first_refusal}
-use Rattle.pdb_functions.specs.Contributions.{contribution_cmp, contribution_before, refused_overlap, overlap_after}
-use Rattle.pdb_functions.specs.Laws.{IsFilled, LiesBefore, AreApart}
-use Rattle.pdb_ranges.proofs.SortLemmas.{Rises}
-use Rattle.pdb_ranges.proofs.NumberLemmas.{cases_lt, eqb_same}
+use Rattle.pdb_functions.specs.Contributions.{contribution_cmp, contribution_before}
+use Rattle.pdb_functions.specs.Laws.{IsFilled, LiesBefore}
 
 -- contributions have one order
 pub contribution_cmp_total : IsTotalOrder contribution_cmp
@@ -28,14 +22,16 @@ pub contributions_rank : IsStrictWeakOrder contribution_before
 contributions_rank = ranks_by contribution_cmp_total (λ m. m)
 
 -- what lies before a run lies before what that lies before
-pub lies_before_all : (a b : ModuleSectionContribution) (ms : List ModuleSectionContribution) → LiesBefore a b → IsFilled b → AllByRecursion (LiesBefore b) ms → AllByRecursion (LiesBefore a) ms
+pub lies_before_all : (a b : ModuleSectionContribution) (ms : List ModuleSectionContribution) → LiesBefore a b
+    → IsFilled b → AllByRecursion (LiesBefore b) ms → AllByRecursion (LiesBefore a) ms
 lies_before_all a b [] first filled others = tt
-lies_before_all a b (m ∷ ms) first filled others = (joined first others.0, lies_before_all a b ms first filled others.1) where
-  joined : LiesBefore a b → LiesBefore b m → LiesBefore a m
-  joined (inl p) (inl q) = inl (omega arith)
-  joined (inl p) (inr q) = inl (omega arith)
-  joined (inr p) (inl q) = inl (omega arith)
-  joined (inr p) (inr q) = inr (omega arith, omega arith)
+lies_before_all a b (m ∷ ms) first filled others =
+    (joined first others.0, lies_before_all a b ms first filled others.1) where
+      joined : LiesBefore a b → LiesBefore b m → LiesBefore a m
+      joined (inl p) (inl q) = inl (omega arith)
+      joined (inl p) (inr q) = inl (omega arith)
+      joined (inr p) (inl q) = inl (omega arith)
+      joined (inr p) (inr q) = inr (omega arith, omega arith)
 
 -- one refusal after another is none only where both are
 pub both_accepted : (a b : Option Error) → first_refusal a b ≡ None → (a ≡ None) × (b ≡ None)

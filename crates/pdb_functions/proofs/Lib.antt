@@ -8,9 +8,11 @@ pub mod TableLemmas
 pub mod StartLemmas
 pub mod OrderLemmas
 pub mod IntervalLemmas
+pub mod IntervalByteLemmas
 pub mod MergedLemmas
 pub mod RunLemmas
 pub mod RunLawLemmas
+pub mod ClearRunLemmas
 pub mod FirstLemmas
 pub mod ProcedureLemmas
 pub mod ModuleInfoLemmas

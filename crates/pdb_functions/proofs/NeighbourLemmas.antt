@@ -1,5 +1,6 @@
 -- What the neighbours of a section offset, among starts that ascend, show of the starts in its section.
-use Rattle.std.proofs.Common.{◌≡◌, ◌∙◌, ℕ, Bool, true, false, cond, not, List, [], ◌∷◌, Option, Some, None, refl, sym, ap, inl, inr, arith}
+use Rattle.std.proofs.Common.{◌≡◌, ◌∙◌, ℕ, Bool, true, false, cond, not, List, [], ◌∷◌, Option, Some, None, refl, sym}
+use Rattle.std.proofs.Common.{ap, inl, inr, arith}
 use Rattle.std.specs.Prelude.{⊤, ◌==◌, ◌&&◌, nat_le, nat_lt, find, if◌then◌else◌}
 use Rattle.std.specs.List.{AllByRecursion}
 use Rattle.std.proofs.lemmas.Bool.Decides.{nat_tests}
@@ -42,15 +43,18 @@ IsAhead start None xs = ⊤
 IsAhead start (Some y) xs = AllByRecursion (λ x. StandsBefore (start y) (start x)) xs
 
 -- the last start that passes a test is the last one up to the section offset, where that passes another test
-module _ {T : Type 0} (start : T → PdbInternalSectionOffset) (section_offset : PdbInternalSectionOffset) (over q : PdbInternalSectionOffset → Bool)
+module _ {T : Type 0} (start : T → PdbInternalSectionOffset) (section_offset : PdbInternalSectionOffset)
+    (over q : PdbInternalSectionOffset → Bool)
     (agree : (s : PdbInternalSectionOffset) → is_before section_offset s ≡ false → over s ≡ q s)
     (behind : (s : PdbInternalSectionOffset) → is_before section_offset s ≡ true → over s ≡ false)
-    (only : (r s : PdbInternalSectionOffset) → StandsBefore r s → is_before section_offset s ≡ false → q s ≡ false → q r ≡ false) where
+    (only : (r s : PdbInternalSectionOffset) → StandsBefore r s → is_before section_offset s ≡ false → q s ≡ false
+    → q r ≡ false) where
   next_ahead : (before : Option T) (x : T) (xs : List T) → IsAhead start before (x ∷ xs) → IsAhead start before xs
   next_ahead None x xs ahead = tt
   next_ahead (Some y) x xs ahead = ahead.1
 
-  clear : (before : Option T) (x : T) (xs : List T) → IsAhead start before (x ∷ xs) → is_before section_offset (start x) ≡ false
+  clear : (before : Option T) (x : T) (xs : List T) → IsAhead start before (x ∷ xs)
+      → is_before section_offset (start x) ≡ false
       → q (start x) ≡ false → where_it (λ y. q (start y)) before ≡ None
   clear None x xs ahead up_to fails = refl
   clear (Some y) x xs ahead up_to fails = rw (only (start y) (start x) ahead.0 up_to fails) refl
@@ -60,7 +64,8 @@ module _ {T : Type 0} (start : T → PdbInternalSectionOffset) (section_offset :
       ≡ where_it (λ x. q (start x)) (last_over (λ x. not (is_before section_offset (start x))) before xs)
   last_up_to_passes before [] ahead up = refl
   last_up_to_passes before (x ∷ xs) ahead up =
-      by_test (is_before section_offset (start x)) refl (last_up_to_passes before xs (next_ahead before x xs ahead) up.1)
+      by_test (is_before section_offset (start x)) refl
+      (last_up_to_passes before xs (next_ahead before x xs ahead) up.1)
       (last_up_to_passes (Some x) xs up.0 up.1)
     where
       here : is_before section_offset (start x) ≡ false → (t : Bool) → q (start x) ≡ t
@@ -78,10 +83,12 @@ module _ {T : Type 0} (start : T → PdbInternalSectionOffset) (section_offset :
       by_test true is stays next = rw (behind (start x) is, is) stays
       by_test false is stays next =
           ap (λ o. last_over (λ y. over (start y)) o xs) (here is (q (start x)) refl) ∙ next
-          ∙ ap (λ t. where_it (λ y. q (start y)) (last_over (λ y. not (is_before section_offset (start y))) (cond (not t) (Some x) before) xs)) (sym is)
+          ∙ ap (λ t. where_it (λ y. q (start y))
+          (last_over (λ y. not (is_before section_offset (start y))) (cond (not t) (Some x) before) xs)) (sym is)
 
 -- where no more pass a test, what was there stays
-last_of_none : {T : Type 0} (over : T → Bool) (before : Option T) (xs : List T) → AllByRecursion (λ x. over x ≡ false) xs
+last_of_none : {T : Type 0} (over : T → Bool) (before : Option T) (xs : List T)
+    → AllByRecursion (λ x. over x ≡ false) xs
     → last_over over before xs ≡ before
 last_of_none over before [] none = refl
 last_of_none over before (x ∷ xs) none = rw none.0 (last_of_none over before xs none.1)
@@ -92,7 +99,8 @@ find_none over [] none = refl
 find_none over (x ∷ xs) none = rw none.0 (find_none over xs none.1)
 
 -- a test that fails of all that stand behind a start fails of all that follow it
-none_behind : {T : Type 0} (start : T → PdbInternalSectionOffset) (over : PdbInternalSectionOffset → Bool) (s : PdbInternalSectionOffset)
+none_behind : {T : Type 0} (start : T → PdbInternalSectionOffset) (over : PdbInternalSectionOffset → Bool)
+    (s : PdbInternalSectionOffset)
     → ((r : PdbInternalSectionOffset) → StandsBefore s r → over r ≡ false) → (xs : List T)
     → AllByRecursion (λ x. StandsBefore s (start x)) xs → AllByRecursion (λ x. over (start x) ≡ false) xs
 none_behind start over s fails [] all = tt
@@ -102,94 +110,121 @@ none_behind start over s fails (x ∷ xs) all = (fails (start x) all.0, none_beh
 first_is_last : (section_offset : PdbInternalSectionOffset) (fs : List GlobalFunction) → StartsAscend (λ f. f.start) fs
     → global_at section_offset fs ≡ last_over (λ f. is_same_section_offset f.start section_offset) None fs
 first_is_last section_offset [] up = refl
-first_is_last section_offset (f ∷ fs) up = by_test (is_same_section_offset f.start section_offset) refl (first_is_last section_offset fs up.1) where
-  other : is_same_section_offset f.start section_offset ≡ true → (r : PdbInternalSectionOffset) → StandsBefore f.start r → is_same_section_offset r section_offset ≡ false
-  other here r (inl p) = grind (arith, nat_tests)
-  other here r (inr p) = grind (arith, nat_tests)
+first_is_last section_offset (f ∷ fs) up = by_test (is_same_section_offset f.start section_offset) refl
+    (first_is_last section_offset fs up.1) where
+      other : is_same_section_offset f.start section_offset ≡ true → (r : PdbInternalSectionOffset)
+          → StandsBefore f.start r → is_same_section_offset r section_offset ≡ false
+      other here r (inl p) = grind (arith, nat_tests)
+      other here r (inr p) = grind (arith, nat_tests)
 
-  by_test : (t : Bool) → is_same_section_offset f.start section_offset ≡ t → global_at section_offset fs ≡ last_over (λ g. is_same_section_offset g.start section_offset) None fs
-      → global_at section_offset (f ∷ fs) ≡ last_over (λ g. is_same_section_offset g.start section_offset) None (f ∷ fs)
-  by_test true here rest =
-      rw here (sym (last_of_none (λ g. is_same_section_offset g.start section_offset) (Some f) fs
-      (none_behind (λ g. g.start) (λ r. is_same_section_offset r section_offset) f.start (other here) fs up.0)))
-  by_test false away rest = rw away rest
+      by_test : (t : Bool) → is_same_section_offset f.start section_offset ≡ t
+          → global_at section_offset fs ≡ last_over (λ g. is_same_section_offset g.start section_offset) None fs
+          → global_at section_offset (f ∷ fs) ≡ last_over (λ g. is_same_section_offset g.start section_offset) None
+          (f ∷ fs)
+      by_test true here rest =
+          rw here (sym (last_of_none (λ g. is_same_section_offset g.start section_offset) (Some f) fs
+          (none_behind (λ g. g.start) (λ r. is_same_section_offset r section_offset) f.start (other here) fs up.0)))
+      by_test false away rest = rw away rest
 
 -- the function that starts at a section offset is the last one up to it, where that starts there
-pub at_from_last : (section_offset : PdbInternalSectionOffset) (fs : List GlobalFunction) → StartsAscend (λ f. f.start) fs
-    → where_it (λ f. is_same_section_offset f.start section_offset) (last_over (λ f. not (is_before section_offset f.start)) None fs) ≡ global_at section_offset fs
+pub at_from_last : (section_offset : PdbInternalSectionOffset) (fs : List GlobalFunction)
+    → StartsAscend (λ f. f.start) fs
+    → where_it (λ f. is_same_section_offset f.start section_offset)
+    (last_over (λ f. not (is_before section_offset f.start)) None fs) ≡ global_at section_offset fs
 at_from_last section_offset fs up =
-    sym (last_up_to_passes (λ f. f.start) section_offset (λ s. is_same_section_offset s section_offset) (λ s. is_same_section_offset s section_offset) (λ s up_to. refl) behind only None fs tt up)
+    sym (last_up_to_passes (λ f. f.start) section_offset (λ s. is_same_section_offset s section_offset)
+    (λ s. is_same_section_offset s section_offset) (λ s up_to. refl) behind only None fs tt up)
     ∙ sym (first_is_last section_offset fs up)
   where
-    behind : (s : PdbInternalSectionOffset) → is_before section_offset s ≡ true → is_same_section_offset s section_offset ≡ false
+    behind : (s : PdbInternalSectionOffset) → is_before section_offset s ≡ true
+        → is_same_section_offset s section_offset ≡ false
     behind s before = let h = rw (is_before_test section_offset s) at before in grind (arith, nat_tests)
 
-    only : (r s : PdbInternalSectionOffset) → StandsBefore r s → is_before section_offset s ≡ false → is_same_section_offset s section_offset ≡ false
+    only : (r s : PdbInternalSectionOffset) → StandsBefore r s → is_before section_offset s ≡ false
+        → is_same_section_offset s section_offset ≡ false
         → is_same_section_offset r section_offset ≡ false
     only r s (inl p) up_to other = let h = rw (is_before_test section_offset s) at up_to in grind (arith, nat_tests)
     only r s (inr p) up_to other = let h = rw (is_before_test section_offset s) at up_to in grind (arith, nat_tests)
 
 -- the function over a section offset is the last one up to it, where that starts in the section
-pub over_from_last : (section_offset : PdbInternalSectionOffset) (fs : List GlobalFunction) → StartsAscend (λ f. f.start) fs
-    → where_it (λ f. f.start.section == section_offset.section) (last_over (λ f. not (is_before section_offset f.start)) None fs)
+pub over_from_last : (section_offset : PdbInternalSectionOffset) (fs : List GlobalFunction)
+    → StartsAscend (λ f. f.start) fs
+    → where_it (λ f. f.start.section == section_offset.section)
+    (last_over (λ f. not (is_before section_offset f.start)) None fs)
     ≡ pick (global_function_covers section_offset) (λ f. f.start.offset) fs
 over_from_last section_offset fs up =
-    sym (last_up_to_passes (λ f. f.start) section_offset covers (λ s. s.section == section_offset.section) agree behind only None fs tt up)
+    sym (last_up_to_passes (λ f. f.start) section_offset covers
+    (λ s. s.section == section_offset.section) agree behind only None fs tt up)
     ∙ sym (pick-last (global_function_covers section_offset) (λ f. f.start.offset) fs
     (climbs_in_section (global_function_covers section_offset) (λ f. f.start) section_offset.section within fs up))
   where
     covers : PdbInternalSectionOffset → Bool
     covers s = (s.section == section_offset.section) && nat_le s.offset section_offset.offset
 
-    within : (f : GlobalFunction) → global_function_covers section_offset f ≡ true → f.start.section ≡ section_offset.section
+    within : (f : GlobalFunction) → global_function_covers section_offset f ≡ true
+        → f.start.section ≡ section_offset.section
     within f passes = grind (arith, nat_tests)
 
-    agree : (s : PdbInternalSectionOffset) → is_before section_offset s ≡ false → covers s ≡ (s.section == section_offset.section)
+    agree : (s : PdbInternalSectionOffset) → is_before section_offset s ≡ false
+        → covers s ≡ (s.section == section_offset.section)
     agree s up_to = let h = rw (is_before_test section_offset s) at up_to in grind (arith, nat_tests)
 
     behind : (s : PdbInternalSectionOffset) → is_before section_offset s ≡ true → covers s ≡ false
     behind s before = let h = rw (is_before_test section_offset s) at before in grind (arith, nat_tests)
 
-    only : (r s : PdbInternalSectionOffset) → StandsBefore r s → is_before section_offset s ≡ false → (s.section == section_offset.section) ≡ false
+    only : (r s : PdbInternalSectionOffset) → StandsBefore r s → is_before section_offset s ≡ false
+        → (s.section == section_offset.section) ≡ false
         → (r.section == section_offset.section) ≡ false
     only r s (inl p) up_to other = let h = rw (is_before_test section_offset s) at up_to in grind (arith, nat_tests)
     only r s (inr p) up_to other = let h = rw (is_before_test section_offset s) at up_to in grind (arith, nat_tests)
 
 -- the next function of the section is the first one behind the section offset, where that starts in the section
-pub next_from_first : (section_offset : PdbInternalSectionOffset) (fs : List GlobalFunction) → StartsAscend (λ f. f.start) fs
-    → where_it (λ f. f.start.section == section_offset.section) (find (λ f. is_before section_offset f.start) fs) ≡ next_global section_offset fs
+pub next_from_first : (section_offset : PdbInternalSectionOffset) (fs : List GlobalFunction)
+    → StartsAscend (λ f. f.start) fs
+    → where_it (λ f. f.start.section == section_offset.section) (find (λ f. is_before section_offset f.start) fs)
+    ≡ next_global section_offset fs
 next_from_first section_offset [] up = refl
 next_from_first section_offset (f ∷ fs) up =
-    by_test (is_before section_offset f.start) refl (f.start.section == section_offset.section) refl (next_from_first section_offset fs up.1)
+    by_test (is_before section_offset f.start) refl (f.start.section == section_offset.section) refl
+    (next_from_first section_offset fs up.1)
   where
     after : PdbInternalSectionOffset → Bool
     after s = (s.section == section_offset.section) && nat_lt section_offset.offset s.offset
 
-    passes : is_before section_offset f.start ≡ true → (f.start.section == section_offset.section) ≡ true → after f.start ≡ true
+    passes : is_before section_offset f.start ≡ true → (f.start.section == section_offset.section) ≡ true
+        → after f.start ≡ true
     passes before same = let h = rw (is_before_test section_offset f.start) at before in grind (arith, nat_tests)
 
     fails : is_before section_offset f.start ≡ false → after f.start ≡ false
     fails up_to = let h = rw (is_before_test section_offset f.start) at up_to in grind (arith, nat_tests)
 
-    elsewhere : is_before section_offset f.start ≡ true → (f.start.section == section_offset.section) ≡ false → (r : PdbInternalSectionOffset)
+    elsewhere : is_before section_offset f.start ≡ true → (f.start.section == section_offset.section) ≡ false
+        → (r : PdbInternalSectionOffset)
         → StandsBefore f.start r → after r ≡ false
-    elsewhere before other r (inl p) = let h = rw (is_before_test section_offset f.start) at before in grind (arith, nat_tests)
-    elsewhere before other r (inr p) = let h = rw (is_before_test section_offset f.start) at before in grind (arith, nat_tests)
+    elsewhere before other r (inl p) = let h = rw (is_before_test section_offset f.start) at before in
+        grind (arith, nat_tests)
+    elsewhere before other r (inr p) = let h = rw (is_before_test section_offset f.start) at before in
+        grind (arith, nat_tests)
 
     not_here : (f.start.section == section_offset.section) ≡ false → after f.start ≡ false
     not_here other = grind (arith, nat_tests)
 
     found : Bool → Option GlobalFunction
-    found t = where_it (λ g. g.start.section == section_offset.section) (cond t (Some f) (find (λ g. is_before section_offset g.start) fs))
+    found t = where_it (λ g. g.start.section == section_offset.section)
+        (cond t (Some f) (find (λ g. is_before section_offset g.start) fs))
 
     next : Bool → Option GlobalFunction
     next t = cond t (Some f) (next_global section_offset fs)
 
-    none : is_before section_offset f.start ≡ true → (f.start.section == section_offset.section) ≡ false → next_global section_offset fs ≡ None
-    none before other = find_none (λ g. after g.start) fs (none_behind (λ g. g.start) after f.start (elsewhere before other) fs up.0)
+    none : is_before section_offset f.start ≡ true → (f.start.section == section_offset.section) ≡ false
+        → next_global section_offset fs ≡ None
+    none before other = find_none (λ g. after g.start) fs
+        (none_behind (λ g. g.start) after f.start (elsewhere before other) fs up.0)
 
-    by_test : (t : Bool) → is_before section_offset f.start ≡ t → (u : Bool) → (f.start.section == section_offset.section) ≡ u
-        → where_it (λ g. g.start.section == section_offset.section) (find (λ g. is_before section_offset g.start) fs) ≡ next_global section_offset fs
+    by_test : (t : Bool) → is_before section_offset f.start ≡ t → (u : Bool)
+        → (f.start.section == section_offset.section) ≡ u
+        → where_it (λ g. g.start.section == section_offset.section) (find (λ g. is_before section_offset g.start) fs)
+        ≡ next_global section_offset fs
         → found (is_before section_offset f.start) ≡ next (after f.start)
     by_test true before true same rest =
         ap found before ∙ ap (λ t. cond t (Some f) None) same ∙ sym (ap next (passes before same))

@@ -1,5 +1,6 @@
 -- Where in a list a test begins to pass, if it goes on to pass from there on.
-use Rattle.std.proofs.Common.{◌≡◌, ◌∙◌, ℕ, zero, suc, ◌+◌, ◌<◌, ◌≤◌, Bool, true, false, cond, not, List, [], ◌∷◌, length, get_or, map, Option, Some, None, refl, sym, ap, inl, inr, arith}
+use Rattle.std.proofs.Common.{◌≡◌, ◌∙◌, ℕ, zero, suc, ◌+◌, ◌<◌, ◌≤◌, Bool, true, false, cond, not, List, [], ◌∷◌}
+use Rattle.std.proofs.Common.{length, get_or, map, Option, Some, None, refl, sym, ap, inl, inr, arith}
 use Rattle.std.specs.Prelude.{⊤, ◌==◌, ◌&&◌, ◌||◌, nat_lt, find, option_map}
 use Rattle.std.specs.List.{AllByRecursion, position_or_len, slice_get}
 use Rattle.std.specs.Ordering.{nat_cmp, MatchOrdering}
@@ -19,13 +20,15 @@ GoesOn p [] = ⊤
 GoesOn p (x ∷ xs) = (p x ≡ true → AllByRecursion (λ y. p y ≡ true) xs) × GoesOn p xs
 
 -- what holds of all holds of one
-all_at : {T : Type 0} (P : T → Type 0) (xs : List T) (k : ℕ) (d : T) → k < length xs → AllByRecursion P xs → P (get_or xs k d)
+all_at : {T : Type 0} (P : T → Type 0) (xs : List T) (k : ℕ) (d : T) → k < length xs → AllByRecursion P xs
+    → P (get_or xs k d)
 all_at P [] k d within all = absurd (omega arith)
 all_at P (x ∷ xs) zero d within all = all.0
 all_at P (x ∷ xs) (suc k) d within all = all_at P xs k d (omega arith) all.1
 
 -- one that passes is at the position or behind it
-pub position_up_to : {T : Type 0} (p : T → Bool) (xs : List T) (k : ℕ) (d : T) → p (get_or xs k d) ≡ true → position_or_len p xs ≤ k
+pub position_up_to : {T : Type 0} (p : T → Bool) (xs : List T) (k : ℕ) (d : T) → p (get_or xs k d) ≡ true
+    → position_or_len p xs ≤ k
 position_up_to p xs k d passes =
     elim (cases_lt k (position_or_len p xs)) [
       | inl ahead ↦ let fails = fails_before_first p xs k d ahead in absurd cc
@@ -33,14 +36,16 @@ position_up_to p xs k d passes =
     ]
 
 -- one that fails is ahead of it
-pub position_past : {T : Type 0} (p : T → Bool) (xs : List T) (k : ℕ) (d : T) → GoesOn p xs → k < length xs → p (get_or xs k d) ≡ false
+pub position_past : {T : Type 0} (p : T → Bool) (xs : List T) (k : ℕ) (d : T) → GoesOn p xs → k < length xs
+    → p (get_or xs k d) ≡ false
     → k < position_or_len p xs
 position_past p [] k d on within fails = absurd (omega arith)
 position_past p (x ∷ xs) zero d on within fails = rw fails (omega arith)
-position_past {T = T} p (x ∷ xs) (suc k) d on within fails = by_test (p x) refl (position_past p xs k d on.1 (omega arith) fails) where
-  by_test : (t : Bool) → p x ≡ t → k < position_or_len p xs → suc k < position_or_len p (x ∷ xs)
-  by_test true passes rest = let all = all_at (λ y. p y ≡ true) xs k d (omega arith) (on.0 passes) in absurd cc
-  by_test false is rest = rw is (omega arith)
+position_past {T = T} p (x ∷ xs) (suc k) d on within fails =
+    by_test (p x) refl (position_past p xs k d on.1 (omega arith) fails) where
+      by_test : (t : Bool) → p x ≡ t → k < position_or_len p xs → suc k < position_or_len p (x ∷ xs)
+      by_test true passes rest = let all = all_at (λ y. p y ≡ true) xs k d (omega arith) (on.0 passes) in absurd cc
+      by_test false is rest = rw is (omega arith)
 
 -- the position is at most the length
 pub position_within : {T : Type 0} (p : T → Bool) (xs : List T) → position_or_len p xs ≤ length xs
@@ -79,7 +84,8 @@ last_ahead {T = T} p before (x ∷ xs) on = by_test (p x) refl (last_ahead p (So
   by_test false fails rest = rw (fails, one_more) (rest ∙ by_count (position_or_len p xs))
 
 -- what is first may be written otherwise
-pub map-find : {A B : Type 0} (f : A → B) (p : B → Bool) (xs : List A) → option_map f (find (λ x. p (f x)) xs) ≡ find p (map f xs)
+pub map-find : {A B : Type 0} (f : A → B) (p : B → Bool) (xs : List A)
+    → option_map f (find (λ x. p (f x)) xs) ≡ find p (map f xs)
 map-find f p [] = refl
 map-find {A = A} {B = B} f p (x ∷ xs) = by_test (p (f x)) (map-find f p xs) where
   by_test : (t : Bool) → option_map f (find (λ y. p (f y)) xs) ≡ find p (map f xs)
@@ -88,7 +94,8 @@ map-find {A = A} {B = B} f p (x ∷ xs) = by_test (p (f x)) (map-find f p xs) wh
   by_test false rest = rest
 
 -- starts that ascend do however they are written
-pub map-StartsAscend : {A B : Type 0} (f : A → B) (start : B → PdbInternalSectionOffset) (xs : List A) → StartsAscend (λ x. start (f x)) xs
+pub map-StartsAscend : {A B : Type 0} (f : A → B) (start : B → PdbInternalSectionOffset) (xs : List A)
+    → StartsAscend (λ x. start (f x)) xs
     → StartsAscend start (map f xs)
 map-StartsAscend f start [] up = tt
 map-StartsAscend {A = A} {B = B} f start (x ∷ xs) up = (all_map xs up.0, map-StartsAscend f start xs up.1) where
@@ -101,47 +108,64 @@ map-StartsAscend {A = A} {B = B} f start (x ∷ xs) up = (all_map xs up.0, map-S
 pub is_before_test : (a b : PdbInternalSectionOffset)
     → is_before a b ≡ (nat_lt a.section b.section || ((a.section == b.section) && nat_lt a.offset b.offset))
 is_before_test a b =
-    by_order (nat_cmp a.section b.section) refl (nat_cmp a.offset b.offset) refl (ranked a.section b.section (nat_cmp a.section b.section) refl)
+    by_order (nat_cmp a.section b.section) refl (nat_cmp a.offset b.offset) refl
+    (ranked a.section b.section (nat_cmp a.section b.section) refl)
     (ranked a.offset b.offset (nat_cmp a.offset b.offset) refl)
   where
     by_order : (o : Ordering) → nat_cmp a.section b.section ≡ o → (u : Ordering) → nat_cmp a.offset b.offset ≡ u
-        → MatchOrdering (nat_cmp a.section b.section) (a.section < b.section) (a.section ≡ b.section) (b.section < a.section)
+        → MatchOrdering (nat_cmp a.section b.section) (a.section < b.section) (a.section ≡ b.section)
+        (b.section < a.section)
         → MatchOrdering (nat_cmp a.offset b.offset) (a.offset < b.offset) (a.offset ≡ b.offset) (b.offset < a.offset)
         → is_before a b ≡ (nat_lt a.section b.section || ((a.section == b.section) && nat_lt a.offset b.offset))
     by_order Less is u was fact rest = let h : a.section < b.section = rw is at fact in rw is (grind (arith, nat_tests))
-    by_order Greater is u was fact rest = let h : b.section < a.section = rw is at fact in rw is (grind (arith, nat_tests))
+    by_order Greater is u was fact rest = let h : b.section < a.section = rw is at fact in
+        rw is (grind (arith, nat_tests))
     by_order Equal is Less was fact rest =
-        let h : a.section ≡ b.section = rw is at fact in let k : a.offset < b.offset = rw was at rest in rw (is, was) (grind (arith, nat_tests))
+        let h : a.section ≡ b.section = rw is at fact in let k : a.offset < b.offset = rw was at rest in
+        rw (is, was) (grind (arith, nat_tests))
     by_order Equal is Equal was fact rest =
-        let h : a.section ≡ b.section = rw is at fact in let k : a.offset ≡ b.offset = rw was at rest in rw (is, was) (grind (arith, nat_tests))
+        let h : a.section ≡ b.section = rw is at fact in let k : a.offset ≡ b.offset = rw was at rest in
+        rw (is, was) (grind (arith, nat_tests))
     by_order Equal is Greater was fact rest =
-        let h : a.section ≡ b.section = rw is at fact in let k : b.offset < a.offset = rw was at rest in rw (is, was) (grind (arith, nat_tests))
+        let h : a.section ≡ b.section = rw is at fact in let k : b.offset < a.offset = rw was at rest in
+        rw (is, was) (grind (arith, nat_tests))
 
 -- what stands behind a section offset that comes behind another comes behind that one
-pub before_later : (section_offset a b : PdbInternalSectionOffset) → StandsBefore a b → is_before section_offset a ≡ true → is_before section_offset b ≡ true
+pub before_later : (section_offset a b : PdbInternalSectionOffset) → StandsBefore a b
+    → is_before section_offset a ≡ true → is_before section_offset b ≡ true
 before_later section_offset a b (inl p) before =
-    let h = rw (is_before_test section_offset a) at before in rw (is_before_test section_offset b) (grind (arith, nat_tests))
+    let h = rw (is_before_test section_offset a) at before in
+    rw (is_before_test section_offset b) (grind (arith, nat_tests))
 before_later section_offset a b (inr p) before =
-    let h = rw (is_before_test section_offset a) at before in rw (is_before_test section_offset b) (grind (arith, nat_tests))
+    let h = rw (is_before_test section_offset a) at before in
+    rw (is_before_test section_offset b) (grind (arith, nat_tests))
 
 -- where starts ascend, all from the first on that comes behind a section offset come behind it
-pub ascend_goes_on : {T : Type 0} (start : T → PdbInternalSectionOffset) (section_offset : PdbInternalSectionOffset) (xs : List T)
+pub ascend_goes_on : {T : Type 0} (start : T → PdbInternalSectionOffset) (section_offset : PdbInternalSectionOffset)
+    (xs : List T)
     → StartsAscend start xs → GoesOn (λ x. is_before section_offset (start x)) xs
 ascend_goes_on start section_offset [] up = tt
-ascend_goes_on {T = T} start section_offset (x ∷ xs) up = (λ before. all_later before xs up.0, ascend_goes_on start section_offset xs up.1) where
-  all_later : is_before section_offset (start x) ≡ true → (ys : List T) → AllByRecursion (λ y. StandsBefore (start x) (start y)) ys
-      → AllByRecursion (λ y. is_before section_offset (start y) ≡ true) ys
-  all_later before [] all = tt
-  all_later before (y ∷ ys) all = (before_later section_offset (start x) (start y) all.0 before, all_later before ys all.1)
+ascend_goes_on {T = T} start section_offset (x ∷ xs) up =
+    (λ before. all_later before xs up.0, ascend_goes_on start section_offset xs up.1) where
+      all_later : is_before section_offset (start x) ≡ true → (ys : List T)
+          → AllByRecursion (λ y. StandsBefore (start x) (start y)) ys
+          → AllByRecursion (λ y. is_before section_offset (start y) ≡ true) ys
+      all_later before [] all = tt
+      all_later before (y ∷ ys) all =
+          (before_later section_offset (start x) (start y) all.0 before, all_later before ys all.1)
 
 -- an entry that a section offset comes before is at the first such one or behind it
-pub behind_up_to : {T : Type 0} (start : T → PdbInternalSectionOffset) (section_offset : PdbInternalSectionOffset) (xs : List T) (k : ℕ) (x : T)
-    → x ≡ get_or xs k x → is_before section_offset (start x) ≡ true → position_or_len (λ y. is_before section_offset (start y)) xs ≤ k
+pub behind_up_to : {T : Type 0} (start : T → PdbInternalSectionOffset) (section_offset : PdbInternalSectionOffset)
+    (xs : List T) (k : ℕ) (x : T)
+    → x ≡ get_or xs k x → is_before section_offset (start x) ≡ true
+    → position_or_len (λ y. is_before section_offset (start y)) xs ≤ k
 behind_up_to start section_offset xs k x is before =
-    position_up_to (λ y. is_before section_offset (start y)) xs k x (ap (λ y. is_before section_offset (start y)) (sym is) ∙ before)
+    position_up_to (λ y. is_before section_offset (start y)) xs k x
+    (ap (λ y. is_before section_offset (start y)) (sym is) ∙ before)
 
 -- an entry that a section offset doesn't come before is ahead of the first such one
-pub behind_past : {T : Type 0} (start : T → PdbInternalSectionOffset) (section_offset : PdbInternalSectionOffset) (xs : List T) (k : ℕ) (x : T)
+pub behind_past : {T : Type 0} (start : T → PdbInternalSectionOffset) (section_offset : PdbInternalSectionOffset)
+    (xs : List T) (k : ℕ) (x : T)
     → StartsAscend start xs → k < length xs → x ≡ get_or xs k x → is_before section_offset (start x) ≡ false
     → k < position_or_len (λ y. is_before section_offset (start y)) xs
 behind_past start section_offset xs k x up within is not_before =
@@ -149,14 +173,19 @@ behind_past start section_offset xs k x up within is not_before =
     (ap (λ y. is_before section_offset (start y)) (sym is) ∙ not_before)
 
 -- where a section offset comes before the first entry, none is last of those that it doesn't come before
-pub none_up_to : {T : Type 0} (start : T → PdbInternalSectionOffset) (section_offset : PdbInternalSectionOffset) (xs : List T) → StartsAscend start xs
-    → position_or_len (λ y. is_before section_offset (start y)) xs ≡ 0 → last_over (λ y. not (is_before section_offset (start y))) None xs ≡ None
+pub none_up_to : {T : Type 0} (start : T → PdbInternalSectionOffset) (section_offset : PdbInternalSectionOffset)
+    (xs : List T) → StartsAscend start xs
+    → position_or_len (λ y. is_before section_offset (start y)) xs ≡ 0
+    → last_over (λ y. not (is_before section_offset (start y))) None xs ≡ None
 none_up_to start section_offset xs up is =
-    last_ahead (λ y. is_before section_offset (start y)) None xs (ascend_goes_on start section_offset xs up) ∙ ap (ahead_of None xs) is
+    last_ahead (λ y. is_before section_offset (start y)) None xs (ascend_goes_on start section_offset xs up) ∙ ap
+    (ahead_of None xs) is
 
 -- else it is the one ahead of the first such one
-pub last_up_to : {T : Type 0} (start : T → PdbInternalSectionOffset) (section_offset : PdbInternalSectionOffset) (xs : List T) (k : ℕ) → StartsAscend start xs
+pub last_up_to : {T : Type 0} (start : T → PdbInternalSectionOffset) (section_offset : PdbInternalSectionOffset)
+    (xs : List T) (k : ℕ) → StartsAscend start xs
     → position_or_len (λ y. is_before section_offset (start y)) xs ≡ suc k
     → last_over (λ y. not (is_before section_offset (start y))) None xs ≡ slice_get xs k
 last_up_to start section_offset xs k up is =
-    last_ahead (λ y. is_before section_offset (start y)) None xs (ascend_goes_on start section_offset xs up) ∙ ap (ahead_of None xs) is
+    last_ahead (λ y. is_before section_offset (start y)) None xs (ascend_goes_on start section_offset xs up) ∙ ap
+    (ahead_of None xs) is

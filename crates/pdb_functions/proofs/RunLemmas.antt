@@ -1,21 +1,14 @@
 -- Claims joined in reading order, and the same claims joined as the intervals of a list.
-use Rattle.std.proofs.Common.{◌≡◌, ◌∙◌, ◌+◌, ◌<◌, ◌≤◌, ℕ, Bool, true, false, cond, List, [], ◌∷◌, ◌++◌, map, Option}
-use Rattle.std.proofs.Common.{Some, None, Ok, Result, refl, sym, ap, inl, inr, arith}
-use Rattle.std.specs.Prelude.{◌⊎◌, ⊤, nat_lt, filter, max}
-use Rattle.std.specs.List.{AllByRecursion}
-use Rattle.std.proofs.lemmas.Bool.Decides.{nat_tests}
-use Rattle.pdb_records.specs.declared.addresses.ImageSectionHeader.{ImageSectionHeader}
-use Rattle.pdb_records.specs.declared.debug_information.SectionContribution.{SectionContribution}
+use Rattle.std.proofs.Common.{◌≡◌, ◌∙◌, ◌<◌, ◌≤◌, ℕ, Bool, true, false, cond, List, [], ◌∷◌, ◌++◌, Option}
+use Rattle.std.proofs.Common.{Some, None, refl, sym, ap, inl, inr, arith}
+use Rattle.std.specs.Prelude.{◌⊎◌, ⊤, nat_lt, max}
 use Rattle.pdb_types.specs.declared.error.Error.{Error}
 use Rattle.pdb_functions.specs.declared.contributions.ModuleSectionContribution.{ModuleSectionContribution}
-use Rattle.pdb_ranges.specs.InOrder.{in_order}
-use Rattle.pdb_types.specs.Outcomes.{first_refusal, unless}
-use Rattle.pdb_functions.specs.Contributions.{is_counted, claimed, claims, is_same_module, refused_end, refused_ends}
+use Rattle.pdb_types.specs.Outcomes.{first_refusal}
+use Rattle.pdb_functions.specs.Contributions.{claims, is_same_module, refused_end, refused_ends}
 use Rattle.pdb_functions.specs.Contributions.{intervals_with, intervals_of}
 use Rattle.pdb_functions.specs.ContributionRuns.{run_with, runs_after, refused_order, refusal_after, StartsNeverFall}
-use Rattle.pdb_functions.specs.Laws.{IsFilled}
 use Rattle.pdb_ranges.proofs.NumberLemmas.{cases_lt, eqb_same}
-use Rattle.pdb_ranges.proofs.SortLemmas.{all_put}
 use Rattle.pdb_functions.proofs.ContributionLemmas.{both_accepted}
 use Rattle.pdb_functions.proofs.IntervalLemmas.{same_fields}
 
@@ -138,7 +131,8 @@ ends_accepted_behind run (m ∷ ms) accepted =
     neither_refused (refused_end m) (refused_ends ms) a.end (ends_accepted_behind (run_with (Some run) m) ms a.behind)
 
 -- where nothing of all claims is refused, no end is
-pub ends_accepted_by_runs : (ms : List ModuleSectionContribution) → refusal_after None ms ≡ None → refused_ends ms ≡ None
+pub ends_accepted_by_runs : (ms : List ModuleSectionContribution) → refusal_after None ms ≡ None
+    → refused_ends ms ≡ None
 ends_accepted_by_runs [] accepted = refl
 ends_accepted_by_runs (m ∷ ms) accepted =
     let ends = both_accepted (refused_end m) (refusal_after (Some m) ms) accepted in

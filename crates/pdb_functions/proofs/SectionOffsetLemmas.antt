@@ -19,7 +19,8 @@ starts_rank start = ranks_by section_offset_cmp_total start
 
 -- the test of two section offsets is whether one comes before the other
 pub section_offsets_compared : (a b : PdbInternalSectionOffset)
-    → is_some_and is_lt (partial_ordering_then (Some (nat_cmp a.section b.section)) (Some (nat_cmp a.offset b.offset))) ≡ is_before a b
+    → is_some_and is_lt (partial_ordering_then (Some (nat_cmp a.section b.section))
+    (Some (nat_cmp a.offset b.offset))) ≡ is_before a b
 section_offsets_compared a b = by_order (nat_cmp a.section b.section) (nat_cmp a.offset b.offset) where
   by_order : (o u : Ordering) → is_some_and is_lt (partial_ordering_then (Some o) (Some u)) ≡ is_lt (ordering_then o u)
   by_order Less u = refl

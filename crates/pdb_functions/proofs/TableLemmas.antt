@@ -1,5 +1,6 @@
 -- What tables of segments find is what is defined.
-use Rattle.std.proofs.Common.{◌≡◌, ◌∙◌, ℕ, suc, Bool, true, false, not, cond, List, map, Option, Some, None, refl, sym, ap, arith}
+use Rattle.std.proofs.Common.{◌≡◌, ◌∙◌, ℕ, suc, Bool, true, false, not, cond, List, map, Option, Some, None, refl, sym}
+use Rattle.std.proofs.Common.{ap, arith}
 use Rattle.std.specs.Prelude.{find, option_map, option_and_then}
 use Rattle.std.specs.List.{position_or_len, slice_get}
 use Rattle.std.proofs.lemmas.List.Folds.{find_at}
@@ -7,7 +8,9 @@ use Rattle.std.proofs.lemmas.Bool.Decides.{nat_tests}
 use Rattle.pdb_records.specs.declared.addresses.PdbInternalSectionOffset.{PdbInternalSectionOffset}
 use Rattle.pdb_ranges.specs.Pick.{pick}
 use Rattle.pdb_ranges.proofs.PickLemmas.{map-pick}
-use Rattle.pdb_functions.specs.declared.global_functions.PublicSymbolFunctionOrPlaceholder.{PublicSymbolFunctionOrPlaceholder}
+use Rattle.pdb_functions.specs.declared.global_functions.PublicSymbolFunctionOrPlaceholder.{
+  PublicSymbolFunctionOrPlaceholder,
+}
 use Rattle.pdb_functions.specs.declared.procedures.ProcedureSymbolFunction.{ProcedureSymbolFunction}
 use Rattle.pdb_functions.specs.GlobalFunctions.{global_function}
 use Rattle.pdb_ranges.specs.Last.{last_over}
@@ -27,7 +30,8 @@ painted_position spans position span true before got = got
 painted_position spans position span false before got = refl
 
 -- of procedures that ascend the last one over a section offset starts last
-pub last_procedure : (section_offset : PdbInternalSectionOffset) (ps : List ProcedureSymbolFunction) → StartsAscend (λ p. p.offset) ps
+pub last_procedure : (section_offset : PdbInternalSectionOffset) (ps : List ProcedureSymbolFunction)
+    → StartsAscend (λ p. p.offset) ps
     → option_map module_procedure (last_over (λ p. procedure_covers section_offset (module_procedure p)) None ps)
     ≡ pick (procedure_covers section_offset) (λ p. p.offset.offset) (map module_procedure ps)
 last_procedure section_offset ps up =
@@ -36,11 +40,13 @@ last_procedure section_offset ps up =
     ap (λ o. option_map module_procedure o) (sym (pick-last over (λ p. p.offset.offset) ps climbs))
     ∙ map-pick module_procedure (procedure_covers section_offset) (λ p. p.offset.offset) ps
   where
-    within : (p : ProcedureSymbolFunction) → procedure_covers section_offset (module_procedure p) ≡ true → p.offset.section ≡ section_offset.section
+    within : (p : ProcedureSymbolFunction) → procedure_covers section_offset (module_procedure p) ≡ true
+        → p.offset.section ≡ section_offset.section
     within p covers = grind (arith, nat_tests)
 
 -- where a section offset comes before the first of the global functions, none is up to it
-pub no_function_up_to : (section_offset : PdbInternalSectionOffset) (fs : List PublicSymbolFunctionOrPlaceholder) → StartsAscend (λ f. f.start_offset) fs
+pub no_function_up_to : (section_offset : PdbInternalSectionOffset) (fs : List PublicSymbolFunctionOrPlaceholder)
+    → StartsAscend (λ f. f.start_offset) fs
     → position_or_len (λ f. is_before section_offset f.start_offset) fs ≡ 0
     → None ≡ last_over (λ f. not (is_before section_offset f.start)) None (map global_function fs)
 no_function_up_to section_offset fs up is =
@@ -48,7 +54,8 @@ no_function_up_to section_offset fs up is =
     ∙ map-last_over global_function (λ f. not (is_before section_offset f.start)) None fs
 
 -- else the one ahead of the first that it comes before is the last up to it
-pub last_function_up_to : (section_offset : PdbInternalSectionOffset) (fs : List PublicSymbolFunctionOrPlaceholder) (k : ℕ)
+pub last_function_up_to : (section_offset : PdbInternalSectionOffset) (fs : List PublicSymbolFunctionOrPlaceholder)
+    (k : ℕ)
     (f : PublicSymbolFunctionOrPlaceholder) → StartsAscend (λ g. g.start_offset) fs
     → position_or_len (λ g. is_before section_offset g.start_offset) fs ≡ suc k → slice_get fs k ≡ Some f
     → Some (global_function f) ≡ last_over (λ g. not (is_before section_offset g.start)) None (map global_function fs)

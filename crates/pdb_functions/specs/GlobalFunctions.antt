@@ -10,7 +10,9 @@ use Rattle.pdb_records.specs.declared.symbols.Symbol.{Symbol}
 use Rattle.pdb_records.specs.declared.symbols.SymbolData.{SymbolData}
 use Rattle.pdb_records.specs.declared.symbols.SymbolData.TheVariants.{Public, Procedure, SeparatedCode}
 use Rattle.pdb_records.specs.declared.symbols.SymbolData.TheVariants.{Thunk, InlineSite, Other}
-use Rattle.pdb_functions.specs.declared.global_functions.PublicSymbolFunctionOrPlaceholder.{PublicSymbolFunctionOrPlaceholder}
+use Rattle.pdb_functions.specs.declared.global_functions.PublicSymbolFunctionOrPlaceholder.{
+  PublicSymbolFunctionOrPlaceholder,
+}
 use Rattle.pdb_functions.specs.Sections.{is_executable, section_ends}
 use Rattle.pdb_functions.specs.Contributions.{contribution_starts}
 use Rattle.pdb_functions.specs.Starts.{first_of_each_start}

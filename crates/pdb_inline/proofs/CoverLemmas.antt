@@ -1,5 +1,6 @@
 -- The ranges of a depth cover what the rows of sites at least that deep cover.
-use Rattle.std.proofs.Common.{◌≡◌, ◌∙◌, ℕ, ◌+◌, ◌≤◌, Bool, true, false, not, cond, ◌||◌, ◌&&◌, List, [], ◌∷◌, ◌++◌, length, map, refl, ap, arith, inl, inr, length-drop, add-one}
+use Rattle.std.proofs.Common.{◌≡◌, ◌∙◌, ℕ, ◌+◌, ◌≤◌, Bool, true, false, not, cond, ◌||◌, ◌&&◌, List, [], ◌∷◌, ◌++◌}
+use Rattle.std.proofs.Common.{length, map, refl, ap, arith, inl, inr, length-drop, add-one}
 use Rattle.std.specs.List.{list_any, flat_map}
 use Rattle.std.specs.Prelude.{Option, ◌==◌, nat_le}
 use Rattle.std.proofs.lemmas.Bool.{cases_order, lt-ltb, le-ltb, le-leb, lt-leb, eq-eqb, ne_eqb}
@@ -23,7 +24,8 @@ use Rattle.pdb_ranges.proofs.MissingRunLemmas.{has-missing_runs}
 use Rattle.pdb_inline.proofs.InlineRangeLemmas.{ranges_by_depth_are}
 
 -- an element passes a test among others wherever it is put
-list_any-put : {A : Type 0} (p : A → Bool) (before : A → A → Bool) (x : A) (ys : List A) → list_any p (put before x ys) ≡ (p x || list_any p ys)
+list_any-put : {A : Type 0} (p : A → Bool) (before : A → A → Bool) (x : A) (ys : List A)
+    → list_any p (put before x ys) ≡ (p x || list_any p ys)
 list_any-put p before x [] = refl
 list_any-put {A = A} p before x (y ∷ ys) = by_test (before y x) (list_any-put p before x ys) where
   swapped : (a b c : Bool) → (a || (b || c)) ≡ (b || (a || c))
@@ -37,9 +39,11 @@ list_any-put {A = A} p before x (y ∷ ys) = by_test (before y x) (list_any-put 
   by_test false rest = refl
 
 -- the elements that are there are there in any order
-pub list_any-in_order : {A : Type 0} (p : A → Bool) (before : A → A → Bool) (xs : List A) → list_any p (in_order before xs) ≡ list_any p xs
+pub list_any-in_order : {A : Type 0} (p : A → Bool) (before : A → A → Bool) (xs : List A)
+    → list_any p (in_order before xs) ≡ list_any p xs
 list_any-in_order p before [] = refl
-list_any-in_order p before (x ∷ xs) = list_any-put p before x (in_order before xs) ∙ ap (λ (b : Bool). p x || b) (list_any-in_order p before xs)
+list_any-in_order p before (x ∷ xs) = list_any-put p before x (in_order before xs) ∙ ap (λ (b : Bool). p x || b)
+    (list_any-in_order p before xs)
 
 -- one test goes with each of two
 and_or : (a b c : Bool) → ((a && b) || (a && c)) ≡ (a && (b || c))
@@ -69,14 +73,17 @@ over_added d x e symbol file (run ∷ runs) =
 -- a range of a depth lies over a number among the ranges that are read from sites
 abbrev pub is_ranged : List IdIndex → List SiteAtDepth → ℕ → ℕ → Bool
 is_ranged inlinees sites d x =
-    has_range_over (flat_map (λ site. own_ranges inlinees site.depth site.symbol) sites) d x || has_range_over (added_by_depth inlinees sites) d x
+    has_range_over (flat_map (λ site. own_ranges inlinees site.depth site.symbol) sites) d x || has_range_over
+    (added_by_depth inlinees sites) d x
 
 -- a number is covered at a depth, with sites by their depths
 abbrev pub is_covered_by_depth : List IdIndex → List SiteAtDepth → ℕ → ℕ → Bool
-is_covered_by_depth inlinees sites least x = list_any (λ site. nat_le least site.depth && has (row_ranges inlinees site.symbol) x) sites
+is_covered_by_depth inlinees sites least x =
+    list_any (λ site. nat_le least site.depth && has (row_ranges inlinees site.symbol) x) sites
 
 -- own ranges and added ones of a site, and those of others, in either order
-regrouped : (at own inner rest later : Bool) → (((at && own) || rest) || ((at && (inner && not own)) || later)) ≡ ((at && (own || inner)) || (rest || later))
+regrouped : (at own inner rest later : Bool)
+    → (((at && own) || rest) || ((at && (inner && not own)) || later)) ≡ ((at && (own || inner)) || (rest || later))
 regrouped true true inner rest later = refl
 regrouped true false true rest later = grind arith
 regrouped true false false rest later = refl
@@ -85,18 +92,23 @@ regrouped false own inner rest later = refl
 -- the ranges of one more site lie over its rows, and over the rows of the deeper ones that follow at once
 is_ranged-cons : (inlinees : List IdIndex) (site : SiteAtDepth) (sites : List SiteAtDepth) (d x : ℕ)
     → is_ranged inlinees (site ∷ sites) d x
-    ≡ (((site.depth == d) && (has (row_ranges inlinees site.symbol) x || has (deeper_ranges inlinees site.depth sites) x)) || is_ranged inlinees sites d x)
+    ≡ (((site.depth == d) && (has (row_ranges inlinees site.symbol) x || has
+    (deeper_ranges inlinees site.depth sites) x)) || is_ranged inlinees sites d x)
 is_ranged-cons inlinees site sites d x =
     let runs = missing_runs (deeper_ranges inlinees site.depth sites) (row_ranges inlinees site.symbol) in
     rw (
-      list_any-append (lies_over d x) (own_ranges inlinees site.depth site.symbol) (flat_map (λ s. own_ranges inlinees s.depth s.symbol) sites),
-      list_any-append (lies_over d x) (added_ranges inlinees site.depth site.symbol runs) (added_by_depth inlinees sites),
+      list_any-append (lies_over d x) (own_ranges inlinees site.depth site.symbol)
+          (flat_map (λ s. own_ranges inlinees s.depth s.symbol) sites),
+      list_any-append (lies_over d x) (added_ranges inlinees site.depth site.symbol runs)
+          (added_by_depth inlinees sites),
       over_own d x site.depth site.symbol (counted_rows inlinees site.symbol),
       over_added d x site.depth site.symbol _ runs,
       has-missing_runs (deeper_ranges inlinees site.depth sites) (row_ranges inlinees site.symbol) x,
     )
-    (regrouped (site.depth == d) (has (row_ranges inlinees site.symbol) x) (has (deeper_ranges inlinees site.depth sites) x)
-    (has_range_over (flat_map (λ s. own_ranges inlinees s.depth s.symbol) sites) d x) (has_range_over (added_by_depth inlinees sites) d x))
+    (regrouped (site.depth == d) (has (row_ranges inlinees site.symbol) x)
+    (has (deeper_ranges inlinees site.depth sites) x)
+    (has_range_over (flat_map (λ s. own_ranges inlinees s.depth s.symbol) sites) d x)
+    (has_range_over (added_by_depth inlinees sites) d x))
 
 -- each site is at most one deeper than the one before it, and the first at most so deep
 abbrev pub Steps : ℕ → List SiteAtDepth → Type 0
@@ -104,16 +116,23 @@ Steps n [] = Unit {0}
 Steps n (site ∷ sites) = (site.depth ≤ n) × Steps (site.depth + 1) sites
 
 -- nested sites step
-pub nested_steps : (from : ℕ) (outer : List ℕ) (sites : List Site) → AreNested from outer sites → Steps (length outer) (map at_depth sites)
+pub nested_steps : (from : ℕ) (outer : List ℕ) (sites : List Site) → AreNested from outer sites
+    → Steps (length outer) (map at_depth sites)
 nested_steps from outer [] nested = tt
 nested_steps from outer (site ∷ sites) nested =
-    let short : length site.outer ≤ length outer = omega (arith, length-drop nested.1.0 outer, ap length nested.1.1) in
-    (short, rw (add-one (length site.outer)) (nested_steps (site.position + 1) (site.position ∷ site.outer) sites nested.2))
+    let short : length site.outer ≤ length outer =
+    omega (arith, length-drop nested.1.0 outer, ap length nested.1.1) in (
+      short,
+      rw (add-one (length site.outer))
+          (nested_steps (site.position + 1) (site.position ∷ site.outer) sites nested.2),
+    )
 
--- the deeper sites that follow at once and the ranges of a depth lie over what is covered at it; with no site above it ahead,
+-- the deeper sites that follow at once and the ranges of a depth lie over what is covered at it; with no site above
+-- it ahead,
 -- the ranges alone do
 cover_both : (inlinees : List IdIndex) (sites : List SiteAtDepth) (n d x : ℕ) → Steps n sites
-    → ((has (deeper_ranges inlinees d sites) x || is_ranged inlinees sites d x) ≡ is_covered_by_depth inlinees sites d x)
+    → ((has (deeper_ranges inlinees d sites) x || is_ranged inlinees sites d x)
+    ≡ is_covered_by_depth inlinees sites d x)
     × (n ≤ d → is_ranged inlinees sites d x ≡ is_covered_by_depth inlinees sites d x)
 cover_both inlinees [] n d x steps = (refl, λ _. refl)
 cover_both inlinees (site ∷ sites) n d x steps =
@@ -123,7 +142,8 @@ cover_both inlinees (site ∷ sites) n d x steps =
     let ranged = is_ranged inlinees sites d x in
     elim (cases_order site.depth d) [
       | inl same ↦
-          let at : (has (row_ranges inlinees site.symbol) x || has (deeper_ranges inlinees site.depth sites) x || ranged) ≡ is_covered_by_depth inlinees (site ∷ sites) d x =
+          let at : (has (row_ranges inlinees site.symbol) x || has (deeper_ranges inlinees site.depth sites) x
+          || ranged) ≡ is_covered_by_depth inlinees (site ∷ sites) d x =
           rw (same, le-leb d d (omega arith)) (or_assoc own deeper ranged ∙ ap (λ (b : Bool). own || b) rest.0) in
           let all : is_ranged inlinees (site ∷ sites) d x ≡ is_covered_by_depth inlinees (site ∷ sites) d x =
           is_ranged-cons inlinees site sites d x ∙ rw (eq-eqb site.depth d same) at in
@@ -149,10 +169,12 @@ cover_both inlinees (site ∷ sites) n d x steps =
     ]
 
 -- what is covered does not depend on how sites are written
-covered_at_depth : (inlinees : List IdIndex) (sites : List Site) (d x : ℕ) → is_covered_by_depth inlinees (map at_depth sites) d x ≡ is_covered inlinees sites d x
+covered_at_depth : (inlinees : List IdIndex) (sites : List Site) (d x : ℕ)
+    → is_covered_by_depth inlinees (map at_depth sites) d x ≡ is_covered inlinees sites d x
 covered_at_depth inlinees [] d x = refl
 covered_at_depth inlinees (site ∷ sites) d x =
-    ap (λ (b : Bool). (nat_le d (depth site) && has (row_ranges inlinees site.symbol) x) || b) (covered_at_depth inlinees sites d x)
+    ap (λ (b : Bool). (nat_le d (depth site) && has (row_ranges inlinees site.symbol) x) || b)
+    (covered_at_depth inlinees sites d x)
 
 -- the ranges of a depth of nested sites lie over what is covered at it
 pub has_range_over_nested : (inlinees : List IdIndex) (sites : List Site) (d x : ℕ) → AreNested 0 [] sites
@@ -161,6 +183,9 @@ has_range_over_nested inlinees sites d x nested =
     let both = cover_both inlinees (map at_depth sites) 0 d x (nested_steps 0 [] sites nested) in
     rw (← ranges_by_depth_are inlinees sites nested)
     (list_any-in_order (lies_over d x) range_before
-    (flat_map (λ site. own_ranges inlinees site.depth site.symbol) (map at_depth sites) ++ added_by_depth inlinees (map at_depth sites))
-    ∙ list_any-append (lies_over d x) (flat_map (λ site. own_ranges inlinees site.depth site.symbol) (map at_depth sites)) (added_by_depth inlinees (map at_depth sites))
+    (flat_map (λ site. own_ranges inlinees site.depth site.symbol) (map at_depth sites) ++ added_by_depth inlinees
+    (map at_depth sites))
+    ∙ list_any-append (lies_over d x)
+    (flat_map (λ site. own_ranges inlinees site.depth site.symbol) (map at_depth sites))
+    (added_by_depth inlinees (map at_depth sites))
     ∙ both.1 (omega arith) ∙ covered_at_depth inlinees sites d x)

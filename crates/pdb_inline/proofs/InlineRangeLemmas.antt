@@ -45,10 +45,13 @@ unless_met_other {A = A} {B = B} w found same other is = by_fault w.fault is whe
   by_fault (Some f) refused = absurd cc
 
 -- where the code has the sites of a walk by their depths, their ranges by depth are the walk's answer
-pub answered_by_depth : (inlinees : List IdIndex) (symbols : List Symbol) (fault : Option StreamError) (position end : ℕ) (counted : List SiteAtDepth)
-    (ranges : List InlineRange) → unless_met (walk symbols fault position end) (map at_depth (walk symbols fault position end).sites) ≡ Ok counted
+pub answered_by_depth : (inlinees : List IdIndex) (symbols : List Symbol) (fault : Option StreamError)
+    (position end : ℕ) (counted : List SiteAtDepth)
+    (ranges : List InlineRange) → unless_met (walk symbols fault position end)
+    (map at_depth (walk symbols fault position end).sites) ≡ Ok counted
     → ranges ≡ ranges_by_depth inlinees counted
-    → unless_met (walk symbols fault position end) (inline_ranges inlinees (walk symbols fault position end).sites) ≡ Ok ranges
+    → unless_met (walk symbols fault position end) (inline_ranges inlinees (walk symbols fault position end).sites)
+    ≡ Ok ranges
 answered_by_depth inlinees symbols fault position end counted ranges found is =
     let w = walk symbols fault position end in
     let nested = procedure_nested symbols fault position end in

@@ -1,5 +1,6 @@
 -- Of a list by starts, where of equal starts the last stands first, the last over a number is the one that is picked.
-use Rattle.std.proofs.Common.{◌≡◌, ◌∙◌, ℕ, ◌<◌, ◌≤◌, Bool, true, false, cond, List, [], ◌∷◌, ◌++◌, reverse, Option, Some, None, refl, sym, ap, arith}
+use Rattle.std.proofs.Common.{◌≡◌, ◌∙◌, ℕ, ◌<◌, ◌≤◌, Bool, true, false, cond, List, [], ◌∷◌, ◌++◌, reverse, Option}
+use Rattle.std.proofs.Common.{Some, None, refl, sym, ap, arith}
 use Rattle.std.specs.Prelude.{⊤, nat_lt}
 use Rattle.std.specs.Option.{option_or}
 use Rattle.std.specs.List.{AllByRecursion}
@@ -61,7 +62,8 @@ pick_back-push {T = T} over start (y ∷ xs) x =
     ∙ later_start_assoc start (cond (over x) (Some x) None) (pick_back over start xs) (cond (over y) (Some y) None)
 
 -- in a list that is turned round, the last of equal starts is the first of the list
-pick_back-reverse : {T : Type 0} (over : T → Bool) (start : T → ℕ) (xs : List T) → pick_back over start (reverse xs) ≡ pick over start xs
+pick_back-reverse : {T : Type 0} (over : T → Bool) (start : T → ℕ) (xs : List T)
+    → pick_back over start (reverse xs) ≡ pick over start xs
 pick_back-reverse over start [] = refl
 pick_back-reverse over start (x ∷ xs) =
     rw (reverse_onto xs x [], pick_back-push over start (reverse xs) x, pick_back-reverse over start xs) refl
@@ -74,21 +76,24 @@ IsSome_of P (Some x) = P x
 last_of_all : {T : Type 0} (P : T → Type 0) (over : T → Bool) (before : Option T) (xs : List T) → IsSome_of P before
     → AllByRecursion P xs → IsSome_of P (last_over over before xs)
 last_of_all P over before [] there all = there
-last_of_all {T = T} P over before (x ∷ xs) there all = last_of_all P over (cond (over x) (Some x) before) xs (by_test (over x)) all.1 where
-  by_test : (t : Bool) → IsSome_of P (cond t (Some x) before)
-  by_test true = all.0
-  by_test false = there
+last_of_all {T = T} P over before (x ∷ xs) there all =
+    last_of_all P over (cond (over x) (Some x) before) xs (by_test (over x)) all.1 where
+      by_test : (t : Bool) → IsSome_of P (cond t (Some x) before)
+      by_test true = all.0
+      by_test false = there
 
 -- where one starts no later than another, and none starts before that, it starts no later than any
 no_later_than_all : {T : Type 0} (start : T → ℕ) (x y : T) (zs : List T) → start x ≤ start y
     → AllByRecursion (λ z. earlier start z y ≡ false) zs → AllByRecursion (λ z. start x ≤ start z) zs
 no_later_than_all start x y [] low all = tt
 no_later_than_all start x y (z ∷ zs) low all =
-    let h : start y ≤ start z = no_less_from (start z) (start y) all.0 in (omega arith, no_later_than_all start x y zs low all.1)
+    let h : start y ≤ start z = no_less_from (start z) (start y) all.0 in
+    (omega arith, no_later_than_all start x y zs low all.1)
 
 -- one that is put in its place is the last of those that pass, unless a later one passes
 last_of_put : {T : Type 0} (over : T → Bool) (start : T → ℕ) (x : T) (ys : List T) → Rises (earlier start) ys
-    → last_over over None (put (earlier start) x ys) ≡ later_start start (last_over over None ys) (cond (over x) (Some x) None)
+    → last_over over None (put (earlier start) x ys) ≡ later_start start (last_over over None ys)
+    (cond (over x) (Some x) None)
 last_of_put over start x [] up = refl
 last_of_put {T = T} over start x (y ∷ ys) up = by_test (earlier start y x) refl (last_of_put over start x ys up.1) where
   later : (w : Option T) (s t : Bool) → start y < start x
@@ -111,14 +116,16 @@ last_of_put {T = T} over start x (y ∷ ys) up = by_test (earlier start y x) ref
   ahead (Some w) false all = refl
 
   by_test : (b : Bool) → earlier start y x ≡ b
-      → last_over over None (put (earlier start) x ys) ≡ later_start start (last_over over None ys) (cond (over x) (Some x) None)
+      → last_over over None (put (earlier start) x ys) ≡ later_start start (last_over over None ys)
+      (cond (over x) (Some x) None)
       → last_over over None (cond b (y ∷ put (earlier start) x ys) (x ∷ y ∷ ys))
       ≡ later_start start (last_over over None (y ∷ ys)) (cond (over x) (Some x) None)
   by_test true is rest =
       last_over-or over (cond (over y) (Some y) None) (put (earlier start) x ys)
       ∙ (ap (λ (o : Option T). option_or o (cond (over y) (Some y) None)) rest
       ∙ (later (last_over over None ys) (over y) (over x) (less_from (start y) (start x) is)
-      ∙ ap (λ (o : Option T). later_start start o (cond (over x) (Some x) None)) (sym (last_over-or over (cond (over y) (Some y) None) ys))))
+      ∙ ap (λ (o : Option T). later_start start o (cond (over x) (Some x) None))
+      (sym (last_over-or over (cond (over y) (Some y) None) ys))))
   by_test false is rest =
       let low : start x ≤ start y = no_less_from (start y) (start x) is in
       last_over-or over (cond (over x) (Some x) None) (y ∷ ys)
@@ -142,16 +149,17 @@ last_is_picked over start xs = last_in_order over start (reverse xs) ∙ pick_ba
 pub pick_of_all : {T : Type 0} (P : T → Type 0) (over : T → Bool) (start : T → ℕ) (xs : List T) → AllByRecursion P xs
     → IsSome_of P (pick over start xs)
 pick_of_all P over start [] all = tt
-pick_of_all {T = T} P over start (x ∷ xs) all = of_both (cond (over x) (Some x) None) (pick over start xs) (by_test (over x)) (pick_of_all P over start xs all.1) where
-  by_test : (t : Bool) → IsSome_of P (cond t (Some x) None)
-  by_test true = all.0
-  by_test false = tt
+pick_of_all {T = T} P over start (x ∷ xs) all = of_both (cond (over x) (Some x) None) (pick over start xs)
+    (by_test (over x)) (pick_of_all P over start xs all.1) where
+      by_test : (t : Bool) → IsSome_of P (cond t (Some x) None)
+      by_test true = all.0
+      by_test false = tt
 
-  by_start : (t : Bool) (a b : T) → P a → P b → IsSome_of P (cond t (Some b) (Some a))
-  by_start true a b of_a of_b = of_b
-  by_start false a b of_a of_b = of_a
+      by_start : (t : Bool) (a b : T) → P a → P b → IsSome_of P (cond t (Some b) (Some a))
+      by_start true a b of_a of_b = of_b
+      by_start false a b of_a of_b = of_a
 
-  of_both : (a b : Option T) → IsSome_of P a → IsSome_of P b → IsSome_of P (later_start start a b)
-  of_both None b of_a of_b = of_b
-  of_both (Some a) None of_a of_b = of_a
-  of_both (Some a) (Some b) of_a of_b = by_start (nat_lt (start a) (start b)) a b of_a of_b
+      of_both : (a b : Option T) → IsSome_of P a → IsSome_of P b → IsSome_of P (later_start start a b)
+      of_both None b of_a of_b = of_b
+      of_both (Some a) None of_a of_b = of_a
+      of_both (Some a) (Some b) of_a of_b = by_start (nat_lt (start a) (start b)) a b of_a of_b

@@ -7,6 +7,7 @@ pub mod CoverLemmas
 pub mod InlineStackLemmas
 pub mod WellNestedLemmas
 pub mod DirectlyInsideLemmas
+pub mod StackEntryLemmas
 pub mod PickedLemmas
 pub mod PickedSlotLemmas
 pub mod LastPickedLemmas

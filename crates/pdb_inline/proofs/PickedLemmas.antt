@@ -1,5 +1,6 @@
 -- The stack that the ranges make which are picked at their depths.
-use Rattle.std.proofs.Common.{◌≡◌, ◌∙◌, ℕ, suc, ◌+◌, ◌-◌, ◌<◌, List, [], ◌∷◌, ◌++◌, append_assoc, refl, ap, arith, inl, inr}
+use Rattle.std.proofs.Common.{◌≡◌, ◌∙◌, ℕ, suc, ◌+◌, ◌-◌, ◌<◌, List, [], ◌∷◌, ◌++◌, append_assoc, refl, ap, arith, inl}
+use Rattle.std.proofs.Common.{inr}
 use Rattle.std.specs.Prelude.{Some, is_some}
 use Rattle.std.proofs.lemmas.Bool.{cases_lt}
 use Rattle.pdb_ranges.specs.Pick.{pick}

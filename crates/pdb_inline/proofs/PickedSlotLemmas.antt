@@ -1,5 +1,6 @@
 -- What is picked at each depth, as places are made and filled.
-use Rattle.std.proofs.Common.{◌≡◌, ◌∙◌, ℕ, zero, suc, ◌<◌, ◌≤◌, List, [], ◌∷◌, ◌++◌, length, Option, Some, None, refl, sym, inl, inr}
+use Rattle.std.proofs.Common.{◌≡◌, ◌∙◌, ℕ, zero, suc, ◌<◌, ◌≤◌, List, [], ◌∷◌, ◌++◌, length, Option, Some, None, refl}
+use Rattle.std.proofs.Common.{sym, inl, inr}
 use Rattle.std.specs.Borrow.{Bor}
 use Rattle.std.proofs.lemmas.Bool.{cases_lt}
 use Rattle.pdb_ranges.specs.Pick.{pick}
@@ -13,14 +14,17 @@ nothing_picked zero = refl
 nothing_picked (suc depth) = refl
 
 -- with one more empty place the same is picked
-pub picked_more : (slots : List (Option (Bor InlineRange))) (depth : ℕ) → picked_at (slots ++ None ∷ []) depth ≡ picked_at slots depth
+pub picked_more : (slots : List (Option (Bor InlineRange))) (depth : ℕ)
+    → picked_at (slots ++ None ∷ []) depth ≡ picked_at slots depth
 picked_more [] zero = refl
 picked_more [] (suc depth) = nothing_picked depth ∙ sym (nothing_picked (suc depth))
 picked_more (slot ∷ slots) zero = refl
 picked_more (slot ∷ slots) (suc depth) = picked_more slots depth
 
--- where places have what is picked at each depth that is less than the number of ranges, and nothing behind, what they have is picked
-pub slot_is_picked : (slots : List (Option (Bor InlineRange))) (ranges : List InlineRange) (x depth : ℕ) (range : InlineRange)
+-- where places have what is picked at each depth that is less than the number of ranges, and nothing behind, what
+-- they have is picked
+pub slot_is_picked : (slots : List (Option (Bor InlineRange))) (ranges : List InlineRange) (x depth : ℕ)
+    (range : InlineRange)
     → ((d : ℕ) → d < length ranges → picked_at slots d ≡ pick (lies_over d x) (λ r. r.start_offset) ranges)
     → ((d : ℕ) → length ranges ≤ d → picked_at slots d ≡ None)
     → picked_at slots depth ≡ Some range → pick (lies_over depth x) (λ r. r.start_offset) ranges ≡ Some range

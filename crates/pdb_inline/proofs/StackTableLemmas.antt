@@ -1,5 +1,6 @@
 -- Segments whose stacks stand in one list.
-use Rattle.std.proofs.Common.{◌≡◌, ◌∙◌, ℕ, ◌-◌, ◌*◌, ◌≤◌, Bool, true, false, cond, List, [], ◌∷◌, ◌++◌, drop, length, length-append, Option, Some, None, refl, sym, ap, arith}
+use Rattle.std.proofs.Common.{◌≡◌, ◌∙◌, ℕ, ◌-◌, ◌*◌, ◌≤◌, Bool, true, false, cond, List, [], ◌∷◌, ◌++◌, drop, length}
+use Rattle.std.proofs.Common.{length-append, Option, Some, None, refl, sym, ap, arith}
 use Rattle.std.specs.Prelude.{option_map, slice_range}
 use Rattle.std.proofs.Math.Seq.{drop-append_seam}
 use Rattle.std.proofs.lemmas.List.{take-append-le, drop-append-le, length-drop, take_all}
@@ -20,33 +21,42 @@ pub value_at-with_stacks : (positions : List ℕ) (segments : List (Segment (ℕ
     → value_at (with_stacks positions segments) x ≡ option_map (stack_at positions) (value_at segments x)
 value_at-with_stacks positions [] x = refl
 value_at-with_stacks positions (s ∷ segments) x =
-    ap (λ o. cond (is_within s.start s.end x) (Some (stack_at positions s.value)) o) (value_at-with_stacks positions segments x) ∙ by_test (is_within s.start s.end x)
+    ap (λ o. cond (is_within s.start s.end x) (Some (stack_at positions s.value)) o)
+    (value_at-with_stacks positions segments x) ∙ by_test (is_within s.start s.end x)
   where
-    by_test : (t : Bool) → cond t (Some (stack_at positions s.value)) (option_map (stack_at positions) (value_at segments x))
+    by_test : (t : Bool) → cond t (Some (stack_at positions s.value))
+        (option_map (stack_at positions) (value_at segments x))
         ≡ option_map (stack_at positions) (cond t (Some s.value) (value_at segments x))
     by_test true = refl
     by_test false = refl
 
 -- a stack that is found stands at its place
-pub stack_found : (positions : List ℕ) (segments : List (Segment (ℕ × ℕ))) (x : ℕ) (o : Option (ℕ × ℕ)) → value_at segments x ≡ o
+pub stack_found : (positions : List ℕ) (segments : List (Segment (ℕ × ℕ))) (x : ℕ) (o : Option (ℕ × ℕ))
+    → value_at segments x ≡ o
     → or_empty (option_map (stack_at positions) o) ≡ stack_over (with_stacks positions segments) x
-stack_found positions segments x o is = sym (ap or_empty (value_at-with_stacks positions segments x ∙ ap (λ v. option_map (stack_at positions) v) is))
+stack_found positions segments x o is =
+    sym (ap or_empty (value_at-with_stacks positions segments x ∙ ap (λ v. option_map (stack_at positions) v) is))
 
 -- a part of a list stays where it grows
-range_grown : (from to : ℕ) (old more : List ℕ) → from ≤ to → to ≤ length old → slice_range (old ++ more) from to ≡ slice_range old from to
+range_grown : (from to : ℕ) (old more : List ℕ) → from ≤ to → to ≤ length old
+    → slice_range (old ++ more) from to ≡ slice_range old from to
 range_grown from to old more up within =
     let left : length (drop from old) ≡ length old - from = length-drop from old in
-    rw (drop-append-le from old more (omega arith)) (take-append-le (to - from) (drop from old) more (omega (arith, left)))
+    rw (drop-append-le from old more (omega arith))
+    (take-append-le (to - from) (drop from old) more (omega (arith, left)))
 
 -- what is added to a list is its part from where it ended
 range_added : (old more : List ℕ) → slice_range (old ++ more) (length old) (length (old ++ more)) ≡ more
 range_added old more =
-    let whole : length (old ++ more) - length old ≡ length more = (let h = length-append old more in omega (arith, h)) in
+    let whole : length (old ++ more) - length old ≡ length more =
+    (let h = length-append old more in omega (arith, h)) in
     rw (drop-append_seam old more, whole) (take_all (length more) more (omega arith))
 
 -- a stack that is added to a list lies over the numbers that its place is painted over
-pub painted_stack : (old more new : List ℕ) (before after : List (Segment (ℕ × ℕ))) (lo hi from to x : ℕ) → new ≡ old ++ more
-    → from ≡ length old → to ≡ length new → LiesIn old (value_at before x) → value_at after x ≡ painted lo hi (from, to) (value_at before x) x
+pub painted_stack : (old more new : List ℕ) (before after : List (Segment (ℕ × ℕ))) (lo hi from to x : ℕ)
+    → new ≡ old ++ more
+    → from ≡ length old → to ≡ length new → LiesIn old (value_at before x)
+    → value_at after x ≡ painted lo hi (from, to) (value_at before x) x
     → stack_over (with_stacks new after) x ≡ cond (is_within lo hi x) more (stack_over (with_stacks old before) x)
 painted_stack old more new before after lo hi from to x grown begins ends lies is =
     sym (stack_found new after x (painted lo hi (from, to) (value_at before x) x) is)
@@ -54,7 +64,8 @@ painted_stack old more new before after lo hi from to x grown begins ends lies i
     ∙ ap (λ o. cond (is_within lo hi x) more o) (stack_found old before x (value_at before x) refl))
   where
     by_test : (t : Bool) (v : Option (ℕ × ℕ)) → LiesIn old v
-        → or_empty (option_map (stack_at new) (cond t (Some (from, to)) v)) ≡ cond t more (or_empty (option_map (stack_at old) v))
+        → or_empty (option_map (stack_at new) (cond t (Some (from, to)) v)) ≡ cond t more
+        (or_empty (option_map (stack_at old) v))
     by_test true v lies = rw (begins, ends, grown) (range_added old more)
     by_test false None lies = refl
     by_test false (Some slot) lies = rw grown (range_grown slot.0 slot.1 old more lies.0 lies.1)

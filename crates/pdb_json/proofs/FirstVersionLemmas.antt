@@ -65,7 +65,7 @@ stands_over (Ok file) first = rw first (records_by_themselves file)
 
 -- what is in a value, where there is one of the first version
 pub stands : (value : Option Data) → in_json version_in value ≡ Ok 1
-    → in_json (records_of []) value ≡ in_json first_records_in value
+    → (in_json Ok value >>= records_of []) ≡ in_json first_records_in value
 unfolding records_of
 stands None first = refl
 stands (Some d) first = stands_over (object_of d) first

@@ -1,3 +1,4 @@
 pub mod JsonLemmas
 pub mod FirstVersionLemmas
 pub mod MemberLemmas
+pub mod TextLemmas

@@ -36,9 +36,15 @@ abbrev pub in_json : {X : Type 0} → (Data → Result X Fault) → Option Data 
 in_json read None = Err not_json
 in_json read (Some d) = read d
 
+-- the value of a file's text, or the fault that it is no JSON text
+abbrev pub value_of : List ℕ → Result Data Fault
+value_of bytes = in_json Ok (json_of bytes)
+
 -- the records that a file and its module files hold, or the first fault in them
 unfoldable pub records_of_files : List ℕ → List (List ℕ) → Result Records Fault
-records_of_files bytes files = in_json (records_of files) (json_of bytes)
+records_of_files bytes files = do
+  value ← value_of bytes
+  records_of files value
 
 -- the names of the module files that an object wants
 unfoldable pub wanted_files_of : Data → Result (List (List ℕ)) Fault
@@ -50,4 +56,6 @@ wanted_files_of d = do
 -- the names of the module files that a file wants, in the order in which they are read, or the first fault where
 -- they can't be answered
 unfoldable pub module_files_of : List ℕ → Result (List (List ℕ)) Fault
-module_files_of bytes = in_json wanted_files_of (json_of bytes)
+module_files_of bytes = do
+  value ← value_of bytes
+  wanted_files_of value

@@ -6,8 +6,8 @@ ghost use Rattle.pdb_json.specs.ModuleFiles.{contents};
 ghost use Rattle.pdb_json.specs.ModuleInfos.{infos_of};
 ghost use Rattle.serde_json.specs.View.{view};
 ghost use Rattle.pdb_json_values.specs.Faults.{Agrees, AgreesBy};
-ghost use Rattle.pdb_json.specs.RecordsFile.{records_in_version, counted, records_of, records_of_files};
-ghost use Rattle.pdb_json.specs.RecordsFile.{wanted_files_of, module_files_of};
+ghost use Rattle.pdb_json.specs.RecordsFile.{records_in_version, counted, value_of, records_of};
+ghost use Rattle.pdb_json.specs.RecordsFile.{records_of_files, wanted_files_of, module_files_of};
 
 use crate::json::json;
 use crate::module_infos::{AllKnown, infos};
@@ -79,16 +79,83 @@ fn counted_records(
     }
 }
 
-/// Reads all records from a file's value and from its module files.
-#[tactic(auto, unfolding(crate::specs::RecordsFile::records_of))]
-fn records(alloc: Global, files: &[Vec<u8>], value: Value) -> Result<PDB, RecordFault>
-    ensures { Agrees result (records_of (contents files.now) (view value)) }
-{
-    let file = object(first_reader(alloc), Some(&value))?;
-    let version = file_version(first_reader(alloc), file)?;
-    let reader = Reader { alloc, version };
-    let wanted = file_names(reader, file)?;
-    counted_records(reader, &wanted.names, files, value)
+/// A records file as JSON values, of which nothing else was read: what asks for its module files first, and then
+/// for the records of them all, reads its text once.
+///
+/// ```
+/// let text = br#"{"version":2,"sections":null,"address_map":[],"global_symbols":[],
+///     "debug_information":{"error":3},"type_information":[],"id_information":[],
+///     "string_table":[],"module_infos":[{"file":"a.json"}]}"#;
+/// let file = RecordsFile::from_slice(alloc, text)?;
+/// assert!(file.module_files()?.join(alloc, ",")? == "a.json");
+/// let module_file = Vec::from_slice(alloc, br#"{"error":5}"#)?;
+/// let records = file.read_records(&[module_file])?;
+/// // What is known of the first module failed with 5.
+/// assert!(matches!(records.module_infos[0], Err(StreamError(5))));
+/// ```
+#[derive(Drop)]
+pub struct RecordsFile {
+    /// What its records are made with.
+    pub alloc: Global,
+    /// The whole text.
+    pub value: Value,
+}
+
+impl RecordsFile {
+    /// Reads the text of a records file, and nothing of its records yet.
+    ///
+    /// # Errors
+    ///
+    /// [`RecordFault::NotJson`] where the bytes are no JSON text, and [`RecordFault::OutOfMemory`].
+    pub fn from_slice(alloc: Global, bytes: &[u8]) -> Result<RecordsFile, RecordFault>
+        ensures { AgreesBy (λ file. view file.value) result (value_of bytes.now) }
+    {
+        match json(alloc, bytes)? {
+            Some(value) => Ok(RecordsFile { alloc, value }),
+            None => Err(RecordFault::NotJson),
+        }
+    }
+
+    /// Reads the names of the module files.
+    #[tactic(auto, unfolding(crate::specs::RecordsFile::wanted_files_of))]
+    fn wanted_files(&self) -> Result<FileNames, RecordFault>
+        ensures { Agrees result (wanted_files_of (view self.now.value)) }
+    {
+        let alloc = self.alloc;
+        let file = object(first_reader(alloc), Some(&self.value))?;
+        let version = file_version(first_reader(alloc), file)?;
+        file_names(Reader { alloc, version }, file)
+    }
+
+    /// The names of the module files that the file wants, in the order in which [`RecordsFile::read_records`]
+    /// takes them. A name that is named twice is there twice.
+    ///
+    /// # Errors
+    ///
+    /// Those of [`module_files`], but [`RecordFault::NotJson`].
+    pub fn module_files(&self) -> Result<Vec<String>, RecordFault>
+        ensures { AgreesBy (λ names. map string_bytes names.items) result (wanted_files_of (view self.now.value)) }
+    {
+        let wanted = self.wanted_files()?;
+        Ok(wanted.names)
+    }
+
+    /// Reads all records of a program from the file and from its module files.
+    ///
+    /// # Errors
+    ///
+    /// Those of [`read_records_with`], but [`RecordFault::NotJson`].
+    #[tactic(auto, unfolding(crate::specs::RecordsFile::records_of))]
+    pub fn read_records(self, files: &[Vec<u8>]) -> Result<PDB, RecordFault>
+        ensures { Agrees result (records_of (contents files.now) (view self.value)) }
+    {
+        let alloc = self.alloc;
+        let file = object(first_reader(alloc), Some(&self.value))?;
+        let version = file_version(first_reader(alloc), file)?;
+        let reader = Reader { alloc, version };
+        let wanted = file_names(reader, file)?;
+        counted_records(reader, &wanted.names, files, self.value)
+    }
 }
 
 /// Reads all records of a program from a records file, which is a JSON text, and from the module files that
@@ -117,10 +184,8 @@ fn records(alloc: Global, files: &[Vec<u8>], value: Value) -> Result<PDB, Record
 pub fn read_records_with(alloc: Global, bytes: &[u8], files: &[Vec<u8>]) -> Result<PDB, RecordFault>
     ensures { Agrees result (records_of_files bytes.now (contents files.now)) }
 {
-    match json(alloc, bytes)? {
-        Some(value) => records(alloc, files, value),
-        None => Err(RecordFault::NotJson),
-    }
+    let file = RecordsFile::from_slice(alloc, bytes)?;
+    file.read_records(files)
 }
 
 /// Reads all records of a program from a records file that names no module files: as [`read_records_with`]
@@ -140,27 +205,6 @@ pub fn read_records(alloc: Global, bytes: &[u8]) -> Result<PDB, RecordFault>
     read_records_with(alloc, bytes, &[])
 }
 
-/// Reads the names of the module files from a file's value.
-#[tactic(auto, unfolding(crate::specs::RecordsFile::wanted_files_of))]
-fn wanted_files(alloc: Global, value: &Value) -> Result<FileNames, RecordFault>
-    ensures { Agrees result (wanted_files_of (view value.now)) }
-{
-    let file = object(first_reader(alloc), Some(value))?;
-    let version = file_version(first_reader(alloc), file)?;
-    file_names(Reader { alloc, version }, file)
-}
-
-/// Reads the names of all module files.
-#[tactic(auto, unfolding(crate::specs::RecordsFile::module_files_of))]
-fn all_names(alloc: Global, bytes: &[u8]) -> Result<FileNames, RecordFault>
-    ensures { Agrees result (module_files_of bytes.now) }
-{
-    match json(alloc, bytes)? {
-        Some(value) => wanted_files(alloc, &value),
-        None => Err(RecordFault::NotJson),
-    }
-}
-
 /// The names of the module files that a records file wants, in the order in which
 /// [`read_records_with`] takes them. A name that is named twice is there twice.
 ///
@@ -169,9 +213,10 @@ fn all_names(alloc: Global, bytes: &[u8]) -> Result<FileNames, RecordFault>
 /// [`RecordFault::NotJson`], and [`RecordFault::Shape`] for the root, for `version`, for `module_infos` that
 /// are no array, and for a `file` that is no text. Nothing else of the file is looked at, and of a file of the
 /// first version nothing past `version`. [`RecordFault::OutOfMemory`] may come at any time.
+#[tactic(auto, unfolding(crate::specs::RecordsFile::module_files_of))]
 pub fn module_files(alloc: Global, bytes: &[u8]) -> Result<Vec<String>, RecordFault>
     ensures { AgreesBy (λ names. map string_bytes names.items) result (module_files_of bytes.now) }
 {
-    let all = all_names(alloc, bytes)?;
-    Ok(all.names)
+    let file = RecordsFile::from_slice(alloc, bytes)?;
+    file.module_files()
 }

@@ -1,8 +1,7 @@
 -- What one rule gives fails for nothing but some errors, and for an index that its task repeats.
-use Rattle.std.proofs.Common.{◌≡◌, ℕ, Bool, true, false, cond, List, [], ◌∷◌, Option, Some, None, Ok, Err, Result, refl, subst, inl, inr}
-use Rattle.std.specs.Prelude.{⊤, ◌⊎◌, ◌||◌, ◌==◌, codes}
-use Rattle.std.specs.BTreeSet.{insert_key}
-use Rattle.std.specs.Ordering.{nat_cmp}
+use Rattle.std.proofs.Common.{◌≡◌, ℕ, Bool, true, false, cond, List, [], ◌∷◌, Option, Some, None, Ok, Err, Result}
+use Rattle.std.proofs.Common.{subst}
+use Rattle.std.specs.Prelude.{⊤, ◌||◌, ◌==◌, codes}
 use Rattle.pdb_records.specs.declared.ids.IdData.{IdData}
 use Rattle.pdb_records.specs.declared.ids.IdData.TheVariants as id
 use Rattle.pdb_records.specs.declared.ids.FunctionId.{FunctionId}
@@ -11,8 +10,12 @@ use Rattle.pdb_records.specs.declared.ids.IdIndex.{IdIndex}
 use Rattle.pdb_records.specs.declared.types.MemberFunctionType.{MemberFunctionType}
 use Rattle.pdb_records.specs.declared.types.TypeIndex.{TypeIndex}
 use Rattle.pdb_records.specs.declared.types.TypeData.{TypeData}
-use Rattle.pdb_records.specs.declared.types.TypeData.TheVariants.{Primitive, Class, MemberFunction, Procedure, Pointer, Array, Union, Enumeration, Enumerate, Modifier, ArgumentList, Other}
-use Rattle.pdb_types.specs.declared.error.Error.TheVariants.{PdbError, ArgumentTypeNotArgumentList, MemberFunctionIdIsNotMemberFunctionType, FunctionIdIsNotProcedureType}
+use Rattle.pdb_records.specs.declared.types.TypeData.TheVariants.{Primitive, Class, MemberFunction, Procedure, Pointer}
+use Rattle.pdb_records.specs.declared.types.TypeData.TheVariants.{Array, Union, Enumeration, Enumerate, Modifier}
+use Rattle.pdb_records.specs.declared.types.TypeData.TheVariants.{ArgumentList, Other}
+use Rattle.pdb_types.specs.declared.error.Error.TheVariants.{PdbError, ArgumentTypeNotArgumentList}
+use Rattle.pdb_types.specs.declared.error.Error.TheVariants.{MemberFunctionIdIsNotMemberFunctionType}
+use Rattle.pdb_types.specs.declared.error.Error.TheVariants.{FunctionIdIsNotProcedureType}
 use Rattle.pdb_records.specs.declared.error.Error.TheVariants.{UnimplementedTypeKind}
 use Rattle.pdb_types.specs.declared.read_error.Part.{Part}
 use Rattle.pdb_types.specs.declared.read_error.Part.TheVariants.{Imports, Exports}
@@ -28,12 +31,14 @@ use Rattle.pdb_documents.specs.Flags.{without_arguments, without_return_type}
 use Rattle.pdb_documents.specs.Wording.{comma, function_name, dimensions_text}
 use Rattle.pdb_documents.specs.Functions.{returned, further_types, types_between, function_arguments}
 use Rattle.pdb_documents.specs.Ids.{method_id, scope, function_id, id_by_kind}
-use Rattle.pdb_documents.specs.Methods.{plain_this, this_by_target, this_by_type, this_of, arguments_behind, method_list, on_list}
-use Rattle.pdb_documents.specs.Plans.{Task, Index, OfType, MethodArguments, Chain, BehindModifier, Modified, Elements, Id, Plan, Done, Later, Seq, Buffered, Catch, ◌▸◌, written, circular, is_among, refusal, note_or_refusal, on_read, on_printed, opening, met_before}
-use Rattle.pdb_documents.specs.Rules.{chain_end, behind_modifier, behind_pointer, element, modified, by_kind, rule}
+use Rattle.pdb_documents.specs.Methods.{plain_this, this_by_target, this_by_type, this_of, arguments_behind}
+use Rattle.pdb_documents.specs.Methods.{method_list, on_list}
+use Rattle.pdb_documents.specs.Plans.{Index, OfType}
+use Rattle.pdb_documents.specs.Plans.{Plan, Done, Later, Seq, Buffered, Catch, ◌▸◌, written}
+use Rattle.pdb_documents.specs.Plans.{refusal, note_or_refusal, on_read, on_printed, met_before}
+use Rattle.pdb_documents.specs.Rules.{chain_end, behind_modifier, behind_pointer, element, modified, by_kind}
 use Rattle.pdb_documents.specs.Signatures.{signature_by_type, signature}
 use Rattle.pdb_documents.specs.PrintInputs.{PrintInputs}
-use Rattle.pdb_laws.specs.Circles.{Repeats}
 use Rattle.pdb_laws.proofs.ReadLemmas.{HasReadErrors, IsGoodReadError, IsGoodReading, AreGoodPrintInputs, reads_then}
 
 -- besides errors of reading, these of the types of functions are among them
@@ -60,107 +65,158 @@ pub good_text : (Good : ErrorView → Type 0) → HasPrintErrors Good → (text 
 good_text Good has text = λ failed e is. absurd (cc)
 
 -- an error that is one of these
-good_error : (Good : ErrorView → Type 0) → HasPrintErrors Good → (error_view : ErrorView) → Good error_view → IsGoodDocument Good (document.Fail (OfError error_view))
+good_error : (Good : ErrorView → Type 0) → HasPrintErrors Good → (error_view : ErrorView) → Good error_view
+    → IsGoodDocument Good (document.Fail (OfError error_view))
 good_error Good has error_view good = λ failed e is. let same : error_view ≡ e = cc in subst Good same good
 
 -- a part of the records
-good_ask : (Good : ErrorView → Type 0) → HasPrintErrors Good → (part : Part) (error_view : ErrorView) → Good error_view → IsGoodDocument Good (document.Ask part error_view)
-good_ask Good has part error_view good = λ failed e is. let same : part_error failed part error_view ≡ e = cc in subst Good same (by_test (has_failed failed part)) where
-  before : (p : Part) → Good (unsuccessful p)
-  before (Imports module_index) = has.reading.imports_failed
-  before (Exports module_index) = has.reading.exports_failed
+good_ask : (Good : ErrorView → Type 0) → HasPrintErrors Good → (part : Part) (error_view : ErrorView)
+    → Good error_view → IsGoodDocument Good (document.Ask part error_view)
+good_ask Good has part error_view good = λ failed e is. let same : part_error failed part error_view ≡ e = cc in
+    subst Good same (by_test (has_failed failed part)) where
+      before : (p : Part) → Good (unsuccessful p)
+      before (Imports module_index) = has.reading.imports_failed
+      before (Exports module_index) = has.reading.exports_failed
 
-  by_test : (t : Bool) → Good (cond t (unsuccessful part) error_view)
-  by_test true = before part
-  by_test false = good
+      by_test : (t : Bool) → Good (cond t (unsuccessful part) error_view)
+      by_test true = before part
+      by_test false = good
 
 -- why something can't be read
-good_refusal : (Good : ErrorView → Type 0) → HasPrintErrors Good → (read_error_view : ReadErrorView) → IsGoodReadError Good read_error_view → IsGoodDocument Good (refusal read_error_view)
+good_refusal : (Good : ErrorView → Type 0) → HasPrintErrors Good → (read_error_view : ReadErrorView)
+    → IsGoodReadError Good read_error_view → IsGoodDocument Good (refusal read_error_view)
 good_refusal Good has (Missing index) other = λ failed e is. absurd (cc)
-good_refusal Good has (Unimplemented kind) other = good_error Good has (Plain (PdbError (UnimplementedTypeKind kind))) (has.reading.of_records (UnimplementedTypeKind kind))
+good_refusal Good has (Unimplemented kind) other = good_error Good has (Plain (PdbError (UnimplementedTypeKind kind)))
+    (has.reading.of_records (UnimplementedTypeKind kind))
 good_refusal Good has (Refused e) other = good_error Good has e other
 good_refusal Good has (Broken part e) other = good_ask Good has part e other
 
 -- why what is printed where it stands can't be read
-good_note : (Good : ErrorView → Type 0) → HasPrintErrors Good → (read_error_view : ReadErrorView) → IsGoodReadError Good read_error_view → IsGoodDocument Good (note_or_refusal read_error_view)
+pub good_note : (Good : ErrorView → Type 0) → HasPrintErrors Good → (read_error_view : ReadErrorView)
+    → IsGoodReadError Good read_error_view → IsGoodDocument Good (note_or_refusal read_error_view)
 good_note Good has (Missing index) other = λ failed e is. absurd (cc)
 good_note Good has (Unimplemented kind) other = λ failed e is. absurd (cc)
 good_note Good has (Refused e) other = good_error Good has e other
 good_note Good has (Broken part e) other = good_ask Good has part e other
 
 -- what follows what is needed
-pub good_on_read : {A : Type 0} (Good : ErrorView → Type 0) → HasPrintErrors Good → (r : Result A ReadErrorView) (next : A → Plan) → IsGoodReading Good r → ((answer : A) → IsGoodPlan Good (next answer)) → IsGoodPlan Good (on_read r next)
+pub good_on_read : {A : Type 0} (Good : ErrorView → Type 0) → HasPrintErrors Good
+    → (r : Result A ReadErrorView) (next : A → Plan) → IsGoodReading Good r
+    → ((answer : A) → IsGoodPlan Good (next answer)) → IsGoodPlan Good (on_read r next)
 good_on_read Good has (Ok answer) next reads plans = plans answer
 good_on_read Good has (Err read_error_view) next reads plans = good_refusal Good has read_error_view reads
 
 -- what follows what is printed where it stands
-pub good_on_printed : {A : Type 0} (Good : ErrorView → Type 0) → HasPrintErrors Good → (r : Result A ReadErrorView) (next : A → Plan) → IsGoodReading Good r → ((answer : A) → IsGoodPlan Good (next answer)) → IsGoodPlan Good (on_printed r next)
+pub good_on_printed : {A : Type 0} (Good : ErrorView → Type 0) → HasPrintErrors Good
+    → (r : Result A ReadErrorView) (next : A → Plan) → IsGoodReading Good r
+    → ((answer : A) → IsGoodPlan Good (next answer)) → IsGoodPlan Good (on_printed r next)
 good_on_printed Good has (Ok answer) next reads plans = plans answer
 good_on_printed Good has (Err read_error_view) next reads plans = good_note Good has read_error_view reads
 
 -- what a function returns
-pub good_returned : (Good : ErrorView → Type 0) → HasPrintErrors Good → (inside : List ℕ) (left_out : Bool) (index : Option TypeIndex) → IsGoodPlan Good (returned inside left_out index)
+pub good_returned : (Good : ErrorView → Type 0) → HasPrintErrors Good
+    → (inside : List ℕ) (left_out : Bool) (index : Option TypeIndex) → IsGoodPlan Good (returned inside left_out index)
 good_returned Good has inside left_out None = good_text Good has []
 good_returned Good has inside true (Some index) = good_text Good has []
 good_returned Good has inside false (Some index) = (tt, good_text Good has (codes " "))
 
 -- further types
-good_further : (Good : ErrorView → Type 0) → HasPrintErrors Good → (separator inside : List ℕ) (list : List TypeIndex) → IsGoodPlan Good (further_types separator inside list)
+good_further : (Good : ErrorView → Type 0) → HasPrintErrors Good → (separator inside : List ℕ) (list : List TypeIndex)
+    → IsGoodPlan Good (further_types separator inside list)
 good_further Good has separator inside [] = good_text Good has []
-good_further Good has separator inside (next ∷ rest) = (good_text Good has separator, (tt, good_further Good has separator inside rest))
+good_further Good has separator inside (next ∷ rest) =
+    (good_text Good has separator, (tt, good_further Good has separator inside rest))
 
 -- types between separators
-pub good_between : (Good : ErrorView → Type 0) → HasPrintErrors Good → (separator inside : List ℕ) (list : List TypeIndex) → IsGoodPlan Good (types_between separator inside list)
+pub good_between : (Good : ErrorView → Type 0) → HasPrintErrors Good
+    → (separator inside : List ℕ) (list : List TypeIndex) → IsGoodPlan Good (types_between separator inside list)
 good_between Good has separator inside [] = good_text Good has []
 good_between Good has separator inside (next ∷ rest) = (tt, good_further Good has separator inside rest)
 
 -- a function's arguments
-pub good_arguments : (Good : ErrorView → Type 0) → HasPrintErrors Good → (w : PrintInputs) (inside : List ℕ) (list : TypeIndex) → IsGoodPlan Good (function_arguments w inside list)
+pub good_arguments : (Good : ErrorView → Type 0) → HasPrintErrors Good
+    → (w : PrintInputs) (inside : List ℕ) (list : TypeIndex) → IsGoodPlan Good (function_arguments w inside list)
 good_arguments Good has w inside list = by_test (without_arguments w.flags) where
-  by_test : (t : Bool) → IsGoodPlan Good (cond t (written []) (written (codes "(") ▸ Later inside (Index list.0) ▸ written (codes ")")))
+  by_test : (t : Bool) → IsGoodPlan Good
+      (cond t (written []) (written (codes "(") ▸ Later inside (Index list.0) ▸ written (codes ")")))
   by_test true = good_text Good has []
   by_test false = (good_text Good has (codes "("), (tt, good_text Good has (codes ")")))
 
 -- the end of a chain of pointers
-good_chain_end : (Good : ErrorView → Type 0) → HasPrintErrors Good → (w : PrintInputs) (attributes : List Attribute) (inside : List ℕ) (type : TypeData) → IsGoodPlan Good (chain_end w attributes inside type)
-good_chain_end Good has w attributes inside (MemberFunction m) = (good_returned Good has inside m.is_constructor (Some m.return_type), (good_text Good has (codes "("), (tt, (good_text Good has (attributes_text w.flags false false attributes), (good_text Good has (codes ")"), tt)))))
-good_chain_end Good has w attributes inside (Procedure p) = (good_returned Good has inside p.is_constructor p.return_type, (good_text Good has (codes "("), (good_text Good has (attributes_text w.flags false false attributes), (good_text Good has (codes ")("), (tt, good_text Good has (codes ")"))))))
+good_chain_end : (Good : ErrorView → Type 0) → HasPrintErrors Good
+    → (w : PrintInputs) (attributes : List Attribute) (inside : List ℕ) (type : TypeData)
+    → IsGoodPlan Good (chain_end w attributes inside type)
+good_chain_end Good has w attributes inside (MemberFunction m) = (
+  good_returned Good has inside m.is_constructor (Some m.return_type),
+  (
+    good_text Good has (codes "("),
+    (tt, (good_text Good has (attributes_text w.flags false false attributes), (good_text Good has (codes ")"), tt))),
+  ),
+)
+good_chain_end Good has w attributes inside (Procedure p) = (
+  good_returned Good has inside p.is_constructor p.return_type,
+  (
+    good_text Good has (codes "("),
+    (
+      good_text Good has (attributes_text w.flags false false attributes),
+      (good_text Good has (codes ")("), (tt, good_text Good has (codes ")"))),
+    ),
+  ),
+)
 good_chain_end Good has w attributes inside other = tt
 
 -- what follows a modifier in a chain of pointers
-good_behind_modifier : (Good : ErrorView → Type 0) → HasPrintErrors Good → (w : PrintInputs) (attributes : List Attribute) (inside : List ℕ) (type : TypeData) → IsGoodPlan Good (behind_modifier w attributes inside type)
+pub good_behind_modifier : (Good : ErrorView → Type 0) → HasPrintErrors Good
+    → (w : PrintInputs) (attributes : List Attribute) (inside : List ℕ) (type : TypeData)
+    → IsGoodPlan Good (behind_modifier w attributes inside type)
 good_behind_modifier Good has w attributes inside (Pointer p) = tt
 good_behind_modifier Good has w attributes inside other = good_chain_end Good has w attributes inside other
 
 -- what follows a pointer in a chain of pointers
-good_behind_pointer : (Good : ErrorView → Type 0) → HasPrintErrors Good → (w : PrintInputs) (attributes : List Attribute) (inside : List ℕ) (type : TypeData) → IsGoodPlan Good (behind_pointer w attributes inside type)
+pub good_behind_pointer : (Good : ErrorView → Type 0) → HasPrintErrors Good
+    → (w : PrintInputs) (attributes : List Attribute) (inside : List ℕ) (type : TypeData)
+    → IsGoodPlan Good (behind_pointer w attributes inside type)
 good_behind_pointer Good has w attributes inside (Pointer p) = tt
 good_behind_pointer Good has w attributes inside (Modifier m) = tt
 good_behind_pointer Good has w attributes inside other = good_chain_end Good has w attributes inside other
 
 -- an element of an array
-good_element : (Good : ErrorView → Type 0) → HasPrintErrors Good → (w : PrintInputs) (inside elements levels : List ℕ) (index : ℕ) (type : TypeData) → IsGoodPlan Good (element w inside elements levels index type)
+pub good_element : (Good : ErrorView → Type 0) → HasPrintErrors Good
+    → (w : PrintInputs) (inside elements levels : List ℕ) (index : ℕ) (type : TypeData)
+    → IsGoodPlan Good (element w inside elements levels index type)
 good_element Good has w inside elements levels index (Array a) = tt
-good_element Good has w inside elements levels index other = by_met (w.size index).met (Later inside (OfType other) ▸ written (dimensions_text levels (w.size index).size)) (tt, good_text Good has []) where
-  by_met : (met : Option Part) (p : Plan) → IsGoodPlan Good p → IsGoodPlan Good (met_before met p)
-  by_met None p plan = plan
-  by_met (Some part) p plan = ((λ failed e is. absurd (cc)), plan)
+good_element Good has w inside elements levels index other =
+    by_met (w.size index).met (Later inside (OfType other) ▸ written (dimensions_text levels (w.size index).size))
+    (tt, good_text Good has []) where
+      by_met : (met : Option Part) (p : Plan) → IsGoodPlan Good p → IsGoodPlan Good (met_before met p)
+      by_met None p plan = plan
+      by_met (Some part) p plan = ((λ failed e is. absurd (cc)), plan)
 
 -- the target of a modifier
-good_modified : (Good : ErrorView → Type 0) → HasPrintErrors Good → (w : PrintInputs) (constant : Bool) (inside : List ℕ) (type : TypeData) → IsGoodPlan Good (modified w constant inside type)
+pub good_modified : (Good : ErrorView → Type 0) → HasPrintErrors Good
+    → (w : PrintInputs) (constant : Bool) (inside : List ℕ) (type : TypeData)
+    → IsGoodPlan Good (modified w constant inside type)
 good_modified Good has w constant inside (Pointer p) = tt
 good_modified Good has w constant inside (Primitive p) = good_text Good has []
 good_modified Good has w constant inside other = (good_text Good has [], tt)
 
 -- a type, by its kind
-good_kind : (Good : ErrorView → Type 0) → HasPrintErrors Good → (w : PrintInputs) (inside : List ℕ) (type : TypeData) → IsGoodPlan Good (by_kind w inside type)
+pub good_kind : (Good : ErrorView → Type 0) → HasPrintErrors Good
+    → (w : PrintInputs) (inside : List ℕ) (type : TypeData)
+    → IsGoodPlan Good (by_kind w inside type)
 good_kind Good has w inside (Primitive p) = good_text Good has []
 good_kind Good has w inside (Class c) = good_text Good has []
 good_kind Good has w inside (Union u) = good_text Good has []
 good_kind Good has w inside (Enumeration e) = good_text Good has []
 good_kind Good has w inside (Enumerate e) = good_text Good has []
-good_kind Good has w inside (MemberFunction m) = (good_returned Good has inside (m.is_constructor || without_return_type w.flags) (Some m.return_type), (good_text Good has (codes "()"), tt))
-good_kind Good has w inside (Procedure p) = (good_returned Good has inside (p.is_constructor || without_return_type w.flags) p.return_type, (good_text Good has (codes "()("), tt))
+good_kind Good has w inside (MemberFunction m) = (
+  good_returned Good has inside (m.is_constructor || without_return_type w.flags) (Some m.return_type),
+  (good_text Good has (codes "()"), tt),
+)
+good_kind Good has w inside (Procedure p) = (
+  good_returned Good has inside (p.is_constructor || without_return_type w.flags) p.return_type,
+  (good_text Good has (codes "()("), tt),
+)
 good_kind Good has w inside (ArgumentList list) = good_between Good has (comma w.flags) inside list
 good_kind Good has w inside (Pointer p) = tt
 good_kind Good has w inside (Array a) = tt
@@ -168,114 +224,107 @@ good_kind Good has w inside (Modifier m) = tt
 good_kind Good has w inside (Other kind) = good_text Good has []
 
 -- what a method's `this` shows
-good_this : (Good : ErrorView → Type 0) → HasPrintErrors Good → (w : PrintInputs) → AreGoodPrintInputs Good w → (class : TypeIndex) (this : Option TypeIndex) → IsGoodReading Good (this_of w class this)
+good_this : (Good : ErrorView → Type 0) → HasPrintErrors Good → (w : PrintInputs) → AreGoodPrintInputs Good w
+    → (class : TypeIndex) (this : Option TypeIndex) → IsGoodReading Good (this_of w class this)
 good_this Good has w reads class None = tt
-good_this Good has w reads class (Some this) = reads_then Good (w.read this.0) (this_by_type w class this) (reads.types this.0) by_type where
-  by_target : (p : TypeIndex) (t : Bool) → IsGoodReading Good (cond t (Ok (plain_this false)) (and_then (w.read p.0) (λ target. Ok (this_by_target class this target))))
-  by_target p true = tt
-  by_target p false = reads_then Good (w.read p.0) (λ target. Ok (this_by_target class this target)) (reads.types p.0) (λ target. tt)
+good_this Good has w reads class (Some this) = reads_then Good (w.read this.0) (this_by_type w class this)
+    (reads.types this.0) by_type where
+      by_target : (p : TypeIndex) (t : Bool)
+          → IsGoodReading Good (cond t (Ok (plain_this false))
+          (and_then (w.read p.0) (λ target. Ok (this_by_target class this target))))
+      by_target p true = tt
+      by_target p false = reads_then Good (w.read p.0) (λ target. Ok (this_by_target class this target))
+          (reads.types p.0)
+          (λ target. tt)
 
-  by_type : (type : TypeData) → IsGoodReading Good (this_by_type w class this type)
-  by_type (Pointer p) = by_target p.underlying_type (p.underlying_type.0 == class.0)
-  by_type other = tt
+      by_type : (type : TypeData) → IsGoodReading Good (this_by_type w class this type)
+      by_type (Pointer p) = by_target p.underlying_type (p.underlying_type.0 == class.0)
+      by_type other = tt
 
 -- a method's list of arguments
-good_on_list : (Good : ErrorView → Type 0) → HasPrintErrors Good → (w : PrintInputs) → AreGoodPrintInputs Good w → (m : MemberFunctionType) (may_say_const : Bool) (inside : List ℕ) (type : TypeData) → IsGoodPlan Good (on_list w m may_say_const inside type)
+pub good_on_list : (Good : ErrorView → Type 0) → HasPrintErrors Good → (w : PrintInputs) → AreGoodPrintInputs Good w
+    → (m : MemberFunctionType) (may_say_const : Bool) (inside : List ℕ) (type : TypeData)
+    → IsGoodPlan Good (on_list w m may_say_const inside type)
 good_on_list Good has w reads m may_say_const inside (ArgumentList list) =
-    good_on_read Good has (this_of w m.class_type m.this_pointer_type) (method_list w inside may_say_const list) (good_this Good has w reads m.class_type m.this_pointer_type) (λ this. (good_text Good has (codes "("), (good_between Good has (comma w.flags) inside (arguments_behind this.argument list), good_text Good has [])))
-good_on_list Good has w reads m may_say_const inside other = good_error Good has (Plain ArgumentTypeNotArgumentList) has.no_list
+    good_on_read Good has (this_of w m.class_type m.this_pointer_type) (method_list w inside may_say_const list)
+    (good_this Good has w reads m.class_type m.this_pointer_type)
+    (λ this. (
+      good_text Good has (codes "("),
+      (good_between Good has (comma w.flags) inside (arguments_behind this.argument list), good_text Good has []),
+    ))
+good_on_list Good has w reads m may_say_const inside other =
+    good_error Good has (Plain ArgumentTypeNotArgumentList) has.no_list
 
 -- the scope of a function
-good_scope : (Good : ErrorView → Type 0) → HasPrintErrors Good → (met inside : List ℕ) (index : Option IdIndex) → IsGoodPlan Good (scope met inside index)
+good_scope : (Good : ErrorView → Type 0) → HasPrintErrors Good → (met inside : List ℕ) (index : Option IdIndex)
+    → IsGoodPlan Good (scope met inside index)
 good_scope Good has met inside None = good_text Good has []
 good_scope Good has met inside (Some index) = (tt, good_text Good has (codes "::"))
 
 -- a function of a class
-good_method_id : (Good : ErrorView → Type 0) → HasPrintErrors Good → (w : PrintInputs) (method : MemberFunctionId) (inside : List ℕ) (type : TypeData) → IsGoodPlan Good (method_id w method inside type)
-good_method_id Good has w method inside (MemberFunction m) = (good_text Good has [], (good_returned Good has inside (m.is_constructor || without_return_type w.flags) (Some m.return_type), (tt, (good_text Good has (codes "::"), (good_text Good has [], tt)))))
-good_method_id Good has w method inside other = good_error Good has (Plain MemberFunctionIdIsNotMemberFunctionType) has.no_method
+good_method_id : (Good : ErrorView → Type 0) → HasPrintErrors Good
+    → (w : PrintInputs) (method : MemberFunctionId) (inside : List ℕ) (type : TypeData)
+    → IsGoodPlan Good (method_id w method inside type)
+good_method_id Good has w method inside (MemberFunction m) = (
+  good_text Good has [],
+  (
+    good_returned Good has inside (m.is_constructor || without_return_type w.flags)
+        (Some m.return_type),
+    (tt, (good_text Good has (codes "::"), (good_text Good has [], tt))),
+  ),
+)
+good_method_id Good has w method inside other =
+    good_error Good has (Plain MemberFunctionIdIsNotMemberFunctionType) has.no_method
 
 -- a function of no class
-good_function_id : (Good : ErrorView → Type 0) → HasPrintErrors Good → (w : PrintInputs) (met : List ℕ) (function : FunctionId) (inside : List ℕ) (type : TypeData) → IsGoodPlan Good (function_id w met function inside type)
-good_function_id Good has w met function inside (Procedure p) = (good_returned Good has inside (p.is_constructor || without_return_type w.flags) p.return_type, (good_scope Good has met inside function.scope, (good_text Good has [], good_arguments Good has w inside p.argument_list)))
-good_function_id Good has w met function inside other = good_error Good has (Plain FunctionIdIsNotProcedureType) has.no_procedure
+good_function_id : (Good : ErrorView → Type 0) → HasPrintErrors Good
+    → (w : PrintInputs) (met : List ℕ) (function : FunctionId) (inside : List ℕ) (type : TypeData)
+    → IsGoodPlan Good (function_id w met function inside type)
+good_function_id Good has w met function inside (Procedure p) = (
+  good_returned Good has inside (p.is_constructor || without_return_type w.flags) p.return_type,
+  (
+    good_scope Good has met inside function.scope,
+    (good_text Good has [], good_arguments Good has w inside p.argument_list),
+  ),
+)
+good_function_id Good has w met function inside other =
+    good_error Good has (Plain FunctionIdIsNotProcedureType) has.no_procedure
 
 -- an id, by its kind
-good_id : (Good : ErrorView → Type 0) → HasPrintErrors Good → (w : PrintInputs) → AreGoodPrintInputs Good w → (met : List ℕ) (entry : IdData) → IsGoodPlan Good (id_by_kind w met entry)
-good_id Good has w reads met (id.MemberFunction method) = good_on_read Good has (w.read method.function_type.0) (method_id w method (method.function_type.0 ∷ [])) (reads.types method.function_type.0) (good_method_id Good has w method (method.function_type.0 ∷ []))
-good_id Good has w reads met (id.Function function) = good_on_read Good has (w.read function.function_type.0) (function_id w met function (function.function_type.0 ∷ [])) (reads.types function.function_type.0) (good_function_id Good has w met function (function.function_type.0 ∷ []))
+pub good_id : (Good : ErrorView → Type 0) → HasPrintErrors Good → (w : PrintInputs) → AreGoodPrintInputs Good w
+    → (met : List ℕ) (entry : IdData) → IsGoodPlan Good (id_by_kind w met entry)
+good_id Good has w reads met (id.MemberFunction method) =
+    good_on_read Good has (w.read method.function_type.0) (method_id w method (method.function_type.0 ∷ []))
+    (reads.types method.function_type.0) (good_method_id Good has w method (method.function_type.0 ∷ []))
+good_id Good has w reads met (id.Function function) = good_on_read Good has (w.read function.function_type.0)
+    (function_id w met function (function.function_type.0 ∷ [])) (reads.types function.function_type.0)
+    (good_function_id Good has w met function (function.function_type.0 ∷ []))
 good_id Good has w reads met (id.String string) = good_text Good has []
-good_id Good has w reads met (id.StringList substrings) = (good_text Good has [], (good_between Good has (codes "\" \"") [] substrings, good_text Good has []))
+good_id Good has w reads met (id.StringList substrings) =
+    (good_text Good has [], (good_between Good has (codes "\" \"") [] substrings, good_text Good has []))
 good_id Good has w reads met (id.Other kind) = good_text Good has []
 
 -- the signature of a function
-pub good_signature : (Good : ErrorView → Type 0) → HasPrintErrors Good → (w : PrintInputs) → AreGoodPrintInputs Good w → (name : List ℕ) (index : ℕ) → IsGoodPlan Good (signature w name index)
+pub good_signature : (Good : ErrorView → Type 0) → HasPrintErrors Good → (w : PrintInputs) → AreGoodPrintInputs Good w
+    → (name : List ℕ) (index : ℕ) → IsGoodPlan Good (signature w name index)
 good_signature Good has w reads name index = by_test (index == 0) where
   by_type : (inside : List ℕ) (type : TypeData) → IsGoodPlan Good (signature_by_type w name inside type)
-  by_type inside (MemberFunction m) = (good_text Good has [], (good_returned Good has inside (m.is_constructor || without_return_type w.flags) (Some m.return_type), (good_text Good has [], tt)))
-  by_type inside (Procedure p) = (good_returned Good has inside (p.is_constructor || without_return_type w.flags) p.return_type, (good_text Good has [], good_arguments Good has w inside p.argument_list))
+  by_type inside (MemberFunction m) = (
+    good_text Good has [],
+    (
+      good_returned Good has inside (m.is_constructor || without_return_type w.flags)
+          (Some m.return_type),
+      (good_text Good has [], tt),
+    ),
+  )
+  by_type inside (Procedure p) = (
+    good_returned Good has inside (p.is_constructor || without_return_type w.flags) p.return_type,
+    (good_text Good has [], good_arguments Good has w inside p.argument_list),
+  )
   by_type inside other = good_text Good has name
 
-  by_test : (t : Bool) → IsGoodPlan Good (cond t (written (function_name name)) (on_read (w.read index) (signature_by_type w name (index ∷ []))))
+  by_test : (t : Bool) → IsGoodPlan Good
+      (cond t (written (function_name name)) (on_read (w.read index) (signature_by_type w name (index ∷ []))))
   by_test true = good_text Good has []
-  by_test false = good_on_read Good has (w.read index) (signature_by_type w name (index ∷ [])) (reads.types index) (by_type (index ∷ []))
-
--- what the rule of a task gives: the refusal of an index that the task repeats, or nothing that fails for another error
-pub data RuleGives (Good : ErrorView → Type 0) (w : PrintInputs) (inside : List ℕ) (task : Task) : Type 0 where
-  circle : (index : ℕ) → Repeats w inside task index → rule w inside task ≡ circular index → RuleGives Good w inside task
-  other : IsGoodPlan Good (rule w inside task) → RuleGives Good w inside task
-
--- an index that opens
-gives_opening : (Good : ErrorView → Type 0) → HasPrintErrors Good → (w : PrintInputs) → AreGoodPrintInputs Good w → (inside : List ℕ) (index : ℕ) (next : List ℕ → TypeData → Plan) → ((type : TypeData) → IsGoodPlan Good (next (index ∷ inside) type)) → ((is_among index inside ≡ true) × (opening w inside index next ≡ circular index)) ⊎ IsGoodPlan Good (opening w inside index next)
-gives_opening Good has w reads inside index next plans = by_test (is_among index inside) refl where
-  by_test : (t : Bool) → is_among index inside ≡ t → ((is_among index inside ≡ true) × (opening w inside index next ≡ circular index)) ⊎ IsGoodPlan Good (opening w inside index next)
-  by_test true open_already = inl (open_already, rw open_already refl)
-  by_test false closed = inr (rw closed (good_on_read Good has (w.read index) (next (index ∷ inside)) (reads.types index) plans))
-
--- the rule of a task gives one or the other
-pub rule_gives : (Good : ErrorView → Type 0) → HasPrintErrors Good → (w : PrintInputs) → AreGoodPrintInputs Good w → (inside : List ℕ) (task : Task) → RuleGives Good w inside task
-rule_gives Good has w reads inside (Index index) = by_tests (is_among index inside) refl (w.read index) refl where
-  by_tests : (t : Bool) → is_among index inside ≡ t → (r : Result TypeData ReadErrorView) → w.read index ≡ r → RuleGives Good w inside (Index index)
-  by_tests true among (Ok type) is = circle index (refl, among, (type, is)) (rw (is, among) refl)
-  by_tests true among (Err read_error_view) is = other (rw is (good_note Good has read_error_view (rw is at (reads.types index))))
-  by_tests false closed r is = other (rw closed (good_on_printed Good has (w.read index) (λ type. Later (index ∷ inside) (OfType type)) (reads.types index) (λ type. tt)))
-rule_gives Good has w reads inside (OfType type) = other (good_kind Good has w inside type)
-rule_gives Good has w reads inside (MethodArguments m may_say_const) = by_flag (without_arguments w.flags) refl where
-  by_opening : without_arguments w.flags ≡ false → ((is_among m.argument_list.0 inside ≡ true) × (opening w inside m.argument_list.0 (on_list w m may_say_const) ≡ circular m.argument_list.0)) ⊎ IsGoodPlan Good (opening w inside m.argument_list.0 (on_list w m may_say_const)) → RuleGives Good w inside (MethodArguments m may_say_const)
-  by_opening printed (inl again) = circle m.argument_list.0 (refl, again.0, printed) (rw printed again.1)
-  by_opening printed (inr plan) = other (rw printed plan)
-
-  by_flag : (t : Bool) → without_arguments w.flags ≡ t → RuleGives Good w inside (MethodArguments m may_say_const)
-  by_flag true without = other (rw without (good_text Good has []))
-  by_flag false printed = by_opening printed (gives_opening Good has w reads inside m.argument_list.0 (on_list w m may_say_const) (good_on_list Good has w reads m may_say_const (m.argument_list.0 ∷ inside)))
-rule_gives Good has w reads inside (Chain attributes target) = by_opening (gives_opening Good has w reads inside target (behind_pointer w attributes) (good_behind_pointer Good has w attributes (target ∷ inside))) where
-  by_opening : ((is_among target inside ≡ true) × (opening w inside target (behind_pointer w attributes) ≡ circular target)) ⊎ IsGoodPlan Good (opening w inside target (behind_pointer w attributes)) → RuleGives Good w inside (Chain attributes target)
-  by_opening (inl again) = circle target (refl, again.0) again.1
-  by_opening (inr plan) = other plan
-rule_gives Good has w reads inside (BehindModifier attributes target) = by_opening (gives_opening Good has w reads inside target (behind_modifier w attributes) (good_behind_modifier Good has w attributes (target ∷ inside))) where
-  by_opening : ((is_among target inside ≡ true) × (opening w inside target (behind_modifier w attributes) ≡ circular target)) ⊎ IsGoodPlan Good (opening w inside target (behind_modifier w attributes)) → RuleGives Good w inside (BehindModifier attributes target)
-  by_opening (inl again) = circle target (refl, again.0) again.1
-  by_opening (inr plan) = other plan
-rule_gives Good has w reads inside (Modified constant target) = by_opening (gives_opening Good has w reads inside target (modified w constant) (good_modified Good has w constant (target ∷ inside))) where
-  by_opening : ((is_among target inside ≡ true) × (opening w inside target (modified w constant) ≡ circular target)) ⊎ IsGoodPlan Good (opening w inside target (modified w constant)) → RuleGives Good w inside (Modified constant target)
-  by_opening (inl again) = circle target (refl, again.0) again.1
-  by_opening (inr plan) = other plan
-rule_gives Good has w reads inside (Elements elements levels next) = by_test (is_among next elements) refl where
-  by_test : (t : Bool) → is_among next elements ≡ t → RuleGives Good w inside (Elements elements levels next)
-  by_test true again = circle next (refl, again) (rw again refl)
-  by_test false first = other (rw first (good_on_read Good has (w.read next) (element w inside elements levels next) (reads.types next) (good_element Good has w inside elements levels next)))
-rule_gives Good has w reads inside (Id met index) = by_test (is_among index met) refl where
-  by_test : (t : Bool) → is_among index met ≡ t → RuleGives Good w inside (Id met index)
-  by_test true again = circle index (refl, again) (rw again refl)
-  by_test false first = other (rw first (good_on_printed Good has (w.read_id index) (id_by_kind w (insert_key nat_cmp met index)) (reads.ids index) (good_id Good has w reads (insert_key nat_cmp met index))))
-
--- a task that repeats an index is refused as circular, with that index
-pub repeats_circular : (w : PrintInputs) (inside : List ℕ) (task : Task) (index : ℕ) → Repeats w inside task index → rule w inside task ≡ circular index
-repeats_circular w inside (Index i) index (one, among, (type, is)) = rw (is, among, one) refl
-repeats_circular w inside (OfType type) index never = absurd never
-repeats_circular w inside (MethodArguments m may_say_const) index (one, among, printed) = rw (printed, among, one) refl
-repeats_circular w inside (Chain attributes target) index (one, among) = rw (among, one) refl
-repeats_circular w inside (BehindModifier attributes target) index (one, among) = rw (among, one) refl
-repeats_circular w inside (Modified constant target) index (one, among) = rw (among, one) refl
-repeats_circular w inside (Elements elements levels next) index (one, among) = rw (among, one) refl
-repeats_circular w inside (Id met i) index (one, among) = rw (among, one) refl
+  by_test false = good_on_read Good has (w.read index) (signature_by_type w name (index ∷ [])) (reads.types index)
+      (by_type (index ∷ []))

@@ -6,7 +6,8 @@ use Rattle.pdb_records.specs.References.{imported, exported}
 use Rattle.pdb_records.specs.Strings.{string_at}
 use Rattle.pdb_records.specs.declared.error.StreamError.{StreamError}
 use Rattle.pdb_records.specs.declared.error.Error as records
-use Rattle.pdb_records.specs.declared.error.Error.TheVariants.{Stream, TypeNotFound, UnimplementedTypeKind, CrossModuleRefNotFound, StringNotFound}
+use Rattle.pdb_records.specs.declared.error.Error.TheVariants.{Stream, TypeNotFound, UnimplementedTypeKind}
+use Rattle.pdb_records.specs.declared.error.Error.TheVariants.{CrossModuleRefNotFound, StringNotFound}
 use Rattle.pdb_records.specs.declared.debug_information.Module.{Module}
 use Rattle.pdb_records.specs.declared.modules.ModuleInfo.{ModuleInfo}
 use Rattle.pdb_records.specs.declared.strings.StringRef.{StringRef}
@@ -19,7 +20,10 @@ use Rattle.pdb_types.specs.declared.error.Error.{Error}
 use Rattle.pdb_types.specs.declared.flags.TypeFormatterFlags.{TypeFormatterFlags}
 use Rattle.pdb_types.specs.declared.read_error.Part.{Part}
 use Rattle.pdb_types.specs.declared.read_error.Part.TheVariants.{Imports, Exports}
-use Rattle.pdb_types.specs.declared.error.Error.TheVariants.{PdbError, CantResolveCrossModuleRefWithoutStringTable, OutOfRangeModuleIndex, ModuleInfoNotFound, LocalIndexNotInExports, ModuleImportsUnsuccessful, ModuleExportsUnsuccessful}
+use Rattle.pdb_types.specs.declared.error.Error.TheVariants.{PdbError, CantResolveCrossModuleRefWithoutStringTable}
+use Rattle.pdb_types.specs.declared.error.Error.TheVariants.{OutOfRangeModuleIndex, ModuleInfoNotFound}
+use Rattle.pdb_types.specs.declared.error.Error.TheVariants.{LocalIndexNotInExports, ModuleImportsUnsuccessful}
+use Rattle.pdb_types.specs.declared.error.Error.TheVariants.{ModuleExportsUnsuccessful}
 use Rattle.pdb_types.specs.Errors.{ErrorView, Plain, NoModuleNamed}
 use Rattle.pdb_records.specs.Names.{lossy}
 use Rattle.std.specs.Str.{str_to_ascii_lowercase}
@@ -27,7 +31,9 @@ use Rattle.pdb_types.specs.ModuleNames.{last_position_from, is_named}
 use Rattle.pdb_types.specs.Items.{first_item}
 use Rattle.pdb_types.specs.Outcomes.{and_then}
 use Rattle.pdb_types.specs.Reading.{said, entry, reading}
-use Rattle.pdb_types.specs.Resolution.{streamed, provided_info, info_of, module_info, imports, exports, unbroken, answered, texts, found_text, found_module, module_named, module_under, found_export, export_of, import_target, across, resolved}
+use Rattle.pdb_types.specs.Resolution.{streamed, provided_info, info_of, module_info, imports, exports, unbroken}
+use Rattle.pdb_types.specs.Resolution.{answered, texts, found_text, found_module, module_named, module_under}
+use Rattle.pdb_types.specs.Resolution.{found_export, export_of, import_target, across, resolved}
 use Rattle.pdb_types.specs.TypeInputs.{LinkInputs}
 use Rattle.pdb_types.specs.TypeSizes.{read_type}
 use Rattle.pdb_types.specs.ReadError.{ReadErrorView, Missing, Unimplemented, Refused, Broken, read_error_view_by}
@@ -62,12 +68,15 @@ pub record AreGoodPrintInputs (Good : ErrorView → Type 0) (w : PrintInputs) : 
   pub ids : (index : ℕ) → IsGoodReading Good (w.read_id index)
 
 -- one reading after another
-pub reads_then : {A B : Type 0} (Good : ErrorView → Type 0) (r : Result A ReadErrorView) (next : A → Result B ReadErrorView) → IsGoodReading Good r → ((answer : A) → IsGoodReading Good (next answer)) → IsGoodReading Good (and_then r next)
+pub reads_then : {A B : Type 0} (Good : ErrorView → Type 0) (r : Result A ReadErrorView) (next : A
+    → Result B ReadErrorView) → IsGoodReading Good r → ((answer : A) → IsGoodReading Good (next answer))
+    → IsGoodReading Good (and_then r next)
 reads_then Good (Ok answer) next first second = second answer
 reads_then Good (Err read_error_view) next first second = first
 
 -- an error of the records
-good_record : (Good : ErrorView → Type 0) → HasReadErrors Good → (e : records.Error) → IsGoodReadError Good (read_error_view_by e)
+good_record : (Good : ErrorView → Type 0) → HasReadErrors Good → (e : records.Error)
+    → IsGoodReadError Good (read_error_view_by e)
 good_record Good has (Stream fault) = has.of_records (Stream fault)
 good_record Good has (TypeNotFound index) = tt
 good_record Good has (UnimplementedTypeKind kind) = tt
@@ -75,7 +84,8 @@ good_record Good has (CrossModuleRefNotFound index) = has.of_records (CrossModul
 good_record Good has (StringNotFound reference) = has.of_records (StringNotFound reference)
 
 -- what an entry says
-good_said : {I D : Type 0} (Good : ErrorView → Type 0) → HasReadErrors Good → (fault : Option StreamError) (number : ℕ) (item : Option (Item I D)) → IsGoodReading Good (said fault number item)
+good_said : {I D : Type 0} (Good : ErrorView → Type 0) → HasReadErrors Good
+    → (fault : Option StreamError) (number : ℕ) (item : Option (Item I D)) → IsGoodReading Good (said fault number item)
 good_said Good has None number None = good_record Good has (TypeNotFound number)
 good_said Good has (Some fault) number None = good_record Good has (Stream fault)
 good_said {D = D} Good has fault number (Some item) = by_content item.content where
@@ -89,7 +99,8 @@ IsGoodAnswer Good (Ok answer) = ⊤
 IsGoodAnswer Good (Err e) = Good (Plain e)
 
 -- the records of a module
-good_info : (Good : ErrorView → Type 0) → HasReadErrors Good → (w : LinkInputs) (module_index : ℕ) → IsGoodAnswer Good (module_info w module_index)
+good_info : (Good : ErrorView → Type 0) → HasReadErrors Good → (w : LinkInputs) (module_index : ℕ)
+    → IsGoodAnswer Good (module_info w module_index)
 good_info Good has w module_index = by_module (slice_get w.modules module_index) where
   by_answer : (answer : Result (Option ModuleInfo) StreamError) → IsGoodAnswer Good (provided_info module_index answer)
   by_answer (Ok (Some info)) = tt
@@ -101,26 +112,34 @@ good_info Good has w module_index = by_module (slice_get w.modules module_index)
   by_module (Some m) = by_answer (w.info module_index m)
 
 -- a stream of them
-good_stream : {A : Type 0} (Good : ErrorView → Type 0) → HasReadErrors Good → (w : LinkInputs) (module_index : ℕ) (stream : ModuleInfo → Result A StreamError) → IsGoodAnswer Good (and_then (module_info w module_index) (λ info. streamed (stream info)))
-good_stream {A = A} Good has w module_index stream = by_info (module_info w module_index) (good_info Good has w module_index) where
-  by_stream : (content : Result A StreamError) → IsGoodAnswer Good (streamed content)
-  by_stream (Ok content) = tt
-  by_stream (Err fault) = has.of_records (Stream fault)
+good_stream : {A : Type 0} (Good : ErrorView → Type 0) → HasReadErrors Good
+    → (w : LinkInputs) (module_index : ℕ) (stream : ModuleInfo → Result A StreamError)
+    → IsGoodAnswer Good (and_then (module_info w module_index) (λ info. streamed (stream info)))
+good_stream {A = A} Good has w module_index stream =
+    by_info (module_info w module_index) (good_info Good has w module_index) where
+      by_stream : (content : Result A StreamError) → IsGoodAnswer Good (streamed content)
+      by_stream (Ok content) = tt
+      by_stream (Err fault) = has.of_records (Stream fault)
 
-  by_info : (info : Result ModuleInfo Error) → IsGoodAnswer Good info → IsGoodAnswer Good (and_then info (λ info. streamed (stream info)))
-  by_info (Ok info) other = by_stream (stream info)
-  by_info (Err e) other = other
+      by_info : (info : Result ModuleInfo Error) → IsGoodAnswer Good info
+          → IsGoodAnswer Good (and_then info (λ info. streamed (stream info)))
+      by_info (Ok info) other = by_stream (stream info)
+      by_info (Err e) other = other
 
 -- a part of the records
-good_part : {A : Type 0} (Good : ErrorView → Type 0) → HasReadErrors Good → (part : Part) (content : Result A Error) → IsGoodAnswer Good content → IsGoodReading Good (unbroken part content)
+good_part : {A : Type 0} (Good : ErrorView → Type 0) → HasReadErrors Good → (part : Part) (content : Result A Error)
+    → IsGoodAnswer Good content → IsGoodReading Good (unbroken part content)
 good_part Good has part (Ok content) other = tt
 good_part Good has part (Err e) other = other
 
 -- the index that a module exports
-good_export : (Good : ErrorView → Type 0) → HasReadErrors Good → (w : LinkInputs) (local module_index : ℕ) → IsGoodReading Good (export_of w local module_index)
+good_export : (Good : ErrorView → Type 0) → HasReadErrors Good → (w : LinkInputs) (local module_index : ℕ)
+    → IsGoodReading Good (export_of w local module_index)
 good_export Good has w local module_index =
-    reads_then Good (unbroken (Exports module_index) (exports w module_index)) (λ list. found_export local (exported local list))
-    (good_part Good has (Exports module_index) (exports w module_index) (good_stream Good has w module_index (λ info. info.exports)))
+    reads_then Good (unbroken (Exports module_index) (exports w module_index))
+    (λ list. found_export local (exported local list))
+    (good_part Good has (Exports module_index) (exports w module_index)
+    (good_stream Good has w module_index (λ info. info.exports)))
     (λ list. by_export (exported local list))
   where
     by_export : (found : Option ℕ) → IsGoodReading Good (found_export local found)
@@ -128,7 +147,9 @@ good_export Good has w local module_index =
     by_export (Some index) = tt
 
 -- the index behind an import
-good_target : (Good : ErrorView → Type 0) → HasReadErrors Good → (w : LinkInputs) (strings : List (StringRef × List ℕ)) (reference : StringRef) (local : ℕ) → IsGoodReading Good (import_target w strings (reference, local))
+good_target : (Good : ErrorView → Type 0) → HasReadErrors Good
+    → (w : LinkInputs) (strings : List (StringRef × List ℕ)) (reference : StringRef) (local : ℕ)
+    → IsGoodReading Good (import_target w strings (reference, local))
 good_target Good has w strings reference local =
     reads_then Good (module_under w.modules strings reference) (λ module_index. export_of w local module_index)
     (reads_then Good (found_text reference (string_at reference strings)) (λ name. module_named w.modules name)
@@ -144,11 +165,15 @@ good_target Good has w strings reference local =
     by_position name (Some module_index) = tt
 
 -- an index across modules
-good_across : (Good : ErrorView → Type 0) → HasReadErrors Good → (w : LinkInputs) (module_index index : ℕ) → IsGoodReading Good (across w module_index index)
+good_across : (Good : ErrorView → Type 0) → HasReadErrors Good → (w : LinkInputs) (module_index index : ℕ)
+    → IsGoodReading Good (across w module_index index)
 good_across Good has w module_index index =
     reads_then Good (texts w.strings) _ (by_texts w.strings) (λ strings.
-    reads_then Good (unbroken (Imports module_index) (imports w module_index)) _ (good_part Good has (Imports module_index) (imports w module_index) (good_stream Good has w module_index (λ info. info.imports))) (λ list.
-    reads_then Good (answered (imported list index)) _ (by_import (imported list index)) (λ target. good_target Good has w strings target.0 target.1)))
+    reads_then Good (unbroken (Imports module_index) (imports w module_index)) _
+    (good_part Good has (Imports module_index) (imports w module_index)
+    (good_stream Good has w module_index (λ info. info.imports))) (λ list.
+    reads_then Good (answered (imported list index)) _ (by_import (imported list index))
+    (λ target. good_target Good has w strings target.0 target.1)))
   where
     by_texts : (strings : Option (List (StringRef × List ℕ))) → IsGoodReading Good (texts strings)
     by_texts None = has.no_texts
@@ -159,7 +184,9 @@ good_across Good has w module_index index =
     by_import (Err e) = good_record Good has e
 
 -- an index that is resolved, and its entry
-good_reading : {I D : Type 0} (Good : ErrorView → Type 0) → HasReadErrors Good → (number_of : I → ℕ) (w : LinkInputs) (list : Read (Item I D)) (module_index index : ℕ) → IsGoodReading Good (reading number_of w list module_index index)
+good_reading : {I D : Type 0} (Good : ErrorView → Type 0) → HasReadErrors Good
+    → (number_of : I → ℕ) (w : LinkInputs) (list : Read (Item I D)) (module_index index : ℕ)
+    → IsGoodReading Good (reading number_of w list module_index index)
 good_reading {D = D} Good has number_of w list module_index index = by_size (nat_lt index (2 ^ 32)) where
   by_section_offset : (t : Bool) → IsGoodReading Good (cond t (Ok index) (across w module_index index))
   by_section_offset true = tt
@@ -168,16 +195,23 @@ good_reading {D = D} Good has number_of w list module_index index = by_size (nat
   next : ℕ → Result (ℕ × D) ReadErrorView
   next number = and_then (entry number_of list number) (λ content. Ok (number, content))
 
-  by_size : (t : Bool) → IsGoodReading Good (cond t (and_then (resolved w module_index index) next) (Err (Missing index)))
+  by_size : (t : Bool) → IsGoodReading Good
+      (cond t (and_then (resolved w module_index index) next) (Err (Missing index)))
   by_size true =
       reads_then Good (resolved w module_index index) next (by_section_offset (nat_lt index (2 ^ 31))) (λ number.
-      reads_then Good (entry number_of list number) (λ content. Ok (number, content)) (good_said Good has list.fault number (first_item number_of number list.items)) (λ content. tt))
+      reads_then Good (entry number_of list number) (λ content. Ok (number, content))
+      (good_said Good has list.fault number (first_item number_of number list.items)) (λ content. tt))
   by_size false = tt
 
 -- all print inputs are refused for nothing but errors of reading
-pub print_inputs_are_good : (Good : ErrorView → Type 0) → HasReadErrors Good → (link_inputs : LinkInputs) (types : Read (Item TypeIndex TypeData)) (ids : Read (Item IdIndex IdData)) (pointer : ℕ) (flags : TypeFormatterFlags) (module_index : ℕ) → AreGoodPrintInputs Good (print_inputs_of link_inputs types ids pointer flags module_index)
+pub print_inputs_are_good : (Good : ErrorView → Type 0) → HasReadErrors Good
+    → (link_inputs : LinkInputs) (types : Read (Item TypeIndex TypeData)) (ids : Read (Item IdIndex IdData))
+    (pointer : ℕ) (flags : TypeFormatterFlags) (module_index : ℕ)
+    → AreGoodPrintInputs Good (print_inputs_of link_inputs types ids pointer flags module_index)
 unfolding type_at id_at
 print_inputs_are_good Good has link_inputs types ids pointer flags module_index = record {
-  types = λ index. reads_then Good (read_type link_inputs types module_index index) (λ read. Ok read.1) (good_reading Good has (λ i. i.0) link_inputs types module_index index) (λ read. tt);
-  ids = λ index. reads_then Good (reading (λ i. i.0) link_inputs ids module_index index) (λ read. Ok read.1) (good_reading Good has (λ i. i.0) link_inputs ids module_index index) (λ read. tt);
+  types = λ index. reads_then Good (read_type link_inputs types module_index index) (λ read. Ok read.1)
+      (good_reading Good has (λ i. i.0) link_inputs types module_index index) (λ read. tt);
+  ids = λ index. reads_then Good (reading (λ i. i.0) link_inputs ids module_index index) (λ read. Ok read.1)
+      (good_reading Good has (λ i. i.0) link_inputs ids module_index index) (λ read. tt);
 }

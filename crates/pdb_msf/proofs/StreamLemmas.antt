@@ -1,5 +1,6 @@
 -- Parts of a list that follow one another.
-use Rattle.std.proofs.Common.{◌≡◌, ◌∙◌, ℕ, zero, suc, ◌+◌, ◌-◌, ◌≤◌, List, [], ◌∷◌, ◌++◌, take, drop, refl, sym, ap, append_assoc, arith}
+use Rattle.std.proofs.Common.{◌≡◌, ◌∙◌, ℕ, zero, suc, ◌+◌, ◌-◌, ◌≤◌, List, [], ◌∷◌, ◌++◌, take, drop, refl, sym, ap}
+use Rattle.std.proofs.Common.{append_assoc, arith}
 use Rattle.std.proofs.lemmas.List.{drop-drop}
 use Rattle.std.proofs.lemmas.Grind.{common_steps}
 
@@ -15,14 +16,18 @@ take_split (suc a) b (x ∷ xs) =
 
 -- a part of a file, and the block behind it, are the part with the block
 pub grown : (from to size : ℕ) (file rest : List ℕ) → from ≤ to
-    → take (to - from) (drop from file) ++ (take size (drop to file) ++ rest) ≡ take (to + size - from) (drop from file) ++ rest
+    → take (to - from) (drop from file) ++ (take size (drop to file) ++ rest) ≡ take (to + size - from)
+    (drop from file) ++ rest
 grown from to size file rest below =
     let at : to ≡ from + (to - from) = omega arith in
     let more : to + size - from ≡ (to - from) + size = omega arith in
     let position : drop to file ≡ drop (to - from) (drop from file)
     = ap (λ n. drop n file) at ∙ sym (drop-drop (to - from) from file) in
-    let joined : take ((to - from) + size) (drop from file) ≡ take (to - from) (drop from file) ++ take size (drop to file)
-    = take_split (to - from) size (drop from file) ∙ ap (λ part. take (to - from) (drop from file) ++ take size part) (sym position) in
+    let joined : take ((to - from) + size) (drop from file) ≡ take (to - from) (drop from file) ++ take size
+    (drop to file)
+    = take_split (to - from) size (drop from file) ∙ ap (λ part. take (to - from) (drop from file) ++ take size part)
+    (sym position) in
     let whole : take (to + size - from) (drop from file) ≡ take (to - from) (drop from file) ++ take size (drop to file)
     = ap (λ n. take n (drop from file)) more ∙ joined in
-    sym (ap (λ part. part ++ rest) whole ∙ append_assoc (take (to - from) (drop from file)) (take size (drop to file)) rest)
+    sym (ap (λ part. part ++ rest) whole ∙ append_assoc (take (to - from) (drop from file))
+    (take size (drop to file)) rest)

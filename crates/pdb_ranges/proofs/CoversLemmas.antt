@@ -26,7 +26,8 @@ has_from_first lo hi x ((start, end) ∷ runs) all within =
     or_left (is_within start end x) (has runs x) inside
 
 -- where `covers` says so, the runs hold what the others hold
-pub has_from_covers : (x : ℕ) (runs others : List (ℕ × ℕ)) → covers runs others ≡ true → has others x ≡ true → has runs x ≡ true
+pub has_from_covers : (x : ℕ) (runs others : List (ℕ × ℕ)) → covers runs others ≡ true → has others x ≡ true
+    → has runs x ≡ true
 has_from_covers x runs [] all inside = absurd cc
 has_from_covers x runs ((lo, hi) ∷ others) all inside =
     let parts = and_parts (starts_with_all lo hi (ending_after lo runs)) (covers (ending_after lo runs) others) all in
@@ -79,4 +80,5 @@ covers_from_has m n runs ((lo, hi) ∷ others) p q all =
 -- `covers` says whether the runs hold what the others hold
 pub covers_iff : (m n : ℕ) (runs others : List (ℕ × ℕ)) → IsRunsFrom m runs → IsRunsFrom n others
     → (covers runs others ≡ true) ↔ ((x : ℕ) → has others x ≡ true → has runs x ≡ true)
-covers_iff m n runs others p q = (λ all x inside. has_from_covers x runs others all inside, covers_from_has m n runs others p q)
+covers_iff m n runs others p q =
+    (λ all x inside. has_from_covers x runs others all inside, covers_from_has m n runs others p q)

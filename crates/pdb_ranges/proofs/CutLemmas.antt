@@ -1,5 +1,6 @@
 -- How many segments are left of those that others are laid over.
-use Rattle.std.proofs.Common.{◌≡◌, ℕ, ◌+◌, ◌*◌, ◌<◌, ◌≤◌, List, [], ◌∷◌, length, length-append, min, max, arith, inl, inr}
+use Rattle.std.proofs.Common.{◌≡◌, ℕ, ◌+◌, ◌*◌, ◌<◌, ◌≤◌, List, [], ◌∷◌, length, length-append, min, max, arith, inl}
+use Rattle.std.proofs.Common.{inr}
 use Rattle.std.proofs.lemmas.Bool.{cases_lt, lt-ltb, le-ltb}
 use Rattle.std.proofs.lemmas.List.{append-nil}
 use Rattle.pdb_ranges.specs.declared.segment.Segment.{Segment}
@@ -24,19 +25,29 @@ length-piece_to : {T : Type 0} (lo hi : ℕ) (s : Segment T) → length (piece l
 length-piece_to lo hi s =
     elim (cases_lt (max lo s.start) (min s.end s.end)) [
       | inl some ↦ let one = length-piece lo hi s in rw (lt-ltb (max lo s.start) (min s.end s.end) some) one
-      | inr none ↦ rw (le-ltb (max lo s.start) (min s.end s.end) none, le-ltb (max lo s.start) (min hi s.end) (omega arith)) (omega arith)
+      | inr none ↦ rw (
+        le-ltb (max lo s.start) (min s.end s.end) none,
+        le-ltb (max lo s.start) (min hi s.end)
+            (omega arith),
+      ) (omega arith)
     ]
 
 -- a segment has no more pieces from a later number on
-length-piece_later : {T : Type 0} (lo hi : ℕ) (s : Segment T) → lo ≤ hi → length (piece hi s.end s) ≤ length (piece lo s.end s)
+length-piece_later : {T : Type 0} (lo hi : ℕ) (s : Segment T) → lo ≤ hi
+    → length (piece hi s.end s) ≤ length (piece lo s.end s)
 length-piece_later lo hi s later =
     elim (cases_lt (max lo s.start) (min s.end s.end)) [
       | inl some ↦ let one = length-piece hi s.end s in rw (lt-ltb (max lo s.start) (min s.end s.end) some) one
-      | inr none ↦ rw (le-ltb (max lo s.start) (min s.end s.end) none, le-ltb (max hi s.start) (min s.end s.end) (omega arith)) (omega arith)
+      | inr none ↦ rw (
+        le-ltb (max lo s.start) (min s.end s.end) none,
+        le-ltb (max hi s.start) (min s.end s.end)
+            (omega arith),
+      ) (omega arith)
     ]
 
 -- segments have no more pieces from a later number on
-length-pieces_later : {T : Type 0} (lo hi : ℕ) (ss : List (Segment T)) → lo ≤ hi → length (pieces_from hi ss) ≤ length (pieces_from lo ss)
+length-pieces_later : {T : Type 0} (lo hi : ℕ) (ss : List (Segment T)) → lo ≤ hi
+    → length (pieces_from hi ss) ≤ length (pieces_from lo ss)
 length-pieces_later lo hi [] later = omega arith
 length-pieces_later lo hi (s ∷ ss) later =
     simp length-append (omega (arith, length-piece_later lo hi s later, length-pieces_later lo hi ss later))
@@ -65,7 +76,8 @@ length-parts k lo hi (s ∷ ss) some ordered =
     ]
 
 -- segments laid over others add at most two each
-pub length-overlaid : {T : Type 0} (k lo : ℕ) (tops under : List (Segment T)) → IsOrderedFrom lo tops → IsOrderedFrom k under
+pub length-overlaid : {T : Type 0} (k lo : ℕ) (tops under : List (Segment T)) → IsOrderedFrom lo tops
+    → IsOrderedFrom k under
     → length (overlaid lo tops under) ≤ length (pieces_from lo under) + 2 * length tops
 length-overlaid k lo [] under ordered below = omega arith
 length-overlaid k lo (top ∷ tops) under ordered below =
@@ -77,7 +89,8 @@ length-overlaid k lo (top ∷ tops) under ordered below =
     ))
 
 -- one segment laid over others adds at most two
-pub length-painted : {T : Type 0} (top : Segment T) (under : List (Segment T)) → top.start < top.end → IsOrderedFrom 0 under
+pub length-painted : {T : Type 0} (top : Segment T) (under : List (Segment T)) → top.start < top.end
+    → IsOrderedFrom 0 under
     → length (overlaid 0 (top ∷ []) under) ≤ length under + 2
 length-painted top under some ordered =
     omega (arith, length-overlaid 0 0 (top ∷ []) under (omega arith, some, tt) ordered, length-pieces_from 0 under)

@@ -1,5 +1,6 @@
 -- What `ending_after`, `pieces` and `difference` make of lists of runs.
-use Rattle.std.proofs.Common.{◌≡◌, ℕ, ◌+◌, ◌<◌, ◌≤◌, Bool, true, false, not, ◌||◌, ◌&&◌, List, [], ◌∷◌, ◌++◌, max, append_assoc, refl, sym, ◌∙◌, arith, inl, inr}
+use Rattle.std.proofs.Common.{◌≡◌, ℕ, ◌+◌, ◌<◌, ◌≤◌, Bool, true, false, not, ◌||◌, ◌&&◌, List, [], ◌∷◌, ◌++◌, max}
+use Rattle.std.proofs.Common.{append_assoc, refl, sym, ◌∙◌, arith, inl, inr}
 use Rattle.std.proofs.lemmas.Bool.{cases_lt, lt-ltb, le-ltb, lt-leb, le-leb}
 use Rattle.std.proofs.lemmas.Bool.Decides.{nat_tests}
 use Rattle.pdb_ranges.specs.RangeSet.{is_within, has, IsRunsFrom}
@@ -8,12 +9,14 @@ use Rattle.pdb_ranges.proofs.HasLemmas.{within_yes, within_below, within_above, 
 use Rattle.pdb_ranges.proofs.RunLemmas.{runs_lower, runs_rest}
 
 -- the runs that go past a bound, and those after them, are runs
-pub IsRunsFrom-ending_after : (n bound : ℕ) (runs : List (ℕ × ℕ)) → IsRunsFrom n runs → IsRunsFrom n (ending_after bound runs)
+pub IsRunsFrom-ending_after : (n bound : ℕ) (runs : List (ℕ × ℕ)) → IsRunsFrom n runs
+    → IsRunsFrom n (ending_after bound runs)
 IsRunsFrom-ending_after n bound [] ordered = tt
 IsRunsFrom-ending_after n bound ((lo, hi) ∷ runs) ordered =
     elim (cases_lt bound hi) [
       | inl past ↦ rw (lt-leb hi bound past) ordered
-      | inr ended ↦ rw (le-leb hi bound ended) (IsRunsFrom-ending_after n bound runs (runs_rest n (lo, hi) runs ordered))
+      | inr ended ↦ rw (le-leb hi bound ended)
+          (IsRunsFrom-ending_after n bound runs (runs_rest n (lo, hi) runs ordered))
     ]
 
 -- they hold the same numbers from the bound on
@@ -49,10 +52,16 @@ split : (lo hi start end x : ℕ) (rest : Bool) → start < hi → start < end �
 split lo hi start end x rest a b c =
     elim (cases_lt x start) [
       | inl below ↦
-          rw (c (omega arith), within_below start end x below, within_below (max lo end) hi x (omega arith)) (grind (arith, nat_tests))
+          rw (c (omega arith), within_below start end x below, within_below (max lo end) hi x (omega arith))
+          (grind (arith, nat_tests))
       | inr from ↦ elim (cases_lt x end) [
         | inl inside ↦
-            rw (within_above lo start x from, within_yes start end x from inside, within_below (max lo end) hi x (omega arith)) (grind arith)
+            rw (
+              within_above lo start x from,
+              within_yes start end x from inside,
+              within_below (max lo end) hi x
+                  (omega arith),
+            ) (grind arith)
         | inr past ↦ rw (within_above lo start x from, within_above start end x past) (grind (arith, nat_tests))
       ]
     ]
@@ -69,7 +78,8 @@ has-pieces n lo hi x ((start, end) ∷ others) ordered =
         has-one_or_none lo start x,
         has-pieces (end + 1) (max lo end) hi x others ordered.2,
       )
-          (split lo hi start end x (has others x) before ordered.1 (λ below. has_below x (end + 1) others (omega arith) ordered.2))
+          (split lo hi start end x (has others x) before ordered.1
+          (λ below. has_below x (end + 1) others (omega arith) ordered.2))
       | inr past ↦ rw (le-leb hi start past, has-one_or_none lo hi x)
           (whole start lo hi x ((start, end) ∷ others) past (omega arith, ordered.1, ordered.2))
     ]
@@ -90,9 +100,14 @@ IsRunsFrom-pieces n k lo hi [] later from to ordered rest =
     IsRunsFrom-one_or_none n lo hi later from (λ _. rest) (runs_lower n (hi + 1) later to rest)
 IsRunsFrom-pieces n k lo hi ((start, end) ∷ others) later from to ordered rest =
     elim (cases_lt start hi) [
-      | inl before ↦ rw (lt-leb hi start before, append_assoc (one_or_none lo start) (pieces (max lo end) hi others) later)
+      | inl before ↦ rw (
+        lt-leb hi start before,
+        append_assoc (one_or_none lo start)
+            (pieces (max lo end) hi others) later,
+      )
           (IsRunsFrom-one_or_none n lo start (pieces (max lo end) hi others ++ later) from
-          (λ some. IsRunsFrom-pieces (start + 1) (end + 1) (max lo end) hi others later (omega arith) (omega arith) ordered.2 rest)
+          (λ some. IsRunsFrom-pieces (start + 1) (end + 1) (max lo end) hi others later (omega arith)
+          (omega arith) ordered.2 rest)
           (IsRunsFrom-pieces n (end + 1) (max lo end) hi others later (omega arith) to ordered.2 rest))
       | inr past ↦ rw (le-leb hi start past)
           (IsRunsFrom-one_or_none n lo hi later from (λ _. rest) (runs_lower n (hi + 1) later to rest))
@@ -104,7 +119,8 @@ pub IsRunsFrom-difference : (n k : ℕ) (runs others : List (ℕ × ℕ)) → Is
 IsRunsFrom-difference n k [] others p q = tt
 IsRunsFrom-difference n k ((lo, hi) ∷ runs) others p q =
     let left = IsRunsFrom-ending_after k lo others q in
-    IsRunsFrom-pieces n k lo hi (ending_after lo others) (difference runs (ending_after lo others)) p.0 (omega arith) left
+    IsRunsFrom-pieces n k lo hi (ending_after lo others) (difference runs (ending_after lo others)) p.0
+    (omega arith) left
     (IsRunsFrom-difference (hi + 1) k runs (ending_after lo others) p.2 left)
 
 -- a number is taken away from a run and from the runs after it, or from none

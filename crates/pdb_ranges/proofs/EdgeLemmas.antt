@@ -1,5 +1,6 @@
 -- Segments in order whose edges are edges of a list are at most two for each segment of the list.
-use Rattle.std.proofs.Common.{◌≡◌, ℕ, ◌+◌, ◌*◌, ◌≤◌, Bool, true, false, ◌||◌, eqb, eq-eqb, List, [], ◌∷◌, length, if◌then◌else◌, refl, arith, inl, inr}
+use Rattle.std.proofs.Common.{◌≡◌, ℕ, ◌+◌, ◌*◌, ◌≤◌, Bool, true, false, ◌||◌, eqb, eq-eqb, List, [], ◌∷◌, length}
+use Rattle.std.proofs.Common.{if◌then◌else◌, refl, arith, inl, inr}
 use Rattle.std.specs.Prelude.{nat_le}
 use Rattle.std.proofs.lemmas.Bool.{cases_lt, lt-leb, le-leb, eqb-true, or_cases, or_left, or_right}
 use Rattle.pdb_ranges.specs.declared.segment.Segment.{Segment}
@@ -26,10 +27,12 @@ count_from n [] = 0
 count_from n (y ∷ ys) = one_from n y + count_from n ys
 
 -- the edges of segments are among their edges
-edges_in : {T : Type 0} (p : ℕ → Bool) (ss : List (Segment T)) → ((x : ℕ) → is_in (edges_of ss) x ≡ true → p x ≡ true) → HaveEdges p ss
+edges_in : {T : Type 0} (p : ℕ → Bool) (ss : List (Segment T)) → ((x : ℕ) → is_in (edges_of ss) x ≡ true → p x ≡ true)
+    → HaveEdges p ss
 edges_in p [] all = tt
 edges_in p (s ∷ ss) all = (
-  all s.start (or_left (eqb s.start s.start) (eqb s.start s.end || is_in (edges_of ss) s.start) (eq-eqb s.start s.start refl)),
+  all s.start (or_left (eqb s.start s.start) (eqb s.start s.end || is_in (edges_of ss) s.start)
+      (eq-eqb s.start s.start refl)),
   all s.end (or_right (eqb s.end s.start) (eqb s.end s.end || is_in (edges_of ss) s.end)
       (or_left (eqb s.end s.end) (is_in (edges_of ss) s.end) (eq-eqb s.end s.end refl))),
   edges_in p ss (λ x inside. all x (or_right (eqb x s.start) (eqb x s.end || is_in (edges_of ss) x)
@@ -57,7 +60,8 @@ one_later m n y later = elim (cases_lt y m) [
 
 -- past a number itself one less is counted
 one_past : (x y : ℕ) → eqb x y ≡ true → one_from (x + 1) y + 1 ≤ one_from x y
-one_past x y is = let same : x ≡ y = eqb-true x y is in rw (lt-leb (x + 1) y (omega arith), le-leb x y (omega arith)) (omega arith)
+one_past x y is = let same : x ≡ y = eqb-true x y is in rw (lt-leb (x + 1) y (omega arith), le-leb x y (omega arith))
+    (omega arith)
 
 count_later : (m n : ℕ) (ys : List ℕ) → m ≤ n → count_from n ys ≤ count_from m ys
 count_later m n [] later = omega arith
@@ -75,7 +79,8 @@ count_past x (y ∷ ys) inside = elim (or_cases (eqb x y) (is_in ys x) inside) [
 ]
 
 -- segments in order are no more than the numbers that they may start at
-length_by_count : {T : Type 0} (n : ℕ) (ys : List ℕ) (ss : List (Segment T)) → IsOrderedFrom n ss → HaveEdges (is_in ys) ss
+length_by_count : {T : Type 0} (n : ℕ) (ys : List ℕ) (ss : List (Segment T)) → IsOrderedFrom n ss
+    → HaveEdges (is_in ys) ss
     → length ss ≤ count_from n ys
 length_by_count n ys [] ordered edges = omega arith
 length_by_count n ys (s ∷ ss) ordered edges =
@@ -93,7 +98,8 @@ pub length_by_edges : {T U : Type 0} (all : List (Segment T)) (made : List (Segm
 length_by_edges all made ordered edges =
     omega (
       arith,
-      length_by_count 0 (edges_of all) made ordered (edges (is_in (edges_of all)) (edges_in (is_in (edges_of all)) all (λ x inside. inside))),
+      length_by_count 0 (edges_of all) made ordered
+          (edges (is_in (edges_of all)) (edges_in (is_in (edges_of all)) all (λ x inside. inside))),
       count_at_most 0 (edges_of all),
       length-edges_of all,
     )

@@ -1,5 +1,6 @@
 -- The last element that passes a test: how it comes about, and that it is picked where starts climb.
-use Rattle.std.proofs.Common.{◌≡◌, ◌∙◌, ℕ, ◌<◌, Bool, true, false, cond, List, [], ◌∷◌, ◌++◌, map, reverse, Option, Some, None, refl, sym, ap, subst}
+use Rattle.std.proofs.Common.{◌≡◌, ◌∙◌, ℕ, ◌<◌, Bool, true, false, cond, List, [], ◌∷◌, ◌++◌, map, reverse, Option}
+use Rattle.std.proofs.Common.{Some, None, refl, sym, ap, subst}
 use Rattle.std.specs.Prelude.{⊤, find, option_map, if◌then◌else◌}
 use Rattle.std.specs.Option.{option_or}
 use Rattle.std.specs.List.{AllByRecursion}
@@ -25,7 +26,8 @@ pub map-last_over : {A B : Type 0} (f : A → B) (over : B → Bool) (before : O
     → option_map f (last_over (λ x. over (f x)) before xs) ≡ last_over over (option_map f before) (map f xs)
 map-last_over f over before [] = refl
 map-last_over {A = A} {B = B} f over before (x ∷ xs) =
-    map-last_over f over (cond (over (f x)) (Some x) before) xs ∙ ap (λ o. last_over over o (map f xs)) (by_test (over (f x)))
+    map-last_over f over (cond (over (f x)) (Some x) before) xs ∙ ap (λ o. last_over over o (map f xs))
+    (by_test (over (f x)))
   where
     by_test : (t : Bool) → option_map f (cond t (Some x) before) ≡ cond t (Some (f x)) (option_map f before)
     by_test true = refl
@@ -51,7 +53,8 @@ last_over-or {T = T} over before (x ∷ xs) =
 -- of those that pass a test each starts at a smaller number than all that follow
 abbrev pub Climbs : {T : Type 0} → (T → Bool) → (T → ℕ) → List T → Type 0
 Climbs over start [] = ⊤
-Climbs over start (x ∷ xs) = AllByRecursion (λ y. over x ≡ true → over y ≡ true → start x < start y) xs × Climbs over start xs
+Climbs over start (x ∷ xs) = AllByRecursion (λ y. over x ≡ true → over y ≡ true → start x < start y) xs
+    × Climbs over start xs
 
 -- of what starts at greater and greater numbers the last is picked
 pub pick-last : {T : Type 0} (over : T → Bool) (start : T → ℕ) (xs : List T) → Climbs over start xs
@@ -66,10 +69,12 @@ pick-last {T = T} over start (x ∷ xs) up =
     IsLater None = ⊤
     IsLater (Some y) = over x ≡ true → start x < start y
 
-    last_is : (ys : List T) → AllByRecursion (λ y. over x ≡ true → over y ≡ true → start x < start y) ys → IsLater (last_over over None ys)
+    last_is : (ys : List T) → AllByRecursion (λ y. over x ≡ true → over y ≡ true → start x < start y) ys
+        → IsLater (last_over over None ys)
     last_is [] later = tt
     last_is (y ∷ ys) later =
-        subst IsLater (sym (last_over-or over (cond (over y) (Some y) None) ys)) (either (over y) refl (last_over over None ys) (last_is ys later.1))
+        subst IsLater (sym (last_over-or over (cond (over y) (Some y) None) ys))
+        (either (over y) refl (last_over over None ys) (last_is ys later.1))
       where
         either : (t : Bool) → over y ≡ t → (o : Option T) → IsLater o → IsLater (option_or o (cond t (Some y) None))
         either true is None known = λ here. later.0 here is
@@ -77,7 +82,8 @@ pick-last {T = T} over start (x ∷ xs) up =
         either false is None known = tt
         either false is (Some z) known = known
 
-    by_test : (t : Bool) → over x ≡ t → (o : Option T) → IsLater o → later_start start (cond t (Some x) None) o ≡ option_or o (cond t (Some x) None)
+    by_test : (t : Bool) → over x ≡ t → (o : Option T) → IsLater o
+        → later_start start (cond t (Some x) None) o ≡ option_or o (cond t (Some x) None)
     by_test true is None known = refl
     by_test true is (Some y) known = rw (lt-ltb (start x) (start y) (known is)) refl
     by_test false is None known = refl

@@ -14,7 +14,8 @@ pub IsRunsFrom-runs_of : (ranges : List (ℕ × ℕ)) → IsRunsFrom 0 (runs_of 
 IsRunsFrom-runs_of [] = tt
 IsRunsFrom-runs_of ((lo, hi) ∷ ranges) =
     elim (cases_lt lo hi) [
-      | inl some ↦ rw (lt-ltb lo hi some) (IsRunsFrom-with_range 0 lo hi (runs_of ranges) (omega arith) some (IsRunsFrom-runs_of ranges))
+      | inl some ↦ rw (lt-ltb lo hi some)
+          (IsRunsFrom-with_range 0 lo hi (runs_of ranges) (omega arith) some (IsRunsFrom-runs_of ranges))
       | inr empty ↦ rw (le-ltb lo hi empty) (IsRunsFrom-runs_of ranges)
     ]
 
@@ -23,7 +24,11 @@ pub has-runs_of : (ranges : List (ℕ × ℕ)) (x : ℕ) → has (runs_of ranges
 has-runs_of [] x = refl
 has-runs_of ((lo, hi) ∷ ranges) x =
     elim (cases_lt lo hi) [
-      | inl some ↦ rw (lt-ltb lo hi some, has-with_range 0 lo hi x (runs_of ranges) some (IsRunsFrom-runs_of ranges), has-runs_of ranges x)
+      | inl some ↦ rw (
+        lt-ltb lo hi some,
+        has-with_range 0 lo hi x (runs_of ranges) some (IsRunsFrom-runs_of ranges),
+        has-runs_of ranges x,
+      )
           (or_comm (has ranges x) (is_within lo hi x))
       | inr empty ↦ rw (le-ltb lo hi empty, within_empty lo hi x empty) (has-runs_of ranges x)
     ]
@@ -34,7 +39,8 @@ IsRunsFrom-missing_runs ranges others =
     IsRunsFrom-difference 0 0 (runs_of ranges) (runs_of others) (IsRunsFrom-runs_of ranges) (IsRunsFrom-runs_of others)
 
 -- what is missing is in the ranges, and not in the others
-pub has-missing_runs : (ranges others : List (ℕ × ℕ)) (x : ℕ) → has (missing_runs ranges others) x ≡ (has ranges x && not (has others x))
+pub has-missing_runs : (ranges others : List (ℕ × ℕ)) (x : ℕ)
+    → has (missing_runs ranges others) x ≡ (has ranges x && not (has others x))
 has-missing_runs ranges others x =
     rw (
       has-difference 0 0 x (runs_of ranges) (runs_of others) (IsRunsFrom-runs_of ranges) (IsRunsFrom-runs_of others),

@@ -1,5 +1,6 @@
 -- Which values segments give that are laid over others, and in which order they are.
-use Rattle.std.proofs.Common.{◌≡◌, ℕ, ◌<◌, ◌≤◌, Bool, true, false, ◌&&◌, List, [], ◌∷◌, ◌++◌, min, max, Option, Some, None, if◌then◌else◌, refl, sym, ◌∙◌, arith, inl, inr}
+use Rattle.std.proofs.Common.{◌≡◌, ℕ, ◌<◌, ◌≤◌, Bool, true, false, ◌&&◌, List, [], ◌∷◌, ◌++◌, min, max, Option, Some}
+use Rattle.std.proofs.Common.{None, if◌then◌else◌, refl, sym, ◌∙◌, arith, inl, inr}
 use Rattle.std.specs.Option.{option_or}
 use Rattle.std.specs.Prelude.{nat_le}
 use Rattle.std.proofs.lemmas.Bool.{cases_lt, lt-ltb, le-ltb, le-leb, lt-leb}
@@ -12,11 +13,13 @@ use Rattle.pdb_ranges.proofs.HasLemmas.{within_yes, within_below, within_above}
 use Rattle.pdb_ranges.proofs.SegmentLemmas.{ordered_lower, option_or-None, first_or, value_at-append, value_below}
 
 -- a number is in both ranges if it is in what they share
-within_both : (lo hi start end x : ℕ) → is_within (max lo start) (min hi end) x ≡ (is_within lo hi x && is_within start end x)
+within_both : (lo hi start end x : ℕ)
+    → is_within (max lo start) (min hi end) x ≡ (is_within lo hi x && is_within start end x)
 within_both lo hi start end x = grind (arith, nat_tests)
 
 -- ranges that share nothing have no number in common
-within_neither : (lo hi start end x : ℕ) → min hi end ≤ max lo start → (is_within lo hi x && is_within start end x) ≡ false
+within_neither : (lo hi start end x : ℕ) → min hi end ≤ max lo start
+    → (is_within lo hi x && is_within start end x) ≡ false
 within_neither lo hi start end x apart = grind (arith, nat_tests)
 
 -- the piece of a segment gives its value where both are
@@ -46,11 +49,16 @@ pub value_at-pieces_within : {T : Type 0} (lo hi x : ℕ) (ss : List (Segment T)
     → value_at (pieces_within lo hi ss) x ≡ (if is_within lo hi x then value_at ss x else None)
 value_at-pieces_within lo hi x [] = either (is_within lo hi x) None
 value_at-pieces_within lo hi x (s ∷ ss) =
-    rw (value_at-append (piece lo hi s) (pieces_within lo hi ss) x, value_at-piece lo hi x s, value_at-pieces_within lo hi x ss)
+    rw (
+      value_at-append (piece lo hi s) (pieces_within lo hi ss) x,
+      value_at-piece lo hi x s,
+      value_at-pieces_within lo hi x ss,
+    )
     (first_piece (is_within lo hi x) (is_within s.start s.end x) s.value (value_at ss x))
 
 -- a number of a segment is before its end
-within_end : (lo start end x : ℕ) → (is_within lo end x && is_within start end x) ≡ (nat_le lo x && is_within start end x)
+within_end : (lo start end x : ℕ)
+    → (is_within lo end x && is_within start end x) ≡ (nat_le lo x && is_within start end x)
 within_end lo start end x = grind (arith, nat_tests)
 
 -- the pieces from a number on give the numbers from there on their values
@@ -68,7 +76,8 @@ value_at-pieces_from lo x (s ∷ ss) =
 
 -- from lo on, the segments on top give their values, and those below them the others
 pub value_at-overlaid : {T : Type 0} (lo x : ℕ) (tops under : List (Segment T)) → IsOrderedFrom lo tops
-    → value_at (overlaid lo tops under) x ≡ (if nat_le lo x then option_or (value_at tops x) (value_at under x) else None)
+    → value_at (overlaid lo tops under) x ≡
+    (if nat_le lo x then option_or (value_at tops x) (value_at under x) else None)
 value_at-overlaid lo x [] under ordered = value_at-pieces_from lo x under
 value_at-overlaid lo x (top ∷ tops) under ordered =
     rw (
@@ -117,8 +126,12 @@ ordered_pieces_within : {T : Type 0} (n k lo hi : ℕ) (ss later : List (Segment
 ordered_pieces_within n k lo hi [] later from to some ordered behind = ordered_lower n hi later to behind
 ordered_pieces_within n k lo hi (s ∷ ss) later from to some ordered behind =
     elim (cases_lt (max lo s.start) (min hi s.end)) [
-      | inl some ↦ rw (lt-ltb (max lo s.start) (min hi s.end) some)
-          (omega arith, some, ordered_pieces_within (min hi s.end) s.end lo hi ss later (omega arith) (omega arith) (omega arith) ordered.2 behind)
+      | inl some ↦ rw (lt-ltb (max lo s.start) (min hi s.end) some) (
+        omega arith,
+        some,
+        ordered_pieces_within (min hi s.end) s.end lo hi ss later (omega arith) (omega arith)
+            (omega arith) ordered.2 behind,
+      )
       | inr none ↦ rw (le-ltb (max lo s.start) (min hi s.end) none)
           (ordered_pieces_within n s.end lo hi ss later (omega arith) to (omega arith) ordered.2 behind)
     ]
@@ -128,7 +141,8 @@ pub ordered_overlaid : {T : Type 0} (n k lo : ℕ) (tops under : List (Segment T
     → IsOrderedFrom k under → IsOrderedFrom n (overlaid lo tops under)
 ordered_overlaid n k lo [] under from ordered below = ordered_pieces_from n k lo under (omega arith) below
 ordered_overlaid n k lo (top ∷ tops) under from ordered below =
-    ordered_pieces_within n k lo top.start under (top ∷ overlaid top.end tops under) (omega arith) (omega arith) (omega arith) below
+    ordered_pieces_within n k lo top.start under (top ∷ overlaid top.end tops under) (omega arith) (omega arith)
+    (omega arith) below
     (omega arith, ordered.1, ordered_overlaid top.end k top.end tops under (omega arith) ordered.2 below)
 
 -- one segment laid over others gives its numbers its value
@@ -139,6 +153,8 @@ value_at-painted x top under some =
     ∙ rw (le-leb 0 x (omega arith)) (sym (first_or (is_within top.start top.end x) top.value None (value_at under x)))
 
 -- one segment laid over others is in order with them
-pub ordered_painted : {T : Type 0} (top : Segment T) (under : List (Segment T)) → top.start < top.end → IsOrderedFrom 0 under
+pub ordered_painted : {T : Type 0} (top : Segment T) (under : List (Segment T)) → top.start < top.end
+    → IsOrderedFrom 0 under
     → IsOrderedFrom 0 (overlaid 0 (top ∷ []) under)
-ordered_painted top under some ordered = ordered_overlaid 0 0 0 (top ∷ []) under (omega arith) (omega arith, some, tt) ordered
+ordered_painted top under some ordered =
+    ordered_overlaid 0 0 0 (top ∷ []) under (omega arith) (omega arith, some, tt) ordered

@@ -16,13 +16,15 @@ pub piece_past : {T : Type 0} (lo hi : ℕ) (s : Segment T) → s.end ≤ lo →
 piece_past lo hi s past = rw (le-ltb (max lo s.start) (min hi s.end) (omega arith))
 
 -- segments that begin at hi or later have no piece before hi
-pub pieces_before : {T : Type 0} (n lo hi : ℕ) (ss : List (Segment T)) → hi ≤ n → IsOrderedFrom n ss → pieces_within lo hi ss ≡ []
+pub pieces_before : {T : Type 0} (n lo hi : ℕ) (ss : List (Segment T)) → hi ≤ n → IsOrderedFrom n ss
+    → pieces_within lo hi ss ≡ []
 pieces_before n lo hi [] past ordered = refl
 pieces_before n lo hi (s ∷ ss) past ordered =
     rw (piece_before lo hi s (omega arith), pieces_before s.end lo hi ss (omega arith) ordered.2)
 
 -- the segments that go past a bound are in order
-pub ordered_going_past : {T : Type 0} (n bound : ℕ) (ss : List (Segment T)) → IsOrderedFrom n ss → IsOrderedFrom n (going_past bound ss)
+pub ordered_going_past : {T : Type 0} (n bound : ℕ) (ss : List (Segment T)) → IsOrderedFrom n ss
+    → IsOrderedFrom n (going_past bound ss)
 ordered_going_past n bound [] ordered = tt
 ordered_going_past n bound (s ∷ ss) ordered =
     elim (cases_lt bound s.end) [
@@ -37,7 +39,8 @@ pieces_within-going_past bound lo hi [] from = refl
 pieces_within-going_past bound lo hi (s ∷ ss) from =
     elim (cases_lt bound s.end) [
       | inl past ↦ rw (lt-leb s.end bound past)
-      | inr ended ↦ rw (le-leb s.end bound ended, piece_past lo hi s (omega arith)) (pieces_within-going_past bound lo hi ss from)
+      | inr ended ↦ rw (le-leb s.end bound ended, piece_past lo hi s (omega arith))
+          (pieces_within-going_past bound lo hi ss from)
     ]
 
 pieces_from-going_past : {T : Type 0} (bound lo : ℕ) (ss : List (Segment T)) → bound ≤ lo
@@ -46,11 +49,13 @@ pieces_from-going_past bound lo [] from = refl
 pieces_from-going_past bound lo (s ∷ ss) from =
     elim (cases_lt bound s.end) [
       | inl past ↦ rw (lt-leb s.end bound past)
-      | inr ended ↦ rw (le-leb s.end bound ended, piece_past lo s.end s (omega arith)) (pieces_from-going_past bound lo ss from)
+      | inr ended ↦ rw (le-leb s.end bound ended, piece_past lo s.end s (omega arith))
+          (pieces_from-going_past bound lo ss from)
     ]
 
 -- segments that end by a bound leave nothing past it
-pub overlaid-going_past : {T : Type 0} (bound lo : ℕ) (tops under : List (Segment T)) → bound ≤ lo → IsOrderedFrom lo tops
+pub overlaid-going_past : {T : Type 0} (bound lo : ℕ) (tops under : List (Segment T)) → bound ≤ lo
+    → IsOrderedFrom lo tops
     → overlaid lo tops (going_past bound under) ≡ overlaid lo tops under
 overlaid-going_past bound lo [] under from ordered = pieces_from-going_past bound lo under from
 overlaid-going_past bound lo (top ∷ tops) under from ordered =
@@ -60,14 +65,18 @@ overlaid-going_past bound lo (top ∷ tops) under from ordered =
     )
 
 -- where the first segment goes past hi, only that one has a piece before hi
-pub pieces_within_first : {T : Type 0} (lo hi : ℕ) (s : Segment T) (ss : List (Segment T)) → hi < s.end → IsOrderedFrom 0 (s ∷ ss)
+pub pieces_within_first : {T : Type 0} (lo hi : ℕ) (s : Segment T) (ss : List (Segment T)) → hi < s.end
+    → IsOrderedFrom 0 (s ∷ ss)
     → pieces_within lo hi (s ∷ ss) ≡ piece lo hi s
-pieces_within_first lo hi s ss past ordered = rw (pieces_before s.end lo hi ss (omega arith) ordered.2) (append-nil (piece lo hi s))
+pieces_within_first lo hi s ss past ordered = rw (pieces_before s.end lo hi ss (omega arith) ordered.2)
+    (append-nil (piece lo hi s))
 
 -- one segment more is laid on top
-pub overlaid_step : {T : Type 0} (from : ℕ) (all tops rest whole : List (Segment T)) (top : Segment T) → IsOrderedFrom from (top ∷ tops)
+pub overlaid_step : {T : Type 0} (from : ℕ) (all tops rest whole : List (Segment T)) (top : Segment T)
+    → IsOrderedFrom from (top ∷ tops)
     → all ++ overlaid from (top ∷ tops) rest ≡ whole
-    → ((all ++ pieces_within from top.start rest) ++ top ∷ []) ++ overlaid top.end tops (going_past top.start rest) ≡ whole
+    → ((all ++ pieces_within from top.start rest) ++ top ∷ []) ++ overlaid top.end tops (going_past top.start rest)
+    ≡ whole
 overlaid_step from all tops rest whole top ordered e =
     rw (overlaid-going_past top.start top.end tops rest (omega arith) ordered.2)
     (append_assoc (all ++ pieces_within from top.start rest) (top ∷ []) (overlaid top.end tops rest)

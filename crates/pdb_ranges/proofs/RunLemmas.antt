@@ -1,5 +1,6 @@
 -- What leaves a list of ranges a list of runs.
-use Rattle.std.proofs.Common.{◌≡◌, ℕ, suc, ◌+◌, ◌-◌, ◌<◌, ◌≤◌, ◌||◌, List, [], ◌∷◌, ◌++◌, length, take, set, max, Some, sym, ◌∙◌, subst, append_assoc, drop-cons, arith}
+use Rattle.std.proofs.Common.{◌≡◌, ℕ, suc, ◌+◌, ◌-◌, ◌<◌, ◌≤◌, ◌||◌, List, [], ◌∷◌, ◌++◌, length, take, set, max, Some}
+use Rattle.std.proofs.Common.{sym, ◌∙◌, subst, append_assoc, drop-cons, arith}
 use Rattle.std.specs.List.{slice_get}
 use Rattle.std.proofs.Math.ListN.{drop_of_length-le}
 use Rattle.std.proofs.lemmas.List.{take-append-drop, length-take, set_at}
@@ -36,7 +37,12 @@ split_last runs i run last len =
     let within : i < length runs = omega arith in (
       take i runs,
       sym (take-append-drop i runs)
-          ∙ rw (drop-cons runs i run, get_or_from_slice_get runs i run run last, drop_of_length-le runs {i = suc i} (omega arith)),
+          ∙ rw (
+            drop-cons runs i run,
+            get_or_from_slice_get runs i run run last,
+            drop_of_length-le runs {i = suc i}
+                (omega arith),
+          ),
       length-take i runs ∙ omega arith,
     )
 
@@ -70,7 +76,8 @@ pub has_grow : (i lo hi x : ℕ) (run : ℕ × ℕ) (runs : List (ℕ × ℕ)) �
     → run.0 ≤ lo → lo ≤ run.1 → lo < hi → has (set runs i (run.0, max run.1 hi)) x ≡ (has runs x || is_within lo hi x)
 has_grow i lo hi x run runs last len from near some =
     let parts = split_last runs i run last len in
-    subst (λ (rs : List (ℕ × ℕ)). has (set rs i (run.0, max run.1 hi)) x ≡ (has rs x || is_within lo hi x)) (sym parts.1)
+    subst (λ (rs : List (ℕ × ℕ)). has (set rs i (run.0, max run.1 hi)) x ≡ (has rs x || is_within lo hi x))
+    (sym parts.1)
     (rw (
       set_at parts.0 run [] (run.0, max run.1 hi) i parts.2,
       has-append parts.0 ((run.0, max run.1 hi) ∷ []) x,

@@ -5,7 +5,8 @@ use Rattle.pdb_ranges.specs.RangeSet.{has, IsRunsFrom}
 use Rattle.pdb_ranges.proofs.HasLemmas.{has_below, has_start, has_end, within_yes, within_above}
 
 -- the first list can't begin before the second
-start_le : (m n lo hi start end : ℕ) (a b : List (ℕ × ℕ)) → IsRunsFrom m ((lo, hi) ∷ a) → IsRunsFrom n ((start, end) ∷ b)
+start_le : (m n lo hi start end : ℕ) (a b : List (ℕ × ℕ)) → IsRunsFrom m ((lo, hi) ∷ a)
+    → IsRunsFrom n ((start, end) ∷ b)
     → ((x : ℕ) → has ((lo, hi) ∷ a) x ≡ has ((start, end) ∷ b) x) → start ≤ lo
 start_le m n lo hi start end a b p q same =
     elim (cases_lt lo start) [
@@ -50,8 +51,14 @@ same_runs m n ((lo, hi) ∷ a) [] p q same =
     let inside = has_start m lo hi a p in let equal = same lo in absurd cc
 same_runs m n ((lo, hi) ∷ a) ((start, end) ∷ b) p q same =
     let back = λ (x : ℕ). sym (same x) in
-    let starts : lo ≡ start = omega (arith, start_le m n lo hi start end a b p q same, start_le n m start end lo hi b a q p back) in
+    let starts : lo ≡ start = omega
+    (arith, start_le m n lo hi start end a b p q same, start_le n m start end lo hi b a q p back) in
     let ends : hi ≡ end =
-    omega (arith, end_le m n lo hi start end a b starts p q same, end_le n m start end lo hi b a (sym starts) q p back) in
+    omega (
+      arith,
+      end_le m n lo hi start end a b starts p q same,
+      end_le n m start end lo hi b a
+          (sym starts) q p back,
+    ) in
     let rest = same_runs (hi + 1) (end + 1) a b p.2 q.2 (same_rest m n lo hi start end a b ends p q same) in
     rw (starts, ends, rest)

@@ -1,5 +1,6 @@
 -- What one look at a segment shows a search.
-use Rattle.std.proofs.Common.{◌≡◌, ℕ, zero, suc, ◌+◌, ◌-◌, ◌<◌, ◌≤◌, List, [], ◌∷◌, ◌++◌, take, drop, Some, refl, sym, ◌∙◌, ap, arith}
+use Rattle.std.proofs.Common.{◌≡◌, ℕ, zero, suc, ◌+◌, ◌-◌, ◌<◌, ◌≤◌, List, [], ◌∷◌, ◌++◌, take, drop, Some, refl, sym}
+use Rattle.std.proofs.Common.{◌∙◌, ap, arith}
 use Rattle.std.specs.List.{slice_get}
 use Rattle.std.proofs.Math.Seq.{take-add}
 use Rattle.std.proofs.Math.ListN.{drop_of_length-le}
@@ -18,17 +19,20 @@ window from to ss = take (to - from) (drop from ss)
 drop-drop : {T : Type 0} (i j : ℕ) (xs : List T) → drop j (drop i xs) ≡ drop (i + j) xs
 drop-drop zero j xs = ap (λ n. drop n xs) (let e : j ≡ zero + j = omega arith in e)
 drop-drop (suc i) j [] = drop_of_length-le [] (omega arith) ∙ sym (drop_of_length-le [] (omega arith))
-drop-drop (suc i) j (x ∷ xs) = drop-drop i j xs ∙ ap (λ n. drop n (x ∷ xs)) (let e : suc (i + j) ≡ suc i + j = omega arith in e)
+drop-drop (suc i) j (x ∷ xs) =
+    drop-drop i j xs ∙ ap (λ n. drop n (x ∷ xs)) (let e : suc (i + j) ≡ suc i + j = omega arith in e)
 
 -- a window is what lies ahead of a place in it, the segment there, and what lies behind
-pub window_split : {T : Type 0} (from middle to : ℕ) (ss : List (Segment T)) (s : Segment T) → from ≤ middle → middle < to
+pub window_split : {T : Type 0} (from middle to : ℕ) (ss : List (Segment T)) (s : Segment T) → from ≤ middle
+    → middle < to
     → slice_get ss middle ≡ Some s → window from to ss ≡ window from middle ss ++ s ∷ window (middle + 1) to ss
 window_split from middle to ss s low high is =
     let there : drop middle ss ≡ s ∷ drop (middle + 1) ss =
     drop_more ss middle s (slice_get_within ss middle s is)
     ∙ ap (λ y. y ∷ drop (middle + 1) ss) (get_or_from_slice_get ss middle s s is) in
     let behind : drop (middle - from) (drop from ss) ≡ drop middle ss =
-    drop-drop from (middle - from) ss ∙ ap (λ n. drop n ss) (let e : from + (middle - from) ≡ middle = omega arith in e) in
+    drop-drop from (middle - from) ss ∙ ap (λ n. drop n ss) (let e : from + (middle - from) ≡ middle = omega arith in
+    e) in
     let sizes : to - from ≡ (middle - from) + suc (to - (middle + 1)) = omega arith in
     rw (sizes, take-add (middle - from) (suc (to - (middle + 1))) (drop from ss), behind, there)
 
@@ -45,14 +49,16 @@ ordered_take n (suc i) [] ordered = tt
 ordered_take n (suc i) (s ∷ ss) ordered = (ordered.0, ordered.1, ordered_take s.end i ss ordered.2)
 
 -- segments behind others are in order
-ordered_behind : {T : Type 0} (n : ℕ) (a : List (Segment T)) (s : Segment T) (b : List (Segment T)) → IsOrderedFrom n (a ++ s ∷ b)
+ordered_behind : {T : Type 0} (n : ℕ) (a : List (Segment T)) (s : Segment T) (b : List (Segment T))
+    → IsOrderedFrom n (a ++ s ∷ b)
     → IsOrderedFrom n (s ∷ b)
 ordered_behind n [] s b ordered = ordered
 ordered_behind n (t ∷ a) s b ordered =
     let rest = ordered_behind t.end a s b ordered.2 in (omega arith, rest.1, rest.2)
 
 -- from the start of a segment on, those ahead of it give no value
-value_from : {T : Type 0} (n x : ℕ) (a : List (Segment T)) (s : Segment T) (b : List (Segment T)) → IsOrderedFrom n (a ++ s ∷ b)
+value_from : {T : Type 0} (n x : ℕ) (a : List (Segment T)) (s : Segment T) (b : List (Segment T))
+    → IsOrderedFrom n (a ++ s ∷ b)
     → s.start ≤ x → value_at (a ++ s ∷ b) x ≡ value_at (s ∷ b) x
 value_from n x [] s b ordered from = refl
 value_from n x (t ∷ a) s b ordered from =

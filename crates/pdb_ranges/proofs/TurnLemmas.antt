@@ -1,5 +1,6 @@
 -- Segments that are painted one after the other.
-use Rattle.std.proofs.Common.{◌≡◌, ℕ, ◌<◌, Bool, true, List, [], ◌∷◌, ◌++◌, reverse, min, max, Option, Some, None, if◌then◌else◌, refl, sym, ◌∙◌, subst, arith, inl, inr}
+use Rattle.std.proofs.Common.{◌≡◌, ℕ, ◌<◌, Bool, true, List, [], ◌∷◌, ◌++◌, reverse, min, max, Option, Some, None}
+use Rattle.std.proofs.Common.{if◌then◌else◌, refl, sym, ◌∙◌, subst, arith, inl, inr}
 use Rattle.std.specs.Option.{option_or}
 use Rattle.std.proofs.lemmas.Bool.{cases_lt, lt-ltb, le-ltb, le-leb}
 use Rattle.std.proofs.lemmas.Grind.{reverse_onto}
@@ -41,7 +42,8 @@ painted_in_turn-over (s ∷ ss) before x =
 
 -- what the later half of a list makes, laid over what the earlier half makes, gives the values that all make
 pub value_at-halves : {T : Type 0} (x : ℕ) (all earlier later tops under : List (Segment T)) → all ≡ earlier ++ later
-    → IsOrderedFrom 0 tops → value_at tops x ≡ painted_in_turn later None x → value_at under x ≡ painted_in_turn earlier None x
+    → IsOrderedFrom 0 tops → value_at tops x ≡ painted_in_turn later None x
+    → value_at under x ≡ painted_in_turn earlier None x
     → value_at (overlaid 0 tops under) x ≡ painted_in_turn all None x
 value_at-halves x all earlier later tops under is ordered over below =
     value_at-overlaid 0 x tops under ordered
@@ -49,7 +51,8 @@ value_at-halves x all earlier later tops under is ordered over below =
     (sym (painted_in_turn-over later (painted_in_turn earlier None x) x))
 
 -- the last segment that is painted over a number gives its value
-pub painted_in_turn-last : {T : Type 0} (ss : List (Segment T)) (x : ℕ) → painted_in_turn ss None x ≡ value_at (reverse ss) x
+pub painted_in_turn-last : {T : Type 0} (ss : List (Segment T)) (x : ℕ)
+    → painted_in_turn ss None x ≡ value_at (reverse ss) x
 painted_in_turn-last [] x = refl
 painted_in_turn-last (s ∷ ss) x =
     rw (
@@ -98,14 +101,16 @@ edges_piece p lo hi s at_lo at_hi at_start at_end =
       | inr none ↦ rw (le-ltb (max lo s.start) (min hi s.end) none) tt
     ]
 
-edges_pieces_within : {T : Type 0} (p : ℕ → Bool) (lo hi : ℕ) (ss : List (Segment T)) → (0 < lo → p lo ≡ true) → p hi ≡ true
+edges_pieces_within : {T : Type 0} (p : ℕ → Bool) (lo hi : ℕ) (ss : List (Segment T)) → (0 < lo → p lo ≡ true)
+    → p hi ≡ true
     → HaveEdges p ss → HaveEdges p (pieces_within lo hi ss)
 edges_pieces_within p lo hi [] at_lo at_hi at_all = tt
 edges_pieces_within p lo hi (s ∷ ss) at_lo at_hi at_all =
     edges_both p (piece lo hi s) (pieces_within lo hi ss) (edges_piece p lo hi s at_lo at_hi at_all.0 at_all.1)
     (edges_pieces_within p lo hi ss at_lo at_hi at_all.2)
 
-edges_pieces_from : {T : Type 0} (p : ℕ → Bool) (lo : ℕ) (ss : List (Segment T)) → (0 < lo → p lo ≡ true) → HaveEdges p ss
+edges_pieces_from : {T : Type 0} (p : ℕ → Bool) (lo : ℕ) (ss : List (Segment T)) → (0 < lo → p lo ≡ true)
+    → HaveEdges p ss
     → HaveEdges p (pieces_from lo ss)
 edges_pieces_from p lo [] at_lo at_all = tt
 edges_pieces_from p lo (s ∷ ss) at_lo at_all =
@@ -122,7 +127,8 @@ edges_overlaid p lo (top ∷ tops) under at_lo over below =
     (over.0, over.1, edges_overlaid p top.end tops under (λ _. over.1) over.2 below)
 
 -- nor have those that the halves of a list make
-pub edges_halves : {T : Type 0} (p : ℕ → Bool) (all earlier later tops under : List (Segment T)) → all ≡ earlier ++ later
+pub edges_halves : {T : Type 0} (p : ℕ → Bool) (all earlier later tops under : List (Segment T))
+    → all ≡ earlier ++ later
     → (HaveEdges p later → HaveEdges p tops) → (HaveEdges p earlier → HaveEdges p under) → HaveEdges p all
     → HaveEdges p (overlaid 0 tops under)
 edges_halves p all earlier later tops under is over below at_all =

@@ -25,16 +25,19 @@ names_of_answers : {P : Type 0} (info : P → ProviderInfos) (c : ContextState P
     ≡ texts_of_answers addresses (answers_to info c (map FindFunction addresses))
 names_of_answers info c [] = refl
 names_of_answers info c (address ∷ addresses) =
-    ap (λ (rest : Result (List ℕ) Error). and_then rest (λ texts. Ok (names_line address (function_at info c.inputs address) ++ texts)))
+    ap (λ (rest : Result (List ℕ) Error). and_then rest
+    (λ texts. Ok (names_line address (function_at info c.inputs address) ++ texts)))
     (names_of_answers info (after_function info c address) addresses)
 
 -- a first text and what follows, which are alike where there is a first text
 one_more_text : (address : ℕ) (frames : Result (Option FramesInfo) Error) (rest rest' : Result (List ℕ) Error)
     → ((shown : Option FramesInfo) → frames ≡ Ok shown → rest ≡ rest')
-    → and_then (and_then frames (λ shown. Ok (frames_text address shown))) (λ text. and_then rest (λ texts. Ok (text ++ texts)))
+    → and_then (and_then frames (λ shown. Ok (frames_text address shown)))
+    (λ text. and_then rest (λ texts. Ok (text ++ texts)))
     ≡ and_then (answer_text address (FramesView frames)) (λ text. and_then rest' (λ texts. Ok (text ++ texts)))
 one_more_text address (Ok shown) rest rest' alike =
-    ap (λ (more : Result (List ℕ) Error). and_then more (λ texts. Ok (frames_text address shown ++ texts))) (alike shown refl)
+    ap (λ (more : Result (List ℕ) Error). and_then more (λ texts. Ok (frames_text address shown ++ texts)))
+    (alike shown refl)
 one_more_text address (Err e) rest rest' alike = refl
 
 -- the lines of frames are those of the answers
@@ -51,7 +54,8 @@ stacks_of_answers info c (address ∷ addresses) =
     ∙ stacks_of_answers info next addresses)
 
 -- the text of a report is that of the answers
-pub text_of_answers : {P : Type 0} (info : P → ProviderInfos) (c : ContextState P) (command : Command) (addresses : List ℕ)
+pub text_of_answers : {P : Type 0} (info : P → ProviderInfos) (c : ContextState P) (command : Command)
+    (addresses : List ℕ)
     → report_text info c.inputs c.code_failed command addresses
     ≡ texts_of_answers (addresses_asked command addresses) (answers_to info c (report_calls command addresses))
 text_of_answers info c Names addresses = names_of_answers info c addresses

@@ -39,7 +39,8 @@ frames_in_turn info c [] = refl
 frames_in_turn info c (address ∷ addresses) = frames_in_turn info (after_frames info c address) addresses
 
 -- a context once it answered the frames over one address more
-pub after_frames_more : {P : Type 0} (info : P → ProviderInfos) (c between after : ContextState P) (addresses : List ℕ) (i : ℕ)
+pub after_frames_more : {P : Type 0} (info : P → ProviderInfos) (c between after : ContextState P)
+    (addresses : List ℕ) (i : ℕ)
     → i < length addresses → between ≡ after_calls info c (map FindFrames (take i addresses))
     → after ≡ after_frames info between (get_or addresses i 0)
     → after ≡ after_calls info c (map FindFrames (take (i + 1) addresses))
@@ -52,7 +53,8 @@ after_frames_more info c between after addresses i below first next =
     ∙ sym (frames_in_turn info c (take (i + 1) addresses))
 
 -- a report of frames that ends at an address leaves what the look-up there leaves
-pub left_at_address : {P : Type 0} (info : P → ProviderInfos) (c between after : ContextState P) (addresses : List ℕ) (i : ℕ)
+pub left_at_address : {P : Type 0} (info : P → ProviderInfos) (c between after : ContextState P) (addresses : List ℕ)
+    (i : ℕ)
     (fault : ReportFault) → i < length addresses → between ≡ after_calls info c (map FindFrames (take i addresses))
     → IsLeftByFrames info between (get_or addresses i 0) fault after → IsLeftAmid info c after addresses fault
 left_at_address info c between after addresses i fault below first left = record {
@@ -63,7 +65,8 @@ left_at_address info c between after addresses i fault below first left = record
 }
 
 -- a report of functions that ends at an address is cut short there
-pub cut_at_address : {P : Type 0} (info : P → ProviderInfos) (c between after : ContextState P) (addresses : List ℕ) (i : ℕ)
+pub cut_at_address : {P : Type 0} (info : P → ProviderInfos) (c between after : ContextState P) (addresses : List ℕ)
+    (i : ℕ)
     → between ≡ after_functions info c (take i addresses) → OnlyGainsBroken info between after
     → IsCutShort info c after addresses
 cut_at_address info c between after addresses i first gains = record { done = i; interrupted = rw first at gains }
@@ -78,12 +81,14 @@ same_context : {P : Type 0} (s s' : ContextInputs P) (failed failed' : Parts) (c
 same_context s s' failed failed' code code' one two three = rw (one, two, three) refl
 
 -- a look-up of frames that is answered leaves the context as the definition has it
-pub shown_where_answered : {P A : Type 0} (info : P → ProviderInfos) (before after : ContextState P) (address : ℕ) (answer : Result A Error)
+pub shown_where_answered : {P A : Type 0} (info : P → ProviderInfos) (before after : ContextState P) (address : ℕ)
+    (answer : Result A Error)
     → after.inputs ≡ before.inputs
     → ButForMemory answer (after.failed ≡ failed_after_frames info before.inputs address before.failed)
     → ButForMemory answer (after.code_failed ≡ code_failed_after info before address)
     → OnOk answer (after ≡ after_frames info before address)
-shown_where_answered info before after address (Ok answer) inputs failed code = same_context _ _ _ _ _ _ inputs failed code
+shown_where_answered info before after address (Ok answer) inputs failed code =
+    same_context _ _ _ _ _ _ inputs failed code
 shown_where_answered info before after address (Err e) inputs failed code = tt
 
 -- a look-up of frames that is answered has the context remember no more than broken parts besides
@@ -94,11 +99,13 @@ pub gains_where_answered : {P : Type 0} (info : P → ProviderInfos) (before aft
     → Gives (λ f. f) answer (frames_answered info before address) → OnOk answer (OnlyGainsBroken info before after)
 gains_where_answered info before after address (Ok shown) inputs broken code given =
     gains_by_one info before after inputs broken
-    (code ∙ unrefused before.code_failed (blamed_at info before.inputs address) (frames_at info before.inputs address) shown given)
+    (code ∙ unrefused before.code_failed (blamed_at info before.inputs address)
+    (frames_at info before.inputs address) shown given)
 gains_where_answered info before after address (Err e) inputs broken code given = tt
 
 -- a look-up of frames that is refused leaves it so too, unless memory ran out
-pub left_where_refused : {P A : Type 0} (info : P → ProviderInfos) (before after : ContextState P) (address : ℕ) (answer : Result A Error)
+pub left_where_refused : {P A : Type 0} (info : P → ProviderInfos) (before after : ContextState P) (address : ℕ)
+    (answer : Result A Error)
     → after.inputs ≡ before.inputs
     → ButForMemory answer (after.failed ≡ failed_after_frames info before.inputs address before.failed)
     → ButForMemory answer (after.code_failed ≡ code_failed_after info before address)
@@ -112,9 +119,11 @@ left_where_refused info before after address (Err e) inputs failed code unchange
 )
 
 -- what a report of functions shows, it shows by its calls
-pub shown_by_calls : {P A E : Type 0} (info : P → ProviderInfos) (c after : ContextState P) (command : Command) (addresses : List ℕ)
+pub shown_by_calls : {P A E : Type 0} (info : P → ProviderInfos) (c after : ContextState P) (command : Command)
+    (addresses : List ℕ)
     (ended : Result A E) → command ≡ Names → OnOk ended (after ≡ after_functions info c addresses)
     → OnOk ended (after ≡ after_calls info c (report_calls command addresses))
 shown_by_calls info c after command addresses (Ok done) is shown =
-    shown ∙ sym (after_function_calls info c addresses) ∙ ap (λ wanted. after_calls info c (report_calls wanted addresses)) (sym is)
+    shown ∙ sym (after_function_calls info c addresses) ∙ ap
+    (λ wanted. after_calls info c (report_calls wanted addresses)) (sym is)
 shown_by_calls info c after command addresses (Err e) is shown = tt

@@ -21,7 +21,8 @@ opened-accepted records given made unchanged accepted is_made =
     ap refused accepted ∙ (same ∙ is_made)
 
 -- a report that ends early over records that are not refused ends amid its texts
-pub ends_amid : (command : Command) (addresses : List ℕ) (inputs : ContextInputs Records) (before after : SinkState) (fault : ReportFault)
+pub ends_amid : (command : Command) (addresses : List ℕ) (inputs : ContextInputs Records) (before after : SinkState)
+    (fault : ReportFault)
     → EndsOverRecords inputs command addresses before after fault
     → EndsOver command addresses (Ok inputs) before after fault
 ends_amid command addresses inputs before after (Lookup error) early = inr early

@@ -4,3 +4,4 @@ pub mod ListLemmas
 pub mod PathLemmas
 pub mod ContextLemmas
 pub mod AnswerTextLemmas
+pub mod RunLemmas

@@ -1,14 +1,18 @@
 -- Where the last slash of a path is, and what is answered for a module file that can't be read.
-use Rattle.std.proofs.Common.{◌≡◌, ℕ, zero, suc, ◌+◌, ◌-◌, ◌≤◌, ◌<◌, List, length, get_or, take, drop, Option, Some, None}
-use Rattle.std.proofs.Common.{MatchOption, sym, ap, ◌∙◌, ⊎_elim, arith, Bor, eq-eqb, ne_eqb, length-drop, get_or-drop, refl}
+use Rattle.std.proofs.Common.{◌≡◌, ℕ, zero, suc, ◌+◌, ◌-◌, ◌≤◌, ◌<◌, List, length, get_or, take, drop, Option, Some}
+use Rattle.std.proofs.Common.{None}
+use Rattle.std.proofs.Common.{MatchOption, sym, ap, ◌∙◌, ⊎_elim, arith, Bor, eq-eqb, ne_eqb, length-drop, get_or-drop}
+use Rattle.std.proofs.Common.{refl}
 use Rattle.std.specs.Prelude.{option_map}
 use Rattle.std.specs.Path.{rfind_below, rsplit_once}
 use Rattle.std.specs.Str.Pattern.{RFindsChar}
 use Rattle.std.proofs.lemmas.Str.Pattern.{NoCharPasses-char}
 use Rattle.std.proofs.lemmas.Bool.{cases_eq, cond-true, cond-false}
 use Rattle.std.proofs.lemmas.Str.{len_utf8_ascii}
+use Rattle.serde_json.specs.Data.{Data}
 use Rattle.pdb_report_lib.specs.declared.stops.Stop.{Stop}
-use Rattle.pdb_report_lib.specs.declared.stops.Stop.TheVariants.{Refused, Usage, CannotRead, CannotReadModule, CannotWrite}
+use Rattle.pdb_report_lib.specs.declared.stops.Stop.TheVariants.{Refused, Usage, CannotRead, CannotReadModule}
+use Rattle.pdb_report_lib.specs.declared.stops.Stop.TheVariants.{CannotWrite}
 use Rattle.pdb_report_lib.specs.declared.stops.Stop.TheVariants as stop
 use Rattle.pdb_report_lib.specs.ModulePaths.{module_path}
 use Rattle.pdb_report_lib.specs.Runs.{IsModuleReadStop, AreModuleReadStops}
@@ -52,11 +56,11 @@ split_at_last c text (Some x) h low =
     (λ t. Some (h.3 t, second t)) ∙ sym (ap (option_map (λ k. (take k text, drop (k + 1) text))) found)
 
 -- a module file of some name can't be read
-pub some_module_stops_the_read : (records bytes name : List ℕ) (why : Stop) → IsModuleReadStop (module_path records name) why
-    → AreModuleReadStops records bytes why
-some_module_stops_the_read records bytes name (CannotReadModule shown) at_path = (name, at_path)
-some_module_stops_the_read records bytes name (Refused error) at_path = at_path
-some_module_stops_the_read records bytes name (CannotRead shown) at_path = absurd at_path
-some_module_stops_the_read records bytes name (stop.Records shown fault) at_path = absurd at_path
-some_module_stops_the_read records bytes name Usage at_path = absurd at_path
-some_module_stops_the_read records bytes name CannotWrite at_path = absurd at_path
+pub some_module_stops_the_read : (records name : List ℕ) (value : Data) (why : Stop)
+    → IsModuleReadStop (module_path records name) why → AreModuleReadStops records value why
+some_module_stops_the_read records name value (CannotReadModule shown) at_path = (name, at_path)
+some_module_stops_the_read records name value (Refused error) at_path = at_path
+some_module_stops_the_read records name value (CannotRead shown) at_path = absurd at_path
+some_module_stops_the_read records name value (stop.Records shown fault) at_path = absurd at_path
+some_module_stops_the_read records name value Usage at_path = absurd at_path
+some_module_stops_the_read records name value CannotWrite at_path = absurd at_path

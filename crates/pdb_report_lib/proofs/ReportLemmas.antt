@@ -55,7 +55,8 @@ text_alone (Err e) = refl
 -- three texts in a row, however they are put together
 texts_append : (first second third : Result (List ℕ) Error)
     → and_then first (λ a. and_then (and_then second (λ b. and_then third (λ c. Ok (b ++ c)))) (λ rest. Ok (a ++ rest)))
-    ≡ and_then (and_then first (λ a. and_then second (λ b. Ok (a ++ b)))) (λ front. and_then third (λ c. Ok (front ++ c)))
+    ≡ and_then (and_then first (λ a. and_then second (λ b. Ok (a ++ b))))
+    (λ front. and_then third (λ c. Ok (front ++ c)))
 texts_append (Ok a) (Ok b) (Ok c) = ap Ok (sym (append_assoc a b c))
 texts_append (Ok a) (Ok b) (Err e) = refl
 texts_append (Ok a) (Err e) third = refl
@@ -72,11 +73,13 @@ addresses_text-append : (text_of : ℕ → Result (List ℕ) Error) (xs ys : Lis
     ≡ and_then (addresses_text text_of xs) (λ text. and_then (addresses_text text_of ys) (λ texts. Ok (text ++ texts)))
 addresses_text-append f [] ys = text_behind_none (addresses_text f ys)
 addresses_text-append f (x ∷ xs) ys =
-    ap (λ (rest : Result (List ℕ) Error). and_then (f x) (λ text. and_then rest (λ texts. Ok (text ++ texts)))) (addresses_text-append f xs ys)
+    ap (λ (rest : Result (List ℕ) Error). and_then (f x) (λ text. and_then rest (λ texts. Ok (text ++ texts))))
+    (addresses_text-append f xs ys)
     ∙ texts_append (f x) (addresses_text f xs) (addresses_text f ys)
 
 -- the text of one address more
-pub takes_one_more : (text_of : ℕ → Result (List ℕ) Error) (addresses : List ℕ) (i : ℕ) (before between after : SinkState)
+pub takes_one_more : (text_of : ℕ → Result (List ℕ) Error) (addresses : List ℕ) (i : ℕ)
+    (before between after : SinkState)
     → i < length addresses
     → TakesText (addresses_text text_of (take i addresses)) before between
     → TakesText (text_of (get_or addresses i 0)) between after
@@ -85,14 +88,17 @@ takes_one_more f addresses i before between after below taken next =
     let address = get_or addresses i 0 in
     let front : Result (List ℕ) Error = addresses_text f (take i addresses) in
     let alone : addresses_text f (address ∷ []) ≡ f address = text_alone (f address) in
-    let whole : addresses_text f (take (i + 1) addresses) ≡ and_then front (λ text. and_then (f address) (λ texts. Ok (text ++ texts))) =
+    let whole : addresses_text f (take (i + 1) addresses) ≡ and_then front
+    (λ text. and_then (f address) (λ texts. Ok (text ++ texts))) =
     ap (addresses_text f) (take_more addresses i 0 below)
     ∙ (addresses_text-append f (take i addresses) (address ∷ [])
-    ∙ ap (λ (last : Result (List ℕ) Error). and_then front (λ text. and_then last (λ texts. Ok (text ++ texts)))) alone) in
+    ∙ ap (λ (last : Result (List ℕ) Error). and_then front (λ text. and_then last (λ texts. Ok (text ++ texts))))
+    alone) in
     rw whole (takes_both before between after front (f address) taken next)
 
 -- a report that ends at an address, once those before it are answered, ends amid its texts
-pub ends_at_address : (text_of : ℕ → Result (List ℕ) Error) (addresses : List ℕ) (i : ℕ) (before between after : SinkState)
+pub ends_at_address : (text_of : ℕ → Result (List ℕ) Error) (addresses : List ℕ) (i : ℕ)
+    (before between after : SinkState)
     (fault : ReportFault) → i < length addresses
     → TakesText (addresses_text text_of (take i addresses)) before between
     → EndsAtOnce (text_of (get_or addresses i 0)) between after fault

@@ -6,7 +6,8 @@ use Rattle.std.specs.declared.io.ErrorKind.TheVariants as kind
 use Rattle.pdb_types.specs.declared.error.Error.TheVariants.{OutOfMemory}
 use Rattle.pdb_json_values.specs.declared.faults.RecordFault.{RecordFault}
 use Rattle.pdb_json_values.specs.Faults.{IsFaultOf}
-use Rattle.pdb_json.specs.RecordsFile.{records_of_files, module_files_of}
+use Rattle.serde_json.specs.Data.{Data}
+use Rattle.pdb_json.specs.RecordsFile.{records_of_files, wanted_files_of, module_files_of}
 use Rattle.pdb_report_lib.specs.declared.stops.Stop.{Stop}
 use Rattle.pdb_report_lib.specs.declared.stops.Stop.TheVariants.{Refused, Usage, CannotRead}
 use Rattle.pdb_report_lib.specs.declared.stops.Stop.TheVariants.{CannotReadModule, CannotWrite}
@@ -39,17 +40,17 @@ IsModuleReadStop path (stop.Records shown fault) = ⊥
 IsModuleReadStop path Usage = ⊥
 IsModuleReadStop path CannotWrite = ⊥
 
--- a module file of a records file with these bytes can't be read, and is shown by its path, for some name; or these
--- bytes show no module files; or memory ran out
-abbrev pub AreModuleReadStops : List ℕ → List ℕ → Stop → Type 0
-AreModuleReadStops records bytes (CannotReadModule shown) =
+-- a module file of a records file with this value can't be read, and is shown by its path, for some name; or the
+-- value shows no module files; or memory ran out
+abbrev pub AreModuleReadStops : List ℕ → Data → Stop → Type 0
+AreModuleReadStops records value (CannotReadModule shown) =
     (name : List ℕ) × (string_bytes shown ≡ module_path records name)
-AreModuleReadStops records bytes (Refused error) = error ≡ OutOfMemory
-AreModuleReadStops records bytes (stop.Records shown fault) =
-    (shown.now ≡ records) × IsFaultOf fault (module_files_of bytes)
-AreModuleReadStops records bytes (CannotRead shown) = ⊥
-AreModuleReadStops records bytes Usage = ⊥
-AreModuleReadStops records bytes CannotWrite = ⊥
+AreModuleReadStops records value (Refused error) = error ≡ OutOfMemory
+AreModuleReadStops records value (stop.Records shown fault) =
+    (shown.now ≡ records) × IsFaultOf fault (wanted_files_of value)
+AreModuleReadStops records value (CannotRead shown) = ⊥
+AreModuleReadStops records value Usage = ⊥
+AreModuleReadStops records value CannotWrite = ⊥
 
 -- why a run ends early whose words ask for nothing: memory ran out, or it shows how to ask; the sink is as it was
 abbrev pub StopsUnasked : SinkState → SinkState → Stop → Type 0

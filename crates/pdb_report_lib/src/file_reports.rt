@@ -1,7 +1,8 @@
 ghost use Rattle.std.specs.Prelude.{OnOk, IfErr};
 ghost use Rattle.pdb_json.specs.ModuleFiles.{contents};
 ghost use Rattle.pdb_addr2line.specs.ContextData.{default_flags, context_of};
-ghost use Rattle.pdb_json.specs.RecordsFile.{records_of_files};
+ghost use Rattle.pdb_json.specs.RecordsFile.{records_of};
+ghost use Rattle.serde_json.specs.View.{view};
 ghost use Rattle.pdb_report_lib.specs.FileReports.{opened, TakesTexts, EndsOver};
 ghost use Rattle.pdb_report_lib.specs.Stops.{Ends, EndsOverFile};
 
@@ -11,7 +12,7 @@ use crate::sinks::Sink;
 use crate::stops::Stop;
 use pdb_addr2line::ContextPdbData;
 use pdb_addr2line::pdb::PDB;
-use pdb_json::{RecordFault, read_records_with};
+use pdb_json::{RecordFault, RecordsFile};
 use std::alloc::Global;
 
 /// Writes what a request asks for, over records whose streams were read.
@@ -78,22 +79,22 @@ pub fn report_read<'w, W: Sink>(
     }
 }
 
-/// Writes what a request asks for, over the bytes of its records file and of the module files that this one names.
+/// Writes what a request asks for, over its records file and the bytes of the module files that this one names.
 ///
 /// # Errors
 ///
-/// As [`report_read`] for what is read of the bytes.
+/// As [`report_read`] for what is read of them.
 pub fn report_file<'w, W: Sink>(
     alloc: Global,
     request: &Request<'w>,
-    bytes: &[u8],
+    file: RecordsFile,
     files: &[Vec<u8>],
     sink: &mut W,
 ) -> Result<(), Stop<'w>>
     ensures { EndsOverFile request.now.records.now request.now.command request.now.addresses.items
-        (records_of_files bytes.now (contents files.now))
+        (records_of (contents files.now) (view file.value))
         (W.state sink.old) (W.state sink.new) result }
 {
-    let read = read_records_with(alloc, bytes, files);
+    let read = file.read_records(files);
     report_read(alloc, request, read, sink)
 }

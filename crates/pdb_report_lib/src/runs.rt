@@ -1,5 +1,6 @@
 ghost use Rattle.std.specs.Prelude.{◌≡◌, IfErr, map, string_bytes};
 ghost use Rattle.std.specs.IoError.{error_kind};
+ghost use Rattle.serde_json.specs.View.{view};
 ghost use Rattle.pdb_report_lib.specs.Arguments.{asked};
 ghost use Rattle.pdb_report_lib.specs.ModulePaths.{module_path};
 ghost use Rattle.pdb_report_lib.specs.Runs.{EndsRun, IsReadStop, IsModuleReadStop, AreModuleReadStops};
@@ -11,7 +12,7 @@ use crate::module_paths::module_path;
 use crate::sinks::{Out, Sink};
 use crate::stops::Stop;
 use pdb_addr2line::Error;
-use pdb_json::module_files;
+use pdb_json::RecordsFile;
 use std::rt::Files;
 use std::{fs, io};
 
@@ -36,8 +37,13 @@ pub fn run<'w, R: Files + AllocGlobal, W: io::Write>(
         return Err(Stop::Usage);
     };
     let bytes = read_file(rt, request.records)?;
-    let files = read_module_files(rt, request.records, &bytes)?;
-    let ended = report_file(rt.alloc(), &request, &bytes, &files, out);
+    let file = match RecordsFile::from_slice(rt.alloc(), &bytes) {
+        Ok(file) => file,
+        Err(fault) => return Err(Stop::Records(request.records, fault)),
+    };
+    drop(bytes);
+    let files = read_module_files(rt, request.records, &file)?;
+    let ended = report_file(rt.alloc(), &request, file, &files, out);
     match out.flush() {
         Ok(()) => ended,
         Err(_) => Err(Stop::CannotWrite),
@@ -59,11 +65,11 @@ fn read_file<'w, R: Files + AllocGlobal>(rt: &R, path: &'w str) -> Result<Vec<u8
 fn read_module_files<'w, R: Files + AllocGlobal>(
     rt: &R,
     records: &'w str,
-    bytes: &[u8],
+    file: &RecordsFile,
 ) -> Result<Vec<Vec<u8>>, Stop<'w>>
-    ensures { IfErr result (AreModuleReadStops records.now bytes.now) }
+    ensures { IfErr result (AreModuleReadStops records.now (view file.now.value)) }
 {
-    let names = match module_files(rt.alloc(), bytes) {
+    let names = match file.module_files() {
         Ok(names) => names,
         Err(fault) => return Err(Stop::Records(records, fault)),
     };

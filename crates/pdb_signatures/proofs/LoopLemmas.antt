@@ -1,5 +1,6 @@
 -- Printing, turn by turn.
-use Rattle.std.proofs.Common.{◌≡◌, ◌^◌, ℕ, suc, ◌+◌, ◌<◌, Bool, true, false, cond, nat_eq, List, [], ◌∷◌, ◌++◌, refl, sym, ap, subst, ◌∙◌, arith}
+use Rattle.std.proofs.Common.{◌≡◌, ◌^◌, ℕ, suc, ◌+◌, ◌<◌, Bool, true, false, cond, nat_eq, List, [], ◌∷◌, ◌++◌, refl}
+use Rattle.std.proofs.Common.{sym, ap, subst, ◌∙◌, arith}
 use Rattle.std.specs.Prelude.{None, is_some, Result, Ok, Err}
 use Rattle.pdb_records.specs.declared.types.TypeData.{TypeData}
 use Rattle.pdb_types.specs.ReadError.{ReadErrorView}
@@ -18,8 +19,10 @@ use Rattle.pdb_documents.specs.PrintInputs.{PrintInputs}
 use Rattle.pdb_documents.specs.Plans.{Plan, Done, Later, Seq, Buffered, Catch, is_among, on_read, refusal, written}
 use Rattle.pdb_documents.specs.Rules.{rule}
 use Rattle.pdb_documents.specs.Unfolding.{Unfolds, Runs, done, later, seq, buffered, catch}
-use Rattle.pdb_documents.specs.Progress.{Stage, beginning, with_step, Opens, open_in, task_plan, stage_run, ended_run, IsPassedOver, Ended}
-use Rattle.pdb_signatures.specs.PendingPlans.{PendingPlan, Ends, Counts, steps_left, Goes, frames, Advances, Begins, Stands}
+use Rattle.pdb_documents.specs.Progress.{Stage, beginning, with_step, Opens, open_in, task_plan, stage_run, ended_run}
+use Rattle.pdb_documents.specs.Progress.{IsPassedOver, Ended}
+use Rattle.pdb_signatures.specs.PendingPlans.{PendingPlan, Ends, Counts, steps_left, Goes, frames, Advances, Begins}
+use Rattle.pdb_signatures.specs.PendingPlans.{Stands}
 use Rattle.pdb_documents.proofs.RuleLemmas.{IsBelow}
 use Rattle.pdb_signatures.proofs.TurnLemmas.{same_run}
 use Rattle.pdb_documents.proofs.DocumentLemmas.{document-unfolds}
@@ -35,7 +38,8 @@ unfolding-steps (buffered u) = suc (unfolding-steps u)
 unfolding-steps (catch u) = suc (unfolding-steps u)
 
 -- a plan takes as many steps whatever way it is seen to unfold
-same-steps : {w : PrintInputs} {p : Plan} {a b : Document} (u : Unfolds w p a) (v : Unfolds w p b) → unfolding-steps u ≡ unfolding-steps v
+same-steps : {w : PrintInputs} {p : Plan} {a b : Document} (u : Unfolds w p a) (v : Unfolds w p b)
+    → unfolding-steps u ≡ unfolding-steps v
 unfolding unfolding-steps
 same-steps done done = refl
 same-steps (later u) (later v) = ap (λ n. n + 2) (same-steps u v)
@@ -52,8 +56,10 @@ plan-counts : (w : PrintInputs) (below : IsBelow (2 ^ 32) w) → Counts w (plan-
 unfolding plan-steps unfolding-steps
 plan-counts w below = record {
   done = λ d. same-steps (document-unfolds w below (Done d)) done;
-  later = λ inside task. same-steps (document-unfolds w below (Later inside task)) (later (document-unfolds w below (rule w inside task)));
-  seq = λ p q. same-steps (document-unfolds w below (Seq p q)) (seq (document-unfolds w below p) (document-unfolds w below q));
+  later = λ inside task. same-steps (document-unfolds w below (Later inside task))
+      (later (document-unfolds w below (rule w inside task)));
+  seq = λ p q. same-steps (document-unfolds w below (Seq p q))
+      (seq (document-unfolds w below p) (document-unfolds w below q));
   buffered = λ p u v. same-steps (document-unfolds w below (Buffered p u v)) (buffered (document-unfolds w below p));
   catch = λ p. same-steps (document-unfolds w below (Catch p)) (catch (document-unfolds w below p));
 }
@@ -63,20 +69,30 @@ pub left : (w : PrintInputs) → IsBelow (2 ^ 32) w → List PendingPlan → ℕ
 left w below k = steps_left (plan-steps w below) k
 
 -- fewer are left after a step
-pub left-falls : (w : PrintInputs) (below : IsBelow (2 ^ 32) w) (k k' : List PendingPlan) (c c' : Run) → Goes w 1 k c k' c' → left w below k' < left w below k
+pub left-falls : (w : PrintInputs) (below : IsBelow (2 ^ 32) w) (k k' : List PendingPlan) (c c' : Run)
+    → Goes w 1 k c k' c' → left w below k' < left w below k
 unfolding left
 left-falls w below k k' c c' goes = let a = goes.falls (plan-steps w below) (plan-counts w below) in omega arith
 
 -- what was next has ended or was passed over
-step-ended : (w : PrintInputs) (step : Pending) (rest : List Pending) (c c' : Run) → ((task : tasks.Task) → step ≡ Print task → is_some c.fault ≡ true) → c' ≡ ended_run w.flags step c → Goes w 1 (frames w (step ∷ rest)) c (frames w rest) c'
-step-ended w (Print task) rest c c' over is = subst (λ (r : Run). Goes w 1 (frames w (Print task ∷ rest)) c (frames w rest) r) (sym is) (goes_over w (task_plan w (open_in rest) task) (frames w rest) c (over task refl))
-step-ended w (Close index) rest c c' over is = subst (λ (r : Run). Goes w 1 (frames w (Close index ∷ rest)) c (frames w rest) r) (sym is) (goes_closing w (frames w rest) c)
-step-ended w (EndId outer index) rest c c' over is = subst (λ (r : Run). Goes w 1 (frames w (EndId outer index ∷ rest)) c (frames w rest) r) (sym is) (goes_closing w (frames w rest) c)
+step-ended : (w : PrintInputs) (step : Pending) (rest : List Pending) (c c' : Run)
+    → ((task : tasks.Task) → step ≡ Print task → is_some c.fault ≡ true) → c' ≡ ended_run w.flags step c
+    → Goes w 1 (frames w (step ∷ rest)) c (frames w rest) c'
+step-ended w (Print task) rest c c' over is =
+    subst (λ (r : Run). Goes w 1 (frames w (Print task ∷ rest)) c (frames w rest) r) (sym is)
+    (goes_over w (task_plan w (open_in rest) task) (frames w rest) c (over task refl))
+step-ended w (Close index) rest c c' over is =
+    subst (λ (r : Run). Goes w 1 (frames w (Close index ∷ rest)) c (frames w rest) r) (sym is)
+    (goes_closing w (frames w rest) c)
+step-ended w (EndId outer index) rest c c' over is =
+    subst (λ (r : Run). Goes w 1 (frames w (EndId outer index ∷ rest)) c (frames w rest) r) (sym is)
+    (goes_closing w (frames w rest) c)
 step-ended w EndCatch rest c c' over is = goes_caught w (frames w rest) c c' is
 step-ended w (EndBuffer mark attributes) rest c c' over is = goes_held_back w mark _ _ (frames w rest) c c' is
 
 -- what is passed over is passed over for a failure
-over-failed : (step : Pending) (s : Stage) → IsPassedOver step s → (task : tasks.Task) → step ≡ Print task → is_some s.failure ≡ true
+over-failed : (step : Pending) (s : Stage) → IsPassedOver step s → (task : tasks.Task) → step ≡ Print task
+    → is_some s.failure ≡ true
 over-failed (Print other) s over task is = over
 over-failed (Close index) s over task is = cc
 over-failed (EndId outer index) s over task is = cc
@@ -84,22 +100,34 @@ over-failed EndCatch s over task is = cc
 over-failed (EndBuffer mark attributes) s over task is = cc
 
 -- a stage whose next step has ended or was passed over
-pub ended-goes : (w : PrintInputs) (chosen : TypeFormatterFlags) (old new : Stage) (f : Parts) → w.flags ≡ chosen → Ended chosen old new → Goes w 1 (frames w old.steps) (stage_run old f) (frames w new.steps) (stage_run new f)
+pub ended-goes : (w : PrintInputs) (chosen : TypeFormatterFlags) (old new : Stage) (f : Parts) → w.flags ≡ chosen
+    → Ended chosen old new → Goes w 1 (frames w old.steps) (stage_run old f) (frames w new.steps) (stage_run new f)
 ended-goes w chosen old new f flags ended =
-    let is : stage_run new f ≡ ended_run w.flags ended.step (stage_run old f) = ended.run f ∙ ap (λ (t : TypeFormatterFlags). ended_run t ended.step (stage_run old f)) (sym flags) in
-    subst (λ (xs : List Pending). Goes w 1 (frames w xs) (stage_run old f) (frames w new.steps) (stage_run new f)) (sym ended.taken)
-    (step-ended w ended.step new.steps (stage_run old f) (stage_run new f) (over-failed ended.step old ended.passed_over) is)
+    let is : stage_run new f ≡ ended_run w.flags ended.step (stage_run old f) =
+    ended.run f ∙ ap (λ (t : TypeFormatterFlags). ended_run t ended.step (stage_run old f)) (sym flags) in
+    subst (λ (xs : List Pending). Goes w 1 (frames w xs) (stage_run old f) (frames w new.steps) (stage_run new f))
+    (sym ended.taken)
+    (step-ended w ended.step new.steps (stage_run old f) (stage_run new f)
+    (over-failed ended.step old ended.passed_over) is)
 
 -- a stage whose next step was printed
-pub printed-goes : (w : PrintInputs) (task : tasks.Task) (old mid new : Stage) (f f' : Parts) → old ≡ with_step (Print task) mid → Advances w (task_plan w (open_in mid.steps) task) 1 mid f new f' → Goes w 1 (frames w old.steps) (stage_run old f) (frames w new.steps) (stage_run new f')
-printed-goes w task old mid new f f' taken advances = subst (λ (s : Stage). Goes w 1 (frames w s.steps) (stage_run s f) (frames w new.steps) (stage_run new f')) (sym taken) advances
+pub printed-goes : (w : PrintInputs) (task : tasks.Task) (old mid new : Stage) (f f' : Parts)
+    → old ≡ with_step (Print task) mid → Advances w (task_plan w (open_in mid.steps) task) 1 mid f new f'
+    → Goes w 1 (frames w old.steps) (stage_run old f) (frames w new.steps) (stage_run new f')
+printed-goes w task old mid new f f' taken advances =
+    subst (λ (s : Stage). Goes w 1 (frames w s.steps) (stage_run s f) (frames w new.steps) (stage_run new f'))
+    (sym taken) advances
 
 -- at the end nothing is left
-pub ends-here : (w : PrintInputs) (k : List PendingPlan) (c : Run) (s : Stage) (f : Parts) → Goes w 0 k c (frames w s.steps) (stage_run s f) → s.steps ≡ [] → Ends w k c (stage_run s f)
-ends-here w k c s f goes empty = goes.ends (stage_run s f) (subst (λ (xs : List Pending). Ends w (frames w xs) (stage_run s f) (stage_run s f)) (sym empty) refl)
+pub ends-here : (w : PrintInputs) (k : List PendingPlan) (c : Run) (s : Stage) (f : Parts)
+    → Goes w 0 k c (frames w s.steps) (stage_run s f) → s.steps ≡ [] → Ends w k c (stage_run s f)
+ends-here w k c s f goes empty =
+    goes.ends (stage_run s f) (subst (λ (xs : List Pending). Ends w (frames w xs) (stage_run s f) (stage_run s f))
+    (sym empty) refl)
 
 -- each of these is broken, and each of those
-all-broken : (w : PrintInputs) (a b : List Part) → AllByRecursion (IsBroken w) a → AllByRecursion (IsBroken w) b → AllByRecursion (IsBroken w) (a ++ b)
+all-broken : (w : PrintInputs) (a b : List Part) → AllByRecursion (IsBroken w) a → AllByRecursion (IsBroken w) b
+    → AllByRecursion (IsBroken w) (a ++ b)
 all-broken w [] b first second = second
 all-broken w (part ∷ a) b first second = (first.0, all-broken w a b first.1 second)
 
@@ -108,7 +136,8 @@ pub adds-then : {w : PrintInputs} {a b c : Parts} → AddsBroken w a b → AddsB
 adds-then {w = w} {a = a} first second = record {
   added = first.added ++ second.added;
   broken = all-broken w first.added second.added first.broken second.broken;
-  is = second.is ∙ (ap (λ failed. with_parts failed second.added) first.is ∙ with_parts-append a first.added second.added);
+  is = second.is ∙ (ap (λ failed. with_parts failed second.added) first.is
+      ∙ with_parts-append a first.added second.added);
 }
 
 -- no part was added yet
@@ -124,30 +153,48 @@ from-beginning : (f : Parts) (d : Document) → then_by None (stage_run beginnin
 from-beginning f d = refl
 
 -- the signature of a function whose type was read begins while its index is open
-pub begins_stands : (w : PrintInputs) (name : List ℕ) (index : ℕ) (type : TypeData) (old mid new : Stage) (f f' : Parts) → nat_eq index 0 ≡ false → w.read index ≡ Ok type → old ≡ beginning → (opened : Bool) → Opens index old mid opened → f' ≡ f → Stands w 0 (signature_by_type w name (open_in mid.steps) type) mid new → Begins w (signature w name index) f new f'
+pub begins_stands : (w : PrintInputs) (name : List ℕ) (index : ℕ) (type : TypeData) (old mid new : Stage)
+    (f f' : Parts) → nat_eq index 0 ≡ false → w.read index ≡ Ok type → old ≡ beginning → (opened : Bool)
+    → Opens index old mid opened → f' ≡ f → Stands w 0 (signature_by_type w name (open_in mid.steps) type) mid new
+    → Begins w (signature w name index) f new f'
 begins_stands w name index type old mid new f f' some read is true opens same stands = λ end ends d unfolds.
-    let plan : signature w name index ≡ signature_by_type w name (index ∷ []) type = ap (λ b. cond b (written (function_name name)) (on_read (w.read index) (signature_by_type w name (index ∷ [])))) some ∙ ap (λ (r : Result TypeData ReadErrorView). on_read r (signature_by_type w name (index ∷ []))) read in
+    let plan : signature w name index ≡ signature_by_type w name (index ∷ []) type =
+    ap (λ b. cond b (written (function_name name)) (on_read (w.read index) (signature_by_type w name (index ∷ []))))
+    some ∙ ap (λ (r : Result TypeData ReadErrorView). on_read r (signature_by_type w name (index ∷ []))) read in
     let entered : mid ≡ with_step (Close index) beginning = opens.1 ∙ ap (with_step (Close index)) is in
-    let here : Stands w 0 (signature_by_type w name (index ∷ []) type) (with_step (Close index) beginning) new = subst (λ (s : Stage). Stands w 0 (signature_by_type w name (open_in s.steps) type) s new) entered stands in
-    let run_here : stage_run new f ≡ stage_run (with_step (Close index) beginning) f = same_run (with_step (Close index) beginning) new f here.text here.failure in
-    let from : Ends w (frames w new.steps) (stage_run (with_step (Close index) beginning) f) end = subst (λ (r : Run). Ends w (frames w new.steps) r end) (ap (λ (g : Parts). stage_run new g) same ∙ run_here) ends in
-    (here.goes (stage_run (with_step (Close index) beginning) f)).ends end from d (subst (λ (p : Plan). Unfolds w p d) plan unfolds)
+    let here : Stands w 0 (signature_by_type w name (index ∷ []) type) (with_step (Close index) beginning) new =
+    subst (λ (s : Stage). Stands w 0 (signature_by_type w name (open_in s.steps) type) s new) entered stands in
+    let run_here : stage_run new f ≡ stage_run (with_step (Close index) beginning) f =
+    same_run (with_step (Close index) beginning) new f here.text here.failure in
+    let from : Ends w (frames w new.steps) (stage_run (with_step (Close index) beginning) f) end =
+    subst (λ (r : Run). Ends w (frames w new.steps) r end) (ap (λ (g : Parts). stage_run new g) same ∙ run_here) ends in
+    (here.goes (stage_run (with_step (Close index) beginning) f)).ends end from d
+    (subst (λ (p : Plan). Unfolds w p d) plan unfolds)
 begins_stands w name index type old mid new f f' some read is false opens same stands =
     let none : is_among index (open_in old.steps) ≡ false = ap (λ (s : Stage). is_among index (open_in s.steps)) is in
     absurd (let both : true ≡ false = sym opens.0 ∙ none in cc)
 
 -- the signature of a function whose type can't be read fails
-pub begins_refused : (w : PrintInputs) (name : List ℕ) (index : ℕ) (read_error_view : ReadErrorView) (old new : Stage) (f f' : Parts) → nat_eq index 0 ≡ false → w.read index ≡ Err read_error_view → old ≡ beginning → new.steps ≡ old.steps → stage_run new f' ≡ then_by None (stage_run old f) (run (refusal read_error_view)) → Begins w (signature w name index) f new f'
+pub begins_refused : (w : PrintInputs) (name : List ℕ) (index : ℕ) (read_error_view : ReadErrorView) (old new : Stage)
+    (f f' : Parts) → nat_eq index 0 ≡ false → w.read index ≡ Err read_error_view → old ≡ beginning
+    → new.steps ≡ old.steps → stage_run new f' ≡ then_by None (stage_run old f) (run (refusal read_error_view))
+    → Begins w (signature w name index) f new f'
 begins_refused w name index read_error_view old new f f' some read_error is steps ran = λ end ends d unfolds.
-    let plan : signature w name index ≡ Done (refusal read_error_view) = ap (λ b. cond b (written (function_name name)) (on_read (w.read index) (signature_by_type w name (index ∷ [])))) some ∙ ap (λ (r : Result TypeData ReadErrorView). on_read r (signature_by_type w name (index ∷ []))) read_error in
+    let plan : signature w name index ≡ Done (refusal read_error_view) =
+    ap (λ b. cond b (written (function_name name)) (on_read (w.read index) (signature_by_type w name (index ∷ []))))
+    some ∙ ap (λ (r : Result TypeData ReadErrorView). on_read r (signature_by_type w name (index ∷ []))) read_error in
     let none : new.steps ≡ [] = steps ∙ ap (λ (s : Stage). s.steps) is in
-    let whole : stage_run new f' ≡ run (refusal read_error_view) f = ran ∙ ap (λ (s : Stage). then_by None (stage_run s f) (run (refusal read_error_view))) is in
-    let done : stage_run new f' ≡ end = subst (λ (xs : List Pending). Ends w (frames w xs) (stage_run new f') end) none ends in
+    let whole : stage_run new f' ≡ run (refusal read_error_view) f =
+    ran ∙ ap (λ (s : Stage). then_by None (stage_run s f) (run (refusal read_error_view))) is in
+    let done : stage_run new f' ≡ end =
+    subst (λ (xs : List Pending). Ends w (frames w xs) (stage_run new f') end) none ends in
     let same : d ≡ refusal read_error_view = done-is (subst (λ (p : Plan). Unfolds w p d) plan unfolds) in
     ap (λ (x : Document). run x f) same ∙ (sym whole ∙ done)
 
 -- where a task is all that is to be done, printing comes to what its plan does
-pub begins_task : (w : PrintInputs) (task : tasks.Task) (old new : Stage) (f : Parts) (end : Run) → old ≡ beginning → new ≡ with_step (Print task) old → Ends w (frames w new.steps) (stage_run new f) end → Runs w (task_plan w [] task) f end
+pub begins_task : (w : PrintInputs) (task : tasks.Task) (old new : Stage) (f : Parts) (end : Run) → old ≡ beginning
+    → new ≡ with_step (Print task) old → Ends w (frames w new.steps) (stage_run new f) end
+    → Runs w (task_plan w [] task) f end
 begins_task w task old new f end is first ends =
     let all : new ≡ with_step (Print task) beginning = first ∙ ap (with_step (Print task)) is in
     subst (λ (s : Stage). Ends w (frames w s.steps) (stage_run s f) end) all ends

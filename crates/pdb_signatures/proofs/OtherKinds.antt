@@ -9,8 +9,12 @@ use Rattle.pdb_records.specs.declared.types.PointerType.{PointerType}
 use Rattle.pdb_records.specs.declared.types.ArrayType.{ArrayType}
 use Rattle.pdb_records.specs.declared.types.ModifierType.{ModifierType}
 use Rattle.pdb_records.specs.declared.types.TypeData.{TypeData}
-use Rattle.pdb_records.specs.declared.types.TypeData.TheVariants.{Primitive, Class, MemberFunction, Procedure, Pointer, Array, Union, Enumeration, Enumerate, Modifier, ArgumentList, Other}
-use Rattle.pdb_types.specs.declared.error.Error.TheVariants.{ArgumentTypeNotArgumentList, MemberFunctionIdIsNotMemberFunctionType, FunctionIdIsNotProcedureType}
+use Rattle.pdb_records.specs.declared.types.TypeData.TheVariants.{Primitive, Class, MemberFunction, Procedure, Pointer}
+use Rattle.pdb_records.specs.declared.types.TypeData.TheVariants.{Array, Union, Enumeration, Enumerate, Modifier}
+use Rattle.pdb_records.specs.declared.types.TypeData.TheVariants.{ArgumentList, Other}
+use Rattle.pdb_types.specs.declared.error.Error.TheVariants.{ArgumentTypeNotArgumentList}
+use Rattle.pdb_types.specs.declared.error.Error.TheVariants.{MemberFunctionIdIsNotMemberFunctionType}
+use Rattle.pdb_types.specs.declared.error.Error.TheVariants.{FunctionIdIsNotProcedureType}
 use Rattle.pdb_types.specs.Errors.{Plain}
 use Rattle.pdb_records.specs.declared.ids.MemberFunctionId.{MemberFunctionId}
 use Rattle.pdb_records.specs.declared.ids.FunctionId.{FunctionId}
@@ -25,7 +29,10 @@ use Rattle.pdb_documents.specs.Methods.{this_by_target, this_by_type, printed_th
 use Rattle.pdb_documents.specs.Signatures.{signature_by_type}
 
 -- any other type than a function ends a chain of pointers before them
-pub chain_end-other : (w : PrintInputs) (attributes : List Attribute) (inside : List ℕ) (type : TypeData) → ((x : MemberFunctionType) → type ≡ MemberFunction x → ⊥) → ((x : ProcedureType) → type ≡ Procedure x → ⊥) → chain_end w attributes inside type ≡ Buffered (Later inside (OfType type)) (attributes_text w.flags true true attributes) (attributes_text w.flags true false attributes)
+pub chain_end-other : (w : PrintInputs) (attributes : List Attribute) (inside : List ℕ) (type : TypeData)
+    → ((x : MemberFunctionType) → type ≡ MemberFunction x → ⊥) → ((x : ProcedureType) → type ≡ Procedure x → ⊥)
+    → chain_end w attributes inside type ≡ Buffered (Later inside (OfType type))
+    (attributes_text w.flags true true attributes) (attributes_text w.flags true false attributes)
 chain_end-other w attributes inside (Primitive x) not0 not1 = refl
 chain_end-other w attributes inside (Class x) not0 not1 = refl
 chain_end-other w attributes inside (MemberFunction x) not0 not1 = absurd (not0 x refl)
@@ -40,7 +47,9 @@ chain_end-other w attributes inside (ArgumentList x) not0 not1 = refl
 chain_end-other w attributes inside (Other x) not0 not1 = refl
 
 -- any other type than a pointer ends a chain behind a modifier
-pub behind_modifier-other : (w : PrintInputs) (attributes : List Attribute) (inside : List ℕ) (type : TypeData) → ((x : PointerType) → type ≡ Pointer x → ⊥) → behind_modifier w attributes inside type ≡ chain_end w attributes inside type
+pub behind_modifier-other : (w : PrintInputs) (attributes : List Attribute) (inside : List ℕ) (type : TypeData)
+    → ((x : PointerType) → type ≡ Pointer x → ⊥)
+    → behind_modifier w attributes inside type ≡ chain_end w attributes inside type
 behind_modifier-other w attributes inside (Primitive x) not0 = refl
 behind_modifier-other w attributes inside (Class x) not0 = refl
 behind_modifier-other w attributes inside (MemberFunction x) not0 = refl
@@ -55,7 +64,9 @@ behind_modifier-other w attributes inside (ArgumentList x) not0 = refl
 behind_modifier-other w attributes inside (Other x) not0 = refl
 
 -- any other type than a pointer or a modifier ends a chain behind a pointer
-pub behind_pointer-other : (w : PrintInputs) (attributes : List Attribute) (inside : List ℕ) (type : TypeData) → ((x : PointerType) → type ≡ Pointer x → ⊥) → ((x : ModifierType) → type ≡ Modifier x → ⊥) → behind_pointer w attributes inside type ≡ chain_end w attributes inside type
+pub behind_pointer-other : (w : PrintInputs) (attributes : List Attribute) (inside : List ℕ) (type : TypeData)
+    → ((x : PointerType) → type ≡ Pointer x → ⊥) → ((x : ModifierType) → type ≡ Modifier x → ⊥)
+    → behind_pointer w attributes inside type ≡ chain_end w attributes inside type
 behind_pointer-other w attributes inside (Primitive x) not0 not1 = refl
 behind_pointer-other w attributes inside (Class x) not0 not1 = refl
 behind_pointer-other w attributes inside (MemberFunction x) not0 not1 = refl
@@ -70,7 +81,10 @@ behind_pointer-other w attributes inside (ArgumentList x) not0 not1 = refl
 behind_pointer-other w attributes inside (Other x) not0 not1 = refl
 
 -- any other type than an array is the base of one
-pub element-other : (w : PrintInputs) (inside elements levels : List ℕ) (index : ℕ) (type : TypeData) → ((x : ArrayType) → type ≡ Array x → ⊥) → element w inside elements levels index type ≡ met_before (w.size index).met (Later inside (OfType type) ▸ written (dimensions_text levels (w.size index).size))
+pub element-other : (w : PrintInputs) (inside elements levels : List ℕ) (index : ℕ) (type : TypeData)
+    → ((x : ArrayType) → type ≡ Array x → ⊥)
+    → element w inside elements levels index type ≡ met_before (w.size index).met
+    (Later inside (OfType type) ▸ written (dimensions_text levels (w.size index).size))
 element-other w inside elements levels index (Primitive x) not0 = refl
 element-other w inside elements levels index (Class x) not0 = refl
 element-other w inside elements levels index (MemberFunction x) not0 = refl
@@ -85,7 +99,9 @@ element-other w inside elements levels index (ArgumentList x) not0 = refl
 element-other w inside elements levels index (Other x) not0 = refl
 
 -- any other type than a pointer or one that the compiler brings has `const` before it
-pub modified-other : (w : PrintInputs) (constant : Bool) (inside : List ℕ) (type : TypeData) → ((x : PointerType) → type ≡ Pointer x → ⊥) → ((x : PrimitiveType) → type ≡ Primitive x → ⊥) → modified w constant inside type ≡ written (if constant then codes "const " else []) ▸ Later inside (OfType type)
+pub modified-other : (w : PrintInputs) (constant : Bool) (inside : List ℕ) (type : TypeData)
+    → ((x : PointerType) → type ≡ Pointer x → ⊥) → ((x : PrimitiveType) → type ≡ Primitive x → ⊥)
+    → modified w constant inside type ≡ written (if constant then codes "const " else []) ▸ Later inside (OfType type)
 modified-other w constant inside (Primitive x) not0 not1 = absurd (not1 x refl)
 modified-other w constant inside (Class x) not0 not1 = refl
 modified-other w constant inside (MemberFunction x) not0 not1 = refl
@@ -100,7 +116,8 @@ modified-other w constant inside (ArgumentList x) not0 not1 = refl
 modified-other w constant inside (Other x) not0 not1 = refl
 
 -- with any other target than a modifier `this` is an argument
-pub this_by_target-other : (class this : TypeIndex) (type : TypeData) → ((x : ModifierType) → type ≡ Modifier x → ⊥) → this_by_target class this type ≡ printed_this this
+pub this_by_target-other : (class this : TypeIndex) (type : TypeData) → ((x : ModifierType) → type ≡ Modifier x → ⊥)
+    → this_by_target class this type ≡ printed_this this
 this_by_target-other class this (Primitive x) not0 = refl
 this_by_target-other class this (Class x) not0 = refl
 this_by_target-other class this (MemberFunction x) not0 = refl
@@ -115,7 +132,8 @@ this_by_target-other class this (ArgumentList x) not0 = refl
 this_by_target-other class this (Other x) not0 = refl
 
 -- with any other type than a pointer `this` is an argument
-pub this_by_type-other : (w : PrintInputs) (class this : TypeIndex) (type : TypeData) → ((x : PointerType) → type ≡ Pointer x → ⊥) → this_by_type w class this type ≡ Ok (printed_this this)
+pub this_by_type-other : (w : PrintInputs) (class this : TypeIndex) (type : TypeData)
+    → ((x : PointerType) → type ≡ Pointer x → ⊥) → this_by_type w class this type ≡ Ok (printed_this this)
 this_by_type-other w class this (Primitive x) not0 = refl
 this_by_type-other w class this (Class x) not0 = refl
 this_by_type-other w class this (MemberFunction x) not0 = refl
@@ -130,7 +148,9 @@ this_by_type-other w class this (ArgumentList x) not0 = refl
 this_by_type-other w class this (Other x) not0 = refl
 
 -- any other type than a list of arguments is none
-pub on_list-other : (w : PrintInputs) (m : MemberFunctionType) (may_say_const : Bool) (inside : List ℕ) (type : TypeData) → ((x : List TypeIndex) → type ≡ ArgumentList x → ⊥) → on_list w m may_say_const inside type ≡ failing (Plain ArgumentTypeNotArgumentList)
+pub on_list-other : (w : PrintInputs) (m : MemberFunctionType) (may_say_const : Bool) (inside : List ℕ)
+    (type : TypeData) → ((x : List TypeIndex) → type ≡ ArgumentList x → ⊥)
+    → on_list w m may_say_const inside type ≡ failing (Plain ArgumentTypeNotArgumentList)
 on_list-other w m may_say_const inside (Primitive x) not0 = refl
 on_list-other w m may_say_const inside (Class x) not0 = refl
 on_list-other w m may_say_const inside (MemberFunction x) not0 = refl
@@ -145,7 +165,9 @@ on_list-other w m may_say_const inside (ArgumentList x) not0 = absurd (not0 x re
 on_list-other w m may_say_const inside (Other x) not0 = refl
 
 -- a name with any other type than a function stands alone
-pub signature_by_type-other : (w : PrintInputs) (name inside : List ℕ) (type : TypeData) → ((x : MemberFunctionType) → type ≡ MemberFunction x → ⊥) → ((x : ProcedureType) → type ≡ Procedure x → ⊥) → signature_by_type w name inside type ≡ written name
+pub signature_by_type-other : (w : PrintInputs) (name inside : List ℕ) (type : TypeData)
+    → ((x : MemberFunctionType) → type ≡ MemberFunction x → ⊥) → ((x : ProcedureType) → type ≡ Procedure x → ⊥)
+    → signature_by_type w name inside type ≡ written name
 signature_by_type-other w name inside (Primitive x) not0 not1 = refl
 signature_by_type-other w name inside (Class x) not0 not1 = refl
 signature_by_type-other w name inside (MemberFunction x) not0 not1 = absurd (not0 x refl)
@@ -160,7 +182,9 @@ signature_by_type-other w name inside (ArgumentList x) not0 not1 = refl
 signature_by_type-other w name inside (Other x) not0 not1 = refl
 
 -- a function of a class has a method's type
-pub method_id-other : (w : PrintInputs) (method : MemberFunctionId) (inside : List ℕ) (type : TypeData) → ((x : MemberFunctionType) → type ≡ MemberFunction x → ⊥) → method_id w method inside type ≡ failing (Plain MemberFunctionIdIsNotMemberFunctionType)
+pub method_id-other : (w : PrintInputs) (method : MemberFunctionId) (inside : List ℕ) (type : TypeData)
+    → ((x : MemberFunctionType) → type ≡ MemberFunction x → ⊥)
+    → method_id w method inside type ≡ failing (Plain MemberFunctionIdIsNotMemberFunctionType)
 method_id-other w method inside (Primitive x) not0 = refl
 method_id-other w method inside (Class x) not0 = refl
 method_id-other w method inside (MemberFunction x) not0 = absurd (not0 x refl)
@@ -175,7 +199,9 @@ method_id-other w method inside (ArgumentList x) not0 = refl
 method_id-other w method inside (Other x) not0 = refl
 
 -- a function of no class has a procedure's type
-pub function_id-other : (w : PrintInputs) (met : List ℕ) (function : FunctionId) (inside : List ℕ) (type : TypeData) → ((x : ProcedureType) → type ≡ Procedure x → ⊥) → function_id w met function inside type ≡ failing (Plain FunctionIdIsNotProcedureType)
+pub function_id-other : (w : PrintInputs) (met : List ℕ) (function : FunctionId) (inside : List ℕ) (type : TypeData)
+    → ((x : ProcedureType) → type ≡ Procedure x → ⊥)
+    → function_id w met function inside type ≡ failing (Plain FunctionIdIsNotProcedureType)
 function_id-other w met function inside (Primitive x) not0 = refl
 function_id-other w met function inside (Class x) not0 = refl
 function_id-other w met function inside (MemberFunction x) not0 = refl

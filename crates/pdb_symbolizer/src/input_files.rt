@@ -3,7 +3,7 @@ use crate::stops::Stop;
 use pdb_addr2line::Error;
 use pdb_addr2line::pdb::PDB;
 use pdb_container::{ContainerFault, read_pdb};
-use pdb_json::{module_files, read_records_with};
+use pdb_json::RecordsFile;
 use std::alloc::{AllocError, Global};
 use std::rt::Files;
 use std::{fs, io};
@@ -22,8 +22,22 @@ pub fn read_records_of<'w, R: Files + Eprint + AllocGlobal>(
     if bytes.starts_with(&PDB_FILE) {
         return read_container(rt.alloc(), path, &bytes);
     }
-    let files = read_module_files(rt, path, &bytes)?;
-    match read_records_with(rt.alloc(), &bytes, &files) {
+    read_records_file(rt, path, bytes)
+}
+
+/// The records of a records file and of its module files.
+fn read_records_file<'w, R: Files + AllocGlobal>(
+    rt: &R,
+    path: &'w str,
+    bytes: Vec<u8>,
+) -> Result<PDB, Stop<'w>> {
+    let file = match RecordsFile::from_slice(rt.alloc(), &bytes) {
+        Ok(file) => file,
+        Err(fault) => return Err(Stop::Records(path, fault)),
+    };
+    drop(bytes);
+    let files = read_module_files(rt, path, &file)?;
+    match file.read_records(&files) {
         Ok(records) => Ok(records),
         Err(fault) => Err(Stop::Records(path, fault)),
     }
@@ -49,9 +63,9 @@ fn read_file<'w, R: Files + AllocGlobal>(rt: &R, path: &'w str) -> Result<Vec<u8
 fn read_module_files<'w, R: Files + AllocGlobal>(
     rt: &R,
     path: &'w str,
-    bytes: &[u8],
+    file: &RecordsFile,
 ) -> Result<Vec<Vec<u8>>, Stop<'w>> {
-    let names = match module_files(rt.alloc(), bytes) {
+    let names = match file.module_files() {
         Ok(names) => names,
         Err(fault) => return Err(Stop::Records(path, fault)),
     };

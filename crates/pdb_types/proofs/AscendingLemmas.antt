@@ -1,5 +1,7 @@
 -- The first entries with their numbers, among entries whose numbers ascend and among others.
-use Rattle.std.proofs.Common.{◌≡◌, ◌∙◌, ℕ, zero, suc, add-one, ◌+◌, ◌-◌, ◌<◌, ◌≤◌, Bool, true, false, cond, nat_eq, List, [], ◌∷◌, ◌++◌, take, drop, length, get_or, Some, None, Ok, Err, refl, sym, ap, inl, inr, arith}
+use Rattle.std.proofs.Common.{◌≡◌, ◌∙◌, ℕ, zero, suc, add-one, ◌+◌, ◌-◌, ◌<◌, ◌≤◌, Bool, true, false, cond, nat_eq}
+use Rattle.std.proofs.Common.{List, [], ◌∷◌, ◌++◌, take, drop, length, get_or, Some, None, Ok, Err, refl, sym, ap, inl}
+use Rattle.std.proofs.Common.{inr, arith}
 use Rattle.std.specs.Prelude.{find, slice_get}
 use Rattle.std.specs.Option.{option_or}
 use Rattle.std.specs.List.Sorted.{IsNonDecreasingBy, IsBinarySearchResult}
@@ -164,7 +166,8 @@ module _ {T : Type 0} (number_of : T → ℕ) where
         | inr after ↦
             let there : behind ≡ i = omega arith in
             rw (there, here) (elim (cases_lt ahead (i - 1)) [
-              | inl lower ↦ let less = known ahead (i - 1) d lower (omega arith) in omega (arith, less, last (omega arith))
+              | inl lower ↦ let less = known ahead (i - 1) d lower (omega arith) in
+                  omega (arith, less, last (omega arith))
               | inr highest ↦ let same : ahead ≡ i - 1 = omega arith in rw same (last (omega arith))
             ])
       ])

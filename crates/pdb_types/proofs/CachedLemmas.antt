@@ -1,5 +1,6 @@
 -- What a map knows of the entries of a list.
-use Rattle.std.proofs.Common.{◌≡◌, ℕ, zero, suc, ◌+◌, ◌<◌, ◌≤◌, ◌∙◌, List, [], ◌∷◌, take, drop, length, get_or, sym, ap, arith}
+use Rattle.std.proofs.Common.{◌≡◌, ℕ, zero, suc, ◌+◌, ◌<◌, ◌≤◌, ◌∙◌, List, [], ◌∷◌, take, drop, length, get_or, sym, ap}
+use Rattle.std.proofs.Common.{arith}
 use Rattle.std.specs.Prelude.{Option, Some, None, option_map}
 use Rattle.std.specs.Option.{option_or}
 use Rattle.std.specs.Borrow.{Bor}
@@ -15,7 +16,8 @@ abbrev pub known_under : {T : Type 0} → BTreeMap ℕ (Bor T) → ℕ → Optio
 known_under known number = option_map (λ entry. entry.now) (get nat_cmp known number)
 
 -- so many of these entries were read, and a map knows them
-pub record HasRead {T : Type 0} (number_of : T → ℕ) (entries : List T) (i : ℕ) (known : BTreeMap ℕ (Bor T)) : Type 0 where
+pub record HasRead {T : Type 0} (number_of : T → ℕ) (entries : List T) (i : ℕ)
+    (known : BTreeMap ℕ (Bor T)) : Type 0 where
   pub within : i ≤ length entries
   pub indexed : Knows number_of (take i entries) known
 
@@ -37,7 +39,8 @@ module _ {T : Type 0} (number_of : T → ℕ) where
   pub knows_same : (entries : List T) (old new : BTreeMap ℕ (Bor T)) → Knows number_of entries old
       → ((number : ℕ) → get nat_cmp new number ≡ get nat_cmp old number) → Knows number_of entries new
   unfolding Knows
-  knows_same entries old new knew same number = ap (λ found. option_map (λ entry. entry.now) found) (same number) ∙ knew number
+  knows_same entries old new knew same number = ap (λ found. option_map (λ entry. entry.now) found) (same number)
+      ∙ knew number
 
   -- an empty map knows the entries of an empty list
   pub knows_nothing : (known : BTreeMap ℕ (Bor T)) → known.entries ≡ [] → Knows number_of [] known

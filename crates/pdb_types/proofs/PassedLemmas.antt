@@ -18,16 +18,21 @@ use Rattle.pdb_types.specs.declared.type_sizes.Step.TheVariants.{Ended, Next}
 use Rattle.pdb_types.specs.TypeInputs.{LinkInputs}
 use Rattle.pdb_types.specs.TypeSizes.{no_size, step, type_size}
 use Rattle.pdb_types.specs.SizeLaws.{EndsWith, NeverEnds, Leads}
-use Rattle.pdb_types.proofs.ChainLemmas.{steps_to_end, steps_within, EndsOrNot, ends_or_not, type_size-at_end, type_size-never}
+use Rattle.pdb_types.proofs.ChainLemmas.{steps_to_end, steps_within, EndsOrNot, ends_or_not, type_size-at_end}
+use Rattle.pdb_types.proofs.ChainLemmas.{type_size-never}
 
 -- a chain that leads to an index ends as that one does
-ends_behind : (next : ℕ → Step) (steps k index other : ℕ) (size : TypeSize) → Leads next steps index other → EndsWith next k index size → (rest : ℕ) × (steps + rest ≡ k) × EndsWith next rest other size
-ends_behind next zero k index other size leads ends = (k, omega arith, subst (λ (i : ℕ). EndsWith next k i size) leads ends)
-ends_behind next (suc steps) zero index other size leads ends = let e : Next leads.0 ≡ Ended size = sym leads.1 ∙ ends in cc
+ends_behind : (next : ℕ → Step) (steps k index other : ℕ) (size : TypeSize) → Leads next steps index other
+    → EndsWith next k index size → (rest : ℕ) × (steps + rest ≡ k) × EndsWith next rest other size
+ends_behind next zero k index other size leads ends =
+    (k, omega arith, subst (λ (i : ℕ). EndsWith next k i size) leads ends)
+ends_behind next (suc steps) zero index other size leads ends = let e : Next leads.0 ≡ Ended size =
+    sym leads.1 ∙ ends in cc
 ends_behind next (suc steps) (suc k) index other size leads ends =
     let e : Next ends.0 ≡ Next leads.0 = sym ends.1 ∙ leads.1 in
     let same : ends.0 ≡ leads.0 = cc in
-    let behind = ends_behind next steps k leads.0.0 other size leads.2 (subst (λ (f : TypeIndex). EndsWith next k f.0 size) same ends.2) in
+    let behind = ends_behind next steps k leads.0.0 other size leads.2
+    (subst (λ (f : TypeIndex). EndsWith next k f.0 size) same ends.2) in
     (behind.0, omega (arith, behind.1), behind.2)
 
 -- a chain that comes back to its index never ends
@@ -38,40 +43,66 @@ never_ends next steps index back k size ends =
     absurd (omega (arith, behind.1))
 
 -- a chain that leads to one that never ends never ends
-never_before : (next : ℕ → Step) (steps index other : ℕ) → Leads next steps index other → NeverEnds next other → NeverEnds next index
+never_before : (next : ℕ → Step) (steps index other : ℕ) → Leads next steps index other → NeverEnds next other
+    → NeverEnds next index
 never_before next steps index other leads never k size ends =
     let behind = ends_behind next steps k index other size leads ends in never behind.0 size behind.2
 
 -- a chain that leads to one that ends has its end
-ends_before : (next : ℕ → Step) (steps k index other : ℕ) (size : TypeSize) → Leads next steps index other → EndsWith next k other size → (total : ℕ) × EndsWith next total index size
+ends_before : (next : ℕ → Step) (steps k index other : ℕ) (size : TypeSize) → Leads next steps index other
+    → EndsWith next k other size → (total : ℕ) × EndsWith next total index size
 ends_before next zero k index other size leads ends = (k, subst (λ (i : ℕ). EndsWith next k i size) (sym leads) ends)
 ends_before next (suc steps) k index other size leads ends =
-    let behind = ends_before next steps k leads.0.0 other size leads.2 ends in (suc behind.0, (leads.0, leads.1, behind.1))
+    let behind = ends_before next steps k leads.0.0 other size leads.2 ends in
+    (suc behind.0, (leads.0, leads.1, behind.1))
 
 -- a type has the size of each that its chain leads to
-pub type_size-leads : (w : LinkInputs) (types : Read (Item TypeIndex TypeData)) (pointer module_index index other steps : ℕ) → Leads (step w types pointer module_index) steps index other → type_size w types pointer module_index index ≡ type_size w types pointer module_index other
-type_size-leads w types pointer module_index index other steps leads = by_end (ends_or_not (step w types pointer module_index) (length types.items) other) where
-  by_end : EndsOrNot (step w types pointer module_index) (length types.items) other → type_size w types pointer module_index index ≡ type_size w types pointer module_index other
-  by_end (inl (k, size, ends)) = let total = ends_before (step w types pointer module_index) steps k index other size leads ends in type_size-at_end w types pointer module_index index total.0 size total.1 ∙ sym (type_size-at_end w types pointer module_index other k size ends)
-  by_end (inr longer) =
-      let never : NeverEnds (step w types pointer module_index) other = λ k size ends. let within = steps_within w types pointer module_index other k size ends in let more = longer k size ends in absurd (omega arith) in
-      type_size-never w types pointer module_index index (never_before (step w types pointer module_index) steps index other leads never) ∙ sym (type_size-never w types pointer module_index other never)
+pub type_size-leads : (w : LinkInputs) (types : Read (Item TypeIndex TypeData))
+    (pointer module_index index other steps : ℕ) → Leads (step w types pointer module_index) steps index other
+    → type_size w types pointer module_index index ≡ type_size w types pointer module_index other
+type_size-leads w types pointer module_index index other steps leads =
+    by_end (ends_or_not (step w types pointer module_index) (length types.items) other) where
+      by_end : EndsOrNot (step w types pointer module_index) (length types.items) other
+          → type_size w types pointer module_index index ≡ type_size w types pointer module_index other
+      by_end (inl (k, size, ends)) = let total =
+          ends_before (step w types pointer module_index) steps k index other size leads ends in
+          type_size-at_end w types pointer module_index index total.0 size total.1 ∙ sym
+          (type_size-at_end w types pointer module_index other k size ends)
+      by_end (inr longer) =
+          let never : NeverEnds (step w types pointer module_index) other = λ k size ends. let within =
+          steps_within w types pointer module_index other k size ends in let more = longer k size ends in
+          absurd (omega arith) in
+          type_size-never w types pointer module_index index
+          (never_before (step w types pointer module_index) steps index other leads never) ∙ sym
+          (type_size-never w types pointer module_index other never)
 
 -- a type whose chain comes back to it has no size
-pub type_size-back : (w : LinkInputs) (types : Read (Item TypeIndex TypeData)) (pointer module_index index steps : ℕ) → Leads (step w types pointer module_index) (suc steps) index index → type_size w types pointer module_index index ≡ no_size
-type_size-back w types pointer module_index index steps back = type_size-never w types pointer module_index index (never_ends (step w types pointer module_index) steps index back)
+pub type_size-back : (w : LinkInputs) (types : Read (Item TypeIndex TypeData)) (pointer module_index index steps : ℕ)
+    → Leads (step w types pointer module_index) (suc steps) index index
+    → type_size w types pointer module_index index ≡ no_size
+type_size-back w types pointer module_index index steps back =
+    type_size-never w types pointer module_index index (never_ends (step w types pointer module_index) steps index back)
 
 -- a type whose chain meets an index twice has no size
-pub type_size-repeats : (w : LinkInputs) (types : Read (Item TypeIndex TypeData)) (pointer module_index index repeated before steps : ℕ) → Leads (step w types pointer module_index) before index repeated → Leads (step w types pointer module_index) (suc steps) repeated repeated → type_size w types pointer module_index index ≡ no_size
-type_size-repeats w types pointer module_index index repeated before steps leads back = type_size-leads w types pointer module_index index repeated before leads ∙ type_size-back w types pointer module_index repeated steps back
+pub type_size-repeats : (w : LinkInputs) (types : Read (Item TypeIndex TypeData))
+    (pointer module_index index repeated before steps : ℕ)
+    → Leads (step w types pointer module_index) before index repeated
+    → Leads (step w types pointer module_index) (suc steps) repeated repeated
+    → type_size w types pointer module_index index ≡ no_size
+type_size-repeats w types pointer module_index index repeated before steps leads back =
+    type_size-leads w types pointer module_index index repeated before leads
+    ∙ type_size-back w types pointer module_index repeated steps back
 
 -- a chain with one more step
-pub leads_more : (next : ℕ → Step) (steps index other : ℕ) (further : TypeIndex) → Leads next steps index other → next other ≡ Next further → Leads next (suc steps) index further.0
+pub leads_more : (next : ℕ → Step) (steps index other : ℕ) (further : TypeIndex) → Leads next steps index other
+    → next other ≡ Next further → Leads next (suc steps) index further.0
 leads_more next zero index other further leads on = (further, ap next leads ∙ on, refl)
-leads_more next (suc steps) index other further leads on = (leads.0, leads.1, leads_more next steps leads.0.0 other further leads.2 on)
+leads_more next (suc steps) index other further leads on =
+    (leads.0, leads.1, leads_more next steps leads.0.0 other further leads.2 on)
 
 -- what holds of one more number, and of all that a set has, holds of all that it has with that number
-pub with_one : (P : ℕ → Type 0) (old new : BTreeSet ℕ) (index : ℕ) → Updates nat_cmp old new index true → P index → ((q : ℕ) → contains nat_cmp old q ≡ true → P q) → (q : ℕ) → contains nat_cmp new q ≡ true → P q
+pub with_one : (P : ℕ → Type 0) (old new : BTreeSet ℕ) (index : ℕ) → Updates nat_cmp old new index true → P index
+    → ((q : ℕ) → contains nat_cmp old q ≡ true → P q) → (q : ℕ) → contains nat_cmp new q ≡ true → P q
 with_one P old new index updates here each q there =
     (elim (nat_cmp index q) as (λ o. nat_cmp index q ≡ o → cond (is_eq o) true (contains nat_cmp old q) ≡ true → P q) [
       | Less ↦ λ _ e. each q e
@@ -80,7 +111,11 @@ with_one P old new index updates here each q there =
     ]) refl (sym (updates.0 q) ∙ there)
 
 -- what holds of each number of a set holds of each key
-pub each_key : (P : ℕ → Type 0) (keys : List ℕ) → ((q : ℕ) → list_any (λ k. is_eq (nat_cmp q k)) keys ≡ true → P q) → AllByRecursion P keys
+pub each_key : (P : ℕ → Type 0) (keys : List ℕ) → ((q : ℕ) → list_any (λ k. is_eq (nat_cmp q k)) keys ≡ true → P q)
+    → AllByRecursion P keys
 each_key P [] each = tt
-each_key P (k ∷ keys) each =
-    (each k (rw (tied_itself nat_cmp_total k) refl), each_key P keys (λ q there. each q (or_right (is_eq (nat_cmp q k)) (list_any (λ x. is_eq (nat_cmp q x)) keys) there)))
+each_key P (k ∷ keys) each = (
+  each k (rw (tied_itself nat_cmp_total k) refl),
+  each_key P keys
+      (λ q there. each q (or_right (is_eq (nat_cmp q k)) (list_any (λ x. is_eq (nat_cmp q x)) keys) there)),
+)

@@ -20,28 +20,42 @@ abbrev read_by : {I D : Type 0} → (I → ℕ) → Read (Item I D) → Result �
 read_by number_of list stands = and_then stands (λ number. and_then (entry number_of list number) (paired number))
 
 -- an entry that was read is there
-entry-read : {D : Type 0} (n number : ℕ) (content : D) (found : Result D ReadErrorView) → and_then found (paired n) ≡ paired number content → (n ≡ number) × (found ≡ Ok content)
-entry-read {D} n number content (Ok c) e =
-    (ap (λ (r : Result (ℕ × D) ReadErrorView). (result_unwrap_or r (n, c)).0) e, ap (λ (r : Result (ℕ × D) ReadErrorView). Ok (result_unwrap_or r (n, c)).1) e)
+entry-read : {D : Type 0} (n number : ℕ) (content : D) (found : Result D ReadErrorView)
+    → and_then found (paired n) ≡ paired number content → (n ≡ number) × (found ≡ Ok content)
+entry-read {D} n number content (Ok c) e = (
+  ap (λ (r : Result (ℕ × D) ReadErrorView). (result_unwrap_or r (n, c)).0) e,
+  ap
+      (λ (r : Result (ℕ × D) ReadErrorView). Ok (result_unwrap_or r (n, c)).1) e,
+)
 entry-read n number content (Err t) e = cc
 
 -- what was read by the number that an index stands for is what the entry says that it stands for
-read_by-entry : {I D : Type 0} (number_of : I → ℕ) (list : Read (Item I D)) (stands : Result ℕ ReadErrorView) (number : ℕ) (content : D) → read_by number_of list stands ≡ paired number content → entry number_of list number ≡ Ok content
-read_by-entry number_of list (Ok n) number content e = let both = entry-read n number content (entry number_of list n) e in rw both.0 at both.1
+read_by-entry : {I D : Type 0} (number_of : I → ℕ) (list : Read (Item I D)) (stands : Result ℕ ReadErrorView)
+    (number : ℕ) (content : D) → read_by number_of list stands ≡ paired number content
+    → entry number_of list number ≡ Ok content
+read_by-entry number_of list (Ok n) number content e = let both =
+    entry-read n number content (entry number_of list n) e in rw both.0 at both.1
 read_by-entry number_of list (Err t) number content e = cc
 
 -- what was read by an index is what the entry says that it stands for
-pub reading-entry : {I D : Type 0} (number_of : I → ℕ) (w : LinkInputs) (list : Read (Item I D)) (module_index index number : ℕ) (content : D) → reading number_of w list module_index index ≡ paired number content → entry number_of list number ≡ Ok content
+pub reading-entry : {I D : Type 0} (number_of : I → ℕ) (w : LinkInputs) (list : Read (Item I D))
+    (module_index index number : ℕ) (content : D)
+    → reading number_of w list module_index index ≡ paired number content → entry number_of list number ≡ Ok content
 reading-entry number_of w list module_index index number content read =
-    (elim (nat_lt index (2 ^ 32)) as (λ b. cond b (read_by number_of list (resolved w module_index index)) (Err (Missing index)) ≡ paired number content → entry number_of list number ≡ Ok content) [
+    (elim (nat_lt index (2 ^ 32)) as (λ b. cond b (read_by number_of list (resolved w module_index index))
+    (Err (Missing index)) ≡ paired number content → entry number_of list number ≡ Ok content) [
       | true ↦ λ e. read_by-entry number_of list (resolved w module_index index) number content e
       | false ↦ λ e. cc
     ]) read
 
 -- only an index of 32 bits is read, whatever is made of it
-pub reading-below : {I D A : Type 0} (number_of : I → ℕ) (w : LinkInputs) (list : Read (Item I D)) (module_index index : ℕ) (made : ℕ × D → Result A ReadErrorView) (content : A) → and_then (reading number_of w list module_index index) made ≡ Ok content → index < 2 ^ 32
+pub reading-below : {I D A : Type 0} (number_of : I → ℕ) (w : LinkInputs) (list : Read (Item I D))
+    (module_index index : ℕ) (made : ℕ × D → Result A ReadErrorView) (content : A)
+    → and_then (reading number_of w list module_index index) made ≡ Ok content → index < 2 ^ 32
 reading-below number_of w list module_index index made content read =
-    (elim (nat_lt index (2 ^ 32)) as (λ b. nat_lt index (2 ^ 32) ≡ b → and_then (cond b (read_by number_of list (resolved w module_index index)) (Err (Missing index))) made ≡ Ok content → index < 2 ^ 32) [
+    (elim (nat_lt index (2 ^ 32)) as (λ b. nat_lt index (2 ^ 32) ≡ b
+    → and_then (cond b (read_by number_of list (resolved w module_index index)) (Err (Missing index))) made
+    ≡ Ok content → index < 2 ^ 32) [
       | true ↦ λ e _. ltb-true index (2 ^ 32) e
       | false ↦ λ _ e. cc
     ]) refl read

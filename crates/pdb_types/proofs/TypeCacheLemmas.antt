@@ -22,20 +22,26 @@ abbrev pub HoldsOfEach : {K X : Type 0} → (K → K → Ordering) → (K → X 
 HoldsOfEach {K} {X} cmp P m = (k : K) (x : X) → get cmp m k ≡ Some x → P k x
 
 -- in an empty map all fits
-pub is_cache_of_nothing : {K X : Type 0} (cmp : K → K → Ordering) (P : K → X → Type 0) (m : BTreeMap K X) → m.entries ≡ [] → HoldsOfEach cmp P m
+pub is_cache_of_nothing : {K X : Type 0} (cmp : K → K → Ordering) (P : K → X → Type 0) (m : BTreeMap K X)
+    → m.entries ≡ [] → HoldsOfEach cmp P m
 is_cache_of_nothing cmp P m empty k x got =
     let none : get cmp m k ≡ None = ap (λ es. lookup (λ q. is_eq (cmp k q)) es) empty in cc
 
 -- a map with the same entries fits as well
-pub is_cache_same : {K X : Type 0} (cmp : K → K → Ordering) (P : K → X → Type 0) (m n : BTreeMap K X) → n.entries ≡ m.entries → HoldsOfEach cmp P m → HoldsOfEach cmp P n
-is_cache_same cmp P m n same is_cache k x got = is_cache k x (sym (ap (λ es. lookup (λ q. is_eq (cmp k q)) es) same) ∙ got)
+pub is_cache_same : {K X : Type 0} (cmp : K → K → Ordering) (P : K → X → Type 0) (m n : BTreeMap K X)
+    → n.entries ≡ m.entries → HoldsOfEach cmp P m → HoldsOfEach cmp P n
+is_cache_same cmp P m n same is_cache k x got =
+    is_cache k x (sym (ap (λ es. lookup (λ q. is_eq (cmp k q)) es) same) ∙ got)
 
 -- a map that takes up what fits goes on to fit
-pub is_cache_more : {K X : Type 0} (cmp : K → K → Ordering) → IsAntisymmetric cmp → (P : K → X → Type 0) (m n : BTreeMap K X) (k : K) (x : X) → Updates cmp m n k (Some x) → P k x → HoldsOfEach cmp P m → HoldsOfEach cmp P n
+pub is_cache_more : {K X : Type 0} (cmp : K → K → Ordering) → IsAntisymmetric cmp
+    → (P : K → X → Type 0) (m n : BTreeMap K X) (k : K) (x : X) → Updates cmp m n k (Some x) → P k x
+    → HoldsOfEach cmp P m → HoldsOfEach cmp P n
 is_cache_more {K} {X} cmp apart P m n k x updates here is_cache q y got =
     (elim (cmp k q) as (λ o. cmp k q ≡ o → cond (is_eq o) (Some x) (get cmp m q) ≡ Some y → P q y) [
       | Less ↦ λ _ e. is_cache q y e
-      | Equal ↦ λ tied e. let same : k ≡ q = apart k q tied in let value : x ≡ y = cc in subst (λ (z : K). P z y) same (subst (λ (z : X). P k z) value here)
+      | Equal ↦ λ tied e. let same : k ≡ q = apart k q tied in let value : x ≡ y = cc in
+          subst (λ (z : K). P z y) same (subst (λ (z : X). P k z) value here)
       | Greater ↦ λ _ e. is_cache q y e
     ]) refl (sym (updates.0 q) ∙ got)
 
@@ -46,14 +52,18 @@ question module_index index = record { module_index = module_index; index = inde
 -- only equal questions tie
 pub asked_cmp-apart : IsAntisymmetric asked_cmp
 asked_cmp-apart a b tied =
-    (elim (nat_cmp a.module_index b.module_index) as (λ o. nat_cmp a.module_index b.module_index ≡ o → ordering_then o (nat_cmp a.index b.index) ≡ Equal → a ≡ b) [
+    (elim (nat_cmp a.module_index b.module_index) as (λ o. nat_cmp a.module_index b.module_index ≡ o
+    → ordering_then o (nat_cmp a.index b.index) ≡ Equal → a ≡ b) [
       | Less ↦ λ _ e. cc
-      | Equal ↦ λ first e. ap (λ p. question p a.index) (nat_cmp-IsAntisymmetric _ _ first) ∙ ap (question b.module_index) (nat_cmp-IsAntisymmetric _ _ e)
+      | Equal ↦ λ first e. ap (λ p. question p a.index) (nat_cmp-IsAntisymmetric _ _ first) ∙ ap
+          (question b.module_index) (nat_cmp-IsAntisymmetric _ _ e)
       | Greater ↦ λ _ e. cc
     ]) refl tied
 
 -- where nothing was found yet, the type cache is a cache of the type inputs
-pub is_cache_new : {P : Type 0} (info : P → ProviderInfos) (s : TypeInputs P) (f : TypeCache) → f.types ≡ s.types → f.ids ≡ s.ids → f.named.entries ≡ [] → f.exports.entries ≡ [] → f.forward_sizes ≡ None → f.sizes.entries ≡ [] → IsCacheOf info s f
+pub is_cache_new : {P : Type 0} (info : P → ProviderInfos) (s : TypeInputs P) (f : TypeCache) → f.types ≡ s.types
+    → f.ids ≡ s.ids → f.named.entries ≡ [] → f.exports.entries ≡ [] → f.forward_sizes ≡ None → f.sizes.entries ≡ []
+    → IsCacheOf info s f
 unfolding IsNameCache IsExportCache IsSizeCache
 is_cache_new info s f types ids named found forward sizes = record {
   types = types;
@@ -65,22 +75,68 @@ is_cache_new info s f types ids named found forward sizes = record {
 }
 
 -- a type cache with other names of modules that fit
-pub caches_named : {P : Type 0} (info : P → ProviderInfos) (s : TypeInputs P) (f : TypeCache) (named : BTreeMap ℕ ℕ) → IsCacheOf info s f → IsNameCache (link_inputs info s) named → IsCacheAfter info s f (record f { named = named })
-caches_named info s f named is_cache more = record { is_cache = record { types = is_cache.types; ids = is_cache.ids; named = more; exports = is_cache.exports; forward = is_cache.forward; sizes = is_cache.sizes }; failed = refl }
+pub caches_named : {P : Type 0} (info : P → ProviderInfos) (s : TypeInputs P) (f : TypeCache) (named : BTreeMap ℕ ℕ)
+    → IsCacheOf info s f → IsNameCache (link_inputs info s) named → IsCacheAfter info s f (record f { named = named })
+caches_named info s f named is_cache more =
+    record {
+      is_cache = record {
+        types = is_cache.types;
+        ids = is_cache.ids;
+        named = more;
+        exports =
+            is_cache.exports;
+        forward = is_cache.forward;
+        sizes = is_cache.sizes;
+      };
+      failed = refl;
+    }
 
 -- a type cache with other exports that fit
-pub caches_exports : {P : Type 0} (info : P → ProviderInfos) (s : TypeInputs P) (f : TypeCache) (found : BTreeMap ℕ (List (ℕ × ℕ))) → IsCacheOf info s f → IsExportCache (link_inputs info s) found → IsCacheAfter info s f (record f { exports = found })
-caches_exports info s f found is_cache more = record { is_cache = record { types = is_cache.types; ids = is_cache.ids; named = is_cache.named; exports = more; forward = is_cache.forward; sizes = is_cache.sizes }; failed = refl }
+pub caches_exports : {P : Type 0} (info : P → ProviderInfos) (s : TypeInputs P) (f : TypeCache)
+    (found : BTreeMap ℕ (List (ℕ × ℕ))) → IsCacheOf info s f → IsExportCache (link_inputs info s) found
+    → IsCacheAfter info s f (record f { exports = found })
+caches_exports info s f found is_cache more =
+    record {
+      is_cache = record {
+        types = is_cache.types;
+        ids = is_cache.ids;
+        named = is_cache.named;
+        exports =
+            more;
+        forward = is_cache.forward;
+        sizes = is_cache.sizes;
+      };
+      failed = refl;
+    }
 
 -- a type cache with other sizes that fit
-pub caches_sizes : {P : Type 0} (info : P → ProviderInfos) (s : TypeInputs P) (f : TypeCache) (sizes : BTreeMap Asked TypeSize) → IsCacheOf info s f → IsSizeCache info s sizes → IsCacheAfter info s f (record f { sizes = sizes })
-caches_sizes info s f sizes is_cache more = record { is_cache = record { types = is_cache.types; ids = is_cache.ids; named = is_cache.named; exports = is_cache.exports; forward = is_cache.forward; sizes = more }; failed = refl }
+pub caches_sizes : {P : Type 0} (info : P → ProviderInfos) (s : TypeInputs P) (f : TypeCache)
+    (sizes : BTreeMap Asked TypeSize) → IsCacheOf info s f → IsSizeCache info s sizes
+    → IsCacheAfter info s f (record f { sizes = sizes })
+caches_sizes info s f sizes is_cache more =
+    record {
+      is_cache = record {
+        types = is_cache.types;
+        ids = is_cache.ids;
+        named = is_cache.named;
+        exports =
+            is_cache.exports;
+        forward = is_cache.forward;
+        sizes = more;
+      };
+      failed = refl;
+    }
 
 -- one more module index
-pub names_more : (w : LinkInputs) (strings : List (StringRef × List ℕ)) (reference module_index : ℕ) (m n : BTreeMap ℕ ℕ) → w.strings ≡ Some strings → module_under w.modules strings (record { 0 = reference }) ≡ Ok module_index → Updates nat_cmp m n reference (Some module_index) → IsNameCache w m → IsNameCache w n
+pub names_more : (w : LinkInputs) (strings : List (StringRef × List ℕ)) (reference module_index : ℕ)
+    (m n : BTreeMap ℕ ℕ) → w.strings ≡ Some strings
+    → module_under w.modules strings (record { 0 = reference }) ≡ Ok module_index
+    → Updates nat_cmp m n reference (Some module_index) → IsNameCache w m → IsNameCache w n
 unfolding IsNameCache
 names_more w strings reference module_index m n there found updates is_cache =
-    is_cache_more nat_cmp nat_cmp-IsAntisymmetric (λ r p. and_then (texts w.strings) (λ strings. module_under w.modules strings (record { 0 = r })) ≡ Ok p) m n reference module_index updates (rw there found) is_cache
+    is_cache_more nat_cmp nat_cmp-IsAntisymmetric
+    (λ r p. and_then (texts w.strings) (λ strings. module_under w.modules strings (record { 0 = r })) ≡ Ok p) m n
+    reference module_index updates (rw there found) is_cache
 
 -- names that stay
 pub names_same : (w : LinkInputs) (m n : BTreeMap ℕ ℕ) → n.entries ≡ m.entries → IsNameCache w m → IsNameCache w n
@@ -88,36 +144,51 @@ unfolding IsNameCache
 names_same w m n same is_cache = is_cache_same nat_cmp _ m n same is_cache
 
 -- a module index that was found under a reference is that of the module
-pub names_found : (w : LinkInputs) (strings : List (StringRef × List ℕ)) (reference module_index : ℕ) (m : BTreeMap ℕ ℕ) → w.strings ≡ Some strings → IsNameCache w m → get nat_cmp m reference ≡ Some module_index → module_under w.modules strings (record { 0 = reference }) ≡ Ok module_index
+pub names_found : (w : LinkInputs) (strings : List (StringRef × List ℕ)) (reference module_index : ℕ)
+    (m : BTreeMap ℕ ℕ) → w.strings ≡ Some strings → IsNameCache w m → get nat_cmp m reference ≡ Some module_index
+    → module_under w.modules strings (record { 0 = reference }) ≡ Ok module_index
 unfolding IsNameCache
 names_found w strings reference module_index m there is_cache got = rw there at (is_cache reference module_index got)
 
 -- one more module's exports
-pub exports_more : (w : LinkInputs) (module_index : ℕ) (list : List (ℕ × ℕ)) (m n : BTreeMap ℕ (List (ℕ × ℕ))) → exports w module_index ≡ Ok list → Updates nat_cmp m n module_index (Some list) → IsExportCache w m → IsExportCache w n
+pub exports_more : (w : LinkInputs) (module_index : ℕ) (list : List (ℕ × ℕ)) (m n : BTreeMap ℕ (List (ℕ × ℕ)))
+    → exports w module_index ≡ Ok list → Updates nat_cmp m n module_index (Some list) → IsExportCache w m
+    → IsExportCache w n
 unfolding IsExportCache
-exports_more w module_index list m n found updates is_cache = is_cache_more nat_cmp nat_cmp-IsAntisymmetric (λ p l. exports w p ≡ Ok l) m n module_index list updates found is_cache
+exports_more w module_index list m n found updates is_cache =
+    is_cache_more nat_cmp nat_cmp-IsAntisymmetric
+    (λ p l. exports w p ≡ Ok l) m n module_index list updates found is_cache
 
 -- exports that stay
-pub exports_same : (w : LinkInputs) (m n : BTreeMap ℕ (List (ℕ × ℕ))) → n.entries ≡ m.entries → IsExportCache w m → IsExportCache w n
+pub exports_same : (w : LinkInputs) (m n : BTreeMap ℕ (List (ℕ × ℕ))) → n.entries ≡ m.entries → IsExportCache w m
+    → IsExportCache w n
 unfolding IsExportCache
 exports_same w m n same is_cache = is_cache_same nat_cmp _ m n same is_cache
 
 -- exports that were found are the module's
-pub exports_found : (w : LinkInputs) (module_index : ℕ) (list : List (ℕ × ℕ)) (m : BTreeMap ℕ (List (ℕ × ℕ))) → IsExportCache w m → get nat_cmp m module_index ≡ Some list → exports w module_index ≡ Ok list
+pub exports_found : (w : LinkInputs) (module_index : ℕ) (list : List (ℕ × ℕ)) (m : BTreeMap ℕ (List (ℕ × ℕ)))
+    → IsExportCache w m → get nat_cmp m module_index ≡ Some list → exports w module_index ≡ Ok list
 unfolding IsExportCache
 exports_found w module_index list m is_cache got = is_cache module_index list got
 
 -- one more size
-pub sizes_more : {P : Type 0} (info : P → ProviderInfos) (s : TypeInputs P) (asked : Asked) (size : TypeSize) (m n : BTreeMap Asked TypeSize) → size_of info s asked.module_index asked.index ≡ size → Updates asked_cmp m n asked (Some size) → IsSizeCache info s m → IsSizeCache info s n
+pub sizes_more : {P : Type 0} (info : P → ProviderInfos) (s : TypeInputs P) (asked : Asked) (size : TypeSize)
+    (m n : BTreeMap Asked TypeSize) → size_of info s asked.module_index asked.index ≡ size
+    → Updates asked_cmp m n asked (Some size) → IsSizeCache info s m → IsSizeCache info s n
 unfolding IsSizeCache
-sizes_more info s asked size m n found updates is_cache = is_cache_more asked_cmp asked_cmp-apart (λ a z. size_of info s a.module_index a.index ≡ z) m n asked size updates found is_cache
+sizes_more info s asked size m n found updates is_cache =
+    is_cache_more asked_cmp asked_cmp-apart
+    (λ a z. size_of info s a.module_index a.index ≡ z) m n asked size updates found is_cache
 
 -- sizes that stay
-pub sizes_same : {P : Type 0} (info : P → ProviderInfos) (s : TypeInputs P) (m n : BTreeMap Asked TypeSize) → n.entries ≡ m.entries → IsSizeCache info s m → IsSizeCache info s n
+pub sizes_same : {P : Type 0} (info : P → ProviderInfos) (s : TypeInputs P) (m n : BTreeMap Asked TypeSize)
+    → n.entries ≡ m.entries → IsSizeCache info s m → IsSizeCache info s n
 unfolding IsSizeCache
 sizes_same info s m n same is_cache = is_cache_same asked_cmp _ m n same is_cache
 
 -- a size that was found is the type's
-pub sizes_found : {P : Type 0} (info : P → ProviderInfos) (s : TypeInputs P) (asked : Asked) (size : TypeSize) (m : BTreeMap Asked TypeSize) → IsSizeCache info s m → get asked_cmp m asked ≡ Some size → size_of info s asked.module_index asked.index ≡ size
+pub sizes_found : {P : Type 0} (info : P → ProviderInfos) (s : TypeInputs P) (asked : Asked) (size : TypeSize)
+    (m : BTreeMap Asked TypeSize) → IsSizeCache info s m → get asked_cmp m asked ≡ Some size
+    → size_of info s asked.module_index asked.index ≡ size
 unfolding IsSizeCache
 sizes_found info s asked size m is_cache got = is_cache asked size got

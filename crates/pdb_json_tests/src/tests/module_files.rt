@@ -1,5 +1,5 @@
 use super::parts;
-use pdb_json::{module_files, read_records, read_records_with};
+use pdb_json::{RecordsFile, module_files, read_records, read_records_with};
 use pdb_records::StreamError;
 use std::alloc::{AllocError, Global};
 use std::process::Abort;
@@ -129,9 +129,9 @@ fn each_element_has_its_own_file(rt: HostRuntime) -> Result<(), Fail> {
     let alloc = rt.alloc();
     let text = with_infos(alloc, r#"[{"file":"a"},null,{"error":7},{"file":"b"}]"#)?;
     let files = files_of(alloc, r#"{"error":5} & {"error":6}"#)?;
-    let Ok(records) = read_records_with(alloc, text.as_bytes(), &files) else {
-        return Err("refused".into());
-    };
+    let file = RecordsFile::from_slice(alloc, text.as_bytes())?;
+    assert!(rt; file.module_files()?.join(alloc, ",")?.as_str() == "a,b");
+    let records = file.read_records(&files)?;
     let shown = matches!(
         records.module_infos.as_slice(),
         [

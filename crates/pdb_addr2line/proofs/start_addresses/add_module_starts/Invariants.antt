@@ -7,7 +7,9 @@ abbrev pub invariant-loop-module_index : goal.invariant-loop-module_index
 invariant-loop-module_index g l =
     let infos = g.P.ModuleProvider.info l.initial.infos.provider in
     record {
-      starts : with_starts l.address_map l.starts.keys (map (λ p. p.offset) (procedures_of_modules infos l.module_index (drop l.module_index l.modules)))
-          ≡ with_starts l.address_map l.initial.starts.keys (map (λ p. p.offset) (procedures_of_modules infos 0 l.modules));
+      starts : with_starts l.address_map l.starts.keys
+          (map (λ p. p.offset) (procedures_of_modules infos l.module_index (drop l.module_index l.modules)))
+          ≡ with_starts l.address_map l.initial.starts.keys
+          (map (λ p. p.offset) (procedures_of_modules infos 0 l.modules));
       provider : l.infos.provider ≡ l.initial.infos.provider;
     }

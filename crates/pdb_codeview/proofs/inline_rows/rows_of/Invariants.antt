@@ -6,4 +6,5 @@ use Rattle.pdb_codeview.proofs.inline_rows.rows_of.Given as goal
 
 abbrev pub invariant-loop-annotation : goal.invariant-loop-annotation
 invariant-loop-annotation l =
-    rows_from l.initial.position None l.annotations ≡ l.rows.items ++ rows_from l.position l.last (drop l.annotation-index l.annotations)
+    rows_from l.initial.position None l.annotations ≡ l.rows.items ++ rows_from l.position l.last
+    (drop l.annotation-index l.annotations)

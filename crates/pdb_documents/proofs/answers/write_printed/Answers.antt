@@ -6,7 +6,11 @@ pub returns : goal.returns
 returns g c = λ r failed is.
     let ran = rw c.in-Some.is at is in
     record {
-      error = λ memory other. (fails_with c.in-Some.failure _ _ _ _ ran (c.write_before.ensures.same other ∙ c.from.ensures), rw (ap (λ x. x.text) ran) (rw c.as_str-in-Some.ensures.value at (c.write_before.ensures.written memory other)));
+      error = λ memory other. (
+        fails_with c.in-Some.failure _ _ _ _ ran
+            (c.write_before.ensures.same other ∙ c.from.ensures),
+        rw (ap (λ x. x.text) ran) (rw c.as_str-in-Some.ensures.value at (c.write_before.ensures.written memory other)),
+      );
       refused = λ format. ap (λ x. x.failed) ran;
       unwritten = λ memory. c.write_before.ensures.unwritten memory;
     }

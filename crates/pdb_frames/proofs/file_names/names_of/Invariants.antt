@@ -10,5 +10,6 @@ use Rattle.pdb_frames.proofs.file_names.names_of.Given as goal
 -- what is known, else what is left gives, is what all give
 abbrev pub invariant-loop-reference : goal.invariant-loop-reference
 invariant-loop-reference l = (number : ℕ)
-    → option_or (option_map cow_str_bytes (get nat_cmp l.names number)) (text_under (Some (drop l.reference-index l.table)) number)
+    → option_or (option_map cow_str_bytes (get nat_cmp l.names number))
+    (text_under (Some (drop l.reference-index l.table)) number)
     ≡ text_under (Some l.table) number

@@ -5,4 +5,5 @@ pub loop-init : goal.loop-init
 loop-init c strings = lent_none strings c.in_ok-slots.slots.items c.in_ok-slots.ensures.items
 
 pub loop-preserved : goal.loop-preserved
-loop-preserved c strings = rw c.in_ok-push.ensures.items (lent_nowhere strings c.loop.slots.items (c.loop.invariant strings))
+loop-preserved c strings = rw c.in_ok-push.ensures.items
+    (lent_nowhere strings c.loop.slots.items (c.loop.invariant strings))

@@ -13,7 +13,8 @@ returns-in_err-frames-clause-shown g c =
     c.args.files.now c.args.address_map.now c.args.functions.now
     (option_copied c.args.module_info) (found_function c.args.function) c.args.offset c.in_err-frames.field-0.0
     (c.in-Some.start_rva, c.in-Some.end_rva) (sym c.addresses_of.ensures ∙ c.in-Some.is)
-    (rw (c.name_of_function.ensures.type_inputs, c.in_ok-name.ensures.name) at (c.in_err-frames.ensures.frames no_memory)))
+    (rw (c.name_of_function.ensures.type_inputs, c.in_ok-name.ensures.name)
+    at (c.in_err-frames.ensures.frames no_memory)))
 
 pub returns-in_err-frames-clause-failed : goal.returns-in_err-frames-clause-failed
 returns-in_err-frames-clause-failed g c =
@@ -23,7 +24,8 @@ returns-in_err-frames-clause-failed g c =
     (option_copied c.args.module_info) (found_function c.args.function) c.args.offset c.args.names.now.failed
     c.frames_of_function.new.names.failed
     (c.in-Some.start_rva, c.in-Some.end_rva) (sym c.addresses_of.ensures ∙ c.in-Some.is)
-    (rw (c.name_of_function.ensures.type_inputs, c.in_ok-name.ensures.failed) at (c.in_err-frames.ensures.failed no_memory)))
+    (rw (c.name_of_function.ensures.type_inputs, c.in_ok-name.ensures.failed)
+    at (c.in_err-frames.ensures.failed no_memory)))
 
 pub returns-in_err-frames-clause-broken : goal.returns-in_err-frames-clause-broken
 returns-in_err-frames-clause-broken g c = adds-then c.name_of_function.ensures.broken

@@ -24,5 +24,6 @@ loop-range-preserved g c =
       type_inputs = search rules;
       provider = search rules;
       failed = grind (arith, common_steps, failed);
-      broken = adds-then c.loop-range.invariant.broken (rw c.loop-range.invariant.type_inputs at c.name_of_id.ensures.broken);
+      broken = adds-then c.loop-range.invariant.broken
+          (rw c.loop-range.invariant.type_inputs at c.name_of_id.ensures.broken);
     }

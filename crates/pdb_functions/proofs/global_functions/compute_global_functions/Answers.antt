@@ -9,11 +9,15 @@ use Rattle.pdb_functions.proofs.StartLemmas.{map-first_of_each_start}
 use Rattle.pdb_functions.proofs.global_functions.compute_global_functions.Goals as goal
 
 pub new-requires : goal.new-requires
-new-requires c = rw c.in_ok-counted.ensures (firsts_ascend (λ f. f.start_offset) c.add_placeholders-2.new.functions.items)
+new-requires c = rw c.in_ok-counted.ensures
+    (firsts_ascend (λ f. f.start_offset) c.add_placeholders-2.new.functions.items)
 
 pub returns : goal.returns
 returns c =
-    let shown : map global_function c.add_placeholders-2.new.functions.items ≡ filter_map (public_function c.args.sections.now) c.args.symbols.now ++ map placeholder (c.args.contribution_starts.now ++ section_ends c.args.sections.now)
+    let shown : map global_function c.add_placeholders-2.new.functions.items ≡ filter_map
+    (public_function c.args.sections.now) c.args.symbols.now ++ map placeholder
+    (c.args.contribution_starts.now ++ section_ends c.args.sections.now)
     = grind (arith, common_steps)
-    in rw (c.new.ensures, c.in_ok-counted.ensures) (map-first_of_each_start global_function (λ f. f.start) c.add_placeholders-2.new.functions.items
+    in rw (c.new.ensures, c.in_ok-counted.ensures)
+    (map-first_of_each_start global_function (λ f. f.start) c.add_placeholders-2.new.functions.items
     ∙ ap (λ (fs : List GlobalFunction). first_of_each_start (λ f. f.start) fs) shown)

@@ -5,4 +5,5 @@ use Rattle.pdb_functions.proofs.global_functions.public_symbol_functions.Given a
 
 -- the functions so far, and those of what is left, are those of all
 abbrev pub invariant-loop-symbol : goal.invariant-loop-symbol
-invariant-loop-symbol l = map global_function l.functions.items ++ filter_map (public_function l.sections) (drop l.symbol-index l.symbols) ≡ filter_map (public_function l.sections) l.symbols
+invariant-loop-symbol l = map global_function l.functions.items ++ filter_map (public_function l.sections)
+    (drop l.symbol-index l.symbols) ≡ filter_map (public_function l.sections) l.symbols

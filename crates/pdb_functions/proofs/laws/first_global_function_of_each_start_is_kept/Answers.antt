@@ -6,5 +6,6 @@ use Rattle.pdb_functions.proofs.laws.first_global_function_of_each_start_is_kept
 pub returns : goal.returns
 returns c = record {
   ascend = λ sections symbols debug. firsts_ascend (λ f. f.start) (listed_functions sections symbols debug);
-  first = λ sections symbols debug section_offset. first_at_of_each_start (λ f. f.start) section_offset (listed_functions sections symbols debug);
+  first = λ sections symbols debug section_offset. first_at_of_each_start (λ f. f.start) section_offset
+      (listed_functions sections symbols debug);
 }

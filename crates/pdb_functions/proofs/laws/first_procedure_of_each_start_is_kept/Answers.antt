@@ -8,7 +8,8 @@ use Rattle.pdb_functions.proofs.laws.first_procedure_of_each_start_is_kept.Goals
 pub returns : goal.returns
 returns c = record {
   ascend = λ symbols. firsts_ascend (λ p. p.offset) (procedures_from 0 None symbols);
-  first = λ symbols section_offset. first_at_of_each_start (λ p. p.offset) section_offset (procedures_from 0 None symbols);
+  first = λ symbols section_offset. first_at_of_each_start (λ p. p.offset) section_offset
+      (procedures_from 0 None symbols);
   behind = behind_last_of_all;
   fault = none_with_fault;
 }

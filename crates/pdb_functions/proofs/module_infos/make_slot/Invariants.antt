@@ -5,7 +5,8 @@ use Rattle.pdb_functions.proofs.module_infos.make_slot.Given as goal
 
 -- with the places made so far, what was a cache of some modules stays one
 abbrev pub invariant-loop-cached : goal.invariant-loop-cached
-invariant-loop-cached l = (infos : ProviderInfos) → IsModuleInfoCache infos l.initial.cached.items → IsModuleInfoCache infos l.cached.items
+invariant-loop-cached l = (infos : ProviderInfos) → IsModuleInfoCache infos l.initial.cached.items
+    → IsModuleInfoCache infos l.cached.items
 
 abbrev pub decreases-loop-cached : goal.decreases-loop-cached
 decreases-loop-cached l = (l.module_index + 1) - length l.cached.items

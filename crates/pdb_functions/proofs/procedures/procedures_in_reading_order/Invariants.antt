@@ -5,4 +5,5 @@ use Rattle.pdb_functions.proofs.procedures.procedures_in_reading_order.Given as 
 
 -- the procedures so far, and those of what is left, are those of all
 abbrev pub invariant-loop-at : goal.invariant-loop-at
-invariant-loop-at l = map module_procedure l.procedures.items ++ procedures_from l.at (option_map module_procedure l.last) (drop l.at l.symbols) ≡ procedures_from 0 None l.symbols
+invariant-loop-at l = map module_procedure l.procedures.items ++ procedures_from l.at
+    (option_map module_procedure l.last) (drop l.at l.symbols) ≡ procedures_from 0 None l.symbols

@@ -4,4 +4,5 @@ use Rattle.pdb_functions.proofs.sections.executable_section_ends.Given as goal
 
 -- the ends so far, and those of what is left, are the ends of all
 abbrev pub invariant-loop-index : goal.invariant-loop-index
-invariant-loop-index l = l.ends.items ++ section_ends_from (l.index + 1) (drop l.index l.sections) ≡ section_ends l.sections
+invariant-loop-index l = l.ends.items ++ section_ends_from (l.index + 1) (drop l.index l.sections)
+    ≡ section_ends l.sections

@@ -13,7 +13,8 @@ loop-position-preserved g c =
     let spans = c.args.spans.now in
     let span = c.index-spans-position.result in
     let left = drop_is _ _ _ c.index-spans-position.is c.loop-position-test.true in
-    let got = slice_get_read spans (length spans) c.loop-position.position span refl c.loop-position-test.true c.index-spans-position.is in
+    let got = slice_get_read spans
+    (length spans) c.loop-position.position span refl c.loop-position-test.true c.index-spans-position.is in
     record {
       values = λ section_offset fits.
           rw (
@@ -29,4 +30,5 @@ loop-position-preserved g c =
 pub returns-clause-values : goal.returns-clause-values
 returns-clause-values g c = λ section_offset fits.
     let done = drop_of_length-le c.args.spans.now {i = c.loop-position.position} (omega arith) in
-    rw (c.in_ok-table.ensures.values (key section_offset), c.deref.ensures.value) (rw done at (c.loop-position.invariant.values section_offset fits))
+    rw (c.in_ok-table.ensures.values (key section_offset), c.deref.ensures.value)
+    (rw done at (c.loop-position.invariant.values section_offset fits))

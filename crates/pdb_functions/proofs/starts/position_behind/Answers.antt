@@ -20,8 +20,10 @@ loop-from-preserved-then-lt g c =
     let x = c.index-entries-middle.result in
     let size = c.loop-from.to - c.loop-from.from in
     let fewer = digits_half (c.loop-from.from + size / 2 - c.loop-from.from) size (omega arith) (omega arith) in
-    let tested : c.lt.result ≡ is_before c.args.section_offset c.start.result = c.lt.ensures ∙ section_offsets_compared c.args.section_offset c.start.result in
-    let before : is_before c.args.section_offset (start x) ≡ true = ap (λ p. is_before c.args.section_offset p) (sym c.start.ensures) ∙ sym tested ∙ c.if-lt.true in
+    let tested : c.lt.result ≡ is_before c.args.section_offset c.start.result =
+    c.lt.ensures ∙ section_offsets_compared c.args.section_offset c.start.result in
+    let before : is_before c.args.section_offset (start x) ≡ true =
+    ap (λ p. is_before c.args.section_offset p) (sym c.start.ensures) ∙ sym tested ∙ c.if-lt.true in
     record {
       above = c.loop-from.invariant.above;
       below = behind_up_to start c.args.section_offset _ _ x c.index-entries-middle.is before;
@@ -35,9 +37,12 @@ loop-from-preserved g c =
     let x = c.index-entries-middle.result in
     let size = c.loop-from.to - c.loop-from.from in
     let fewer = digits_half (c.loop-from.to - (c.loop-from.from + size / 2 + 1)) size (omega arith) (omega arith) in
-    let tested : c.lt.result ≡ is_before c.args.section_offset c.start.result = c.lt.ensures ∙ section_offsets_compared c.args.section_offset c.start.result in
-    let before : is_before c.args.section_offset (start x) ≡ false = ap (λ p. is_before c.args.section_offset p) (sym c.start.ensures) ∙ sym tested ∙ c.if-lt.false in
-    let past = behind_past start c.args.section_offset _ _ x c.requires (omega arith) c.index-entries-middle.is before in
+    let tested : c.lt.result ≡ is_before c.args.section_offset c.start.result =
+    c.lt.ensures ∙ section_offsets_compared c.args.section_offset c.start.result in
+    let before : is_before c.args.section_offset (start x) ≡ false =
+    ap (λ p. is_before c.args.section_offset p) (sym c.start.ensures) ∙ sym tested ∙ c.if-lt.false in
+    let past = behind_past start c.args.section_offset _ _ x c.requires
+    (omega arith) c.index-entries-middle.is before in
     record {
       above = omega (arith, past);
       below = c.loop-from.invariant.below;

@@ -7,4 +7,5 @@ use Rattle.pdb_inline.proofs.depth_tables.tables_of.Goals as goal
 pub returns : goal.returns
 returns c = λ x.
     let done = drop_of_length-le c.args.lists.now {i = c.loop-segments.segments-index} (omega arith) in
-    sym (append-nil (map (λ table. value_at table x) c.loop-segments.tables.items)) ∙ rw done at (c.loop-segments.invariant x)
+    sym (append-nil (map (λ table. value_at table x) c.loop-segments.tables.items))
+    ∙ rw done at (c.loop-segments.invariant x)

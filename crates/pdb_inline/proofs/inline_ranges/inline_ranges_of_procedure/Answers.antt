@@ -5,5 +5,6 @@ pub returns : goal.returns
 returns c =
     let found = rw c.deref.ensures.value at c.in_ok-sites.ensures in
     let ranges = rw c.deref-2.ensures.value at c.in_ok-ranges_of_sites.ensures in
-    rw (← c.symbols.view_is) (answered_by_depth c.args.inlinees.now.keys c.symbols.inside.items.items c.symbols.inside.fault
+    rw (← c.symbols.view_is) (answered_by_depth c.args.inlinees.now.keys c.symbols.inside.items.items
+    c.symbols.inside.fault
     c.args.position.0 c.args.end.0 _ _ found ranges)

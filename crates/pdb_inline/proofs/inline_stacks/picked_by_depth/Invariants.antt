@@ -4,7 +4,8 @@ use Rattle.pdb_inline.specs.InlineStacks.{lies_over}
 use Rattle.pdb_inline.specs.PickedSlots.{picked_at}
 use Rattle.pdb_inline.proofs.inline_stacks.picked_by_depth.Given as goal
 
--- at each depth that a stack may reach, what is picked so far, or what is left has to offer, is the pick of all; and nothing is picked from there on
+-- at each depth that a stack may reach, what is picked so far, or what is left has to offer, is the pick of all; and
+-- nothing is picked from there on
 abbrev pub invariant-loop-range : goal.invariant-loop-range
 invariant-loop-range l = record {
   picks : (depth : ℕ) → depth < length l.ranges →

@@ -4,7 +4,9 @@ use Rattle.pdb_inline.specs.InlineRanges.{inner_ranges}
 use Rattle.pdb_inline.proofs.laws.added_ranges_are_of_maximal_runs.Goals as goal
 
 pub returns-clause-maximal : goal.returns-clause-maximal
-returns-clause-maximal c = λ inlinees sites site. IsRunsFrom-missing_runs (inner_ranges inlinees sites site) (row_ranges inlinees site.symbol)
+returns-clause-maximal c = λ inlinees sites site. IsRunsFrom-missing_runs (inner_ranges inlinees sites site)
+    (row_ranges inlinees site.symbol)
 
 pub returns-clause-numbers : goal.returns-clause-numbers
-returns-clause-numbers c = λ inlinees sites site x. has-missing_runs (inner_ranges inlinees sites site) (row_ranges inlinees site.symbol) x
+returns-clause-numbers c = λ inlinees sites site x. has-missing_runs (inner_ranges inlinees sites site)
+    (row_ranges inlinees site.symbol) x

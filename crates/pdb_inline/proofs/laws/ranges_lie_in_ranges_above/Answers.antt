@@ -5,4 +5,5 @@ use Rattle.pdb_inline.proofs.laws.ranges_lie_in_ranges_above.Goals as goal
 
 pub returns : goal.returns
 returns c = λ inlinees symbols fault position end depth x there.
-    ranges_above inlinees (walk symbols fault position end).sites depth x (procedure_nested symbols fault position end) there
+    ranges_above inlinees (walk symbols fault position end).sites depth x
+    (procedure_nested symbols fault position end) there

@@ -9,4 +9,5 @@ returns-clause-all c = λ inlinees symbols fault position end x.
 
 pub returns-clause-no_more : goal.returns-clause-no_more
 returns-clause-no_more c = λ inlinees symbols fault position end depth x deep.
-    not_covered_past inlinees (walk symbols fault position end).sites depth x (procedure_nested symbols fault position end) deep
+    not_covered_past inlinees (walk symbols fault position end).sites depth x
+    (procedure_nested symbols fault position end) deep

@@ -7,7 +7,8 @@ abbrev pub invariant-loop-left : goal.invariant-loop-left
 invariant-loop-left l = record {
   within : l.left ≤ length l.runs;
   added : reverse l.added.items
-      ≡ map (added_range l.site.depth l.site.symbol.now l.file_index) (drop l.left l.runs) ++ reverse l.initial.added.items;
+      ≡ map (added_range l.site.depth l.site.symbol.now l.file_index) (drop l.left l.runs)
+      ++ reverse l.initial.added.items;
 }
 
 abbrev pub decreases-loop-left : goal.decreases-loop-left

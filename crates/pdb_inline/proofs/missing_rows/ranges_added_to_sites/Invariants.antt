@@ -9,7 +9,8 @@ abbrev pub invariant-loop-left : goal.invariant-loop-left
 invariant-loop-left l = record {
   within : l.left ≤ length l.sites;
   added : reverse l.added.items ≡ added_by_depth l.inlinees.keys (map site_view (drop l.left l.sites));
-  covered : (d x : ℕ) → is_on_stack d l.stack.items x ≡ has (deeper_ranges l.inlinees.keys d (map site_view (drop l.left l.sites))) x;
+  covered : (d x : ℕ) → is_on_stack d l.stack.items x ≡ has
+      (deeper_ranges l.inlinees.keys d (map site_view (drop l.left l.sites))) x;
 }
 
 abbrev pub decreases-loop-left : goal.decreases-loop-left

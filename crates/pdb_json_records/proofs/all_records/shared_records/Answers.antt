@@ -7,20 +7,25 @@ use Rattle.pdb_json_records.proofs.all_records.shared_records.Goals as goal
 pub returns-in_err-address_map : goal.returns-in_err-address_map
 unfolding shared_records_of
 returns-in_err-address_map c =
-    let p = err_from_is_err_and c.from_residual-in_err-address_map.result c.from_residual-in_err-address_map.ensures.1 in
+    let p = err_from_is_err_and c.from_residual-in_err-address_map.result c.from_residual-in_err-address_map.ensures.1
+    in
     rw (p.1, p.2, c.in_ok-sections.ensures) (fault_ends _ _ _ c.in_err-address_map.ensures)
 
 pub returns-in_err-global_symbols : goal.returns-in_err-global_symbols
 unfolding shared_records_of
 returns-in_err-global_symbols c =
-    let p = err_from_is_err_and c.from_residual-in_err-global_symbols.result c.from_residual-in_err-global_symbols.ensures.1 in
-    rw (p.1, p.2, c.in_ok-sections.ensures, c.in_ok-address_map.ensures) (fault_ends _ _ _ c.in_err-global_symbols.ensures)
+    let p = err_from_is_err_and c.from_residual-in_err-global_symbols.result
+    c.from_residual-in_err-global_symbols.ensures.1 in
+    rw (p.1, p.2, c.in_ok-sections.ensures, c.in_ok-address_map.ensures)
+    (fault_ends _ _ _ c.in_err-global_symbols.ensures)
 
 pub returns-in_err-debug_information : goal.returns-in_err-debug_information
 unfolding shared_records_of
 returns-in_err-debug_information c =
-    let p = err_from_is_err_and c.from_residual-in_err-debug_information.result c.from_residual-in_err-debug_information.ensures.1 in
-    rw (p.1, p.2, c.in_ok-sections.ensures, c.in_ok-address_map.ensures, c.in_ok-global_symbols.ensures) (fault_ends _ _ _ c.in_err-debug_information.ensures)
+    let p = err_from_is_err_and c.from_residual-in_err-debug_information.result
+    c.from_residual-in_err-debug_information.ensures.1 in
+    rw (p.1, p.2, c.in_ok-sections.ensures, c.in_ok-address_map.ensures, c.in_ok-global_symbols.ensures)
+    (fault_ends _ _ _ c.in_err-debug_information.ensures)
 
 pub returns-in_err-type_information : goal.returns-in_err-type_information
 unfolding shared_records_of

@@ -12,4 +12,10 @@ returns-in_err-member-3 c =
 
 pub returns : goal.returns
 unfolding class_of
-returns c = rw (c.in_ok-member.ensures, c.in_ok-member-2.ensures, c.in_ok-member-3.ensures, c.in_ok-member-4.ensures, c.in_ok-member-5.ensures) refl
+returns c = rw (
+  c.in_ok-member.ensures,
+  c.in_ok-member-2.ensures,
+  c.in_ok-member-3.ensures,
+  c.in_ok-member-4.ensures,
+  c.in_ok-member-5.ensures,
+) refl

@@ -14,8 +14,10 @@ pub returns-in_err-member-4 : goal.returns-in_err-member-4
 unfolding pointer_of
 returns-in_err-member-4 c =
     let p = err_from_is_err_and c.from_residual-in_err-member-4.result c.from_residual-in_err-member-4.ensures.1 in
-    rw (p.1, p.2, c.in_ok-member.ensures, c.in_ok-member-2.ensures, c.in_ok-member-3.ensures) (fault_ends _ _ _ c.in_err-member-4.ensures)
+    rw (p.1, p.2, c.in_ok-member.ensures, c.in_ok-member-2.ensures, c.in_ok-member-3.ensures)
+    (fault_ends _ _ _ c.in_err-member-4.ensures)
 
 pub returns : goal.returns
 unfolding pointer_of
-returns c = rw (c.in_ok-member.ensures, c.in_ok-member-2.ensures, c.in_ok-member-3.ensures, c.in_ok-member-4.ensures) refl
+returns c = rw (c.in_ok-member.ensures, c.in_ok-member-2.ensures, c.in_ok-member-3.ensures, c.in_ok-member-4.ensures)
+    refl

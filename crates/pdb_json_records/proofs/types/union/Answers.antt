@@ -12,4 +12,5 @@ returns-in_err-member-2 c =
 
 pub returns : goal.returns
 unfolding union_of
-returns c = rw (c.in_ok-member.ensures, c.in_ok-member-2.ensures, c.in_ok-member-3.ensures, c.in_ok-member-4.ensures) refl
+returns c = rw (c.in_ok-member.ensures, c.in_ok-member-2.ensures, c.in_ok-member-3.ensures, c.in_ok-member-4.ensures)
+    refl

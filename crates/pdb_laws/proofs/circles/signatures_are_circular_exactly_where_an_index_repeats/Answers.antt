@@ -11,8 +11,13 @@ pub returns : goal.returns
 returns c = record {
   refused = λ link_inputs types ids pointer flags module_index name index circle meets failed.
       let w = print_inputs_of link_inputs types ids pointer flags module_index in
-      circle_refused (document-unfolds w (print_inputs-below link_inputs types ids pointer flags module_index) (signature w name index)) meets failed;
+      circle_refused (document-unfolds w (print_inputs-below link_inputs types ids pointer flags module_index)
+      (signature w name index)) meets failed;
   only = λ link_inputs types ids pointer flags module_index name index circle failed is.
       let w = print_inputs_of link_inputs types ids pointer flags module_index in
-      circle_met w (print_inputs_are_good IsOther others.reading link_inputs types ids pointer flags module_index) (document-unfolds w (print_inputs-below link_inputs types ids pointer flags module_index) (signature w name index)) (good_signature IsOther others w (print_inputs_are_good IsOther others.reading link_inputs types ids pointer flags module_index) name index) failed circle is;
+      circle_met w (print_inputs_are_good IsOther others.reading link_inputs types ids pointer flags module_index)
+      (document-unfolds w (print_inputs-below link_inputs types ids pointer flags module_index)
+      (signature w name index)) (good_signature IsOther others w
+      (print_inputs_are_good IsOther others.reading link_inputs types ids pointer flags module_index) name index)
+      failed circle is;
 }

@@ -10,8 +10,11 @@ pub returns : goal.returns
 returns c = record {
   refused = λ link_inputs types ids pointer flags module_index inside index circle meets failed.
       let w = print_inputs_of link_inputs types ids pointer flags module_index in
-      circle_refused (document-unfolds w (print_inputs-below link_inputs types ids pointer flags module_index) (type_of_index inside index)) meets failed;
+      circle_refused (document-unfolds w (print_inputs-below link_inputs types ids pointer flags module_index)
+      (type_of_index inside index)) meets failed;
   only = λ link_inputs types ids pointer flags module_index inside index circle failed is.
       let w = print_inputs_of link_inputs types ids pointer flags module_index in
-      circle_met w (print_inputs_are_good IsOther others.reading link_inputs types ids pointer flags module_index) (document-unfolds w (print_inputs-below link_inputs types ids pointer flags module_index) (type_of_index inside index)) (tt) failed circle is;
+      circle_met w (print_inputs_are_good IsOther others.reading link_inputs types ids pointer flags module_index)
+      (document-unfolds w (print_inputs-below link_inputs types ids pointer flags module_index)
+      (type_of_index inside index)) (tt) failed circle is;
 }

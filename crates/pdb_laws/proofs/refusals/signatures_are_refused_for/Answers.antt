@@ -11,5 +11,7 @@ use Rattle.pdb_laws.proofs.refusals.signatures_are_refused_for.Goals as goal
 pub returns : goal.returns
 returns c = λ link_inputs types ids pointer flags module_index name index failed failure is.
     let w = print_inputs_of link_inputs types ids pointer flags module_index in
-    let reads = print_inputs_are_good IsPrintError print_errors.reading link_inputs types ids pointer flags module_index in
-    refused_for w reads (document-unfolds w (print_inputs-below link_inputs types ids pointer flags module_index) (signature w name index)) (good_signature IsPrintError print_errors w reads name index) failed failure is
+    let reads = print_inputs_are_good IsPrintError print_errors.reading link_inputs types ids pointer flags
+    module_index in
+    refused_for w reads (document-unfolds w (print_inputs-below link_inputs types ids pointer flags module_index)
+    (signature w name index)) (good_signature IsPrintError print_errors w reads name index) failed failure is

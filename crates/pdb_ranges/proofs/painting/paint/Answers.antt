@@ -11,12 +11,14 @@ returns-in_ok-push-clause-ordered g c =
 pub returns-in_ok-push-clause-ok : goal.returns-in_ok-push-clause-ok
 returns-in_ok-push-clause-ok g c =
     let end = rw (c.end_of.ensures, c.deref.ensures.value) at c.if-end_of-lo.true in
-    rw c.in_ok-push.ensures.items (λ x. value_at-push x 0 _ (record { start = c.args.lo; end = c.args.hi; value = c.args.value }) end c.requires)
+    rw c.in_ok-push.ensures.items
+    (λ x. value_at-push x 0 _ (record { start = c.args.lo; end = c.args.hi; value = c.args.value }) end c.requires)
 
 pub returns-in_ok-segments-clause-ordered : goal.returns-in_ok-segments-clause-ordered
 returns-in_ok-segments-clause-ordered g c =
     rw (c.in_ok-segments.ensures, c.deref-else-end_of-lo.ensures.value)
-    (ordered_painted (record { start = c.args.lo; end = c.args.hi; value = c.args.value }) _ c.if-hi-lo.false c.requires)
+    (ordered_painted (record { start = c.args.lo; end = c.args.hi; value = c.args.value }) _ c.if-hi-lo.false
+    c.requires)
 
 pub returns-in_ok-segments-clause-ok : goal.returns-in_ok-segments-clause-ok
 returns-in_ok-segments-clause-ok g c =

@@ -4,7 +4,8 @@ use Rattle.pdb_ranges.specs.Segments.{value_at}
 use Rattle.pdb_ranges.proofs.SearchLemmas.{window}
 use Rattle.pdb_ranges.proofs.segments.search.Given as goal
 
--- the value is that in the window, and the probes so far and the digits of its size are no more than those of all entries
+-- the value is that in the window, and the probes so far and the digits of its size are no more than those of all
+-- entries
 abbrev pub invariant-loop-from : goal.invariant-loop-from
 invariant-loop-from g l = record {
   value : value_at (window l.from l.to l.entries) l.x ≡ value_at l.entries l.x;

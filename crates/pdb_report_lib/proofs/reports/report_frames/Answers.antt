@@ -16,8 +16,11 @@ loop-address-preserved g c =
     record {
       same = c.put_frames.ensures.inputs ∙ c.loop-address.invariant.same;
       same_code = c.in_ok-put_frames.ensures.code_failed ∙ c.loop-address.invariant.same_code;
-      shown = after_frames_more g.P.ModuleProvider.info c.args.context.now c.loop-address.context c.put_frames.new.context c.args.addresses.now c.loop-address.address-index below c.loop-address.invariant.shown c.in_ok-put_frames.ensures.shown;
-      taken = takes_one_more text_of c.args.addresses.now c.loop-address.address-index (state c.args.sink.now) (state c.loop-address.sink) (state c.put_frames.new.sink) below c.loop-address.invariant.taken text;
+      shown = after_frames_more g.P.ModuleProvider.info c.args.context.now c.loop-address.context
+          c.put_frames.new.context c.args.addresses.now c.loop-address.address-index below
+          c.loop-address.invariant.shown c.in_ok-put_frames.ensures.shown;
+      taken = takes_one_more text_of c.args.addresses.now c.loop-address.address-index (state c.args.sink.now)
+          (state c.loop-address.sink) (state c.put_frames.new.sink) below c.loop-address.invariant.taken text;
     }
 
 pub returns-in_err-put_frames-clause-fault : goal.returns-in_err-put_frames-clause-fault
@@ -32,7 +35,8 @@ returns-in_err-put_frames-clause-fault g c =
     let below : i < length addresses = omega arith in
     let at_once : EndsAtOnce (text_of (get_or addresses i 0)) (state c.loop-address.sink) after fault =
     rw (c.loop-address.invariant.same, c.loop-address.invariant.same_code) at c.in_err-put_frames.ensures.fault in
-    let ends = ends_at_address text_of addresses i before (state c.loop-address.sink) after fault below c.loop-address.invariant.taken at_once in
+    let ends = ends_at_address text_of addresses i before
+    (state c.loop-address.sink) after fault below c.loop-address.invariant.taken at_once in
     fails_with _ fault (EndsAmidTexts text_of addresses before after) c.from_residual.ensures.1 ends
 
 pub returns-in_err-put_frames-clause-left : goal.returns-in_err-put_frames-clause-left
@@ -42,5 +46,7 @@ returns-in_err-put_frames-clause-left g c =
     let addresses = c.args.addresses.now in
     let fault = c.in_err-put_frames.field-0.0 in
     let below : i < length addresses = omega arith in
-    let left = left_at_address info c.args.context.now c.loop-address.context c.put_frames.new.context addresses i fault below c.loop-address.invariant.shown c.in_err-put_frames.ensures.left in
-    fails_with _ fault (IsLeftAmid info c.args.context.now c.put_frames.new.context addresses) c.from_residual.ensures.1 left
+    let left = left_at_address info c.args.context.now c.loop-address.context c.put_frames.new.context addresses i
+    fault below c.loop-address.invariant.shown c.in_err-put_frames.ensures.left in
+    fails_with _ fault (IsLeftAmid info c.args.context.now c.put_frames.new.context addresses)
+    c.from_residual.ensures.1 left

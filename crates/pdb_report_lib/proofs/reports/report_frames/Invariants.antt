@@ -12,6 +12,8 @@ invariant-loop-address g l =
     record {
       same : l.context.inputs ≡ l.initial.context.inputs;
       same_code : l.context.code_failed ≡ l.initial.context.code_failed;
-      shown : l.context ≡ after_calls g.P.ModuleProvider.info l.initial.context (map FindFrames (take l.address-index l.addresses));
-      taken : TakesText (addresses_text text_of (take l.address-index l.addresses)) (state l.initial.sink) (state l.sink);
+      shown : l.context ≡ after_calls g.P.ModuleProvider.info l.initial.context
+          (map FindFrames (take l.address-index l.addresses));
+      taken : TakesText (addresses_text text_of (take l.address-index l.addresses)) (state l.initial.sink)
+          (state l.sink);
     }

@@ -11,5 +11,6 @@ invariant-loop-address g l =
     record {
       same : l.context.inputs ≡ l.initial.context.inputs;
       shown : l.context ≡ after_functions g.P.ModuleProvider.info l.initial.context (take l.address-index l.addresses);
-      taken : TakesText (addresses_text text_of (take l.address-index l.addresses)) (state l.initial.sink) (state l.sink);
+      taken : TakesText (addresses_text text_of (take l.address-index l.addresses)) (state l.initial.sink)
+          (state l.sink);
     }

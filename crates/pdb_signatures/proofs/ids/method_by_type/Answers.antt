@@ -10,11 +10,13 @@ use Rattle.pdb_signatures.proofs.ids.method_by_type.Goals as goal
 
 pub returns-in_ok-method-in-MemberFunction : goal.returns-in_ok-method-in-MemberFunction
 returns-in_ok-method-in-MemberFunction c = λ w flags failed.
-    rw c.in-MemberFunction.is (advances_stands w 0 _ c.args.progress.now _ (c.in_ok-method-in-MemberFunction.ensures w flags) failed)
+    rw c.in-MemberFunction.is (advances_stands w 0 _ c.args.progress.now _
+    (c.in_ok-method-in-MemberFunction.ensures w flags) failed)
 
 pub returns-in_default : goal.returns-in_default
 returns-in_default c = λ w flags failed.
     let error = Plain MemberFunctionIdIsNotMemberFunctionType in
     let fails = advances_failed w (OfError error) c.args.progress.now _ failed c.requires.well c.fail.ensures in
     let fewer = advances_fewer w (failing error) 1 0 c.args.progress.now _ failed failed (omega arith) fails in
-    rw (method_id-other w c.args.id.now (open_in c.args.progress.now.steps) c.args.type_data.now c.in_default.not-MemberFunction) fewer
+    rw (method_id-other w c.args.id.now
+    (open_in c.args.progress.now.steps) c.args.type_data.now c.in_default.not-MemberFunction) fewer

@@ -10,6 +10,8 @@ returns-clause-printed g c =
     let s = c.args.type_inputs.now in
     let w = formatter_inputs g.P.ModuleProvider.info s c.args.module_index in
     let plan = id_of_index c.args.index.0 in
-    let runs = begins_task w _ _ _ c.args.cache.now.failed _ c.new-progress.ensures c.in_ok-first.ensures c.in_ok-print.ensures.ends in
-    let is = document-runs w (formatter-below g.P.ModuleProvider.info s c.args.module_index) plan c.args.cache.now.failed _ (rw c.new.ensures.empty at runs) in
+    let runs = begins_task w _ _ _ c.args.cache.now.failed _ c.new-progress.ensures c.in_ok-first.ensures
+    c.in_ok-print.ensures.ends in
+    let is = document-runs w (formatter-below g.P.ModuleProvider.info s c.args.module_index) plan
+    c.args.cache.now.failed _ (rw c.new.ensures.empty at runs) in
     rw (c.into_printed.ensures.text, c.into_printed.ensures.failure) is

@@ -12,4 +12,6 @@ returns c = λ w failed.
     let row = stands_before w _ _ _ _ _ _ last c.in_ok-first-2.ensures in
     let all = stands_fewer 0 (omega arith) (stands_before w _ _ _ _ _ _ row c.in_ok-first-3.ensures) in
     let advances = advances_stands w 0 _ _ _ all failed in
-    alone_advances w None (λ inside. written (codes "\"") ▸ types_between (codes "\" \"") inside c.args.substrings.now ▸ written (codes "\"")) c.args.progress.now _ _ failed failed c.in_ok-open_alone.ensures advances
+    alone_advances w None (λ inside. written
+    (codes "\"") ▸ types_between (codes "\" \"") inside c.args.substrings.now ▸ written (codes "\""))
+    c.args.progress.now _ _ failed failed c.in_ok-open_alone.ensures advances

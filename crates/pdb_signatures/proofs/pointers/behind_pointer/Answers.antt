@@ -3,7 +3,10 @@ use Rattle.pdb_signatures.proofs.OtherKinds.{behind_pointer-other}
 use Rattle.pdb_signatures.proofs.pointers.behind_pointer.Goals as goal
 
 pub returns-in_ok-further_pointer-in-Pointer : goal.returns-in_ok-further_pointer-in-Pointer
-returns-in_ok-further_pointer-in-Pointer c = λ w. rw c.in-Pointer.is (stands_here (c.in_ok-further_pointer-in-Pointer.ensures w))
+returns-in_ok-further_pointer-in-Pointer c =
+    λ w. rw c.in-Pointer.is (stands_here (c.in_ok-further_pointer-in-Pointer.ensures w))
 
 pub returns-in_ok-chain_end-in_default : goal.returns-in_ok-chain_end-in_default
-returns-in_ok-chain_end-in_default c = λ w. rw (behind_pointer-other w _ _ c.args.type_data.now c.in_default.not-Pointer c.in_default.not-Modifier) (c.in_ok-chain_end-in_default.ensures w)
+returns-in_ok-chain_end-in_default c =
+    λ w. rw (behind_pointer-other w _ _ c.args.type_data.now c.in_default.not-Pointer c.in_default.not-Modifier)
+    (c.in_ok-chain_end-in_default.ensures w)

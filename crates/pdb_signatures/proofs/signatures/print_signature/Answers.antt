@@ -16,5 +16,6 @@ returns-clause-printed g c =
     let s = c.args.type_inputs.now in
     let w = formatter_inputs g.P.ModuleProvider.info s c.args.module_index in
     let runs = c.in_ok-signature.ensures.begins _ c.in_ok-print.ensures.ends in
-    let is = document-runs w (formatter-below g.P.ModuleProvider.info s c.args.module_index) (signature w c.args.name.now c.args.index.0) c.args.cache.now.failed _ runs in
+    let is = document-runs w (formatter-below g.P.ModuleProvider.info s c.args.module_index)
+    (signature w c.args.name.now c.args.index.0) c.args.cache.now.failed _ runs in
     rw (c.into_printed.ensures.text, c.into_printed.ensures.failure) is

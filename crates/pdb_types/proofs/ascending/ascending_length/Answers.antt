@@ -7,10 +7,12 @@ loop-ascending-init g c = record { within = omega arith; ascends = ascends_none 
 
 pub loop-ascending-smaller : goal.loop-ascending-smaller
 loop-ascending-smaller g c =
-    let there = got_there g.T.Numbered.number_of c.args.entries.now c.loop-ascending.ascending _ c.in-Some.ensures.there in
+    let there = got_there g.T.Numbered.number_of c.args.entries.now c.loop-ascending.ascending _
+    c.in-Some.ensures.there in
     omega (arith, there.0)
 
 pub loop-ascending-preserved : goal.loop-ascending-preserved
 loop-ascending-preserved g c =
-    let there = got_there g.T.Numbered.number_of c.args.entries.now c.loop-ascending.ascending _ c.in-Some.ensures.there in
+    let there = got_there g.T.Numbered.number_of c.args.entries.now c.loop-ascending.ascending _
+    c.in-Some.ensures.there in
     record { within = omega (arith, there.0); ascends = c.in-Some.ensures.ascends }

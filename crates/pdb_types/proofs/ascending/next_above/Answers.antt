@@ -22,5 +22,7 @@ pub returns-then-number-clause-ascends : goal.returns-then-number-clause-ascends
 returns-then-number-clause-ascends g c =
     let entry = c.in_ok-entry.ensures.lookup in
     let within : c.args.ascending < length c.args.entries.now = grind (arith, nat_tests, entry.0) in
-    let less : g.T.Numbered.number_of c.index-entries-last.result < g.T.Numbered.number_of c.in_ok-entry.entry.now = rw (← c.number.ensures, ← c.number-2.ensures) c.if-number.true in
-    ascends_above g.T.Numbered.number_of _ _ _ within entry.1 _ _ c.in-Some.ensures.1 c.index-entries-last.is less c.requires
+    let less : g.T.Numbered.number_of c.index-entries-last.result < g.T.Numbered.number_of c.in_ok-entry.entry.now =
+    rw (← c.number.ensures, ← c.number-2.ensures) c.if-number.true in
+    ascends_above g.T.Numbered.number_of _ _ _ within entry.1 _ _ c.in-Some.ensures.1 c.index-entries-last.is less
+    c.requires

@@ -14,9 +14,13 @@ pub loop-left-preserved : goal.loop-left-preserved
 loop-left-preserved c =
     let next : (c.loop-left.left - 1) + 1 ≡ c.loop-left.left = omega arith in
     let within : c.loop-left.left - 1 < length c.args.items.now = omega arith in
-    let here = drop-here c.args.items.now (c.loop-left.left - 1) c.loop-left.left c.index-items-left.result next within c.index-items-left.is in
+    let here = drop-here c.args.items.now
+    (c.loop-left.left - 1) c.loop-left.left c.index-items-left.result next within c.index-items-left.is in
     record {
       within = omega arith;
-      defined = rw here (defines_more _ _ _ _ _ c.item_aggregate-error_view.ensures c.loop-left.invariant.defined c.in_ok-define.ensures);
-      answered = rw here (tabulates_more _ _ _ _ _ _ _ _ refl c.item_aggregate-error_view.ensures c.reference_size-size.ensures c.loop-left.invariant.defined c.loop-left.invariant.answered c.in_ok-answer.ensures);
+      defined = rw here (defines_more _ _ _ _ _ c.item_aggregate-error_view.ensures c.loop-left.invariant.defined
+          c.in_ok-define.ensures);
+      answered = rw here (tabulates_more _ _ _ _ _ _ _ _ refl c.item_aggregate-error_view.ensures
+          c.reference_size-size.ensures c.loop-left.invariant.defined c.loop-left.invariant.answered
+          c.in_ok-answer.ensures);
     }

@@ -2,12 +2,18 @@ use Rattle.std.proofs.Common.{◌∙◌, ◌<◌, [], ◌∷◌, ◌++◌, lengt
 use Rattle.std.proofs.lemmas.List.{take_all}
 use Rattle.pdb_function_info.specs.Function.{function_view}
 use Rattle.pdb_addr2line.specs.Functions.{functions_at, after_functions}
-use Rattle.pdb_addr2line.proofs.FunctionLemmas.{inputs_stay, after_one_more, functions_one_more, cut_short_later, on_error}
+use Rattle.pdb_addr2line.proofs.FunctionLemmas.{inputs_stay, after_one_more, functions_one_more, cut_short_later}
+use Rattle.pdb_addr2line.proofs.FunctionLemmas.{on_error}
 use Rattle.pdb_addr2line.proofs.GainLemmas.{gains_none, gains_after}
 use Rattle.pdb_addr2line.proofs.context.Context.all_functions.Goals as goal
 
 pub loop-address-init : goal.loop-address-init
-loop-address-init g c = record { functions = ap (map function_view) c.new-functions.ensures.items; shown = refl; gains = gains_none g.P.ModuleProvider.info c.start_addresses.new.self c.start_addresses.new.self refl }
+loop-address-init g c = record {
+  functions = ap (map function_view) c.new-functions.ensures.items;
+  shown =
+      refl;
+  gains = gains_none g.P.ModuleProvider.info c.start_addresses.new.self c.start_addresses.new.self refl;
+}
 
 pub loop-address-preserved : goal.loop-address-preserved
 loop-address-preserved g c =
@@ -21,10 +27,13 @@ loop-address-preserved g c =
     record {
       functions = c.in_ok-add_function.ensures.added
           ∙ (ap (λ xs. map function_view c.loop-address.functions.items ++ xs) here
-          ∙ (ap (λ xs. xs ++ functions_at info context.inputs (get_or addresses i 0 ∷ [])) c.loop-address.invariant.functions
+          ∙ (ap (λ xs. xs ++ functions_at info context.inputs (get_or addresses i 0 ∷ []))
+          c.loop-address.invariant.functions
           ∙ sym (functions_one_more info context.inputs addresses i below)));
-      shown = after_one_more info context c.loop-address.self c.add_function.new.self addresses i below c.loop-address.invariant.shown c.in_ok-add_function.ensures.shown;
-      gains = gains_after info context c.loop-address.self c.add_function.new.self c.loop-address.invariant.gains c.add_function.ensures.gains;
+      shown = after_one_more info context c.loop-address.self c.add_function.new.self addresses i below
+          c.loop-address.invariant.shown c.in_ok-add_function.ensures.shown;
+      gains = gains_after info context c.loop-address.self c.add_function.new.self c.loop-address.invariant.gains
+          c.add_function.ensures.gains;
     }
 
 pub returns-in_err-add_function-clause-cut_short : goal.returns-in_err-add_function-clause-cut_short
@@ -34,7 +43,8 @@ returns-in_err-add_function-clause-cut_short g c =
     let i = c.loop-address.address-index in
     let below : i < length addresses = omega arith in
     let is = c.deref-address-items.ensures.value ∙ c.in_ok-addresses.ensures.addresses in
-    let cut = cut_short_later info c.start_addresses.new.self c.loop-address.self c.add_function.new.self addresses i below c.loop-address.invariant.shown c.in_err-add_function.ensures.cut_short in
+    let cut = cut_short_later info c.start_addresses.new.self c.loop-address.self c.add_function.new.self addresses i
+    below c.loop-address.invariant.shown c.in_err-add_function.ensures.cut_short in
     on_error _ (rw (is, c.start_addresses.ensures.unchanged) at cut)
 
 pub returns-clause-functions : goal.returns-clause-functions
@@ -43,7 +53,8 @@ returns-clause-functions g c =
     let whole = take_all c.loop-address.address-index c.deref-address-items.result.now c.loop-address-test.false in
     let functions = rw c.start_addresses.ensures.unchanged at c.loop-address.invariant.functions in
     functions
-    ∙ ap (functions_at info c.args.self.now.inputs) (whole ∙ (c.deref-address-items.ensures.value ∙ c.in_ok-addresses.ensures.addresses))
+    ∙ ap (functions_at info c.args.self.now.inputs)
+    (whole ∙ (c.deref-address-items.ensures.value ∙ c.in_ok-addresses.ensures.addresses))
 
 pub returns-clause-shown : goal.returns-clause-shown
 returns-clause-shown g c =
@@ -51,9 +62,11 @@ returns-clause-shown g c =
     let whole = take_all c.loop-address.address-index c.deref-address-items.result.now c.loop-address-test.false in
     let shown = rw c.start_addresses.ensures.unchanged at c.loop-address.invariant.shown in
     shown
-    ∙ ap (after_functions info c.args.self.now) (whole ∙ (c.deref-address-items.ensures.value ∙ c.in_ok-addresses.ensures.addresses))
+    ∙ ap (after_functions info c.args.self.now)
+    (whole ∙ (c.deref-address-items.ensures.value ∙ c.in_ok-addresses.ensures.addresses))
 
 pub returns-in_err-add_function-clause-gains : goal.returns-in_err-add_function-clause-gains
 returns-in_err-add_function-clause-gains g c =
     let gains = rw c.start_addresses.ensures.unchanged at c.loop-address.invariant.gains in
-    on_error _ (gains_after g.P.ModuleProvider.info c.args.self.now c.loop-address.self c.add_function.new.self gains c.add_function.ensures.gains)
+    on_error _ (gains_after g.P.ModuleProvider.info c.args.self.now c.loop-address.self c.add_function.new.self gains
+    c.add_function.ensures.gains)

@@ -8,7 +8,8 @@ abbrev pub invariant-loop-address : goal.invariant-loop-address
 invariant-loop-address g l =
     let info = g.P.ModuleProvider.info in
     record {
-      functions : map function_view l.functions.items ≡ functions_at info l.initial.self.inputs (take l.address-index l.address-items);
+      functions : map function_view l.functions.items ≡ functions_at info l.initial.self.inputs
+          (take l.address-index l.address-items);
       shown : l.self ≡ after_functions info l.initial.self (take l.address-index l.address-items);
       gains : OnlyGainsBroken info l.initial.self l.self;
     }

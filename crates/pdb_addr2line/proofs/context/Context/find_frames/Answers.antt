@@ -23,4 +23,8 @@ returns-in-Some-2-clause-code_failed g c =
 pub frames_answer-requires : goal.frames_answer-requires
 frames_answer-requires g c =
     let found = rw (c.in-Some-2.is) at c.in_ok-found_over.ensures.answer in
-    record { named = rw c.found_over.ensures.unchanged (over_goes_by_symbol g.P.ModuleProvider.info c.args.self.now.inputs c.in-Some.section_offset (found_function c.in-Some-2.found) found) }
+    record {
+      named = rw c.found_over.ensures.unchanged
+          (over_goes_by_symbol g.P.ModuleProvider.info c.args.self.now.inputs c.in-Some.section_offset
+          (found_function c.in-Some-2.found) found);
+    }

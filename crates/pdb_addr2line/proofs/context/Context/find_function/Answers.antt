@@ -15,4 +15,8 @@ returns-in-Some-clause-failed g c =
 pub function_info-requires : goal.function_info-requires
 function_info-requires g c =
     let found = rw (c.in-Some.is) at c.in_ok-found.ensures.answer in
-    record { named = rw c.found.ensures.unchanged (at_goes_by_symbol g.P.ModuleProvider.info c.args.self.now.inputs c.args.address (found_function c.in-Some.found) found) }
+    record {
+      named = rw c.found.ensures.unchanged
+          (at_goes_by_symbol g.P.ModuleProvider.info c.args.self.now.inputs c.args.address
+          (found_function c.in-Some.found) found);
+    }

@@ -7,6 +7,7 @@ abbrev pub invariant-loop-call : goal.invariant-loop-call
 invariant-loop-call g l =
     let info = g.P.ModuleProvider.info in
     record {
-      answers : Appends l.initial.answers.items l.answers.items (answers_to info l.initial.self (take l.call-index l.calls));
+      answers : Appends l.initial.answers.items l.answers.items
+          (answers_to info l.initial.self (take l.call-index l.calls));
       state : l.self ≡ after_calls info l.initial.self (take l.call-index l.calls);
     }

@@ -14,7 +14,10 @@ loop-address-preserved g c =
     let nothing = ap is_some (sym c.transpose-shown.ensures) ∙ (sym c.is_some.ensures ∙ c.if-is_some.false) in (
       c.loop-address.invariant.0,
       passed ++ c.in-Some.address ∷ [],
-      passed_here info (lender c.args.self.now) (lender c.loop-address.self) c.next_function.new.self all passed (untried c.loop-address.self) (into_iter_items c.next.new.self) c.in-Some.address c.next_function.result c.loop-address.invariant.2 c.in-Some.ensures.items c.next_function.ensures.answer c.next_function.ensures.shown nothing,
+      passed_here info (lender c.args.self.now) (lender c.loop-address.self) c.next_function.new.self all passed
+          (untried c.loop-address.self)
+          (into_iter_items c.next.new.self) c.in-Some.address c.next_function.result c.loop-address.invariant.2
+          c.in-Some.ensures.items c.next_function.ensures.answer c.next_function.ensures.shown nothing,
     )
 
 pub returns-then-is_some-clause-steps : goal.returns-then-is_some-clause-steps
@@ -23,7 +26,11 @@ returns-then-is_some-clause-steps g c =
     let all = untried c.args.self.now in
     let passed = c.loop-address.invariant.1 in
     let something = ap is_some (sym c.transpose-shown.ensures) ∙ (sym c.is_some.ensures ∙ c.if-is_some.true) in
-    let shown = shown_here info (lender c.args.self.now) (lender c.loop-address.self) c.next_function.new.self all passed (untried c.loop-address.self) (into_iter_items c.next.new.self) c.in-Some.address c.next_function.result c.loop-address.invariant.2 c.in-Some.ensures.items c.next_function.ensures.answer c.next_function.ensures.shown (on_error c.next_function.result c.next_function.ensures.gains) something in
+    let shown = shown_here info (lender c.args.self.now)
+    (lender c.loop-address.self) c.next_function.new.self all passed (untried c.loop-address.self)
+    (into_iter_items c.next.new.self) c.in-Some.address c.next_function.result c.loop-address.invariant.2
+    c.in-Some.ensures.items c.next_function.ensures.answer c.next_function.ensures.shown
+    (on_error c.next_function.result c.next_function.ensures.gains) something in
     record {
       same_reference = c.loop-address.invariant.0;
       matches = rw c.transpose-shown.ensures shown;

@@ -6,7 +6,8 @@ use Rattle.pdb_addr2line.proofs.functions.FunctionIterIterator.next.Given as goa
 abbrev pub invariant-loop-address : goal.invariant-loop-address
 invariant-loop-address g l =
     (l.self.context.ghost_name ≡ l.initial.self.context.ghost_name)
-    × (passed : List ℕ) × Passes g.P.ModuleProvider.info (lender l.initial.self) (lender l.self) (untried l.initial.self) passed (untried l.self)
+    × (passed : List ℕ) × Passes g.P.ModuleProvider.info (lender l.initial.self) (lender l.self)
+    (untried l.initial.self) passed (untried l.self)
 
 -- fewer are left
 abbrev pub decreases-loop-address : goal.decreases-loop-address

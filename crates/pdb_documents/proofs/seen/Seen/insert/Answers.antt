@@ -7,4 +7,5 @@ returns-in-Ok-clause-added c = has-added c.args.self.now.set.now c.insert.new.se
 
 pub returns-in-Ok-clause-base_unchanged : goal.returns-in-Ok-clause-base_unchanged
 returns-in-Ok-clause-base_unchanged c =
-    base-added c.args.self.now.set.now c.insert.new.self c.args.self.now.inserted.items c.push.new.self.items c.args.index c.in_ok-push.ensures.items (sym c.if-contains.ensures) c.in-Ok.ensures.updates
+    base-added c.args.self.now.set.now c.insert.new.self c.args.self.now.inserted.items c.push.new.self.items
+    c.args.index c.in_ok-push.ensures.items (sym c.if-contains.ensures) c.in-Ok.ensures.updates

@@ -19,6 +19,7 @@ returns-clause-over c =
     let position : c.position_above-above.result ≡ position_or_len (λ row. nat_lt c.args.offset row.offset) rows =
     rw (← c.deref.ensures.value) c.position_above-above.ensures.position in
     let one_more : c.position_above-above.result ≡ suc last = omega arith in
-    let within : last < length rows = omega (arith, ap length c.deref.ensures.value, c.position_above-above.ensures.within) in
+    let within : last < length rows =
+    omega (arith, ap length c.deref.ensures.value, c.position_above-above.ensures.within) in
     let got = slice_get-get_or rows last c.index.result.now within ∙ ap (λ row. Some row) (sym c.index.ensures) in
     rw (← c.self.view_is) (sym (one_over c.args.offset rows last c.self.invariant (sym position ∙ one_more) ∙ got))

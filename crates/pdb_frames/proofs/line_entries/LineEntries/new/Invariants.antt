@@ -9,4 +9,5 @@ use Rattle.pdb_frames.proofs.line_entries.LineEntries.new.Given as goal
 -- what is known, else what is left gives, is what all give
 abbrev pub invariant-loop-entry : goal.invariant-loop-entry
 invariant-loop-entry l = (section_offset : PdbInternalSectionOffset)
-    → option_or (option_copied (get section_offset_cmp l.known section_offset)) (lines_at section_offset (drop l.entry-index l.program.entries)) ≡ lines_at section_offset l.program.entries
+    → option_or (option_copied (get section_offset_cmp l.known section_offset))
+    (lines_at section_offset (drop l.entry-index l.program.entries)) ≡ lines_at section_offset l.program.entries

@@ -5,6 +5,9 @@ pub invariant_of-self : goal.invariant_of-self
 invariant_of-self g c =
     let more = more_broken _ _ _ c.format_id.ensures.broken in
     record {
-      signatures = signatures_later g.P.ModuleProvider.info (g.P.ModuleProvider.info c.self.inside.signatures.provider.now) c.self.inside.formatter c.format_id.new.self c.self.inside.signatures.texts.entries.items c.format_id.ensures.type_inputs more c.self.invariant.signatures;
-      ids = ids_later g.P.ModuleProvider.info c.self.inside.formatter c.format_id.new.self c.self.inside.ids.entries.items c.format_id.ensures.type_inputs more c.self.invariant.ids;
+      signatures = signatures_later g.P.ModuleProvider.info
+          (g.P.ModuleProvider.info c.self.inside.signatures.provider.now) c.self.inside.formatter c.format_id.new.self
+          c.self.inside.signatures.texts.entries.items c.format_id.ensures.type_inputs more c.self.invariant.signatures;
+      ids = ids_later g.P.ModuleProvider.info c.self.inside.formatter c.format_id.new.self
+          c.self.inside.ids.entries.items c.format_id.ensures.type_inputs more c.self.invariant.ids;
     }

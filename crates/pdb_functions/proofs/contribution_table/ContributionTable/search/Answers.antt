@@ -7,5 +7,6 @@ pub returns-clause-few : goal.returns-clause-few
 returns-clause-few c =
     let same : length c.args.self.now ≡ length c.self.inside.last_first.items =
     rw (← c.self.view_is) (length-reverse c.self.inside.last_first.items) in
-    let fewer = digits_mono (length c.self.inside.segments) (2 * length c.args.self.now) (omega (arith, same, c.self.invariant.at_most_two_each)) in
+    let fewer = digits_mono (length c.self.inside.segments) (2 * length c.args.self.now)
+    (omega (arith, same, c.self.invariant.at_most_two_each)) in
     omega (arith, fewer, c.find.ensures.few)

@@ -3,7 +3,10 @@ use Rattle.pdb_records.specs.Addresses.{is_same_section_offset}
 use Rattle.pdb_functions.specs.GlobalFunctions.{GlobalFunction, global_function}
 use Rattle.pdb_functions.proofs.NeighbourLemmas.{passes_it, fails_it, none_it, at_from_last}
 use Rattle.pdb_functions.proofs.global_function_table.GlobalFunctionTable.function_at.Goals as goal
-use Rattle.pdb_functions.proofs.global_function_table.GlobalFunctionTable.function_at.Goals.{in_default-via-in-Some+else-eq, in_default-via-in_default}
+use Rattle.pdb_functions.proofs.global_function_table.GlobalFunctionTable.function_at.Goals.{
+  in_default-via-in-Some+else-eq,
+}
+use Rattle.pdb_functions.proofs.global_function_table.GlobalFunctionTable.function_at.Goals.{in_default-via-in_default}
 
 pub returns-in-Some : goal.returns-in-Some
 returns-in-Some c =
@@ -16,8 +19,10 @@ returns-in_default c =
     let here = λ (f : GlobalFunction). is_same_section_offset f.start c.args.start in
     elim c.in_default.branch [
       | in_default-via-in-Some+else-eq w ↦
-          fails_it here (global_function w.in-Some.function) _ w.in-Some.ensures.found (sym w.eq.ensures ∙ w.if-eq.false)
+          fails_it here (global_function w.in-Some.function) _ w.in-Some.ensures.found
+          (sym w.eq.ensures ∙ w.if-eq.false)
           ∙ at_from_last c.args.start c.args.self.now c.last_up_to.ensures.ascend
       | in_default-via-in_default w ↦
-          none_it here _ w.in_default.ensures.found ∙ at_from_last c.args.start c.args.self.now c.last_up_to.ensures.ascend
+          none_it here _ w.in_default.ensures.found
+          ∙ at_from_last c.args.start c.args.self.now c.last_up_to.ensures.ascend
     ]

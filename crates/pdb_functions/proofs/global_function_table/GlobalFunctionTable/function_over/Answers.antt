@@ -3,12 +3,18 @@ use Rattle.std.specs.Prelude.{◌==◌}
 use Rattle.pdb_functions.specs.GlobalFunctions.{GlobalFunction, global_function}
 use Rattle.pdb_functions.proofs.NeighbourLemmas.{passes_it, fails_it, none_it, not_eqb, over_from_last}
 use Rattle.pdb_functions.proofs.global_function_table.GlobalFunctionTable.function_over.Goals as goal
-use Rattle.pdb_functions.proofs.global_function_table.GlobalFunctionTable.function_over.Goals.{in_default-via-in-Some+else-function-section_offset, in_default-via-in_default}
+use Rattle.pdb_functions.proofs.global_function_table.GlobalFunctionTable.function_over.Goals.{
+  in_default-via-in-Some+else-function-section_offset,
+}
+use Rattle.pdb_functions.proofs.global_function_table.GlobalFunctionTable.function_over.Goals.{
+  in_default-via-in_default,
+}
 
 pub returns-in-Some : goal.returns-in-Some
 returns-in-Some c =
     let here = λ (f : GlobalFunction). f.start.section == c.args.section_offset.section in
-    passes_it here (global_function c.in-Some.function) _ c.in-Some.ensures.found (eq-eqb _ _ c.if-function-section_offset.true)
+    passes_it here (global_function c.in-Some.function) _ c.in-Some.ensures.found
+    (eq-eqb _ _ c.if-function-section_offset.true)
     ∙ over_from_last c.args.section_offset c.args.self.now c.last_up_to.ensures.ascend
 
 pub returns-in_default : goal.returns-in_default
@@ -16,8 +22,10 @@ returns-in_default c =
     let here = λ (f : GlobalFunction). f.start.section == c.args.section_offset.section in
     elim c.in_default.branch [
       | in_default-via-in-Some+else-function-section_offset w ↦
-          fails_it here (global_function w.in-Some.function) _ w.in-Some.ensures.found (not_eqb _ _ w.if-function-section_offset.false)
+          fails_it here (global_function w.in-Some.function) _ w.in-Some.ensures.found
+          (not_eqb _ _ w.if-function-section_offset.false)
           ∙ over_from_last c.args.section_offset c.args.self.now c.last_up_to.ensures.ascend
       | in_default-via-in_default w ↦
-          none_it here _ w.in_default.ensures.found ∙ over_from_last c.args.section_offset c.args.self.now c.last_up_to.ensures.ascend
+          none_it here _ w.in_default.ensures.found
+          ∙ over_from_last c.args.section_offset c.args.self.now c.last_up_to.ensures.ascend
     ]

@@ -3,7 +3,12 @@ use Rattle.std.specs.Prelude.{◌==◌}
 use Rattle.pdb_functions.specs.GlobalFunctions.{GlobalFunction, global_function}
 use Rattle.pdb_functions.proofs.NeighbourLemmas.{passes_it, fails_it, none_it, not_eqb, next_from_first}
 use Rattle.pdb_functions.proofs.global_function_table.GlobalFunctionTable.next_function.Goals as goal
-use Rattle.pdb_functions.proofs.global_function_table.GlobalFunctionTable.next_function.Goals.{in_default-via-in-Some+else-next-section_offset, in_default-via-in_default}
+use Rattle.pdb_functions.proofs.global_function_table.GlobalFunctionTable.next_function.Goals.{
+  in_default-via-in-Some+else-next-section_offset,
+}
+use Rattle.pdb_functions.proofs.global_function_table.GlobalFunctionTable.next_function.Goals.{
+  in_default-via-in_default,
+}
 
 pub returns-in-Some : goal.returns-in-Some
 returns-in-Some c =
@@ -16,8 +21,10 @@ returns-in_default c =
     let here = λ (f : GlobalFunction). f.start.section == c.args.section_offset.section in
     elim c.in_default.branch [
       | in_default-via-in-Some+else-next-section_offset w ↦
-          fails_it here (global_function w.in-Some.next) _ w.in-Some.ensures.found (not_eqb _ _ w.if-next-section_offset.false)
+          fails_it here (global_function w.in-Some.next) _ w.in-Some.ensures.found
+          (not_eqb _ _ w.if-next-section_offset.false)
           ∙ next_from_first c.args.section_offset c.args.self.now c.first_behind.ensures.ascend
       | in_default-via-in_default w ↦
-          none_it here _ w.in_default.ensures.found ∙ next_from_first c.args.section_offset c.args.self.now c.first_behind.ensures.ascend
+          none_it here _ w.in_default.ensures.found
+          ∙ next_from_first c.args.section_offset c.args.self.now c.first_behind.ensures.ascend
     ]

@@ -8,5 +8,6 @@ pub returns-clause-few : goal.returns-clause-few
 returns-clause-few c =
     let ps = c.self.inside.procedures.items in
     let same : length c.args.self.now ≡ length ps = rw (← c.self.view_is) (length-map ps module_procedure) in
-    let fewer = digits_mono (length c.self.inside.segments) (2 * length c.args.self.now) (omega (arith, same, c.self.invariant.at_most_two_each)) in
+    let fewer = digits_mono (length c.self.inside.segments) (2 * length c.args.self.now)
+    (omega (arith, same, c.self.invariant.at_most_two_each)) in
     omega (arith, fewer, c.find.ensures.few)

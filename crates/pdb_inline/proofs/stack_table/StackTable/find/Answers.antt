@@ -6,7 +6,8 @@ use Rattle.pdb_inline.proofs.stack_table.StackTable.find.Goals as goal
 pub returns-in-Some-clause-stack : goal.returns-in-Some-clause-stack
 returns-in-Some-clause-stack c =
     rw (c.deref.ensures.value, ← c.self.view_is)
-    (stack_found c.self.inside.positions.items c.self.inside.segments c.args.offset (Some (c.in-Some.from, c.in-Some.to)) (sym c.in-Some.ensures.value))
+    (stack_found c.self.inside.positions.items c.self.inside.segments c.args.offset
+    (Some (c.in-Some.from, c.in-Some.to)) (sym c.in-Some.ensures.value))
 
 pub returns-in-None-clause-stack : goal.returns-in-None-clause-stack
 returns-in-None-clause-stack c =

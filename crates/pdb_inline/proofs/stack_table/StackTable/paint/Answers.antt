@@ -5,7 +5,9 @@ use Rattle.pdb_inline.proofs.stack_table.StackTable.paint.Goals as goal
 
 pub returns-clause-stack : goal.returns-clause-stack
 returns-clause-stack c = λ x. rw (← c.self.view_is)
-    (painted_stack c.self.inside.positions.items (positions_in c.args.tables.now c.args.lo) c.push_positions.new.positions.items
+    (painted_stack c.self.inside.positions.items
+    (positions_in c.args.tables.now c.args.lo) c.push_positions.new.positions.items
     c.self.inside.segments c.paint.new.self c.args.lo c.args.hi c.len-from.result c.len.result x
     c.in_ok-push_positions.ensures.positions
-    (c.len-from.ensures ∙ c.self.inside.positions.ok.0) (c.len.ensures ∙ c.push_positions.new.positions.ok.0) (c.self.invariant x) (c.in_ok-paint.ensures.ok x))
+    (c.len-from.ensures ∙ c.self.inside.positions.ok.0) (c.len.ensures ∙ c.push_positions.new.positions.ok.0)
+    (c.self.invariant x) (c.in_ok-paint.ensures.ok x))

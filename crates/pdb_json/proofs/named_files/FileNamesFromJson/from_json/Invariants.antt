@@ -8,4 +8,5 @@ use Rattle.pdb_json.proofs.named_files.FileNamesFromJson.from_json.Given as goal
 abbrev pub invariant-loop-number : goal.invariant-loop-number
 invariant-loop-number l =
     names_from l.reader.version 0 (items_view l.values)
-    ≡ after (map string_bytes l.names.items) (names_from l.reader.version l.number (items_view (drop l.number l.values)))
+    ≡ after (map string_bytes l.names.items)
+    (names_from l.reader.version l.number (items_view (drop l.number l.values)))

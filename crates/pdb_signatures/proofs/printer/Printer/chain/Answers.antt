@@ -10,10 +10,14 @@ pub returns-in-None-clause-advances : goal.returns-in-None-clause-advances
 returns-in-None-clause-advances g c =
     let w = formatter_inputs g.P.ModuleProvider.info c.args.self.now.type_inputs.now c.args.self.now.module_index in
     let failed = rw c.in-None.is at c.in_ok-enter.ensures.entered in
-    turned_none w (Chain (reverse c.args.attributes.items) c.args.target.0) c.args.target.0 (behind_pointer w (reverse c.args.attributes.items)) c.args.progress.now _ _ _ refl (failed (behind_pointer w (reverse c.args.attributes.items)))
+    turned_none w (Chain (reverse c.args.attributes.items) c.args.target.0) c.args.target.0
+    (behind_pointer w (reverse c.args.attributes.items)) c.args.progress.now _ _ _ refl
+    (failed (behind_pointer w (reverse c.args.attributes.items)))
 
 pub returns-in_ok-behind_pointer-in-Some-clause-advances : goal.returns-in_ok-behind_pointer-in-Some-clause-advances
 returns-in_ok-behind_pointer-in-Some-clause-advances g c =
     let w = formatter_inputs g.P.ModuleProvider.info c.args.self.now.type_inputs.now c.args.self.now.module_index in
     let entered = rw c.in-Some.is at c.in_ok-enter.ensures.entered in
-    turned_some w (Chain (reverse c.args.attributes.items) c.args.target.0) c.args.target.0 (behind_pointer w (reverse c.args.attributes.items)) c.in-Some.type_data.now c.args.progress.now _ _ _ _ refl entered (c.in_ok-behind_pointer-in-Some.ensures w)
+    turned_some w (Chain (reverse c.args.attributes.items) c.args.target.0) c.args.target.0
+    (behind_pointer w (reverse c.args.attributes.items)) c.in-Some.type_data.now c.args.progress.now _ _ _ _ refl
+    entered (c.in_ok-behind_pointer-in-Some.ensures w)

@@ -11,7 +11,8 @@ returns-in-Ok-clause-entered g c =
     let opened = rw c.if-not-branch.false at c.in_ok-open.ensures in
     record {
       absent = opened.0;
-      read = type_at-read (link_inputs g.P.ModuleProvider.info s) s.types c.args.self.now.module_index c.args.index.0 _ c.in-Ok.ensures.read;
+      read = type_at-read (link_inputs g.P.ModuleProvider.info s) s.types c.args.self.now.module_index c.args.index.0
+          _ c.in-Ok.ensures.read;
       stage = opened.1;
       parts = c.in-Ok.ensures.cached.failed;
     }
@@ -21,14 +22,18 @@ returns-in_ok-refuse-in-Err-clause-broken g c =
     let s = c.args.self.now.type_inputs.now in
     let module_index = c.args.self.now.module_index in
     let w = formatter_inputs g.P.ModuleProvider.info s module_index in
-    rw c.in-Err.ensures.cached.failed at (c.in_ok-refuse-in-Err.ensures.broken w (read_error-broken w (link_inputs g.P.ModuleProvider.info s) s.types module_index c.args.index.0 refl c.in-Err.read_error c.in-Err.ensures.read))
+    rw c.in-Err.ensures.cached.failed at (c.in_ok-refuse-in-Err.ensures.broken w
+    (read_error-broken w (link_inputs g.P.ModuleProvider.info s) s.types module_index c.args.index.0 refl
+    c.in-Err.read_error c.in-Err.ensures.read))
 
 pub returns-in_err-refuse-in-Err-clause-broken : goal.returns-in_err-refuse-in-Err-clause-broken
 returns-in_err-refuse-in-Err-clause-broken g c =
     let s = c.args.self.now.type_inputs.now in
     let module_index = c.args.self.now.module_index in
     let w = formatter_inputs g.P.ModuleProvider.info s module_index in
-    rw c.in-Err.ensures.cached.failed at (c.in_err-refuse-in-Err.ensures.broken w (read_error-broken w (link_inputs g.P.ModuleProvider.info s) s.types module_index c.args.index.0 refl c.in-Err.read_error c.in-Err.ensures.read))
+    rw c.in-Err.ensures.cached.failed at (c.in_err-refuse-in-Err.ensures.broken w
+    (read_error-broken w (link_inputs g.P.ModuleProvider.info s) s.types module_index c.args.index.0 refl
+    c.in-Err.read_error c.in-Err.ensures.read))
 
 pub returns-in_ok-refuse-in-Err-clause-entered : goal.returns-in_ok-refuse-in-Err-clause-entered
 returns-in_ok-refuse-in-Err-clause-entered g c = λ next.
@@ -37,6 +42,9 @@ returns-in_ok-refuse-in-Err-clause-entered g c = λ next.
     let w = formatter_inputs g.P.ModuleProvider.info s module_index in
     let opened = rw c.if-not-branch.false at c.in_ok-open.ensures in
     let refused = c.in_ok-refuse-in-Err.ensures.refused in
-    let read_error = read_error-read_error_view (link_inputs g.P.ModuleProvider.info s) s.types module_index c.args.index.0 c.in-Err.read_error refused.read_error_view c.in-Err.ensures.read refused.known in
+    let read_error = read_error-read_error_view
+    (link_inputs g.P.ModuleProvider.info s) s.types module_index c.args.index.0 c.in-Err.read_error
+    refused.read_error_view c.in-Err.ensures.read refused.known in
     let ran = rw c.in-Err.ensures.cached.failed at refused.ran in
-    entered_read_error w c.args.index.0 refused.read_error_view c.args.progress.now _ _ c.args.cache.now.failed _ c.requires.well opened.0 opened.1 read_error refused.steps ran next
+    entered_read_error w c.args.index.0 refused.read_error_view c.args.progress.now _ _ c.args.cache.now.failed _
+    c.requires.well opened.0 opened.1 read_error refused.steps ran next

@@ -10,4 +10,5 @@ returns-in_ok-first-in-Other-clause-advances g c =
     let w = formatter_inputs g.P.ModuleProvider.info s module_index in
     let all = stands_first w _ _ _ c.in_ok-first-in-Other.ensures in
     let error_view = rw (c.as_str.ensures.value, c.kind.view_is) at all in
-    rw c.in-Other.is (closing_advances w 0 _ c.args.progress.now _ c.args.cache.now.failed _ (advances_stands w 0 _ c.args.progress.now _ error_view c.args.cache.now.failed))
+    rw c.in-Other.is (closing_advances w 0 _ c.args.progress.now _ c.args.cache.now.failed _
+    (advances_stands w 0 _ c.args.progress.now _ error_view c.args.cache.now.failed))

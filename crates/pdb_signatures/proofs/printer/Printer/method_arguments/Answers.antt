@@ -17,7 +17,8 @@ returns-in-None-clause-advances g c =
     let wanted : without_arguments w.flags ≡ false = sym (rw c.flags.ensures at c.if-without_arguments.ensures) in
     let rules = ap (λ b. cond b (written []) (opening w (open_in c.args.progress.now.steps) list next)) wanted in
     let failed = rw c.in-None.is at c.in_ok-enter.ensures.entered in
-    turned_none w (MethodArguments c.args.m.now c.args.may_say_const) list next c.args.progress.now _ c.args.cache.now.failed _ rules (failed next)
+    turned_none w (MethodArguments c.args.m.now c.args.may_say_const) list next c.args.progress.now _
+    c.args.cache.now.failed _ rules (failed next)
 
 pub returns-in_ok-on_list-in-Some-clause-advances : goal.returns-in_ok-on_list-in-Some-clause-advances
 returns-in_ok-on_list-in-Some-clause-advances g c =
@@ -29,4 +30,5 @@ returns-in_ok-on_list-in-Some-clause-advances g c =
     let wanted : without_arguments w.flags ≡ false = sym (rw c.flags.ensures at c.if-without_arguments.ensures) in
     let rules = ap (λ b. cond b (written []) (opening w (open_in c.args.progress.now.steps) list next)) wanted in
     let entered = rw c.in-Some.is at c.in_ok-enter.ensures.entered in
-    turned_entered w (MethodArguments c.args.m.now c.args.may_say_const) list next c.in-Some.type_data.now c.args.progress.now _ _ c.args.cache.now.failed _ _ rules entered c.in_ok-on_list-in-Some.ensures.advances
+    turned_entered w (MethodArguments c.args.m.now c.args.may_say_const) list next c.in-Some.type_data.now
+    c.args.progress.now _ _ c.args.cache.now.failed _ _ rules entered c.in_ok-on_list-in-Some.ensures.advances

@@ -20,4 +20,6 @@ returns-in_ok-method_by_type-in-Some-clause-advances g c =
     let w = formatter_inputs g.P.ModuleProvider.info s module_index in
     let entered = rw c.in-Some.is at c.in_ok-enter_alone.ensures.entered in
     let advances = c.in_ok-method_by_type-in-Some.ensures w (sym c.flags.ensures) _ in
-    alone_entered w c.args.id.now.function_type.0 (method_id w c.args.id.now) c.in-Some.type_data.now c.args.progress.now _ _ c.args.cache.now.failed _ entered advances
+    alone_entered w c.args.id.now.function_type.0
+    (method_id w c.args.id.now) c.in-Some.type_data.now c.args.progress.now _ _ c.args.cache.now.failed _ entered
+    advances

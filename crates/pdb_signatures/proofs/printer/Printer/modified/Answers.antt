@@ -10,10 +10,13 @@ pub returns-in-None-clause-advances : goal.returns-in-None-clause-advances
 returns-in-None-clause-advances g c =
     let w = formatter_inputs g.P.ModuleProvider.info c.args.self.now.type_inputs.now c.args.self.now.module_index in
     let failed = rw c.in-None.is at c.in_ok-enter.ensures.entered in
-    turned_none w (Modified c.args.constant c.args.target.0) c.args.target.0 (modified w c.args.constant) c.args.progress.now _ _ _ refl (failed (modified w c.args.constant))
+    turned_none w (Modified c.args.constant c.args.target.0) c.args.target.0
+    (modified w c.args.constant) c.args.progress.now _ _ _ refl (failed (modified w c.args.constant))
 
 pub returns-in_ok-modified-in-Some-clause-advances : goal.returns-in_ok-modified-in-Some-clause-advances
 returns-in_ok-modified-in-Some-clause-advances g c =
     let w = formatter_inputs g.P.ModuleProvider.info c.args.self.now.type_inputs.now c.args.self.now.module_index in
     let entered = rw c.in-Some.is at c.in_ok-enter.ensures.entered in
-    turned_some w (Modified c.args.constant c.args.target.0) c.args.target.0 (modified w c.args.constant) c.in-Some.type_data.now c.args.progress.now _ _ _ _ refl entered (stands_here (c.in_ok-modified-in-Some.ensures w))
+    turned_some w (Modified c.args.constant c.args.target.0) c.args.target.0
+    (modified w c.args.constant) c.in-Some.type_data.now c.args.progress.now _ _ _ _ refl entered
+    (stands_here (c.in_ok-modified-in-Some.ensures w))

@@ -14,6 +14,11 @@ returns-in_default-clause-advances g c =
     let s = c.args.self.now.type_inputs.now in
     let module_index = c.args.self.now.module_index in
     let w = formatter_inputs g.P.ModuleProvider.info s module_index in
-    let failed = advances_failed w (OfError (Plain ArgumentTypeNotArgumentList)) c.args.progress.now _ c.args.cache.now.failed c.requires.well c.fail.ensures in
-    let fewer = advances_fewer w (failing (Plain ArgumentTypeNotArgumentList)) 1 0 c.args.progress.now _ c.args.cache.now.failed _ (omega arith) failed in
-    rw (on_list-other w c.args.m.now c.args.may_say_const (open_in c.args.progress.now.steps) c.args.type_data.now c.in_default.not-ArgumentList) fewer
+    let failed = advances_failed w
+    (OfError (Plain ArgumentTypeNotArgumentList)) c.args.progress.now _ c.args.cache.now.failed c.requires.well
+    c.fail.ensures in
+    let fewer = advances_fewer w
+    (failing (Plain ArgumentTypeNotArgumentList)) 1 0 c.args.progress.now _ c.args.cache.now.failed _
+    (omega arith) failed in
+    rw (on_list-other w c.args.m.now c.args.may_say_const
+    (open_in c.args.progress.now.steps) c.args.type_data.now c.in_default.not-ArgumentList) fewer

@@ -11,7 +11,8 @@ turns-smaller-in-Ended g c =
     let module_index = c.args.self.now.module_index in
     let w = formatter_inputs g.P.ModuleProvider.info s module_index in
     let taken = rw c.in-Ended.is at c.in_ok-next.ensures in
-    let goes = ended-goes w c.flags.result c.turns.progress c.next.new.self c.turns.cache.failed (sym c.flags.ensures) taken in
+    let goes = ended-goes w c.flags.result c.turns.progress c.next.new.self c.turns.cache.failed
+    (sym c.flags.ensures) taken in
     left-falls w (formatter-below g.P.ModuleProvider.info s module_index) _ _ _ _ goes
 
 pub turns-preserved-in-Ended : goal.turns-preserved-in-Ended
@@ -20,7 +21,8 @@ turns-preserved-in-Ended g c =
     let module_index = c.args.self.now.module_index in
     let w = formatter_inputs g.P.ModuleProvider.info s module_index in
     let taken = rw c.in-Ended.is at c.in_ok-next.ensures in
-    let goes = ended-goes w c.flags.result c.turns.progress c.next.new.self c.turns.cache.failed (sym c.flags.ensures) taken in
+    let goes = ended-goes w c.flags.result c.turns.progress c.next.new.self c.turns.cache.failed
+    (sym c.flags.ensures) taken in
     record {
       is_cache = c.turns.invariant.is_cache;
       broken = c.turns.invariant.broken;
@@ -33,7 +35,8 @@ turns-smaller g c =
     let module_index = c.args.self.now.module_index in
     let w = formatter_inputs g.P.ModuleProvider.info s module_index in
     let taken = rw c.in-Print.is at c.in_ok-next.ensures in
-    let goes = printed-goes w c.in-Print.task c.turns.progress c.next.new.self c.turn.new.progress c.turns.cache.failed _ taken.0 c.in_ok-turn-in-Print.ensures.advances in
+    let goes = printed-goes w c.in-Print.task c.turns.progress c.next.new.self c.turn.new.progress
+    c.turns.cache.failed _ taken.0 c.in_ok-turn-in-Print.ensures.advances in
     left-falls w (formatter-below g.P.ModuleProvider.info s module_index) _ _ _ _ goes
 
 pub turns-preserved : goal.turns-preserved
@@ -42,7 +45,8 @@ turns-preserved g c =
     let module_index = c.args.self.now.module_index in
     let w = formatter_inputs g.P.ModuleProvider.info s module_index in
     let taken = rw c.in-Print.is at c.in_ok-next.ensures in
-    let goes = printed-goes w c.in-Print.task c.turns.progress c.next.new.self c.turn.new.progress c.turns.cache.failed _ taken.0 c.in_ok-turn-in-Print.ensures.advances in
+    let goes = printed-goes w c.in-Print.task c.turns.progress c.next.new.self c.turn.new.progress
+    c.turns.cache.failed _ taken.0 c.in_ok-turn-in-Print.ensures.advances in
     record {
       is_cache = c.in_ok-turn-in-Print.ensures.is_cache;
       broken = adds-then c.turns.invariant.broken c.in_ok-turn-in-Print.ensures.broken;
@@ -50,4 +54,5 @@ turns-preserved g c =
     }
 
 pub returns-in_err-turn-in-Print-clause-broken : goal.returns-in_err-turn-in-Print-clause-broken
-returns-in_err-turn-in-Print-clause-broken g c = adds-then c.turns.invariant.broken c.in_err-turn-in-Print.ensures.broken
+returns-in_err-turn-in-Print-clause-broken g c =
+    adds-then c.turns.invariant.broken c.in_err-turn-in-Print.ensures.broken

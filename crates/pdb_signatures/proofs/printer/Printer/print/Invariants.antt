@@ -14,7 +14,8 @@ invariant-turns g l =
     record {
       is_cache : IsCacheOf g.P.ModuleProvider.info l.self.type_inputs.now l.cache;
       broken : AddsBroken w l.fn.cache.failed l.cache.failed;
-      goes : Goes w 0 (frames w l.fn.progress.steps) (stage_run l.fn.progress l.fn.cache.failed) (frames w l.progress.steps) (stage_run l.progress l.cache.failed);
+      goes : Goes w 0 (frames w l.fn.progress.steps) (stage_run l.fn.progress l.fn.cache.failed)
+          (frames w l.progress.steps) (stage_run l.progress l.cache.failed);
     }
 
 abbrev pub decreases-turns : goal.decreases-turns

@@ -8,5 +8,6 @@ use Rattle.pdb_types.proofs.type_inputs.TypeInputs.cache_sizes.Given as goal
 abbrev pub invariant-loop-index : goal.invariant-loop-index
 invariant-loop-index g l = record {
   cached : IsCacheAfter g.P.ModuleProvider.info l.self l.fn.cache l.cache;
-  left : AllByRecursion (λ index. size_of g.P.ModuleProvider.info l.self l.module_index index ≡ l.size) l.index-iterator;
+  left : AllByRecursion (λ index. size_of g.P.ModuleProvider.info l.self l.module_index index ≡ l.size)
+      l.index-iterator;
 }

@@ -11,11 +11,13 @@ use Rattle.pdb_types.proofs.type_inputs.TypeInputs.chain_size.Given as goal
 -- the chain has led here, and the indices that were passed lead here
 abbrev pub invariant-chain : goal.invariant-chain
 invariant-chain g l =
-    let next : ℕ → _ = step (link_inputs g.P.ModuleProvider.info l.self) l.self.types l.self.pointer_size l.module_index in
+    let next : ℕ → _ = step (link_inputs g.P.ModuleProvider.info l.self) l.self.types l.self.pointer_size
+    l.module_index in
     record {
       cached : IsCacheAfter g.P.ModuleProvider.info l.self l.fn.cache l.cache;
       led : (steps : ℕ) × Leads next steps l.fn.index.0 l.index.0;
-      passed : (other : ℕ) → contains nat_cmp l.passed other ≡ true → (steps : ℕ) × Leads next (suc steps) other l.index.0;
+      passed : (other : ℕ) → contains nat_cmp l.passed other ≡ true
+          → (steps : ℕ) × Leads next (suc steps) other l.index.0;
     }
 
 -- the indices that were not passed

@@ -7,15 +7,21 @@ use Rattle.pdb_types.proofs.type_inputs.TypeInputs.module_under.Goals as goal
 
 pub returns-in-Some-clause-module_index : goal.returns-in-Some-clause-module_index
 returns-in-Some-clause-module_index g c =
-    names_found (link_inputs g.P.ModuleProvider.info c.args.self.now) c.args.strings.now c.args.reference.0 c.in-Some.module_index.now c.args.cache.now.named c.requires.strings c.requires.is_cache.named (sym c.in-Some.ensures.value)
+    names_found (link_inputs g.P.ModuleProvider.info c.args.self.now) c.args.strings.now c.args.reference.0
+    c.in-Some.module_index.now c.args.cache.now.named c.requires.strings c.requires.is_cache.named
+    (sym c.in-Some.ensures.value)
 
 pub returns-in-Ok-clause-cached : goal.returns-in-Ok-clause-cached
 returns-in-Ok-clause-cached g c =
-    let found = ap (λ text. and_then (found_text c.args.reference text) (λ name. module_named c.args.self.now.modules name)) (sym c.in-Some-get.ensures) ∙ c.in_ok-module_index.ensures in
+    let found = ap (λ text. and_then (found_text c.args.reference text)
+    (λ name. module_named c.args.self.now.modules name)) (sym c.in-Some-get.ensures) ∙ c.in_ok-module_index.ensures in
     caches_named g.P.ModuleProvider.info c.args.self.now c.args.cache.now c.insert.new.self c.requires.is_cache
-    (names_more (link_inputs g.P.ModuleProvider.info c.args.self.now) c.args.strings.now c.args.reference.0 c.in_ok-module_index.module_index c.args.cache.now.named c.insert.new.self c.requires.strings found c.in-Ok.ensures.updates c.requires.is_cache.named)
+    (names_more (link_inputs g.P.ModuleProvider.info c.args.self.now) c.args.strings.now c.args.reference.0
+    c.in_ok-module_index.module_index c.args.cache.now.named c.insert.new.self c.requires.strings found
+    c.in-Ok.ensures.updates c.requires.is_cache.named)
 
 pub returns-in-Err-clause-cached : goal.returns-in-Err-clause-cached
 returns-in-Err-clause-cached g c =
     caches_named g.P.ModuleProvider.info c.args.self.now c.args.cache.now c.insert.new.self c.requires.is_cache
-    (names_same (link_inputs g.P.ModuleProvider.info c.args.self.now) c.args.cache.now.named c.insert.new.self c.in-Err.ensures.err c.requires.is_cache.named)
+    (names_same (link_inputs g.P.ModuleProvider.info c.args.self.now) c.args.cache.now.named c.insert.new.self
+    c.in-Err.ensures.err c.requires.is_cache.named)
