@@ -1,37 +1,42 @@
 #!/usr/bin/env python3
-"""Runs the program over records files of each shape, and prints the tables of docs/PERFORMANCE.md.
+"""Runs the built programs over records files of each shape, and prints the tables of docs/PERFORMANCE.md.
 
-    measure.py PROGRAM RUNS [SUBJECT ..]
+    measure.py CRATES RUNS [SUBJECT ..]
 
-Each table is of one subject: with none named all are printed. The sizes of a table take turns, and each figure is
-the least of so many runs. Behind a figure stands how many times that of the size before it is.
+CRATES is the folder of the crates, where pdb_bench and pdb_report were built. There is a table for each subject; with
+none named all are printed. The sizes of a table take turns, and each figure is the least of so many runs. Behind a
+figure stands how many times that of the size before it is.
 """
 import os
+import pathlib
 import subprocess
 import sys
 import tempfile
+import time
 
 import records
+import split
 
 MEGABYTE = 1_000_000
 FIRST, LATER = "first pass", "later passes"
+PASSES = ["Functions, first pass", "later passes", "Frames, first pass", "later passes"]
 
-SYMBOLS = [125_000, 250_000, 500_000, 1_000_000]
+SYMBOLS = [250_000, 500_000, 1_000_000]
+MODULES = (20_000, 28, 1_000)
 PROGRAMS = [(3_000, 50, 40_000), (6_000, 50, 80_000), (12_000, 50, 160_000)]
 SMALL_PROCEDURES = [(12_500, 10, 12_500), (25_000, 10, 25_000), (50_000, 10, 50_000)]
 GENUINE = (3_000, 50, 40_000, 186_000, 37_000)
-HOSTILE = [25_000, 50_000, 100_000, 200_000]
+HOSTILE = [50_000, 100_000, 200_000]
 MANY = [125_000, 250_000, 500_000]
-CHAINS = [50_000, 100_000, 200_000]
 
 
 class Run:
-    """What one run of the program answered: microseconds of each step, kilobytes, and how many were found."""
+    """What one run of pdb_bench answered: microseconds of each step, kilobytes, and how many were found."""
 
-    def __init__(self, told, counted):
+    def __init__(self, steps, counts):
         self.parsed, self.peaks, self.contexts = 0, [], []
         self.functions, self.frames = [], []
-        for line in told.splitlines():
+        for line in steps.splitlines():
             step, _, figure = line.rpartition(": ")
             number = int(figure.split()[0])
             if step == "records parsed":
@@ -44,7 +49,7 @@ class Run:
                 self.functions.append(number)
             elif step == "frames":
                 self.frames.append(number)
-        self.found = int(counted.splitlines()[-1].split()[-2])
+        self.found = int(counts.splitlines()[-1].split()[-2])
 
 
 class Figures:
@@ -56,27 +61,29 @@ class Figures:
         self.context = min(min(run.contexts) for run in runs)
         self.functions = {FIRST: least(run.functions[:1] for run in runs), LATER: least(run.functions[1:] for run in runs)}
         self.frames = {FIRST: least(run.frames[:1] for run in runs), LATER: least(run.frames[1:] for run in runs)}
-        self.peak = min(run.peaks[0] for run in runs)
-        self.peak_at_the_end = min(run.peaks[-1] for run in runs)
+        self.peak = min(run.peaks[-1] for run in runs)
+
+    def bytes_a_byte(self):
+        return f"{self.peak * 1024 / self.bytes:.1f}"
 
 
 def least(lists):
     return min(min(numbers) for numbers in lists)
 
 
-def one_run(program, folder, number):
-    words = [program, f"{folder}/{number}.json", f"{folder}/{number}.txt"]
+def one_run(crates, folder, number):
+    words = [f"{crates}/pdb_bench/out/pdb_bench", f"{folder}/{number}.json", f"{folder}/{number}.txt"]
     ran = subprocess.run(words, capture_output=True, text=True, check=True)
     return Run(ran.stderr, ran.stdout)
 
 
-def measured(program, runs, shape, sizes):
+def measured(crates, runs, shape, sizes):
     """The least figures of each size of a shape."""
     with tempfile.TemporaryDirectory() as folder:
         for number, size in enumerate(sizes):
             numbers = size if isinstance(size, tuple) else (size,)
             records.write(shape, numbers, f"{folder}/{number}.json", f"{folder}/{number}.txt")
-        turns = [[one_run(program, folder, number) for number in range(len(sizes))] for _ in range(runs)]
+        turns = [[one_run(crates, folder, number) for number in range(len(sizes))] for _ in range(runs)]
         bytes_of = [os.path.getsize(f"{folder}/{number}.json") for number in range(len(sizes))]
     return [Figures(bytes_of[number], [turn[number] for turn in turns]) for number in range(len(sizes))]
 
@@ -86,7 +93,7 @@ def time_text(microseconds):
     if microseconds == 0:
         return "under 1 µs"
     if microseconds < 1_000:
-        return f"{microseconds} µs"
+        return f"{microseconds:.0f} µs"
     number, unit = (microseconds / 1_000, "ms") if microseconds < 1_000_000 else (microseconds / 1_000_000, "s")
     return f"{number:.0f} {unit}" if number >= 100 else f"{number:.1f} {unit}" if number >= 10 else f"{number:.2f} {unit}"
 
@@ -104,15 +111,15 @@ def column(figures, value):
     """Times, each with how many times the one before it is, where that has two digits."""
     times = [value(figure) for figure in figures]
     texts = [time_text(times[0])]
-    for before, time in zip(times, times[1:]):
-        texts.append(f"{time_text(time)} ({time / before:.2f})" if before >= 10 else time_text(time))
+    for before, after in zip(times, times[1:]):
+        texts.append(f"{time_text(after)} ({after / before:.2f})" if before >= 10 else time_text(after))
     return texts
 
 
-def print_table(heads, columns):
+def print_table(heads, rows):
     print("\n| " + " | ".join(heads) + " |")
     print("|" + "---|" * len(heads))
-    for row in zip(*columns):
+    for row in rows:
         print("| " + " | ".join(row) + " |")
     print(flush=True)
 
@@ -125,52 +132,75 @@ def frames(which):
     return lambda figure: figure.frames[which]
 
 
-def reading(program, runs):
-    figures = measured(program, runs, "symbols", SYMBOLS)
-    print_table(
-        ["Public symbols", "File", "Reading", "Making a context", "Peak memory"],
-        [
-            [size_text(size) for size in SYMBOLS],
-            [f"{figure.bytes / MEGABYTE:.0f} MB" for figure in figures],
-            column(figures, lambda figure: figure.parsed),
-            column(figures, lambda figure: figure.context),
-            [memory_text(figure.peak) for figure in figures],
-        ],
-    )
-    print_passes("Public symbols", figures, SYMBOLS)
+def passes(figures):
+    """The columns of functions and of frames."""
+    return [column(figures, value(which)) for value in (functions, frames) for which in (FIRST, LATER)]
 
 
-def print_passes(head, figures, sizes):
-    print_table(
-        [head, "Functions, first pass", "later passes", "Frames, first pass", "later passes"],
-        [
-            [size_text(size) for size in sizes],
-            column(figures, functions(FIRST)),
-            column(figures, functions(LATER)),
-            column(figures, frames(FIRST)),
-            column(figures, frames(LATER)),
-        ],
-    )
+def file_and_reading(figures):
+    """The columns of what stands before the first question."""
+    return [
+        [f"{figure.bytes / MEGABYTE:.0f} MB" for figure in figures],
+        column(figures, lambda figure: figure.parsed),
+        [figure.bytes_a_byte() for figure in figures],
+        column(figures, lambda figure: figure.context),
+    ]
 
 
-def programs(program, runs):
+READING = ["File", "Reading", "Memory, bytes a byte", "Making a context"]
+
+
+def reading(crates, runs):
+    figures = measured(crates, runs, "symbols", SYMBOLS)
+    columns = [[size_text(size) for size in SYMBOLS], *file_and_reading(figures), *passes(figures)]
+    print_table(["Public symbols", *READING, *PASSES], zip(*columns))
+
+
+def report_run(crates, path, addresses):
+    """The microseconds of a whole run of pdb_report, the kilobytes that it held at most, and what it printed."""
+    with tempfile.TemporaryFile() as out:
+        start = time.perf_counter()
+        process = subprocess.Popen([f"{crates}/pdb_report/out/pdb_report", path, "names", *addresses], stdout=out)
+        _, status, usage = os.wait4(process.pid, 0)
+        microseconds = (time.perf_counter() - start) * 1_000_000
+        process.returncode = os.waitstatus_to_exitcode(status)
+        if process.returncode:
+            sys.exit(f"pdb_report ended with {process.returncode}")
+        out.seek(0)
+        return microseconds, usage.ru_maxrss, out.read()
+
+
+def files(crates, runs):
+    with tempfile.TemporaryDirectory() as folder:
+        whole, asked = f"{folder}/whole.json", f"{folder}/addresses"
+        records.write("program", MODULES, whole, asked)
+        # (by a process of its own, since what this one holds would count for those that it starts)
+        subprocess.run([sys.executable, split.__file__, whole, f"{folder}/parts"], check=True)
+        addresses = pathlib.Path(asked).read_text().split()
+        paths = {"one file": whole, "a file for each module": f"{folder}/parts/records.json"}
+        turns = [[report_run(crates, path, addresses) for path in paths.values()] for _ in range(runs)]
+        size = f"{os.path.getsize(whole) / MEGABYTE:.0f} MB"
+    if len({ran[2] for turn in turns for ran in turn}) > 1:
+        sys.exit("the records of one file and of many have other answers")
+    rows, first = [], None
+    for number, name in enumerate(paths):
+        spent, held = (min(turn[number][at] for turn in turns) for at in (0, 1))
+        ratios = [f" ({now / before:.2f})" for now, before in zip((spent, held), first)] if first else ["", ""]
+        rows.append([name, size, time_text(spent) + ratios[0], memory_text(held) + ratios[1]])
+        first = first or (spent, held)
+    print_table(["Records", "Size", "Whole run", "Peak memory"], rows)
+
+
+def programs(crates, runs):
+    rows = []
     for sizes in (PROGRAMS, SMALL_PROCEDURES):
-        figures = measured(program, runs, "program", sizes)
-        print_passes("Procedures, sites of each, addresses", figures, sizes)
-        print_table(
-            ["Procedures, sites of each, addresses", "Frames", "File", "Reading", "Making a context", "Peak memory"],
-            [
-                [size_text(size) for size in sizes],
-                [f"{figure.found:,}" for figure in figures],
-                [f"{figure.bytes / MEGABYTE:.0f} MB" for figure in figures],
-                column(figures, lambda figure: figure.parsed),
-                column(figures, lambda figure: figure.context),
-                [memory_text(figure.peak_at_the_end) for figure in figures],
-            ],
-        )
+        figures = measured(crates, runs, "program", sizes)
+        found = [f"{figure.found:,}" for figure in figures]
+        rows += zip([size_text(size) for size in sizes], found, *file_and_reading(figures), *passes(figures))
+    print_table(["Procedures, sites of each, addresses", "Frames", *READING, *PASSES], rows)
 
 
-def genuine(program, runs):
+def genuine(crates, runs):
     heads = {
         "genuine": "ascending",
         "genuine-descending": "descending",
@@ -179,72 +209,72 @@ def genuine(program, runs):
     }
     rows = []
     for shape, order in heads.items():
-        figure = measured(program, runs, shape, [GENUINE])[0]
-        passes = [value(which) for value in (functions, frames) for which in (FIRST, LATER)]
-        times = [passed(figure) for passed in passes]
+        figure = measured(crates, runs, shape, [GENUINE])[0]
+        times = [value(which)(figure) for value in (functions, frames) for which in (FIRST, LATER)]
         rows.append([
             order,
-            time_text(figure.parsed),
-            f"{figure.peak_at_the_end * 1024 / figure.bytes:.1f}",
-            time_text(figure.context),
+            *(texts[0] for texts in file_and_reading([figure])),
             f"{time_text(times[0])} ({times[0] / times[1]:.1f})",
             time_text(times[1]),
             f"{time_text(times[2])} ({times[2] / times[3]:.1f})",
             time_text(times[3]),
         ])
-    print_table(
-        ["Types", "Reading", "Memory, bytes a byte", "Making a context", "Functions, first pass", "later passes",
-         "Frames, first pass", "later passes"],
-        zip(*rows),
-    )
+    print_table(["Types", *READING, *PASSES], rows)
 
 
-def hostile(program, runs):
+def hostile(crates, runs):
     heads = {
-        "procedures": "Nested procedures",
-        "sites": "Nested sites",
-        "side-by-side": "Sites side by side",
-        "publics": "Public symbols at one place",
+        "procedures": "nested procedures",
+        "sites": "nested sites",
+        "side-by-side": "sites side by side",
+        "publics": "public symbols at one section offset",
     }
+    rows = []
     for shape, head in heads.items():
-        print_passes(head, measured(program, runs, shape, HOSTILE), HOSTILE)
+        figures = measured(crates, runs, shape, HOSTILE)
+        rows += zip([f"{size_text(size)} {head}" for size in HOSTILE], *passes(figures))
+    print_table(["Records", *PASSES], rows)
 
 
-def by_shape(program, runs, head, shapes, sizes, value):
-    """A table with a column for each shape."""
-    columns = [column(measured(program, runs, shape, sizes), value) for shape in shapes]
-    print_table([head, *shapes.values()], [[size_text(size) for size in sizes], *columns])
+def first_passes(crates, runs, head, value, shapes):
+    """A table of first passes, with a column for each shape."""
+    columns = [column(measured(crates, runs, shape, MANY), value) for shape in shapes]
+    print_table([head, *shapes.values()], zip([size_text(size) for size in MANY], *columns))
 
 
-def types(program, runs):
-    for shape, head in {"sizes": "Types", "references": "Types, half of them forward references or behind one"}.items():
-        figures = measured(program, runs, shape, MANY)
-        columns = [column(figures, functions(FIRST)), column(figures, functions(LATER))]
-        print_table([head, "First pass", "Later passes"], [[size_text(size) for size in MANY], *columns])
-    chains = {"chain": "Chain", "named-chain": "The other module's name as long", "circle": "Circle"}
-    by_shape(program, runs, "Types of a chain", chains, CHAINS, functions(FIRST))
+def types(crates, runs):
+    first_passes(crates, runs, "Types", functions(FIRST), {
+        "sizes": "All over a list",
+        "references": "Half of them forward references",
+        "chain": "A chain through modules",
+        "named-chain": "And a module's name as long",
+        "circle": "A circle through modules",
+    })
 
 
-def signatures(program, runs):
-    shapes = {
+def signatures(crates, runs):
+    first_passes(crates, runs, "Types", functions(FIRST), {
         "pointers": "Nested pointers",
         "callbacks": "Procedures that take procedures",
         "pointed-arrays": "Pointers to arrays of pointers",
         "arrays": "Nested arrays",
         "arguments": "Arguments of one type",
-    }
-    by_shape(program, runs, "Types", shapes, MANY, functions(FIRST))
-    chains = {"scopes": "Inside one another", "scopes-circle": "In a circle"}
-    by_shape(program, runs, "Functions", chains, MANY, frames(FIRST))
+    })
+
+
+def ids(crates, runs):
+    first_passes(crates, runs, "Functions", frames(FIRST), {"scopes": "Inside one another", "scopes-circle": "In a circle"})
 
 
 SUBJECTS = {
     "reading": reading,
+    "files": files,
     "programs": programs,
     "genuine": genuine,
     "hostile": hostile,
     "types": types,
     "signatures": signatures,
+    "ids": ids,
 }
 
 

@@ -8,10 +8,8 @@ import pathlib
 import sys
 
 
-def main():
-    if len(sys.argv) != 3:
-        sys.exit(__doc__)
-    records, folder = json.loads(pathlib.Path(sys.argv[1]).read_bytes()), pathlib.Path(sys.argv[2])
+def split(path, folder):
+    records, folder = json.loads(pathlib.Path(path).read_bytes()), pathlib.Path(folder)
     folder.mkdir(parents=True, exist_ok=True)
     infos = records["module_infos"]
     for number, info in enumerate(infos):
@@ -19,6 +17,12 @@ def main():
             (folder / f"{number}.json").write_text(json.dumps(info, separators=(",", ":")))
             infos[number] = {"file": f"{number}.json"}
     (folder / "records.json").write_text(json.dumps({**records, "version": 2}, separators=(",", ":")))
+
+
+def main():
+    if len(sys.argv) != 3:
+        sys.exit(__doc__)
+    split(*sys.argv[1:])
 
 
 if __name__ == "__main__":
