@@ -105,7 +105,8 @@ failed_by_refusal failed part (Err e) = with_blamed failed part
 
 -- the answer for the frames over an address: what stands there by the records, and of a part of the records of code
 -- that failed before that it did
-abbrev pub frames_answered : {P : Type 0} → (P → ProviderInfos) → ContextState P → ℕ → Result (Option FramesInfo) Error
+abbrev pub frames_answered : {P : Type 0} → (P → ProviderInfos) → ContextState P → ℕ
+    → Result (Option FramesInfo) Error
 frames_answered info c address =
     answered_refusal c.code_failed (blamed_at info c.inputs address) (frames_at info c.inputs address)
 

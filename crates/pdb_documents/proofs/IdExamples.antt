@@ -48,9 +48,8 @@ method_by type named = id.MemberFunction (record { parent = at 0x1003; function_
 abbrev pub namespace : List ℕ → IdData
 namespace named = id.String (record { name = named })
 
--- types: 0x1000 is a function that takes a number and returns it, 0x1005 a method of the struct 0x1003 whose `this`
--- is a
--- pointer to a constant one
+-- types: 0x1000 is a function that takes a number and returns it, 0x1005 a method of the struct 0x1003 whose `this` is
+-- a pointer to a constant one
 abbrev pub types : List ℕ → List (Item TypeIndex TypeData)
 types struct_name =
     entry 0x1000 (function_of (Some (at 0x1004)) 0x1001)

@@ -28,7 +28,8 @@ pub record IsPrinted (printing : Parts → Run) (failed : Parts) (text : Option 
   pub settled : Settled printing failed
 
 -- how the signature of a procedure of this name is printed
-abbrev pub signature_printing : {P : Type 0} → (P → ProviderInfos) → Formatter P → SignatureKey → List ℕ → Parts → Run
+abbrev pub signature_printing : {P : Type 0} → (P → ProviderInfos) → Formatter P → SignatureKey → List ℕ
+    → Parts → Run
 signature_printing info f key name = signature_run info f.type_inputs key.module_index (lossy name) key.type_index
 
 -- what is cached of a procedure is its signature, by the name that its symbol has in these records

@@ -46,7 +46,8 @@ text_of_run r = faultless r.fault r.text
 
 -- the signature of a function, if it can be printed: its name, and the index of its type as the module at a
 -- module index writes it. Which parts of the records failed before doesn't matter, as a law says, so here none has
-abbrev pub signature_text : {P : Type 0} → (P → ProviderInfos) → TypeInputs P → ℕ → List ℕ → ℕ → Option (List ℕ)
+abbrev pub signature_text : {P : Type 0} → (P → ProviderInfos) → TypeInputs P → ℕ → List ℕ → ℕ
+    → Option (List ℕ)
 signature_text info type_inputs module_index name index =
     text_of_run (signature_run info type_inputs module_index name index [])
 

@@ -127,9 +127,8 @@ nested_steps from outer (site ∷ sites) nested =
           (nested_steps (site.position + 1) (site.position ∷ site.outer) sites nested.2),
     )
 
--- the deeper sites that follow at once and the ranges of a depth lie over what is covered at it; with no site above
--- it ahead,
--- the ranges alone do
+-- the deeper sites that follow at once and the ranges of a depth lie over what is covered at it; with no site above it
+-- ahead, the ranges alone do
 cover_both : (inlinees : List IdIndex) (sites : List SiteAtDepth) (n d x : ℕ) → Steps n sites
     → ((has (deeper_ranges inlinees d sites) x || is_ranged inlinees sites d x)
     ≡ is_covered_by_depth inlinees sites d x)

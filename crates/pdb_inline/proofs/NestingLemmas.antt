@@ -18,9 +18,8 @@ abbrev pub Falls : List ℕ → Type 0
 Falls [] = Unit {0}
 Falls (p ∷ ps) = AllBelow p ps × Falls ps
 
--- sites from a position on, the first of them inside of the last ones of these positions, and each later one inside
--- of the
--- last ones of its predecessor and what that is inside of
+-- sites from a position on, the first of them inside of the last ones of these positions, and each later one inside of
+-- the last ones of its predecessor and what that is inside of
 abbrev pub AreNested : ℕ → List ℕ → List Site → Type 0
 AreNested from outer [] = Unit {0}
 AreNested from outer (site ∷ sites) =

@@ -46,7 +46,7 @@ records_of_files bytes files = do
   value ← value_of bytes
   records_of files value
 
--- the names of the module files that an object wants
+-- the names of the module files that a value wants
 unfoldable pub wanted_files_of : Data → Result (List (List ℕ)) Fault
 wanted_files_of d = do
   file ← object_of d

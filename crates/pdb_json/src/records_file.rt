@@ -87,7 +87,7 @@ fn counted_records(
 ///     "debug_information":{"error":3},"type_information":[],"id_information":[],
 ///     "string_table":[],"module_infos":[{"file":"a.json"}]}"#;
 /// let file = RecordsFile::from_slice(alloc, text)?;
-/// assert!(file.module_files()?.join(alloc, ",")? == "a.json");
+/// assert!(file.module_files()?.join(alloc, ",")?.as_str() == "a.json");
 /// let module_file = Vec::from_slice(alloc, br#"{"error":5}"#)?;
 /// let records = file.read_records(&[module_file])?;
 /// // What is known of the first module failed with 5.

@@ -15,8 +15,7 @@ use Rattle.pdb_documents.specs.Unfolding.{Unfolds}
 
 -- a task opens this index while it is open: a type that can be read, a method's list of arguments, and the target of a
 -- pointer or of a modifier; or the index repeats: an element of an array among the elements before it, and a scope
--- among
--- the ids that it is a scope of
+-- among the ids that it is a scope of
 abbrev pub Repeats : PrintInputs → List ℕ → Task → ℕ → Type 0
 Repeats w inside (Index index) circle =
     (index ≡ circle) × (is_among index inside ≡ true) × ((type : TypeData) × (w.read index ≡ Ok type))

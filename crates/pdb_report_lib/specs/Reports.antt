@@ -28,7 +28,8 @@ function_text info inputs address = Ok (names_line address (function_at info inp
 
 -- the text of an address, where these parts of the records of code failed before: the lines of the frames there, or the
 -- error of the look-up
-abbrev pub stack_text : {P : Type 0} → (P → ProviderInfos) → ContextInputs P → CodeParts → ℕ → Result (List ℕ) Error
+abbrev pub stack_text : {P : Type 0} → (P → ProviderInfos) → ContextInputs P → CodeParts → ℕ
+    → Result (List ℕ) Error
 stack_text info inputs failed address =
     and_then (answered_refusal failed (blamed_at info inputs address) (frames_at info inputs address)) (λ frames.
     Ok (frames_text address frames))

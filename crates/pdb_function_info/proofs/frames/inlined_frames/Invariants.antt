@@ -6,8 +6,7 @@ use Rattle.pdb_function_info.specs.Names.{id_name, failed_by_id}
 use Rattle.pdb_function_info.proofs.frames.inlined_frames.Given as goal
 
 -- the frames so far, and those of the ranges that are left, are the frames of all; what failed so far, and what fails
--- by
--- those that are left, is what fails by all, and so far only broken parts came
+-- by those that are left, is what fails by all, and so far only broken parts came
 abbrev pub invariant-loop-range : goal.invariant-loop-range
 invariant-loop-range g l =
     let info = g.P.ModuleProvider.info in
