@@ -75,8 +75,7 @@ fn claims(
 fn sort(claims: &mut Vec<ModuleSectionContribution>) -> Result<(), AllocError>
     ensures { OnOk result (claims.new.items ≡ in_order contribution_before claims.old.items) }
 {
-    claims.sort()?;
-    Ok(())
+    claims.sort()
 }
 
 /// Whether two belong to one module and section.

@@ -23,8 +23,7 @@ fn sort_by_start<T: HasStart>(entries: &mut Vec<T>) -> Result<(), AllocError>
     ensures ok { OnOk result (entries.new.items ≡ in_order (starts_before T.start_of) entries.old.items) }
     ensures err { OnErr result (entries.new.items ≡ entries.old.items) }
 {
-    entries.sort_by_key(|entry| entry.start())?;
-    Ok(())
+    entries.sort_by_key(|entry| entry.start())
 }
 
 /// Of neighbours with one start, the first.

@@ -74,8 +74,7 @@ fn own_ranges_of_sites(
 fn sort(ranges: &mut Vec<InlineRange>) -> Result<(), AllocError>
     ensures { OnOk result (ranges.new.items ≡ in_order range_before ranges.old.items) }
 {
-    ranges.sort_by_key(|range| (range.call_depth, range.start_offset))?;
-    Ok(())
+    ranges.sort_by_key(|range| (range.call_depth, range.start_offset))
 }
 
 /// The ranges of sites as they are read: of their own rows, and then what is added for the rows of sites

@@ -27,8 +27,7 @@ fn listed(alloc: Global, ranges: &[InlineRange]) -> Result<Vec<ListedRange>, All
 fn sort(ranges: &mut Vec<ListedRange>) -> Result<(), AllocError>
     ensures { OnOk result (ranges.new.items ≡ in_order starts_before ranges.old.items) }
 {
-    ranges.sort_by_key(|listed| listed.range.start_offset)?;
-    Ok(())
+    ranges.sort_by_key(|listed| listed.range.start_offset)
 }
 
 /// The ranges of a list with their positions, by their starts; of equal starts the last of the list stands first.

@@ -84,8 +84,7 @@ impl StackTable {
     {
         let from = self.positions.len();
         push_positions(&mut self.positions, tables, lo)?;
-        self.segments.paint(lo, hi, (from, self.positions.len()))?;
-        Ok(())
+        self.segments.paint(lo, hi, (from, self.positions.len()))
     }
 }
 
