@@ -19,8 +19,7 @@ use std::marker::Model;
 fn sort_by_offset(rows: &mut Vec<LineInfo>) -> Result<(), AllocError>
     ensures ok { OnOk result (rows.new.items ≡ in_order row_before rows.old.items) }
 {
-    rows.sort_by_key(|row| row.offset)?;
-    Ok(())
+    rows.sort_by_key(|row| row.offset)
 }
 
 /// Of neighbours with one offset, the first.
