@@ -14,15 +14,12 @@ use Rattle.pdb_types.specs.declared.error.Error.TheVariants.{ExtendedModuleInfoU
 use Rattle.pdb_types.specs.declared.error.Error.TheVariants.{ProcedureLinesUnsuccessful}
 use Rattle.pdb_types.specs.declared.error.Error.TheVariants.{ProcedureInlineRangesUnsuccessful}
 use Rattle.pdb_functions.specs.Lookup.{FoundFunction}
+use Rattle.pdb_functions.specs.Starts.{section_offset_cmp}
 use Rattle.pdb_frames.specs.ExtendedInfo.{extended_info}
 use Rattle.pdb_frames.specs.Lines.{function_rows}
 use Rattle.pdb_frames.specs.Origins.{function_module, function_start}
 use Rattle.pdb_frames.specs.declared.code_parts.CodePart.{CodePart}
 use Rattle.pdb_frames.specs.declared.code_parts.CodePart.TheVariants as part
-
--- the order of section offsets: by section, and then by offset
-abbrev pub section_offset_cmp : PdbInternalSectionOffset → PdbInternalSectionOffset → Ordering
-section_offset_cmp a b = ordering_then (nat_cmp a.section b.section) (nat_cmp a.offset b.offset)
 
 -- the order of functions: by module index, and then by the start
 abbrev pub function_cmp : ℕ → PdbInternalSectionOffset → ℕ → PdbInternalSectionOffset → Ordering

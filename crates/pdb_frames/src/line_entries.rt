@@ -4,8 +4,8 @@ ghost use Rattle.std.specs.Option.{option_copied, option_or};
 ghost use Rattle.pdb_records.specs.Addresses.{is_same_section_offset};
 ghost use Rattle.pdb_records.specs.Lines.{lines_at};
 ghost use Rattle.pdb_records.specs.declared.addresses.PdbInternalSectionOffset.{PdbInternalSectionOffset};
+ghost use Rattle.pdb_functions.specs.Starts.{section_offset_cmp};
 ghost use Rattle.pdb_frames.specs.CodeCaches.{Records, HasProgram, IsEntryCache};
-ghost use Rattle.pdb_frames.specs.CodeParts.{section_offset_cmp};
 
 use pdb_records::{LineInfo, LineProgram, PdbInternalSectionOffset, Reading};
 use std::alloc::{AllocError, Global};
@@ -47,7 +47,7 @@ impl<'a> Model for LineEntries<'a> {
     ghost use Rattle.pdb_records.specs.LinePrograms.{Lines};
     ghost use Rattle.pdb_records.specs.Lines.{lines_at};
     ghost use Rattle.pdb_records.specs.declared.addresses.PdbInternalSectionOffset.{PdbInternalSectionOffset};
-    ghost use Rattle.pdb_frames.specs.CodeParts.{section_offset_cmp};
+    ghost use Rattle.pdb_functions.specs.Starts.{section_offset_cmp};
 
     ghost Value = { Lines };
 

@@ -7,7 +7,7 @@ use Rattle.pdb_records.specs.declared.addresses.PdbInternalSectionOffset.{PdbInt
 use Rattle.pdb_records.specs.Addresses.{is_same_section_offset}
 use Rattle.pdb_ranges.specs.InOrder.{in_order}
 
--- by section, and then by offset
+-- the order of section offsets: by section, and then by offset
 abbrev pub section_offset_cmp : PdbInternalSectionOffset → PdbInternalSectionOffset → Ordering
 section_offset_cmp a b = ordering_then (nat_cmp a.section b.section) (nat_cmp a.offset b.offset)
 

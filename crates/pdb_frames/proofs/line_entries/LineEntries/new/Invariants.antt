@@ -3,7 +3,7 @@ use Rattle.std.specs.BTreeMap.{get}
 use Rattle.std.specs.Option.{option_copied, option_or}
 use Rattle.pdb_records.specs.Lines.{lines_at}
 use Rattle.pdb_records.specs.declared.addresses.PdbInternalSectionOffset.{PdbInternalSectionOffset}
-use Rattle.pdb_frames.specs.CodeParts.{section_offset_cmp}
+use Rattle.pdb_functions.specs.Starts.{section_offset_cmp}
 use Rattle.pdb_frames.proofs.line_entries.LineEntries.new.Given as goal
 
 -- what is known, else what is left gives, is what all give
