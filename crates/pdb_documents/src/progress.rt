@@ -272,6 +272,5 @@ fn end_buffer(
         return Ok(());
     }
     let after_sigil = has_sigil_at_end(text.as_str(), mark);
-    write_attributes(text, flags, true, after_sigil, attributes)?;
-    Ok(())
+    write_attributes(text, flags, true, after_sigil, attributes)
 }
