@@ -52,6 +52,11 @@ more_met (Ok a) None old new added same = ([], added)
 more_met (Ok a) (Some part) old new added same = (part ∷ [], added)
 more_met (Err e) met old new added same = ([], same)
 
+-- what a call leads to, however it ends
+pub at_either_end : {A E P Q R : Type 0} (r : Result A E) → (P → R) → (Q → R) → OnOk r P → OnErr r Q → R
+at_either_end (Ok a) added refused p q = added p
+at_either_end (Err e) added refused p q = refused q
+
 -- ---- the keys
 
 -- the key of these numbers

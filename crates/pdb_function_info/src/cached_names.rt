@@ -36,8 +36,7 @@ fn cache_signature<P: ModuleProvider>(
     ensures provider { cached.new.provider ≡ cached.old.provider }
 {
     let text = copy_of_name(text)?;
-    cached.texts.put(key, text)?;
-    Ok(())
+    cached.texts.put(key, text)
 }
 
 /// The signature of a procedure of the module at a module index, if it can be printed. It is printed once.
@@ -88,8 +87,7 @@ fn cache_id<P: ModuleProvider>(
         → IsIdCache P.info f cached.new.entries.items }
 {
     let text = copy_of_name(text)?;
-    cached.put(key, text)?;
-    Ok(())
+    cached.put(key, text)
 }
 
 /// The text of an id as the module at a module index writes it, if it can be printed. It is printed once.

@@ -1,16 +1,17 @@
-use Rattle.pdb_function_info.proofs.CachedNameLemmas.{signatures_more, signatures_same}
+use Rattle.pdb_function_info.specs.declared.cached_texts.CachedText.{CachedText}
+use Rattle.pdb_function_info.specs.declared.name_keys.SignatureKey.{SignatureKey}
+use Rattle.pdb_function_info.proofs.CachedNameLemmas.{signatures_more, signatures_same, at_either_end}
 use Rattle.pdb_function_info.proofs.cached_names.cache_signature.Goals as goal
-
-pub returns-in_err-put-clause-is_cache : goal.returns-in_err-put-clause-is_cache
-returns-in_err-put-clause-is_cache g c f is_cache printed =
-    let info = g.P.ModuleProvider.info in
-    signatures_same info (info c.args.cached.now.provider.now) f c.args.cached.now.texts.entries.items
-    c.put.new.self.entries.items c.in_err-put.ensures.refused is_cache
 
 pub returns-clause-is_cache : goal.returns-clause-is_cache
 returns-clause-is_cache g c f is_cache printed =
     let info = g.P.ModuleProvider.info in
-    signatures_more info (info c.args.cached.now.provider.now) f
-    (record { key = c.args.key; text = c.in_ok-text.text }) c.args.cached.now.texts.entries.items
-    c.put.new.self.entries.items c.in_ok-put.ensures.cached
-    (λ name named. rw c.in_ok-text.ensures (printed name named)) is_cache
+    let records = info c.args.cached.now.provider.now in
+    let entry : CachedText SignatureKey = record { key = c.args.key; text = c.in_ok-text.text } in
+    let old = c.args.cached.now.texts.entries.items in
+    let new = c.put.new.self.entries.items in
+    at_either_end c.put.result
+    (λ added. signatures_more info records f entry old new added
+    (λ name named. rw c.in_ok-text.ensures (printed name named)) is_cache)
+    (λ refused. signatures_same info records f old new refused is_cache)
+    c.put.ensures.cached c.put.ensures.refused
