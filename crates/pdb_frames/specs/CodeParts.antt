@@ -2,13 +2,12 @@
 use Rattle.std.specs.Prelude.{ℕ, Bool, true, false, List, Result, Ok, Err, if◌then◌else◌}
 use Rattle.std.specs.declared.cmp.Ordering.{Ordering}
 use Rattle.std.specs.declared.cmp.Ordering.TheVariants.{Less, Greater}
-use Rattle.std.specs.List.{list_any}
-use Rattle.std.specs.Ordering.{nat_cmp, ordering_then, is_eq}
-use Rattle.std.specs.BTreeSet.{insert_key}
+use Rattle.std.specs.Ordering.{nat_cmp, ordering_then}
 use Rattle.pdb_records.specs.LinePrograms.{Lines}
 use Rattle.pdb_records.specs.declared.addresses.PdbInternalSectionOffset.{PdbInternalSectionOffset}
 use Rattle.pdb_records.specs.declared.modules.ModuleInfo.{ModuleInfo}
 use Rattle.pdb_types.specs.Outcomes.{and_then}
+use Rattle.pdb_types.specs.PartSet.{has_part, add_part, error_of_part}
 use Rattle.pdb_types.specs.declared.error.Error.{Error}
 use Rattle.pdb_types.specs.declared.error.Error.TheVariants.{ExtendedModuleInfoUnsuccessful}
 use Rattle.pdb_types.specs.declared.error.Error.TheVariants.{ProcedureLinesUnsuccessful}
@@ -43,11 +42,11 @@ CodeParts = List CodePart
 
 -- a part is among those that failed
 abbrev pub has_code_failed : CodeParts → CodePart → Bool
-has_code_failed failed p = list_any (λ other. is_eq (code_part_cmp p other)) failed
+has_code_failed failed p = has_part code_part_cmp failed p
 
 -- these parts, and one more
 abbrev pub with_code_part : CodeParts → CodePart → CodeParts
-with_code_part failed p = insert_key code_part_cmp failed p
+with_code_part failed p = add_part code_part_cmp failed p
 
 -- the error of a part that failed before
 abbrev pub unsuccessful_code : CodePart → Error
@@ -57,7 +56,7 @@ unsuccessful_code (part.InlineRanges m start) = ProcedureInlineRangesUnsuccessfu
 
 -- what a part answers that is met broken: that it failed before, where it did, else its own error
 abbrev pub code_part_error : CodeParts → CodePart → Error → Error
-code_part_error failed p e = if has_code_failed failed p then unsuccessful_code p else e
+code_part_error failed p e = error_of_part code_part_cmp unsuccessful_code failed p e
 
 -- there is an error in place of an answer
 abbrev pub is_refused : {A E : Type 0} → Result A E → Bool

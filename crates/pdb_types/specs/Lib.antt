@@ -4,6 +4,7 @@ pub mod Provided
 pub mod Errors
 pub mod Outcomes
 pub mod ReadError
+pub mod PartSet
 pub mod FailedParts
 pub mod Ascending
 pub mod CachedEntries

@@ -1,0 +1,94 @@
+ghost use Rattle.std.specs.Prelude.{◌≡◌, [], IfOk, OnOk, OnErr};
+ghost use Rattle.pdb_types.specs.PartSet.{has_part, add_part, add_met, error_of_part};
+
+use crate::error::Error;
+use std::alloc::{AllocError, Global};
+use std::collections::BTreeSet;
+use std::marker::Model;
+
+/// A part of the records that may be broken by itself.
+pub trait BrokenPart: Copy + Ord + Drop {
+    ghost use Rattle.pdb_types.specs.declared.error.Error.{Error};
+
+    /// The error of a part that failed before.
+    ghost unsuccessful_of: { Self → Error };
+
+    /// The error of a part that failed before.
+    fn unsuccessful(self) -> Error
+        ensures { result ≡ unsuccessful_of self };
+}
+
+/// The parts of the records that were met broken, of one sort of parts.
+pub struct PartSet<P: BrokenPart> {
+    parts: BTreeSet<P>,
+}
+
+impl<P: BrokenPart> Drop for PartSet<P> {
+    fn drop(self) {
+        let PartSet { parts: _ } = self;
+    }
+}
+
+// Clauses see a set as the list of its parts, in order.
+impl<P: BrokenPart> Model for PartSet<P> {
+    ghost use Rattle.std.specs.Prelude.{List};
+
+    ghost Value = { List P };
+
+    ghost view = { λ set. set.parts.keys };
+}
+
+impl<P: BrokenPart> PartSet<P> {
+    /// No part. It takes no memory.
+    pub fn new(alloc: Global) -> Self
+        ensures { result ≡ [] }
+    {
+        PartSet {
+            parts: BTreeSet::new(alloc),
+        }
+    }
+
+    /// Whether a part was met broken before.
+    pub fn has_failed(&self, part: P) -> bool
+        ensures { result ≡ has_part P.cmp self.now part }
+    {
+        self.parts.contains(&part)
+    }
+
+    /// Remembers a part. Where there is no memory for it, nothing changes.
+    pub fn add(&mut self, part: P) -> Result<(), AllocError>
+        ensures added { OnOk result (self.new ≡ add_part P.cmp self.old part) }
+        ensures refused { OnErr result (self.new ≡ self.old) }
+    {
+        match self.parts.insert(part) {
+            Ok(_) => Ok(()),
+            Err(_) => Err(AllocError),
+        }
+    }
+
+    /// Remembers the part that was met broken, if one was.
+    pub fn add_met(&mut self, met: Option<P>) -> Result<(), AllocError>
+        ensures added { OnOk result (self.new ≡ add_met P.cmp self.old met) }
+        ensures refused { OnErr result (self.new ≡ self.old) }
+    {
+        match met {
+            Some(part) => self.add(part),
+            None => Ok(()),
+        }
+    }
+
+    /// What a part that is met broken answers: its own error where it is new, and then it is remembered,
+    /// else that it failed before. Where there is no memory to remember it, nothing changes.
+    pub fn ask(&mut self, part: P, error: Error) -> Result<Error, AllocError>
+        ensures error { IfOk result (λ e. e ≡ error_of_part P.cmp P.unsuccessful_of self.old part error) }
+        ensures added { OnOk result (self.new ≡ add_part P.cmp self.old part) }
+        ensures refused { OnErr result (self.new ≡ self.old) }
+    {
+        let failed_before = self.has_failed(part);
+        self.add(part)?;
+        if failed_before {
+            return Ok(part.unsuccessful());
+        }
+        Ok(error)
+    }
+}
