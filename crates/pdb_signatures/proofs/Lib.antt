@@ -5,3 +5,4 @@ pub mod TurnLemmas
 pub mod ReadLemmas
 pub mod ElementLemmas
 pub mod LoopLemmas
+pub mod LaterLemmas

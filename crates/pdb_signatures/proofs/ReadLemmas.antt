@@ -1,14 +1,11 @@
 -- What was read, and what was not.
-use Rattle.std.proofs.Common.{◌≡◌, ℕ, true, false, cond, nat_eq, [], ◌∷◌, inl, inr, refl, ap, ◌∙◌}
+use Rattle.std.proofs.Common.{◌≡◌, ℕ, true, false, cond, nat_eq, [], ◌∷◌, inl, inr, refl}
 use Rattle.std.specs.Prelude.{Option, Some, None, Result, Ok, Err}
-use Rattle.pdb_records.specs.Readings.{Read}
-use Rattle.pdb_records.specs.declared.types.Item.{Item}
 use Rattle.pdb_records.specs.declared.types.TypeIndex.{TypeIndex}
 use Rattle.pdb_records.specs.declared.types.TypeData.{TypeData}
 use Rattle.pdb_records.specs.declared.types.TypeData.TheVariants.{Primitive, Class, MemberFunction, Procedure, Pointer}
 use Rattle.pdb_records.specs.declared.types.TypeData.TheVariants.{Array, Union, Enumeration, Enumerate, Modifier}
 use Rattle.pdb_records.specs.declared.types.TypeData.TheVariants.{ArgumentList, Other}
-use Rattle.pdb_records.specs.declared.ids.IdIndex.{IdIndex}
 use Rattle.pdb_records.specs.declared.ids.IdData.{IdData}
 use Rattle.pdb_documents.specs.declared.this.This.{This}
 use Rattle.pdb_documents.specs.Methods.{plain_this, this_by_target, this_by_type, this_of}
@@ -19,95 +16,43 @@ use Rattle.pdb_types.specs.declared.read_error.ReadError.TheVariants as code
 use Rattle.pdb_types.specs.Errors.{error_view}
 use Rattle.pdb_types.specs.FailedParts.{Parts, with_part, with_met}
 use Rattle.pdb_types.specs.Outcomes.{and_then}
-use Rattle.pdb_types.specs.Reading.{reading}
-use Rattle.pdb_types.specs.TypeInputs.{LinkInputs}
-use Rattle.pdb_types.specs.TypeSizes.{read_type}
 use Rattle.pdb_types.specs.ReadError.{ReadErrorView, Broken, Matches}
 use Rattle.pdb_documents.specs.Plans.{refusal, note_or_refusal}
 use Rattle.pdb_signatures.specs.ReadErrorViews.{IsViewOf}
 use Rattle.pdb_documents.specs.BrokenParts.{IsBroken, AddsBroken}
-use Rattle.pdb_documents.specs.PrintInputs.{PrintInputs, type_at, id_at}
+use Rattle.pdb_documents.specs.PrintInputs.{PrintInputs}
 
 -- the view of the read error of what can't be read
-pub matches-read_error_view : {A B : Type 0} (view : A → B) (read_error : ReadError) (read_error_view : ReadErrorView)
+matches-view : {A B : Type 0} (view : A → B) (read_error : ReadError) (read_error_view : ReadErrorView)
     (r : Result B ReadErrorView) → Matches view (Err read_error) r → IsViewOf read_error read_error_view
     → r ≡ Err read_error_view
-matches-read_error_view view code.OutOfMemory read_error_view r matches is = absurd is
-matches-read_error_view view (code.Missing n) read_error_view r matches is = rw is matches
-matches-read_error_view view (code.Unimplemented k) read_error_view r matches is = rw is matches
-matches-read_error_view view (code.Refused e) read_error_view r matches is = rw is matches
-matches-read_error_view view (code.Broken part e) read_error_view r matches is = rw is matches
+matches-view view code.OutOfMemory read_error_view r matches is = absurd is
+matches-view view (code.Missing n) read_error_view r matches is = rw is matches
+matches-view view (code.Unimplemented k) read_error_view r matches is = rw is matches
+matches-view view (code.Refused e) read_error_view r matches is = rw is matches
+matches-view view (code.Broken part e) read_error_view r matches is = rw is matches
 
--- the type of an index that was read
-pub type_at-read : (link_inputs : LinkInputs) (types : Read (Item TypeIndex TypeData)) (module_index index : ℕ)
-    (read : ℕ × TypeData) → read_type link_inputs types module_index index ≡ Ok read
-    → type_at link_inputs types module_index index ≡ Ok read.1
-unfolding type_at
-type_at-read link_inputs types module_index index read is = ap (λ r. and_then r (λ (x : ℕ × TypeData). Ok x.1)) is
-
--- the view of the read error of an index that can't be read
-pub type_at-read_error : (link_inputs : LinkInputs) (types : Read (Item TypeIndex TypeData)) (module_index index : ℕ)
-    (read_error_view : ReadErrorView) → read_type link_inputs types module_index index ≡ Err read_error_view
-    → type_at link_inputs types module_index index ≡ Err read_error_view
-unfolding type_at
-type_at-read_error link_inputs types module_index index read_error_view is =
-    ap (λ r. and_then r (λ (x : ℕ × TypeData). Ok x.1)) is
-
--- why an index can't be read is the view of the read error of its type
-pub read_error-read_error_view : (link_inputs : LinkInputs) (types : Read (Item TypeIndex TypeData))
-    (module_index index : ℕ) (read_error : ReadError) (read_error_view : ReadErrorView)
-    → Matches {A = ℕ × TypeData} (λ read. read) (Err read_error) (read_type link_inputs types module_index index)
-    → IsViewOf read_error read_error_view → type_at link_inputs types module_index index ≡ Err read_error_view
-read_error-read_error_view link_inputs types module_index index read_error read_error_view matches known =
-    type_at-read_error link_inputs types module_index index read_error_view
-    (matches-read_error_view {A = ℕ × TypeData} (λ read. read) read_error read_error_view
-    (read_type link_inputs types module_index index) matches known)
+-- why something can't be read, as the answer of a definition
+pub read_error-is : {B : Type 0} (r : Result B ReadErrorView) (read_error : ReadError)
+    (read_error_view : ReadErrorView) → Matches {A = B} (λ b. b) (Err read_error) r
+    → IsViewOf read_error read_error_view → r ≡ Err read_error_view
+read_error-is {B = B} r read_error read_error_view matches is =
+    matches-view {A = B} (λ b. b) read_error read_error_view r matches is
 
 -- a part that reading an index meets broken is broken
-pub read_error-broken : (w : PrintInputs) (link_inputs : LinkInputs) (types : Read (Item TypeIndex TypeData))
-    (module_index index : ℕ) → w.read index ≡ type_at link_inputs types module_index index → (read_error : ReadError)
-    → Matches {A = ℕ × TypeData} (λ read. read) (Err read_error) (read_type link_inputs types module_index index)
-    → (part : Part) (e : Error) → read_error ≡ code.Broken part e → IsBroken w part
-read_error-broken w link_inputs types module_index index same read_error matches part e broken =
-    let met : w.read index ≡ Err (Broken part (error_view e)) =
-    same ∙ read_error-read_error_view link_inputs types module_index index read_error
-    (Broken part (error_view e)) matches (rw broken refl) in
+pub read_error-broken : (w : PrintInputs) (index : ℕ) (read_error : ReadError)
+    → Matches {A = TypeData} (λ t. t) (Err read_error) (w.read index) → (part : Part) (e : Error)
+    → read_error ≡ code.Broken part e → IsBroken w part
+read_error-broken w index read_error matches part e broken =
+    let met = read_error-is (w.read index) read_error (Broken part (error_view e)) matches (rw broken refl) in
     (index, inl (rw met refl))
 
--- the id of an index that was read
-pub id_at-read : (link_inputs : LinkInputs) (ids : Read (Item IdIndex IdData)) (module_index index : ℕ)
-    (read : ℕ × IdData) → reading (λ i. i.0) link_inputs ids module_index index ≡ Ok read
-    → id_at link_inputs ids module_index index ≡ Ok read.1
-unfolding id_at
-id_at-read link_inputs ids module_index index read is = ap (λ r. and_then r (λ (x : ℕ × IdData). Ok x.1)) is
-
--- the view of the read error of an id that can't be read
-id_at-read_error : (link_inputs : LinkInputs) (ids : Read (Item IdIndex IdData)) (module_index index : ℕ)
-    (read_error_view : ReadErrorView) → reading (λ i. i.0) link_inputs ids module_index index ≡ Err read_error_view
-    → id_at link_inputs ids module_index index ≡ Err read_error_view
-unfolding id_at
-id_at-read_error link_inputs ids module_index index read_error_view is =
-    ap (λ r. and_then r (λ (x : ℕ × IdData). Ok x.1)) is
-
--- why an index can't be read is the view of the read error of its id
-pub read_error-id-read_error_view : (link_inputs : LinkInputs) (ids : Read (Item IdIndex IdData))
-    (module_index index : ℕ) (read_error : ReadError) (read_error_view : ReadErrorView)
-    → Matches {A = ℕ × IdData} (λ read. read) (Err read_error) (reading (λ i. i.0) link_inputs ids module_index index)
-    → IsViewOf read_error read_error_view → id_at link_inputs ids module_index index ≡ Err read_error_view
-read_error-id-read_error_view link_inputs ids module_index index read_error read_error_view matches known =
-    id_at-read_error link_inputs ids module_index index read_error_view
-    (matches-read_error_view {A = ℕ × IdData} (λ read. read) read_error read_error_view
-    (reading (λ i. i.0) link_inputs ids module_index index) matches known)
-
 -- a part that reading an id meets broken is broken
-pub read_error-id-broken : (w : PrintInputs) (link_inputs : LinkInputs) (ids : Read (Item IdIndex IdData))
-    (module_index index : ℕ) → w.read_id index ≡ id_at link_inputs ids module_index index → (read_error : ReadError)
-    → Matches {A = ℕ × IdData} (λ read. read) (Err read_error) (reading (λ i. i.0) link_inputs ids module_index index)
-    → (part : Part) (e : Error) → read_error ≡ code.Broken part e → IsBroken w part
-read_error-id-broken w link_inputs ids module_index index same read_error matches part e broken =
-    let met : w.read_id index ≡ Err (Broken part (error_view e)) =
-    same ∙ read_error-id-read_error_view link_inputs ids module_index index read_error
-    (Broken part (error_view e)) matches (rw broken refl) in
+pub read_error-id-broken : (w : PrintInputs) (index : ℕ) (read_error : ReadError)
+    → Matches {A = IdData} (λ i. i) (Err read_error) (w.read_id index) → (part : Part) (e : Error)
+    → read_error ≡ code.Broken part e → IsBroken w part
+read_error-id-broken w index read_error matches part e broken =
+    let met = read_error-is (w.read_id index) read_error (Broken part (error_view e)) matches (rw broken refl) in
     (index, inr (inr (rw met refl)))
 
 -- where it is neither missing nor of an unknown kind, there is no note of it
@@ -191,6 +136,5 @@ pub this-broken : (w : PrintInputs) (class : TypeIndex) (this : Option TypeIndex
     → read_error ≡ code.Broken part e → IsBroken w part
 this-broken w class this read_error matches part e broken =
     let met = this-read_error w class this (Broken part (error_view e))
-    (matches-read_error_view {A = This} (λ this. this) read_error (Broken part (error_view e))
-    (this_of w class this) matches (rw broken refl)) in
+    (read_error-is (this_of w class this) read_error (Broken part (error_view e)) matches (rw broken refl)) in
     (met.0, inl (rw met.1 refl))

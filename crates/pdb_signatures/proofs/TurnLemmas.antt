@@ -11,7 +11,6 @@ use Rattle.pdb_types.specs.FailedParts.{Parts, with_part, with_met}
 use Rattle.pdb_types.specs.ReadError.{ReadErrorView}
 use Rattle.pdb_documents.specs.declared.tasks.Pending.{Pending}
 use Rattle.pdb_documents.specs.declared.tasks.Pending.TheVariants.{Close, EndCatch}
-use Rattle.pdb_documents.specs.declared.tasks.Task.TheVariants as tasks
 use Rattle.pdb_documents.specs.Documents.{Failure, OfError, Document, Run, run, then_by}
 use Rattle.pdb_documents.specs.Documents as document
 use Rattle.pdb_documents.specs.PrintInputs.{PrintInputs}

@@ -1,21 +1,20 @@
 ghost use Rattle.std.specs.Prelude.{◌≡◌, None, OnOk};
 ghost use Rattle.pdb_records.specs.declared.types.TypeData.TheVariants.{Array};
-ghost use Rattle.pdb_types.specs.TypeCache.{IsCacheOf};
-ghost use Rattle.pdb_documents.specs.BrokenParts.{AddsBroken};
 ghost use Rattle.pdb_documents.specs.Plans.{OfType, Elements, Later, ◌▸◌, written, met_before};
 ghost use Rattle.pdb_documents.specs.Progress.{open_in};
 ghost use Rattle.pdb_documents.specs.Rules.{element};
 ghost use Rattle.pdb_documents.specs.Wording.{dimensions_text};
 ghost use Rattle.pdb_documents.specs.PrintInputs.{PrintInputs, formatter_inputs};
+ghost use Rattle.pdb_signatures.specs.Formatters.{IsLater};
 ghost use Rattle.pdb_signatures.specs.PendingPlans.{Advances, Stands};
 
-use crate::printer::Printer;
+use crate::type_formatter::TypeFormatter;
 use pdb_documents::failures::Failure;
 use pdb_documents::progress::Progress;
 use pdb_documents::tasks::Task;
 use pdb_documents::wording::Wording;
 use pdb_records::{ArrayType, TypeData, TypeIndex};
-use pdb_types::{Error, ModuleProvider, TypeCache};
+use pdb_types::{Error, ModuleProvider};
 use std::alloc::AllocError;
 use std::collections::BTreeSet;
 
@@ -33,15 +32,14 @@ fn further_level(
 {
     elements.insert(index.0)?;
     levels.push(a.first)?;
-    progress.first(Task::Elements(elements, levels, a.element_type))?;
-    Ok(())
+    progress.first(Task::Elements(elements, levels, a.element_type))
 }
 
-impl<'p, 'a, P: ModuleProvider> Printer<'p, 'a, P> {
+impl<'a, P: ModuleProvider> TypeFormatter<'a, P> {
     /// The base of an array: its size is asked, and then it is printed with the dimensions behind it.
     fn base<'s>(
-        &self,
-        cache: &mut TypeCache<'a>,
+        &mut self,
+        module_index: usize,
         progress: &mut Progress<'s>,
         levels: Vec<u32>,
         index: TypeIndex,
@@ -49,32 +47,31 @@ impl<'p, 'a, P: ModuleProvider> Printer<'p, 'a, P> {
     ) -> Result<(), AllocError>
     where
         'a: 's,
-        requires is_cache { IsCacheOf P.info self.now.type_inputs.now cache.old }
         requires well { progress.old.failure ≡ None }
-        ensures is_cache { IsCacheOf P.info self.now.type_inputs.now cache.new }
-        ensures broken { AddsBroken (formatter_inputs P.info self.now.type_inputs.now self.now.module_index)
-            cache.old.failed cache.new.failed }
+        ensures later { IsLater P.info module_index self.old self.new }
         ensures advances { OnOk result
-            (let w = formatter_inputs P.info self.now.type_inputs.now self.now.module_index in
+            (let w = formatter_inputs P.info self.old.type_inputs module_index in
             Advances w (met_before (w.size index.0).met
             (Later (open_in progress.old.steps) (OfType type_data.now)
             ▸ written (dimensions_text levels.items (w.size index.0).size))) 0
-            progress.old cache.old.failed progress.new cache.new.failed) }
+            progress.old self.old.failed progress.new self.new.failed) }
     {
-        let size = match self.type_inputs.type_size(cache, self.module_index, index) {
+        let size = match self
+            .type_inputs
+            .type_size(&mut self.cache, module_index, index)
+        {
             Ok(size) => size,
             Err(_) => return Err(AllocError),
         };
-        self.type_inputs.remember(cache, size.met)?;
+        self.type_inputs.remember(&mut self.cache, size.met)?;
         progress.first(Task::Written(Wording::Dimensions(levels, size.size)))?;
-        progress.first(Task::OfType(type_data))?;
-        Ok(())
+        progress.first(Task::OfType(type_data))
     }
 
     /// An element of an array that was read: one more level, or the base.
     fn element<'s>(
-        &self,
-        cache: &mut TypeCache<'a>,
+        &mut self,
+        module_index: usize,
         progress: &mut Progress<'s>,
         elements: BTreeSet<u32>,
         levels: Vec<u32>,
@@ -83,32 +80,23 @@ impl<'p, 'a, P: ModuleProvider> Printer<'p, 'a, P> {
     ) -> Result<(), AllocError>
     where
         'a: 's,
-        requires is_cache { IsCacheOf P.info self.now.type_inputs.now cache.old }
         requires well { progress.old.failure ≡ None }
-        ensures is_cache { IsCacheOf P.info self.now.type_inputs.now cache.new }
-        ensures broken { AddsBroken (formatter_inputs P.info self.now.type_inputs.now self.now.module_index)
-            cache.old.failed cache.new.failed }
+        ensures later { IsLater P.info module_index self.old self.new }
         ensures advances { OnOk result
-            (let w = formatter_inputs P.info self.now.type_inputs.now self.now.module_index in
+            (let w = formatter_inputs P.info self.old.type_inputs module_index in
             Advances w (element w (open_in progress.old.steps) elements.keys levels.items index.0 type_data.now) 0
-            progress.old cache.old.failed progress.new cache.new.failed) }
+            progress.old self.old.failed progress.new self.new.failed) }
     {
         match type_data {
-            TypeData::Array(a) => {
-                further_level(progress, elements, levels, index, a)?;
-                Ok(())
-            }
-            _ => {
-                self.base(cache, progress, levels, index, type_data)?;
-                Ok(())
-            }
+            TypeData::Array(a) => further_level(progress, elements, levels, index, a),
+            _ => self.base(module_index, progress, levels, index, type_data),
         }
     }
 
     /// The next element of an array, which may not be one of those so far.
     pub(crate) fn elements<'s>(
-        &self,
-        cache: &mut TypeCache<'a>,
+        &mut self,
+        module_index: usize,
         progress: &mut Progress<'s>,
         elements: BTreeSet<u32>,
         levels: Vec<u32>,
@@ -116,29 +104,27 @@ impl<'p, 'a, P: ModuleProvider> Printer<'p, 'a, P> {
     ) -> Result<(), AllocError>
     where
         'a: 's,
-        requires is_cache { IsCacheOf P.info self.now.type_inputs.now cache.old }
         requires well { progress.old.failure ≡ None }
-        ensures is_cache { IsCacheOf P.info self.now.type_inputs.now cache.new }
-        ensures broken { AddsBroken (formatter_inputs P.info self.now.type_inputs.now self.now.module_index)
-            cache.old.failed cache.new.failed }
+        ensures later { IsLater P.info module_index self.old self.new }
         ensures advances { OnOk result
-            (Advances (formatter_inputs P.info self.now.type_inputs.now self.now.module_index)
+            (Advances (formatter_inputs P.info self.old.type_inputs module_index)
             (Later (open_in progress.old.steps) (Elements elements.keys levels.items next.0)) 1
-            progress.old cache.old.failed progress.new cache.new.failed) }
+            progress.old self.old.failed progress.new self.new.failed) }
     {
         if elements.contains(&next.0) {
             progress.fail(Failure::OfError(Error::CircularTypeDefinition(next.0)));
             return Ok(());
         }
-        match self.type_inputs.read_type(cache, self.module_index, next) {
-            Ok((_, type_data)) => {
-                self.element(cache, progress, elements, levels, next, type_data)?;
-                Ok(())
-            }
-            Err(read_error) => {
-                self.refuse(cache, progress, read_error)?;
-                Ok(())
-            }
+        match self.read_type(module_index, next) {
+            Ok(type_data) => self.element(
+                module_index,
+                progress,
+                elements,
+                levels,
+                next,
+                type_data,
+            ),
+            Err(read_error) => self.refuse(progress, read_error),
         }
     }
 }

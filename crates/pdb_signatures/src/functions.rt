@@ -37,8 +37,7 @@ pub(crate) fn returned(
         return Ok(());
     }
     progress.first(Task::Written(Wording::Text(" ")))?;
-    progress.first(Task::Index(index))?;
-    Ok(())
+    progress.first(Task::Index(index))
 }
 
 /// Further types, each behind a separator.
@@ -55,8 +54,7 @@ pub(crate) fn further_types<'s>(
     };
     progress.first(Task::FurtherTypes(separator, rest))?;
     progress.first(Task::Index(*next))?;
-    progress.first(Task::Written(Wording::Text(separator)))?;
-    Ok(())
+    progress.first(Task::Written(Wording::Text(separator)))
 }
 
 /// Types, with a separator between them, behind `this` where that is one of them.
@@ -72,15 +70,13 @@ pub(crate) fn types_between<'s>(
 {
     if let Some(this) = this {
         progress.first(Task::FurtherTypes(separator, list))?;
-        progress.first(Task::Index(this))?;
-        return Ok(());
+        return progress.first(Task::Index(this));
     }
     let Some((next, rest)) = list.split_first() else {
         return Ok(());
     };
     progress.first(Task::FurtherTypes(separator, rest))?;
-    progress.first(Task::Index(*next))?;
-    Ok(())
+    progress.first(Task::Index(*next))
 }
 
 /// A function's arguments in parentheses, unless functions are printed without them.
@@ -97,6 +93,5 @@ pub(crate) fn function_arguments(
     }
     progress.first(Task::Written(Wording::Text(")")))?;
     progress.first(Task::Index(list))?;
-    progress.first(Task::Written(Wording::Text("(")))?;
-    Ok(())
+    progress.first(Task::Written(Wording::Text("(")))
 }

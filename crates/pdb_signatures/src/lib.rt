@@ -9,7 +9,7 @@ mod functions;
 mod ids;
 mod methods;
 mod pointers;
-mod printer;
+mod reading;
 mod rules;
 mod signatures;
 mod turns;

@@ -29,8 +29,7 @@ fn pointers_to_method<'s>(
     progress.first(Task::Written(Wording::Pointers(attributes)))?;
     progress.first(Task::Index(m.class_type))?;
     progress.first(Task::Written(Wording::Text("(")))?;
-    progress.first(Task::Returned(m.is_constructor, Some(m.return_type)))?;
-    Ok(())
+    progress.first(Task::Returned(m.is_constructor, Some(m.return_type)))
 }
 
 /// A pointer to a function: what it returns, the pointers in parentheses, and its arguments in
@@ -49,8 +48,7 @@ fn pointers_to_function<'s>(
     progress.first(Task::Written(Wording::Text(")(")))?;
     progress.first(Task::Written(Wording::Pointers(attributes)))?;
     progress.first(Task::Written(Wording::Text("(")))?;
-    progress.first(Task::Returned(p.is_constructor, p.return_type))?;
-    Ok(())
+    progress.first(Task::Returned(p.is_constructor, p.return_type))
 }
 
 /// The end of a chain of pointers: functions are printed around the pointers, and any other type before
@@ -65,18 +63,11 @@ fn chain_end<'s>(
         progress.old progress.new) }
 {
     match type_data {
-        TypeData::MemberFunction(m) => {
-            pointers_to_method(progress, attributes, m)?;
-            Ok(())
-        }
-        TypeData::Procedure(p) => {
-            pointers_to_function(progress, attributes, p)?;
-            Ok(())
-        }
+        TypeData::MemberFunction(m) => pointers_to_method(progress, attributes, m),
+        TypeData::Procedure(p) => pointers_to_function(progress, attributes, p),
         _ => {
             progress.hold_back(attributes)?;
-            progress.first(Task::OfType(type_data))?;
-            Ok(())
+            progress.first(Task::OfType(type_data))
         }
     }
 }
@@ -93,8 +84,7 @@ fn further_pointer(
         progress.old progress.new) }
 {
     attributes.push(attribute_of(p, false))?;
-    progress.first(Task::Chain(attributes, p.underlying_type))?;
-    Ok(())
+    progress.first(Task::Chain(attributes, p.underlying_type))
 }
 
 /// What follows a modifier in a chain of pointers: a pointer goes on with the chain, all else ends it.
@@ -108,14 +98,8 @@ pub(crate) fn behind_modifier<'s>(
         progress.old progress.new) }
 {
     match type_data {
-        TypeData::Pointer(p) => {
-            further_pointer(progress, attributes, p)?;
-            Ok(())
-        }
-        _ => {
-            chain_end(progress, attributes, type_data)?;
-            Ok(())
-        }
+        TypeData::Pointer(p) => further_pointer(progress, attributes, p),
+        _ => chain_end(progress, attributes, type_data),
     }
 }
 
@@ -131,18 +115,11 @@ pub(crate) fn behind_pointer<'s>(
         progress.old progress.new) }
 {
     match type_data {
-        TypeData::Pointer(p) => {
-            further_pointer(progress, attributes, p)?;
-            Ok(())
-        }
+        TypeData::Pointer(p) => further_pointer(progress, attributes, p),
         TypeData::Modifier(m) => {
             point_to(&mut attributes, m.constant);
-            progress.first(Task::BehindModifier(attributes, m.underlying_type))?;
-            Ok(())
+            progress.first(Task::BehindModifier(attributes, m.underlying_type))
         }
-        _ => {
-            chain_end(progress, attributes, type_data)?;
-            Ok(())
-        }
+        _ => chain_end(progress, attributes, type_data),
     }
 }

@@ -44,8 +44,7 @@ fn method<'s>(
     let left_out = is_left_out(flags, m.is_constructor);
     progress.first(Task::MethodArguments(m, false))?;
     progress.first(Task::Written(Wording::Text("()")))?;
-    progress.first(Task::Returned(left_out, Some(m.return_type)))?;
-    Ok(())
+    progress.first(Task::Returned(left_out, Some(m.return_type)))
 }
 
 /// A procedure: what it returns where that is wanted, and its arguments, with no parenthesis behind them.
@@ -60,8 +59,7 @@ fn procedure<'s>(
     let left_out = is_left_out(flags, p.is_constructor);
     progress.first(Task::Index(p.argument_list))?;
     progress.first(Task::Written(Wording::Text("()(")))?;
-    progress.first(Task::Returned(left_out, p.return_type))?;
-    Ok(())
+    progress.first(Task::Returned(left_out, p.return_type))
 }
 
 /// A pointer, constant where it says so or `constant` does: a chain of pointers begins.
@@ -76,8 +74,7 @@ pub(crate) fn pointer(
 {
     let mut attributes = Vec::new(progress.allocator());
     attributes.push(attribute_of(p, constant))?;
-    progress.first(Task::Chain(attributes, p.underlying_type))?;
-    Ok(())
+    progress.first(Task::Chain(attributes, p.underlying_type))
 }
 
 /// An array: its levels and elements begin.
@@ -88,8 +85,7 @@ fn array(progress: &mut Progress<'_>, a: &ArrayType) -> Result<(), AllocError>
     let elements = BTreeSet::new(progress.allocator());
     let mut levels = Vec::new(progress.allocator());
     levels.push(a.first)?;
-    progress.first(Task::Elements(elements, levels, a.element_type))?;
-    Ok(())
+    progress.first(Task::Elements(elements, levels, a.element_type))
 }
 
 /// The word before a type that is constant.
@@ -109,18 +105,11 @@ pub(crate) fn modified<'s>(
         → Stands w 0 (modified w constant (open_in progress.old.steps) type_data.now) progress.old progress.new) }
 {
     match type_data {
-        TypeData::Pointer(p) => {
-            pointer(progress, p, constant)?;
-            Ok(())
-        }
-        TypeData::Primitive(p) => {
-            progress.first(Task::Written(Wording::Primitive(*p, constant)))?;
-            Ok(())
-        }
+        TypeData::Pointer(p) => pointer(progress, p, constant),
+        TypeData::Primitive(p) => progress.first(Task::Written(Wording::Primitive(*p, constant))),
         _ => {
             progress.first(Task::OfType(type_data))?;
-            progress.first(Task::Written(Wording::Text(const_word(constant))))?;
-            Ok(())
+            progress.first(Task::Written(Wording::Text(const_word(constant))))
         }
     }
 }
@@ -135,53 +124,24 @@ pub(crate) fn by_kind<'s>(
         → Stands w 0 (by_kind w (open_in progress.old.steps) type_data.now) progress.old progress.new) }
 {
     match type_data {
-        TypeData::Primitive(p) => {
-            progress.first(Task::Written(Wording::Primitive(*p, false)))?;
-            Ok(())
-        }
-        TypeData::Class(c) => {
-            declared(progress, class_word(c.class_kind), &c.name)?;
-            Ok(())
-        }
-        TypeData::Union(u) => {
-            declared(progress, "union ", &u.name)?;
-            Ok(())
-        }
-        TypeData::Enumeration(e) => {
-            declared(progress, "enum ", &e.name)?;
-            Ok(())
-        }
-        TypeData::Enumerate(e) => {
-            declared(progress, "enum class ", &e.name)?;
-            Ok(())
-        }
-        TypeData::MemberFunction(m) => {
-            method(progress, flags, m)?;
-            Ok(())
-        }
-        TypeData::Procedure(p) => {
-            procedure(progress, flags, p)?;
-            Ok(())
-        }
-        TypeData::ArgumentList(list) => {
-            types_between(progress, comma(flags), None, &list.arguments)?;
-            Ok(())
-        }
-        TypeData::Pointer(p) => {
-            pointer(progress, p, false)?;
-            Ok(())
-        }
-        TypeData::Array(a) => {
-            array(progress, a)?;
-            Ok(())
-        }
-        TypeData::Modifier(m) => {
-            progress.first(Task::Modified(m.constant, m.underlying_type))?;
-            Ok(())
-        }
-        TypeData::Other(kind) => {
-            progress.first(Task::Written(Wording::UnhandledKind(kind.kind_name.as_str())))?;
-            Ok(())
-        }
+        TypeData::Primitive(p) => progress.first(Task::Written(Wording::Primitive(*p, false))),
+        TypeData::Class(c) => declared(progress, class_word(c.class_kind), &c.name),
+        TypeData::Union(u) => declared(progress, "union ", &u.name),
+        TypeData::Enumeration(e) => declared(progress, "enum ", &e.name),
+        TypeData::Enumerate(e) => declared(progress, "enum class ", &e.name),
+        TypeData::MemberFunction(m) => method(progress, flags, m),
+        TypeData::Procedure(p) => procedure(progress, flags, p),
+        TypeData::ArgumentList(list) => types_between(
+            progress,
+            comma(flags),
+            None,
+            &list.arguments,
+        ),
+        TypeData::Pointer(p) => pointer(progress, p, false),
+        TypeData::Array(a) => array(progress, a),
+        TypeData::Modifier(m) => progress.first(Task::Modified(m.constant, m.underlying_type)),
+        TypeData::Other(kind) => progress.first(Task::Written(Wording::UnhandledKind(
+            kind.kind_name.as_str(),
+        ))),
     }
 }

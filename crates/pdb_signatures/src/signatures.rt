@@ -1,23 +1,21 @@
-ghost use Rattle.std.specs.Prelude.{◌≡◌, None, OnOk, IfOk, IfErr, string_bytes};
+ghost use Rattle.std.specs.Prelude.{◌≡◌, OnOk, IfOk, string_bytes};
 ghost use Rattle.pdb_records.specs.declared.types.TypeData.TheVariants.{MemberFunction, Procedure};
-ghost use Rattle.pdb_types.specs.TypeCache.{IsCacheOf};
-ghost use Rattle.pdb_types.specs.declared.error.Error.TheVariants.{OutOfMemory};
-ghost use Rattle.pdb_documents.specs.BrokenParts.{AddsBroken};
 ghost use Rattle.pdb_documents.specs.Printed.{signature_run};
 ghost use Rattle.pdb_documents.specs.Progress.{beginning, failure_in, open_in};
 ghost use Rattle.pdb_documents.specs.Signatures.{signature_by_type, signature};
 ghost use Rattle.pdb_documents.specs.PrintInputs.{PrintInputs, formatter_inputs};
+ghost use Rattle.pdb_signatures.specs.Formatters.{IsLater};
 ghost use Rattle.pdb_signatures.specs.PendingPlans.{Begins, Stands};
 
 use crate::functions::is_left_out;
-use crate::printer::Printer;
+use crate::type_formatter::TypeFormatter;
 use pdb_documents::answers::Printed;
 use pdb_documents::progress::Progress;
 use pdb_documents::tasks::Task;
 use pdb_documents::wording::{Wording, function_name, static_word};
 use pdb_records::{MemberFunctionType, ProcedureType, TypeData, TypeIndex};
-use pdb_types::{ModuleProvider, TypeCache, TypeFormatterFlags, TypeInputs};
-use std::alloc::{AllocError, Global};
+use pdb_types::{ModuleProvider, TypeFormatterFlags};
+use std::alloc::AllocError;
 
 /// The signature of a method with this name.
 fn method<'s>(
@@ -34,8 +32,7 @@ fn method<'s>(
     progress.first(Task::MethodArguments(m, true))?;
     progress.first(Task::Written(Wording::Text(function_name(name))))?;
     progress.first(Task::Returned(left_out, Some(m.return_type)))?;
-    progress.first(Task::Written(Wording::Text(static_word(flags, m.this_pointer_type))))?;
-    Ok(())
+    progress.first(Task::Written(Wording::Text(static_word(flags, m.this_pointer_type))))
 }
 
 /// The signature of a procedure with this name.
@@ -52,8 +49,7 @@ fn procedure<'s>(
     let left_out = is_left_out(flags, p.is_constructor);
     progress.first(Task::FunctionArguments(p.argument_list))?;
     progress.first(Task::Written(Wording::Text(function_name(name))))?;
-    progress.first(Task::Returned(left_out, p.return_type))?;
-    Ok(())
+    progress.first(Task::Returned(left_out, p.return_type))
 }
 
 /// The signature of a function with this name and type. Where the type is no function's, the name as it is.
@@ -68,87 +64,62 @@ fn by_type<'s>(
         progress.old progress.new) }
 {
     match type_data {
-        TypeData::MemberFunction(m) => {
-            method(progress, flags, name, m)?;
-            Ok(())
-        }
-        TypeData::Procedure(p) => {
-            procedure(progress, flags, name, p)?;
-            Ok(())
-        }
-        _ => {
-            progress.first(Task::Written(Wording::Text(name)))?;
-            Ok(())
-        }
+        TypeData::MemberFunction(m) => method(progress, flags, name, m),
+        TypeData::Procedure(p) => procedure(progress, flags, name, p),
+        _ => progress.first(Task::Written(Wording::Text(name))),
     }
 }
 
-impl<'p, 'a, P: ModuleProvider> Printer<'p, 'a, P> {
+impl<'a, P: ModuleProvider> TypeFormatter<'a, P> {
     /// Puts the signature of a function first, with this name and the type of this index. Index 0 is no
     /// type, and then the name stands alone.
     fn signature<'s>(
-        &self,
-        cache: &mut TypeCache<'a>,
+        &mut self,
+        module_index: usize,
         progress: &mut Progress<'s>,
         name: &'s str,
         index: TypeIndex,
     ) -> Result<(), AllocError>
     where
         'a: 's,
-        requires is_cache { IsCacheOf P.info self.now.type_inputs.now cache.old }
         requires beginning { progress.old ≡ beginning }
-        ensures is_cache { IsCacheOf P.info self.now.type_inputs.now cache.new }
-        ensures broken { AddsBroken (formatter_inputs P.info self.now.type_inputs.now self.now.module_index)
-            cache.old.failed cache.new.failed }
+        ensures later { IsLater P.info module_index self.old self.new }
         ensures begins { OnOk result
-            (let w = formatter_inputs P.info self.now.type_inputs.now self.now.module_index in
-            Begins w (signature w name.now index.0) cache.old.failed progress.new cache.new.failed) }
+            (let w = formatter_inputs P.info self.old.type_inputs module_index in
+            Begins w (signature w name.now index.0) self.old.failed progress.new self.new.failed) }
     {
         if index.0 == 0 {
             progress.first(Task::Written(Wording::Text(function_name(name))))?;
             return Ok(());
         }
-        match self.type_inputs.read_type(cache, self.module_index, index) {
-            Ok((_, type_data)) => {
+        match self.read_type(module_index, index) {
+            Ok(type_data) => {
                 progress.open(index.0)?;
-                by_type(progress, self.flags(), name, type_data)?;
-                Ok(())
+                by_type(progress, self.flags(), name, type_data)
             }
-            Err(read_error) => {
-                self.refuse(cache, progress, read_error)?;
-                Ok(())
-            }
+            Err(read_error) => self.refuse(progress, read_error),
         }
     }
-}
 
-/// Prints the signature of a function with this name, and the type of this index as the module at a
-/// module index writes it.
-pub(crate) fn print_signature<'a, P: ModuleProvider>(
-    alloc: Global,
-    type_inputs: &TypeInputs<'a, P>,
-    cache: &mut TypeCache<'a>,
-    name: &str,
-    module_index: usize,
-    index: TypeIndex,
-) -> Result<Printed, AllocError>
-    requires is_cache { IsCacheOf P.info type_inputs.now cache.old }
-    ensures is_cache { IsCacheOf P.info type_inputs.now cache.new }
-    ensures broken { AddsBroken (formatter_inputs P.info type_inputs.now module_index)
-        cache.old.failed cache.new.failed }
-    ensures printed { IfOk result (λ p.
-        signature_run P.info type_inputs.now module_index name.now index.0 cache.old.failed ≡ record {
-          text = string_bytes p.text;
-          fault = failure_in p.failure;
-          failed = cache.new.failed;
-        }) }
-{
-    let printer = Printer {
-        type_inputs,
-        module_index,
-    };
-    let mut progress = Progress::new(alloc);
-    printer.signature(cache, &mut progress, name, index)?;
-    printer.print(cache, &mut progress)?;
-    Ok(progress.into_printed())
+    /// Prints the signature of a function with this name, and the type of this index as the module at a
+    /// module index writes it.
+    pub(crate) fn print_function(
+        &mut self,
+        name: &str,
+        module_index: usize,
+        index: TypeIndex,
+    ) -> Result<Printed, AllocError>
+        ensures later { IsLater P.info module_index self.old self.new }
+        ensures printed { IfOk result (λ p.
+            signature_run P.info self.old.type_inputs module_index name.now index.0 self.old.failed ≡ record {
+              text = string_bytes p.text;
+              fault = failure_in p.failure;
+              failed = self.new.failed;
+            }) }
+    {
+        let mut progress = Progress::new(self.allocator());
+        self.signature(module_index, &mut progress, name, index)?;
+        self.print(module_index, &mut progress)?;
+        Ok(progress.into_printed())
+    }
 }

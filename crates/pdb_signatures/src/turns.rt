@@ -1,22 +1,21 @@
 ghost use Rattle.std.specs.Prelude.{◌≡◌, None, Ok, OnOk, reverse};
-ghost use Rattle.pdb_types.specs.TypeCache.{IsCacheOf};
 ghost use Rattle.pdb_types.specs.FailedParts.{Parts};
-ghost use Rattle.pdb_documents.specs.BrokenParts.{AddsBroken};
 ghost use Rattle.pdb_documents.specs.Plans.{Index, OfType, Chain, BehindModifier, Modified, Later};
 ghost use Rattle.pdb_documents.specs.Progress.{open_in, task_plan, stage_run};
 ghost use Rattle.pdb_documents.specs.PrintInputs.{PrintInputs, formatter_inputs};
+ghost use Rattle.pdb_signatures.specs.Formatters.{IsLater};
 ghost use Rattle.pdb_signatures.specs.PendingPlans.{Advances, Ends, frames};
 
 use crate::functions::{function_arguments, further_types, returned, types_between};
 use crate::ids::scope;
 use crate::pointers::{behind_modifier, behind_pointer};
-use crate::printer::Printer;
 use crate::rules::{by_kind, modified};
+use crate::type_formatter::TypeFormatter;
 use pdb_documents::attributes::Attribute;
 use pdb_documents::progress::{Next, Progress};
 use pdb_documents::tasks::Task;
 use pdb_records::{TypeData, TypeIndex};
-use pdb_types::{ModuleProvider, TypeCache, TypeFormatterFlags};
+use pdb_types::{ModuleProvider, TypeFormatterFlags};
 use std::alloc::AllocError;
 
 /// The type of an index that was read: it is printed while the index is open.
@@ -33,8 +32,7 @@ fn index_read<'s>(
     if !progress.open(index.0)? {
         return Ok(());
     }
-    progress.first(Task::OfType(type_data))?;
-    Ok(())
+    progress.first(Task::OfType(type_data))
 }
 
 /// A type: what is printed of its kind, and a note where a type is missing in it.
@@ -49,230 +47,180 @@ pub(crate) fn of_type<'s>(
         progress.old failed progress.new failed) }
 {
     progress.catch()?;
-    by_kind(progress, flags, type_data)?;
-    Ok(())
+    by_kind(progress, flags, type_data)
 }
 
-impl<'p, 'a, P: ModuleProvider> Printer<'p, 'a, P> {
+impl<'a, P: ModuleProvider> TypeFormatter<'a, P> {
     /// The type of an index.
     pub(crate) fn index<'s>(
-        &self,
-        cache: &mut TypeCache<'a>,
+        &mut self,
+        module_index: usize,
         progress: &mut Progress<'s>,
         index: TypeIndex,
     ) -> Result<(), AllocError>
     where
         'a: 's,
-        requires is_cache { IsCacheOf P.info self.now.type_inputs.now cache.old }
         requires well { progress.old.failure ≡ None }
-        ensures is_cache { IsCacheOf P.info self.now.type_inputs.now cache.new }
-        ensures broken { AddsBroken (formatter_inputs P.info self.now.type_inputs.now self.now.module_index)
-            cache.old.failed cache.new.failed }
+        ensures later { IsLater P.info module_index self.old self.new }
         ensures advances { OnOk result
-            (Advances (formatter_inputs P.info self.now.type_inputs.now self.now.module_index)
+            (Advances (formatter_inputs P.info self.old.type_inputs module_index)
             (Later (open_in progress.old.steps) (Index index.0)) 1
-            progress.old cache.old.failed progress.new cache.new.failed) }
+            progress.old self.old.failed progress.new self.new.failed) }
     {
-        match self.type_inputs.read_type(cache, self.module_index, index) {
-            Ok((_, type_data)) => {
-                index_read(progress, index, type_data)?;
-                Ok(())
-            }
-            Err(read_error) => {
-                self.note(cache, progress, read_error)?;
-                Ok(())
-            }
+        match self.read_type(module_index, index) {
+            Ok(type_data) => index_read(progress, index, type_data),
+            Err(read_error) => self.note(progress, read_error),
         }
     }
 
     /// A chain of pointers to the type of an index.
     pub(crate) fn chain<'s>(
-        &self,
-        cache: &mut TypeCache<'a>,
+        &mut self,
+        module_index: usize,
         progress: &mut Progress<'s>,
         attributes: Vec<Attribute>,
         target: TypeIndex,
     ) -> Result<(), AllocError>
     where
         'a: 's,
-        requires is_cache { IsCacheOf P.info self.now.type_inputs.now cache.old }
         requires well { progress.old.failure ≡ None }
-        ensures is_cache { IsCacheOf P.info self.now.type_inputs.now cache.new }
-        ensures broken { AddsBroken (formatter_inputs P.info self.now.type_inputs.now self.now.module_index)
-            cache.old.failed cache.new.failed }
+        ensures later { IsLater P.info module_index self.old self.new }
         ensures advances { OnOk result
-            (Advances (formatter_inputs P.info self.now.type_inputs.now self.now.module_index)
+            (Advances (formatter_inputs P.info self.old.type_inputs module_index)
             (Later (open_in progress.old.steps) (Chain (reverse attributes.items) target.0)) 1
-            progress.old cache.old.failed progress.new cache.new.failed) }
+            progress.old self.old.failed progress.new self.new.failed) }
     {
-        match self.enter(cache, progress, target)? {
+        match self.enter(module_index, progress, target)? {
             None => Ok(()),
-            Some(type_data) => {
-                behind_pointer(progress, attributes, type_data)?;
-                Ok(())
-            }
+            Some(type_data) => behind_pointer(progress, attributes, type_data),
         }
     }
 
     /// A chain of pointers with a modifier between them and the type of an index.
     pub(crate) fn behind_modifier<'s>(
-        &self,
-        cache: &mut TypeCache<'a>,
+        &mut self,
+        module_index: usize,
         progress: &mut Progress<'s>,
         attributes: Vec<Attribute>,
         target: TypeIndex,
     ) -> Result<(), AllocError>
     where
         'a: 's,
-        requires is_cache { IsCacheOf P.info self.now.type_inputs.now cache.old }
         requires well { progress.old.failure ≡ None }
-        ensures is_cache { IsCacheOf P.info self.now.type_inputs.now cache.new }
-        ensures broken { AddsBroken (formatter_inputs P.info self.now.type_inputs.now self.now.module_index)
-            cache.old.failed cache.new.failed }
+        ensures later { IsLater P.info module_index self.old self.new }
         ensures advances { OnOk result
-            (Advances (formatter_inputs P.info self.now.type_inputs.now self.now.module_index)
+            (Advances (formatter_inputs P.info self.old.type_inputs module_index)
             (Later (open_in progress.old.steps) (BehindModifier (reverse attributes.items) target.0)) 1
-            progress.old cache.old.failed progress.new cache.new.failed) }
+            progress.old self.old.failed progress.new self.new.failed) }
     {
-        match self.enter(cache, progress, target)? {
+        match self.enter(module_index, progress, target)? {
             None => Ok(()),
-            Some(type_data) => {
-                behind_modifier(progress, attributes, type_data)?;
-                Ok(())
-            }
+            Some(type_data) => behind_modifier(progress, attributes, type_data),
         }
     }
 
     /// The type of an index, constant or not.
     pub(crate) fn modified<'s>(
-        &self,
-        cache: &mut TypeCache<'a>,
+        &mut self,
+        module_index: usize,
         progress: &mut Progress<'s>,
         constant: bool,
         target: TypeIndex,
     ) -> Result<(), AllocError>
     where
         'a: 's,
-        requires is_cache { IsCacheOf P.info self.now.type_inputs.now cache.old }
         requires well { progress.old.failure ≡ None }
-        ensures is_cache { IsCacheOf P.info self.now.type_inputs.now cache.new }
-        ensures broken { AddsBroken (formatter_inputs P.info self.now.type_inputs.now self.now.module_index)
-            cache.old.failed cache.new.failed }
+        ensures later { IsLater P.info module_index self.old self.new }
         ensures advances { OnOk result
-            (Advances (formatter_inputs P.info self.now.type_inputs.now self.now.module_index)
+            (Advances (formatter_inputs P.info self.old.type_inputs module_index)
             (Later (open_in progress.old.steps) (Modified constant target.0)) 1
-            progress.old cache.old.failed progress.new cache.new.failed) }
+            progress.old self.old.failed progress.new self.new.failed) }
     {
-        match self.enter(cache, progress, target)? {
+        match self.enter(module_index, progress, target)? {
             None => Ok(()),
-            Some(type_data) => {
-                modified(progress, constant, type_data)?;
-                Ok(())
-            }
+            Some(type_data) => modified(progress, constant, type_data),
         }
     }
 
     /// One turn: prints a task, or puts what is printed of it first.
     fn turn<'s>(
-        &self,
-        cache: &mut TypeCache<'a>,
+        &mut self,
+        module_index: usize,
         progress: &mut Progress<'s>,
         task: Task<'s>,
     ) -> Result<(), AllocError>
     where
         'a: 's,
-        requires is_cache { IsCacheOf P.info self.now.type_inputs.now cache.old }
         requires well { progress.old.failure ≡ None }
-        ensures is_cache { IsCacheOf P.info self.now.type_inputs.now cache.new }
-        ensures broken { AddsBroken (formatter_inputs P.info self.now.type_inputs.now self.now.module_index)
-            cache.old.failed cache.new.failed }
+        ensures later { IsLater P.info module_index self.old self.new }
         ensures advances { OnOk result
-            (let w = formatter_inputs P.info self.now.type_inputs.now self.now.module_index in
+            (let w = formatter_inputs P.info self.old.type_inputs module_index in
             Advances w (task_plan w (open_in progress.old.steps) task.entry) 1
-            progress.old cache.old.failed progress.new cache.new.failed) }
+            progress.old self.old.failed progress.new self.new.failed) }
     {
         match task {
-            Task::Written(wording) => {
-                progress.write(self.flags(), &wording)?;
-                Ok(())
-            }
-            Task::Index(index) => {
-                self.index(cache, progress, index)?;
-                Ok(())
-            }
-            Task::OfType(type_data) => {
-                of_type(progress, self.flags(), type_data)?;
-                Ok(())
-            }
-            Task::Returned(left_out, index) => {
-                returned(progress, left_out, index)?;
-                Ok(())
-            }
-            Task::Types(separator, this, list) => {
-                types_between(progress, separator, this, list)?;
-                Ok(())
-            }
-            Task::FurtherTypes(separator, list) => {
-                further_types(progress, separator, list)?;
-                Ok(())
-            }
-            Task::FunctionArguments(list) => {
-                function_arguments(progress, self.flags(), list)?;
-                Ok(())
-            }
-            Task::MethodArguments(m, may_say_const) => {
-                self.method_arguments(cache, progress, m, may_say_const)?;
-                Ok(())
-            }
-            Task::Chain(attributes, target) => {
-                self.chain(cache, progress, attributes, target)?;
-                Ok(())
-            }
-            Task::BehindModifier(attributes, target) => {
-                self.behind_modifier(cache, progress, attributes, target)?;
-                Ok(())
-            }
-            Task::Modified(constant, target) => {
-                self.modified(cache, progress, constant, target)?;
-                Ok(())
-            }
-            Task::Elements(elements, levels, next) => {
-                self.elements(cache, progress, elements, levels, next)?;
-                Ok(())
-            }
-            Task::Id(met, index) => {
-                self.id(cache, progress, met, index)?;
-                Ok(())
-            }
-            Task::Scope(met, index) => {
-                scope(progress, met, index)?;
-                Ok(())
-            }
+            Task::Written(wording) => progress.write(self.flags(), &wording),
+            Task::Index(index) => self.index(module_index, progress, index),
+            Task::OfType(type_data) => of_type(progress, self.flags(), type_data),
+            Task::Returned(left_out, index) => returned(progress, left_out, index),
+            Task::Types(separator, this, list) => types_between(progress, separator, this, list),
+            Task::FurtherTypes(separator, list) => further_types(progress, separator, list),
+            Task::FunctionArguments(list) => function_arguments(progress, self.flags(), list),
+            Task::MethodArguments(m, may_say_const) => self.method_arguments(
+                module_index,
+                progress,
+                m,
+                may_say_const,
+            ),
+            Task::Chain(attributes, target) => self.chain(
+                module_index,
+                progress,
+                attributes,
+                target,
+            ),
+            Task::BehindModifier(attributes, target) => self.behind_modifier(
+                module_index,
+                progress,
+                attributes,
+                target,
+            ),
+            Task::Modified(constant, target) => self.modified(
+                module_index,
+                progress,
+                constant,
+                target,
+            ),
+            Task::Elements(elements, levels, next) => self.elements(
+                module_index,
+                progress,
+                elements,
+                levels,
+                next,
+            ),
+            Task::Id(met, index) => self.id(module_index, progress, met, index),
+            Task::Scope(met, index) => scope(progress, met, index),
         }
     }
 
     /// Prints until nothing is left to be done.
     pub(crate) fn print<'s>(
-        &self,
-        cache: &mut TypeCache<'a>,
+        &mut self,
+        module_index: usize,
         progress: &mut Progress<'s>,
     ) -> Result<(), AllocError>
     where
         'a: 's,
-        requires is_cache { IsCacheOf P.info self.now.type_inputs.now cache.old }
-        ensures is_cache { IsCacheOf P.info self.now.type_inputs.now cache.new }
-        ensures broken { AddsBroken (formatter_inputs P.info self.now.type_inputs.now self.now.module_index)
-            cache.old.failed cache.new.failed }
+        ensures later { IsLater P.info module_index self.old self.new }
         ensures ends { OnOk result
-            (let w = formatter_inputs P.info self.now.type_inputs.now self.now.module_index in
-            Ends w (frames w progress.old.steps) (stage_run progress.old cache.old.failed)
-            (stage_run progress.new cache.new.failed)) }
+            (let w = formatter_inputs P.info self.old.type_inputs module_index in
+            Ends w (frames w progress.old.steps) (stage_run progress.old self.old.failed)
+            (stage_run progress.new self.new.failed)) }
     {
         'turns: loop {
             match progress.next(self.flags())? {
                 Next::Finished => return Ok(()),
                 Next::Ended => {}
-                Next::Print(task) => self.turn(cache, progress, task)?,
+                Next::Print(task) => self.turn(module_index, progress, task)?,
             }
         }
     }

@@ -1,4 +1,4 @@
-ghost use Rattle.std.specs.Prelude.{◌≡◌, [], IfOk, OnOk, OnErr, MatchResult, string_bytes};
+ghost use Rattle.std.specs.Prelude.{◌≡◌, [], IfOk, OnOk, OnErr, MatchResult};
 ghost use Rattle.std.specs.Option.{option_copied};
 ghost use Rattle.pdb_types.specs.declared.error.Error.TheVariants.{OutOfMemory};
 ghost use Rattle.pdb_types.specs.FailedParts.{with_met};
@@ -8,17 +8,14 @@ ghost use Rattle.pdb_types.specs.TypeSizes.{size_of};
 ghost use Rattle.pdb_documents.specs.Answers.{AnswersText, AnswersWritten};
 ghost use Rattle.pdb_documents.specs.BrokenParts.{AddsBroken};
 ghost use Rattle.pdb_documents.specs.Printed.{signature_run, id_run};
-ghost use Rattle.pdb_documents.specs.Progress.{failure_in};
 ghost use Rattle.pdb_documents.specs.PrintInputs.{formatter_inputs};
 
-use crate::ids::print_id;
-use crate::signatures::print_signature;
-use pdb_documents::answers::{Printed, printed_text, write_printed};
+use pdb_documents::answers::{printed_text, write_printed};
 use pdb_records::{
     DebugInformation, IdIndex, IdInformation, Module, StringTable, TypeIndex, TypeInformation,
 };
 use pdb_types::{ModuleProvider, Result, TypeCache, TypeFormatterFlags, TypeInputs};
-use std::alloc::{AllocError, Global};
+use std::alloc::Global;
 use std::fmt;
 use std::marker::Model;
 
@@ -27,8 +24,8 @@ use std::marker::Model;
 /// Its inputs are the records that it was given. Of what happens between two questions it remembers one
 /// thing that later answers show: which parts of the records it met broken.
 pub struct TypeFormatter<'a, P: ModuleProvider> {
-    type_inputs: TypeInputs<'a, P>,
-    cache: TypeCache<'a>,
+    pub(crate) type_inputs: TypeInputs<'a, P>,
+    pub(crate) cache: TypeCache<'a>,
 }
 
 impl<'a, P: ModuleProvider> Model for TypeFormatter<'a, P> {
@@ -225,50 +222,8 @@ impl<'a, P: ModuleProvider> TypeFormatter<'a, P> {
         write_printed(writer, printed)
     }
 
-    /// Prints the signature of a function.
-    fn print_function(
-        &mut self,
-        name: &str,
-        module_index: usize,
-        index: TypeIndex,
-    ) -> Result<Printed, AllocError>
-        ensures type_inputs { self.new.type_inputs ≡ self.old.type_inputs }
-        ensures broken { AddsBroken (formatter_inputs P.info self.old.type_inputs module_index)
-            self.old.failed self.new.failed }
-        ensures printed { IfOk result (λ p.
-            signature_run P.info self.old.type_inputs module_index name.now index.0 self.old.failed ≡ record {
-              text = string_bytes p.text;
-              fault = failure_in p.failure;
-              failed = self.new.failed;
-            }) }
-    {
-        print_signature(
-            self.type_inputs.allocator(),
-            &self.type_inputs,
-            &mut self.cache,
-            name,
-            module_index,
-            index,
-        )
-    }
-    /// Prints an id.
-    fn print_id(&mut self, module_index: usize, index: IdIndex) -> Result<Printed, AllocError>
-        ensures type_inputs { self.new.type_inputs ≡ self.old.type_inputs }
-        ensures broken { AddsBroken (formatter_inputs P.info self.old.type_inputs module_index)
-            self.old.failed self.new.failed }
-        ensures printed { IfOk result (λ p.
-            id_run P.info self.old.type_inputs module_index index.0 self.old.failed ≡ record {
-              text = string_bytes p.text;
-              fault = failure_in p.failure;
-              failed = self.new.failed;
-            }) }
-    {
-        print_id(
-            self.type_inputs.allocator(),
-            &self.type_inputs,
-            &mut self.cache,
-            module_index,
-            index,
-        )
+    /// Where memory comes from.
+    pub(crate) fn allocator(&self) -> Global {
+        self.type_inputs.allocator()
     }
 }

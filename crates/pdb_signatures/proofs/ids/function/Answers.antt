@@ -1,11 +1,13 @@
+use Rattle.std.proofs.lemmas.Result.{on_ok_weaker}
 use Rattle.std.proofs.Common.{arith}
 use Rattle.pdb_signatures.proofs.StandsLemmas.{stands_first, stands_before, stands_fewer}
 use Rattle.pdb_signatures.proofs.ids.function.Goals as goal
 
 pub returns : goal.returns
-returns c = λ w flags.
+returns c = on_ok_weaker c.first-4.result (λ put w flags.
     let last = stands_first w _ _ _ c.in_ok-first.ensures in
     let row = stands_before w _ _ _ _ _ _ last c.in_ok-first-2.ensures in
     let row = stands_before w _ _ _ _ _ _ row c.in_ok-first-3.ensures in
-    let all = stands_fewer 0 (omega arith) (stands_before w _ _ _ _ _ _ row c.in_ok-first-4.ensures) in
-    rw (c.is_left_out-left_out.ensures, ← flags) at all
+    let all = stands_fewer 0 (omega arith) (stands_before w _ _ _ _ _ _ row put) in
+    rw (c.is_left_out-left_out.ensures, ← flags) at all)
+    c.first-4.ensures

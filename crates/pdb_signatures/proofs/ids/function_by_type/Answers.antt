@@ -1,3 +1,4 @@
+use Rattle.std.proofs.lemmas.Result.{on_ok_weaker}
 use Rattle.std.proofs.Common.{arith}
 use Rattle.pdb_types.specs.declared.error.Error.TheVariants.{FunctionIdIsNotProcedureType}
 use Rattle.pdb_types.specs.Errors.{Plain}
@@ -8,10 +9,11 @@ use Rattle.pdb_signatures.proofs.OtherKinds.{function_id-other}
 use Rattle.pdb_signatures.proofs.TurnLemmas.{advances_fewer, advances_failed, advances_stands}
 use Rattle.pdb_signatures.proofs.ids.function_by_type.Goals as goal
 
-pub returns-in_ok-function-in-Procedure : goal.returns-in_ok-function-in-Procedure
-returns-in_ok-function-in-Procedure c = λ w flags failed.
+pub returns-in-Procedure : goal.returns-in-Procedure
+returns-in-Procedure c = on_ok_weaker c.function.result (λ ok w flags failed.
     rw c.in-Procedure.is (advances_stands w 0 _ c.args.progress.now _
-    (c.in_ok-function-in-Procedure.ensures w flags) failed)
+    (ok w flags) failed))
+    c.function.ensures
 
 pub returns-in_default : goal.returns-in_default
 returns-in_default c = λ w flags failed.

@@ -1,3 +1,4 @@
+use Rattle.std.proofs.lemmas.Result.{on_ok_weaker}
 use Rattle.std.proofs.Common.{arith}
 use Rattle.pdb_types.specs.declared.error.Error.TheVariants.{MemberFunctionIdIsNotMemberFunctionType}
 use Rattle.pdb_types.specs.Errors.{Plain}
@@ -8,10 +9,11 @@ use Rattle.pdb_signatures.proofs.OtherKinds.{method_id-other}
 use Rattle.pdb_signatures.proofs.TurnLemmas.{advances_fewer, advances_failed, advances_stands}
 use Rattle.pdb_signatures.proofs.ids.method_by_type.Goals as goal
 
-pub returns-in_ok-method-in-MemberFunction : goal.returns-in_ok-method-in-MemberFunction
-returns-in_ok-method-in-MemberFunction c = λ w flags failed.
+pub returns-in-MemberFunction : goal.returns-in-MemberFunction
+returns-in-MemberFunction c = on_ok_weaker c.method.result (λ ok w flags failed.
     rw c.in-MemberFunction.is (advances_stands w 0 _ c.args.progress.now _
-    (c.in_ok-method-in-MemberFunction.ensures w flags) failed)
+    (ok w flags) failed))
+    c.method.ensures
 
 pub returns-in_default : goal.returns-in_default
 returns-in_default c = λ w flags failed.

@@ -1,3 +1,4 @@
+use Rattle.std.proofs.lemmas.Result.{on_ok_weaker}
 use Rattle.std.proofs.Common.{arith}
 use Rattle.std.specs.Prelude.{None, codes}
 use Rattle.pdb_documents.specs.Functions.{types_between}
@@ -7,11 +8,12 @@ use Rattle.pdb_signatures.proofs.TurnLemmas.{advances_stands, alone_advances}
 use Rattle.pdb_signatures.proofs.ids.string_list.Goals as goal
 
 pub returns : goal.returns
-returns c = λ w failed.
+returns c = on_ok_weaker c.first-3.result (λ put w failed.
     let last = stands_first w _ _ _ c.in_ok-first.ensures in
     let row = stands_before w _ _ _ _ _ _ last c.in_ok-first-2.ensures in
-    let all = stands_fewer 0 (omega arith) (stands_before w _ _ _ _ _ _ row c.in_ok-first-3.ensures) in
+    let all = stands_fewer 0 (omega arith) (stands_before w _ _ _ _ _ _ row put) in
     let advances = advances_stands w 0 _ _ _ all failed in
     alone_advances w None (λ inside. written
     (codes "\"") ▸ types_between (codes "\" \"") inside c.args.substrings.now ▸ written (codes "\""))
-    c.args.progress.now _ _ failed failed c.in_ok-open_alone.ensures advances
+    c.args.progress.now _ _ failed failed c.in_ok-open_alone.ensures advances)
+    c.first-3.ensures

@@ -1,12 +1,13 @@
+use Rattle.std.proofs.lemmas.Result.{on_ok_weaker}
 use Rattle.pdb_signatures.proofs.StandsLemmas.{stands_here}
 use Rattle.pdb_signatures.proofs.OtherKinds.{behind_pointer-other}
 use Rattle.pdb_signatures.proofs.pointers.behind_pointer.Goals as goal
 
-pub returns-in_ok-further_pointer-in-Pointer : goal.returns-in_ok-further_pointer-in-Pointer
-returns-in_ok-further_pointer-in-Pointer c =
-    λ w. rw c.in-Pointer.is (stands_here (c.in_ok-further_pointer-in-Pointer.ensures w))
+pub returns-in-Pointer : goal.returns-in-Pointer
+returns-in-Pointer c = on_ok_weaker c.further_pointer.result (λ ok w. rw c.in-Pointer.is (stands_here (ok w)))
+    c.further_pointer.ensures
 
-pub returns-in_ok-chain_end-in_default : goal.returns-in_ok-chain_end-in_default
-returns-in_ok-chain_end-in_default c =
-    λ w. rw (behind_pointer-other w _ _ c.args.type_data.now c.in_default.not-Pointer c.in_default.not-Modifier)
-    (c.in_ok-chain_end-in_default.ensures w)
+pub returns-in_default : goal.returns-in_default
+returns-in_default c = on_ok_weaker c.chain_end.result (λ ok w. rw (behind_pointer-other w _ _ c.args.type_data.now c.in_default.not-Pointer c.in_default.not-Modifier)
+    (ok w))
+    c.chain_end.ensures

@@ -1,12 +1,14 @@
+use Rattle.std.proofs.lemmas.Result.{on_ok_weaker}
 use Rattle.std.proofs.Common.{arith}
 use Rattle.pdb_signatures.proofs.StandsLemmas.{stands_first, stands_before, stands_fewer}
 use Rattle.pdb_signatures.proofs.pointers.pointers_to_function.Goals as goal
 
 pub returns : goal.returns
-returns c = λ w.
+returns c = on_ok_weaker c.first-6.result (λ put w.
     let last = stands_first w _ _ _ c.in_ok-first.ensures in
     let row = stands_before w _ _ _ _ _ _ last c.in_ok-first-2.ensures in
     let row = stands_before w _ _ _ _ _ _ row c.in_ok-first-3.ensures in
     let row = stands_before w _ _ _ _ _ _ row c.in_ok-first-4.ensures in
     let row = stands_before w _ _ _ _ _ _ row c.in_ok-first-5.ensures in
-    stands_fewer 0 (omega arith) (stands_before w _ _ _ _ _ _ row c.in_ok-first-6.ensures)
+    stands_fewer 0 (omega arith) (stands_before w _ _ _ _ _ _ row put))
+    c.first-6.ensures

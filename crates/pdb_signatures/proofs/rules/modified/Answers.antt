@@ -1,4 +1,17 @@
+use Rattle.std.proofs.lemmas.Result.{on_ok_weaker}
+use Rattle.std.proofs.Common.{arith}
+use Rattle.pdb_signatures.proofs.StandsLemmas.{stands_first, stands_before, stands_fewer}
+use Rattle.pdb_signatures.proofs.OtherKinds.{modified-other}
 use Rattle.pdb_signatures.proofs.rules.modified.Goals as goal
 
-pub returns-in_ok-pointer-in-Pointer : goal.returns-in_ok-pointer-in-Pointer
-returns-in_ok-pointer-in-Pointer c = λ w. rw c.in-Pointer.is (c.in_ok-pointer-in-Pointer.ensures w)
+pub returns-in-Pointer : goal.returns-in-Pointer
+returns-in-Pointer c = on_ok_weaker c.pointer.result (λ ok w. rw c.in-Pointer.is (ok w))
+    c.pointer.ensures
+
+pub returns-in_ok-first-in_default : goal.returns-in_ok-first-in_default
+returns-in_ok-first-in_default c = on_ok_weaker c.first-in_default-2.result (λ put w.
+    let last = stands_first w _ _ _ c.in_ok-first-in_default.ensures in
+    let all = stands_fewer 0 (omega arith) (stands_before w _ _ _ _ _ _ last put) in
+    rw (modified-other w c.args.constant _ c.args.type_data.now c.in_default.not-Pointer c.in_default.not-Primitive)
+    (rw c.const_word.ensures at all))
+    c.first-in_default-2.ensures

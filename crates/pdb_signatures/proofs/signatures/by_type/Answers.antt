@@ -1,9 +1,10 @@
+use Rattle.std.proofs.lemmas.Result.{on_ok_weaker}
 use Rattle.pdb_signatures.proofs.signatures.by_type.Goals as goal
 
-pub returns-in_ok-method-in-MemberFunction : goal.returns-in_ok-method-in-MemberFunction
-returns-in_ok-method-in-MemberFunction c =
-    λ w flags. rw c.in-MemberFunction.is (c.in_ok-method-in-MemberFunction.ensures w flags)
+pub returns-in-MemberFunction : goal.returns-in-MemberFunction
+returns-in-MemberFunction c = on_ok_weaker c.method.result (λ ok w flags. rw c.in-MemberFunction.is (ok w flags))
+    c.method.ensures
 
-pub returns-in_ok-procedure-in-Procedure : goal.returns-in_ok-procedure-in-Procedure
-returns-in_ok-procedure-in-Procedure c =
-    λ w flags. rw c.in-Procedure.is (c.in_ok-procedure-in-Procedure.ensures w flags)
+pub returns-in-Procedure : goal.returns-in-Procedure
+returns-in-Procedure c = on_ok_weaker c.procedure.result (λ ok w flags. rw c.in-Procedure.is (ok w flags))
+    c.procedure.ensures

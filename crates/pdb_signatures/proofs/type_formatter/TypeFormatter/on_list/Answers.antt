@@ -1,0 +1,24 @@
+use Rattle.std.proofs.Common.{arith}
+use Rattle.pdb_types.specs.declared.error.Error.TheVariants.{ArgumentTypeNotArgumentList}
+use Rattle.pdb_types.specs.Errors.{Plain}
+use Rattle.pdb_documents.specs.Documents.{OfError}
+use Rattle.pdb_documents.specs.Plans.{failing}
+use Rattle.pdb_documents.specs.Progress.{open_in}
+use Rattle.pdb_documents.specs.PrintInputs.{formatter_inputs}
+use Rattle.pdb_signatures.proofs.OtherKinds.{on_list-other}
+use Rattle.pdb_signatures.proofs.TurnLemmas.{advances_fewer, advances_failed}
+use Rattle.pdb_signatures.proofs.type_formatter.TypeFormatter.on_list.Goals as goal
+
+pub returns-in_default-clause-advances : goal.returns-in_default-clause-advances
+returns-in_default-clause-advances g c =
+    let s = c.args.self.now.type_inputs in
+    let module_index = c.args.module_index in
+    let w = formatter_inputs g.P.ModuleProvider.info s module_index in
+    let failed = advances_failed w
+    (OfError (Plain ArgumentTypeNotArgumentList)) c.args.progress.now _ c.args.self.now.failed c.requires.well
+    c.fail.ensures in
+    let fewer = advances_fewer w
+    (failing (Plain ArgumentTypeNotArgumentList)) 1 0 c.args.progress.now _ c.args.self.now.failed _
+    (omega arith) failed in
+    rw (on_list-other w c.args.m.now c.args.may_say_const
+    (open_in c.args.progress.now.steps) c.args.type_data.now c.in_default.not-ArgumentList) fewer

@@ -1,0 +1,22 @@
+use Rattle.pdb_documents.specs.Signatures.{signature}
+use Rattle.pdb_documents.specs.PrintInputs.{formatter_inputs}
+use Rattle.pdb_documents.proofs.DocumentLemmas.{document-runs}
+use Rattle.pdb_documents.proofs.UnfoldingLemmas.{formatter-below}
+use Rattle.pdb_signatures.proofs.LaterLemmas.{later-then}
+use Rattle.pdb_signatures.proofs.type_formatter.TypeFormatter.print_function.Goals as goal
+
+pub returns-in_err-print-clause-later : goal.returns-in_err-print-clause-later
+returns-in_err-print-clause-later g c = later-then c.in_ok-signature.ensures.later c.in_err-print.ensures.later
+
+pub returns-clause-later : goal.returns-clause-later
+returns-clause-later g c = later-then c.in_ok-signature.ensures.later c.in_ok-print.ensures.later
+
+pub returns-clause-printed : goal.returns-clause-printed
+returns-clause-printed g c =
+    let s = c.args.self.now.type_inputs in
+    let w = formatter_inputs g.P.ModuleProvider.info s c.args.module_index in
+    let ends = rw c.in_ok-signature.ensures.later.type_inputs at c.in_ok-print.ensures.ends in
+    let runs = c.in_ok-signature.ensures.begins _ ends in
+    let is = document-runs w (formatter-below g.P.ModuleProvider.info s c.args.module_index)
+    (signature w c.args.name.now c.args.index.0) c.args.self.now.failed _ runs in
+    rw (c.into_printed.ensures.text, c.into_printed.ensures.failure) is

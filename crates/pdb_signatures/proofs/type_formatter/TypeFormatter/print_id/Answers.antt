@@ -1,0 +1,17 @@
+use Rattle.pdb_documents.specs.Ids.{id_of_index}
+use Rattle.pdb_documents.specs.PrintInputs.{formatter_inputs}
+use Rattle.pdb_documents.proofs.DocumentLemmas.{document-runs}
+use Rattle.pdb_signatures.proofs.LoopLemmas.{begins_task}
+use Rattle.pdb_documents.proofs.UnfoldingLemmas.{formatter-below}
+use Rattle.pdb_signatures.proofs.type_formatter.TypeFormatter.print_id.Goals as goal
+
+pub returns-clause-printed : goal.returns-clause-printed
+returns-clause-printed g c =
+    let s = c.args.self.now.type_inputs in
+    let w = formatter_inputs g.P.ModuleProvider.info s c.args.module_index in
+    let plan = id_of_index c.args.index.0 in
+    let runs = begins_task w _ _ _ c.args.self.now.failed _ c.new-progress.ensures c.in_ok-first.ensures
+    c.in_ok-print.ensures.ends in
+    let is = document-runs w (formatter-below g.P.ModuleProvider.info s c.args.module_index) plan
+    c.args.self.now.failed _ (rw c.new.ensures.empty at runs) in
+    rw (c.into_printed.ensures.text, c.into_printed.ensures.failure) is

@@ -1,0 +1,54 @@
+use Rattle.std.proofs.Common.{refl, ◌∙◌}
+use Rattle.pdb_types.specs.Errors.{error_view}
+use Rattle.pdb_types.specs.ReadError.{Missing, Unimplemented, Refused, Broken}
+use Rattle.pdb_documents.specs.Documents.{TypeNotFound, OfError}
+use Rattle.pdb_signatures.proofs.TurnLemmas.{failed_run}
+use Rattle.pdb_signatures.proofs.ReadLemmas.{adds_one}
+use Rattle.pdb_signatures.proofs.type_formatter.TypeFormatter.refuse.Goals as goal
+
+pub returns-in-Missing-clause-refused : goal.returns-in-Missing-clause-refused
+returns-in-Missing-clause-refused g c =
+    let ran = failed_run (TypeNotFound c.in-Missing.index) c.args.progress.now _ c.args.self.now.failed
+    c.fail.ensures in
+    record { read_error_view = Missing c.in-Missing.index; known = rw c.in-Missing.is refl; steps = ran.0; ran = ran.1 }
+
+pub returns-in-Unimplemented-clause-refused : goal.returns-in-Unimplemented-clause-refused
+returns-in-Unimplemented-clause-refused g c =
+    let ran = failed_run _ c.args.progress.now _ c.args.self.now.failed c.fail-in-Unimplemented.ensures in
+    record {
+      read_error_view = Unimplemented c.in-Unimplemented.kind;
+      known = rw c.in-Unimplemented.is refl;
+      steps =
+          ran.0;
+      ran = rw c.from.ensures at ran.1;
+    }
+
+pub returns-in-Refused-clause-refused : goal.returns-in-Refused-clause-refused
+returns-in-Refused-clause-refused g c =
+    let ran = failed_run (OfError (error_view c.in-Refused.error)) c.args.progress.now _ c.args.self.now.failed
+    c.fail-in-Refused.ensures in
+    record {
+      read_error_view = Refused (error_view c.in-Refused.error);
+      known = rw c.in-Refused.is refl;
+      steps =
+          ran.0;
+      ran = ran.1;
+    }
+
+pub returns-in_ok-error_view-in-Broken-clause-broken : goal.returns-in_ok-error_view-in-Broken-clause-broken
+returns-in_ok-error_view-in-Broken-clause-broken g c = λ w broken.
+    rw (← c.self.view_is) (adds_one c.in-Broken.part (broken c.in-Broken.part c.in-Broken.error c.in-Broken.is)
+    c.in_ok-error_view-in-Broken.ensures.remembered)
+
+pub returns-in_ok-error_view-in-Broken-clause-refused : goal.returns-in_ok-error_view-in-Broken-clause-refused
+returns-in_ok-error_view-in-Broken-clause-refused g c =
+    let ran = failed_run _ c.args.progress.now _ c.ask.new.cache.failed c.fail-in-Broken.ensures in
+    let matches = c.in_ok-error_view-in-Broken.ensures.error_view in
+    let remembers = c.in_ok-error_view-in-Broken.ensures.remembered in
+    record {
+      read_error_view = Broken c.in-Broken.part (error_view c.in-Broken.error);
+      known =
+          rw c.in-Broken.is refl;
+      steps = ran.0;
+      ran = ran.1 ∙ rw (matches, remembers, ← c.self.view_is) refl;
+    }

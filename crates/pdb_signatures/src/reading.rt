@@ -1,0 +1,177 @@
+ghost use Rattle.std.specs.Prelude.{◌≡◌, None, IfOk, OnOk};
+ghost use Rattle.std.specs.Option.{option_copied};
+ghost use Rattle.pdb_types.specs.declared.error.Error.{Error};
+ghost use Rattle.pdb_types.specs.declared.read_error.Part.{Part};
+ghost use Rattle.pdb_types.specs.declared.read_error.ReadError.TheVariants.{Broken};
+ghost use Rattle.pdb_types.specs.ReadError.{Matches};
+ghost use Rattle.pdb_documents.specs.BrokenParts.{IsBroken, AddsBroken};
+ghost use Rattle.pdb_documents.specs.PrintInputs.{PrintInputs, formatter_inputs};
+ghost use Rattle.pdb_signatures.specs.Formatters.{IsLater};
+ghost use Rattle.pdb_signatures.specs.PendingPlans.{IsRefused, IsNoted, Entered, EnteredAlone};
+
+use crate::type_formatter::TypeFormatter;
+use pdb_documents::failures::Failure;
+use pdb_documents::progress::Progress;
+use pdb_documents::wording::Wording;
+use pdb_records::{IdData, IdIndex, TypeData, TypeIndex};
+use pdb_types::{Error, ModuleProvider, ReadError, TypeFormatterFlags};
+use std::alloc::AllocError;
+
+// What printing reads, and what is printed where it can't be read.
+impl<'a, P: ModuleProvider> TypeFormatter<'a, P> {
+    /// How signatures are printed.
+    pub(crate) fn flags(&self) -> TypeFormatterFlags
+        ensures { result ≡ self.now.type_inputs.flags }
+    {
+        self.type_inputs.flags()
+    }
+
+    /// The type of an index, as the module at a module index writes it.
+    #[tactic(auto, unfolding(pdb_documents::specs::PrintInputs::type_at))]
+    pub(crate) fn read_type(
+        &mut self,
+        module_index: usize,
+        index: TypeIndex,
+    ) -> Result<&'a TypeData, ReadError>
+        ensures read { Matches (λ t. t.now) result
+            ((formatter_inputs P.info self.old.type_inputs module_index).read index.0) }
+        ensures unchanged { self.new ≡ self.old }
+    {
+        let (_, type_data) = self
+            .type_inputs
+            .read_type(&mut self.cache, module_index, index)?;
+        Ok(type_data)
+    }
+
+    /// The id of an index, as the module at a module index writes it.
+    #[tactic(auto, unfolding(pdb_documents::specs::PrintInputs::id_at))]
+    pub(crate) fn read_id(
+        &mut self,
+        module_index: usize,
+        index: IdIndex,
+    ) -> Result<&'a IdData, ReadError>
+        ensures read { Matches (λ i. i.now) result
+            ((formatter_inputs P.info self.old.type_inputs module_index).read_id index.0) }
+        ensures unchanged { self.new ≡ self.old }
+    {
+        let (_, id_data) = self
+            .type_inputs
+            .read_id(&mut self.cache, module_index, index)?;
+        Ok(id_data)
+    }
+
+    /// What is needed can't be read: printing fails.
+    pub(crate) fn refuse(
+        &mut self,
+        progress: &mut Progress<'_>,
+        read_error: ReadError,
+    ) -> Result<(), AllocError>
+        requires well { progress.old.failure ≡ None }
+        ensures type_inputs { self.new.type_inputs ≡ self.old.type_inputs }
+        ensures broken { (w : PrintInputs)
+            → ((part : Part) (e : Error) → read_error ≡ Broken part e → IsBroken w part)
+            → AddsBroken w self.old.failed self.new.failed }
+        ensures refused { OnOk result
+            (IsRefused read_error progress.old self.old.failed progress.new self.new.failed) }
+    {
+        match read_error {
+            ReadError::OutOfMemory => Err(AllocError),
+            ReadError::Missing(index) => {
+                progress.fail(Failure::TypeNotFound(index));
+                Ok(())
+            }
+            ReadError::Unimplemented(kind) => {
+                let error = pdb_records::Error::UnimplementedTypeKind(kind);
+                progress.fail(Failure::OfError(Error::from(error)));
+                Ok(())
+            }
+            ReadError::Refused(error) => {
+                progress.fail(Failure::OfError(error));
+                Ok(())
+            }
+            ReadError::Broken(part, error) => {
+                let error_view = self.type_inputs.ask(&mut self.cache, part, error)?;
+                progress.fail(Failure::OfError(error_view));
+                Ok(())
+            }
+        }
+    }
+
+    /// What is printed where it stands can't be read: a note of what is missing or of a kind that isn't known
+    /// stands for it, and else printing fails.
+    pub(crate) fn note(
+        &mut self,
+        progress: &mut Progress<'_>,
+        read_error: ReadError,
+    ) -> Result<(), AllocError>
+        requires well { progress.old.failure ≡ None }
+        ensures type_inputs { self.new.type_inputs ≡ self.old.type_inputs }
+        ensures broken { (w : PrintInputs)
+            → ((part : Part) (e : Error) → read_error ≡ Broken part e → IsBroken w part)
+            → AddsBroken w self.old.failed self.new.failed }
+        ensures noted { OnOk result
+            (IsNoted read_error progress.old self.old.failed progress.new self.new.failed) }
+    {
+        match read_error {
+            ReadError::Missing(index) => {
+                progress.write(self.flags(), &Wording::MissingType(index))
+            }
+            ReadError::Unimplemented(kind) => {
+                progress.write(self.flags(), &Wording::UnimplementedKind(kind))
+            }
+            other => self.refuse(progress, other),
+        }
+    }
+
+    /// Opens an index and reads its type, which is needed. Where it is open already or can't be read,
+    /// printing fails.
+    pub(crate) fn enter(
+        &mut self,
+        module_index: usize,
+        progress: &mut Progress<'_>,
+        index: TypeIndex,
+    ) -> Result<Option<&'a TypeData>, AllocError>
+        requires well { progress.old.failure ≡ None }
+        ensures later { IsLater P.info module_index self.old self.new }
+        ensures entered { IfOk result (λ found.
+            Entered (formatter_inputs P.info self.old.type_inputs module_index) index.0
+            progress.old self.old.failed progress.new self.new.failed (option_copied found)) }
+    {
+        if !progress.open(index.0)? {
+            return Ok(None);
+        }
+        match self.read_type(module_index, index) {
+            Ok(type_data) => Ok(Some(type_data)),
+            Err(read_error) => {
+                self.refuse(progress, read_error)?;
+                Ok(None)
+            }
+        }
+    }
+
+    /// Reads the type of an index, which is needed, and begins an id in which that index alone is open. Where
+    /// it can't be read, printing fails.
+    pub(crate) fn enter_alone(
+        &mut self,
+        module_index: usize,
+        progress: &mut Progress<'_>,
+        index: TypeIndex,
+    ) -> Result<Option<&'a TypeData>, AllocError>
+        requires well { progress.old.failure ≡ None }
+        ensures later { IsLater P.info module_index self.old self.new }
+        ensures entered { IfOk result (λ found.
+            EnteredAlone (formatter_inputs P.info self.old.type_inputs module_index) index.0
+            progress.old self.old.failed progress.new self.new.failed (option_copied found)) }
+    {
+        match self.read_type(module_index, index) {
+            Ok(type_data) => {
+                progress.open_alone(Some(index.0))?;
+                Ok(Some(type_data))
+            }
+            Err(read_error) => {
+                self.refuse(progress, read_error)?;
+                Ok(None)
+            }
+        }
+    }
+}
