@@ -43,7 +43,7 @@ rank-below n (OfType (Enumerate e)) = omega arith
 rank-below n (OfType (Modifier m)) = omega arith
 rank-below n (OfType (ArgumentList list)) = omega arith
 rank-below n (OfType (Other kind)) = omega arith
-rank-below n (MethodArguments m may_say_const) = omega arith
+rank-below n (MethodArguments m form) = omega arith
 rank-below n (Chain attributes target) = omega arith
 rank-below n (BehindModifier attributes target) = omega arith
 rank-below n (Modified constant target) = omega arith
@@ -55,7 +55,7 @@ room-below : (n : ℕ) (inside : List ℕ) (task : Task) → room n inside task 
 room-below n inside (Id met index) = omega arith
 room-below n inside (Index i) = omega (arith, free_at_most n inside)
 room-below n inside (OfType type) = omega (arith, free_at_most n inside)
-room-below n inside (MethodArguments m may_say_const) = omega (arith, free_at_most n inside)
+room-below n inside (MethodArguments m form) = omega (arith, free_at_most n inside)
 room-below n inside (Chain attributes target) = omega (arith, free_at_most n inside)
 room-below n inside (BehindModifier attributes target) = omega (arith, free_at_most n inside)
 room-below n inside (Modified constant target) = omega (arith, free_at_most n inside)

@@ -11,6 +11,8 @@ use Rattle.pdb_records.specs.declared.types.TypeData.TheVariants.{Array, Union, 
 use Rattle.pdb_records.specs.declared.types.TypeData.TheVariants.{ArgumentList, Other}
 use Rattle.pdb_types.specs.declared.read_error.Part.{Part}
 use Rattle.pdb_documents.specs.Wording.{comma}
+use Rattle.pdb_documents.specs.declared.tasks.MethodForm.TheVariants.{TypeName}
+use Rattle.pdb_documents.specs.Functions.{unless_left_out}
 use Rattle.pdb_documents.specs.Attributes.{Attribute, attribute_of, with_target}
 use Rattle.pdb_documents.specs.PrintInputs.{PrintInputs}
 use Rattle.pdb_documents.specs.Plans.{Task, Index, OfType, MethodArguments, Chain, BehindModifier, Modified, Elements}
@@ -29,17 +31,17 @@ pub chain_end-each : (n : ℕ) (w : PrintInputs) (P : List ℕ → Task → Type
     → ((further : List ℕ) (task : Task) → room n further task ≤ free n inside → P further task)
     → EachTask P (chain_end w attributes inside type)
 chain_end-each n w P attributes inside (MemberFunction m) each = (
-  returned-each P inside m.is_constructor (Some m.return_type) (λ i. each inside (Index i) (omega arith)),
+  returned-each P inside (unless_left_out m.is_constructor (Some m.return_type)) (λ i. each inside (Index i) (omega arith)),
   (
     tt,
     (
       each inside (Index m.class_type.0) (omega arith),
-      (tt, (tt, each inside (MethodArguments m false) (omega arith))),
+      (tt, (tt, each inside (MethodArguments m TypeName) (omega arith))),
     ),
   ),
 )
 chain_end-each n w P attributes inside (Procedure p) each = (
-  returned-each P inside p.is_constructor p.return_type (λ i. each inside (Index i) (omega arith)),
+  returned-each P inside (unless_left_out p.is_constructor p.return_type) (λ i. each inside (Index i) (omega arith)),
   (tt, (tt, (tt, (each inside (Index p.argument_list.0) (omega arith), tt)))),
 )
 chain_end-each n w P attributes inside (Primitive p) each = each inside (OfType (Primitive p)) (omega arith)
@@ -164,12 +166,12 @@ by_kind-each n w inside (Enumeration e) = tt
 by_kind-each n w inside (Enumerate e) = tt
 by_kind-each n w inside (MemberFunction m) = (
   returned-each (Before n inside (OfType (MemberFunction m))) inside
-      (m.is_constructor || without_return_type w.flags) (Some m.return_type) (λ i. inr (omega arith, omega arith)),
+      (unless_left_out (m.is_constructor || without_return_type w.flags) (Some m.return_type)) (λ i. inr (omega arith, omega arith)),
   (tt, inr (omega arith, omega arith)),
 )
 by_kind-each n w inside (Procedure p) = (
   returned-each (Before n inside (OfType (Procedure p))) inside
-      (p.is_constructor || without_return_type w.flags) p.return_type (λ i. inr (omega arith, omega arith)),
+      (unless_left_out (p.is_constructor || without_return_type w.flags) p.return_type) (λ i. inr (omega arith, omega arith)),
   (tt, inr (omega arith, omega arith)),
 )
 by_kind-each n w inside (ArgumentList list) = types_between-each (Before n inside (OfType (ArgumentList list)))
@@ -188,8 +190,8 @@ rule-each n w below inside (Index i) =
     (λ type found. opened-each (Before n inside (Index i)) inside i (Later (i ∷ inside) (OfType type))
     (λ absent. inl (free_lt n i inside (below.types i type found) absent)))
 rule-each n w below inside (OfType type) = by_kind-each n w inside type
-rule-each n w below inside (MethodArguments m may_say_const) =
-    method_arguments-each n w below (Before n inside (MethodArguments m may_say_const)) inside m may_say_const
+rule-each n w below inside (MethodArguments m form) =
+    method_arguments-each n w below (Before n inside (MethodArguments m form)) inside m form
     (λ further i less. inl less)
 rule-each n w below inside (Chain attributes target) =
     opening-each n w below (Before n inside (Chain attributes target)) inside target (behind_pointer w attributes)

@@ -15,6 +15,8 @@ use Rattle.pdb_records.specs.declared.types.TypeData.TheVariants.{ArgumentList, 
 use Rattle.pdb_documents.specs.Flags.{without_return_type, without_arguments}
 use Rattle.pdb_documents.specs.Functions.{function_arguments}
 use Rattle.pdb_documents.specs.Ids.{method_id, scope, function_id, id_by_kind}
+use Rattle.pdb_documents.specs.declared.tasks.MethodForm.TheVariants.{Signature}
+use Rattle.pdb_documents.specs.Functions.{unless_left_out}
 use Rattle.pdb_documents.specs.Plans.{Task, Index, MethodArguments, Id, Later, ◌▸◌, written}
 use Rattle.pdb_documents.specs.PrintInputs.{PrintInputs}
 use Rattle.pdb_documents.proofs.FreeLemmas.{free_at_most}
@@ -31,13 +33,14 @@ function_arguments-each P w inside list each =
 -- a function of a class
 method_id-each : (P : List ℕ → Task → Type 0) (w : PrintInputs) (method : MemberFunctionId) (inside : List ℕ)
     (type : TypeData) → ((i : ℕ) → P inside (Index i))
-    → ((m : MemberFunctionType) → P inside (MethodArguments m true)) → EachTask P (method_id w method inside type)
+    → ((m : MemberFunctionType) → P inside (MethodArguments m Signature)) → EachTask P (method_id w method inside type)
 method_id-each P w method inside (Primitive p) index arguments = tt
 method_id-each P w method inside (Class c) index arguments = tt
 method_id-each P w method inside (MemberFunction m) index arguments = (
   tt,
   (
-    returned-each P inside (m.is_constructor || without_return_type w.flags) (Some m.return_type) index,
+    returned-each P inside (unless_left_out (m.is_constructor || without_return_type w.flags) (Some m.return_type))
+        index,
     (index method.parent.0, (tt, (tt, arguments m))),
   ),
 )
@@ -65,7 +68,7 @@ function_id-each P w met function inside (Primitive p) index id = tt
 function_id-each P w met function inside (Class c) index id = tt
 function_id-each P w met function inside (MemberFunction m) index id = tt
 function_id-each P w met function inside (Procedure p) index id = (
-  returned-each P inside (p.is_constructor || without_return_type w.flags) p.return_type index,
+  returned-each P inside (unless_left_out (p.is_constructor || without_return_type w.flags) p.return_type) index,
   (
     scope-each P met inside function.scope id,
     (tt, function_arguments-each P w inside p.argument_list (index p.argument_list.0)),
@@ -88,7 +91,7 @@ id_by_kind-each n w P met (id.MemberFunction method) type scope =
     let inside = method.function_type.0 ∷ [] in
     on_read-each P (w.read method.function_type.0) (method_id w method inside)
     (λ found is. method_id-each P w method inside found (λ i. type inside (Index i) (free_at_most n inside))
-    (λ m. type inside (MethodArguments m true) (free_at_most n inside)))
+    (λ m. type inside (MethodArguments m Signature) (free_at_most n inside)))
 id_by_kind-each n w P met (id.Function function) type scope =
     let inside = function.function_type.0 ∷ [] in
     on_read-each P (w.read function.function_type.0) (function_id w met function inside)

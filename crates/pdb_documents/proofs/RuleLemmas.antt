@@ -1,6 +1,6 @@
 -- What each rule leaves to be printed comes earlier: either less indices are free to open, or as many and the task
 -- ranks lower.
-use Rattle.std.proofs.Common.{◌≡◌, ℕ, ◌+◌, ◌<◌, ◌≤◌, ◌⊎◌, Bool, true, false, cond, List, [], ◌∷◌, refl}
+use Rattle.std.proofs.Common.{◌≡◌, ℕ, ◌+◌, ◌<◌, ◌≤◌, ◌⊎◌, true, false, cond, List, [], ◌∷◌, refl}
 use Rattle.std.specs.Prelude.{Option, Some, None, Result, Ok, Err}
 use Rattle.pdb_records.specs.declared.types.TypeIndex.{TypeIndex}
 use Rattle.pdb_records.specs.declared.types.MemberFunctionType.{MemberFunctionType}
@@ -16,6 +16,7 @@ use Rattle.pdb_documents.specs.Plans.{Task, Index, OfType, MethodArguments, Chai
 use Rattle.pdb_documents.specs.Plans.{Id, Plan, Done, Later, Seq, Buffered, Catch, written, circular, is_among, on_read}
 use Rattle.pdb_documents.specs.Plans.{on_printed, opened, opening}
 use Rattle.pdb_documents.specs.Functions.{returned, further_types, types_between}
+use Rattle.pdb_documents.specs.declared.tasks.MethodForm.{MethodForm}
 use Rattle.pdb_documents.specs.Methods.{arguments_behind, this_of, method_list, on_list, method_arguments}
 use Rattle.pdb_documents.specs.Wording.{comma}
 use Rattle.pdb_documents.proofs.FreeLemmas.{free, free_lt}
@@ -38,7 +39,7 @@ abbrev pub rank : ℕ → Task → ℕ
 rank n (Index i) = 0
 rank n (OfType (Array a)) = n + 3
 rank n (OfType type) = 1
-rank n (MethodArguments m may_say_const) = 0
+rank n (MethodArguments m form) = 0
 rank n (Chain attributes target) = 0
 rank n (BehindModifier attributes target) = 0
 rank n (Modified constant target) = 0
@@ -85,11 +86,10 @@ opening-each n w below P inside i next each =
     (λ type found. each type (free_lt n i inside (below.types i type found) absent)))
 
 -- the type that a function returns
-pub returned-each : (P : List ℕ → Task → Type 0) (inside : List ℕ) (left_out : Bool) (index : Option TypeIndex)
-    → ((i : ℕ) → P inside (Index i)) → EachTask P (returned inside left_out index)
-returned-each P inside left_out None each = tt
-returned-each P inside true (Some index) each = tt
-returned-each P inside false (Some index) each = (each index.0, tt)
+pub returned-each : (P : List ℕ → Task → Type 0) (inside : List ℕ) (index : Option TypeIndex)
+    → ((i : ℕ) → P inside (Index i)) → EachTask P (returned inside index)
+returned-each P inside None each = tt
+returned-each P inside (Some index) each = (each index.0, tt)
 
 -- further types
 pub further_types-each : (P : List ℕ → Task → Type 0) (separator inside : List ℕ) (list : List TypeIndex)
@@ -106,11 +106,11 @@ types_between-each P separator inside (next ∷ rest) each =
     (each next.0, further_types-each P separator inside rest each)
 
 -- a method's list of arguments
-pub on_list-each : (P : List ℕ → Task → Type 0) (w : PrintInputs) (m : MemberFunctionType) (may_say_const : Bool)
+pub on_list-each : (P : List ℕ → Task → Type 0) (w : PrintInputs) (m : MemberFunctionType) (form : MethodForm)
     (inside : List ℕ) (type : TypeData) → ((i : ℕ) → P inside (Index i))
-    → EachTask P (on_list w m may_say_const inside type)
-on_list-each P w m may_say_const inside (ArgumentList list) each =
-    on_read-each P (this_of w m.class_type m.this_pointer_type) (method_list w inside may_say_const list)
+    → EachTask P (on_list w m form inside type)
+on_list-each P w m form inside (ArgumentList list) each =
+    on_read-each P (this_of w m.class_type m.this_pointer_type) (method_list w inside form list)
     (λ this error_view. (
       tt,
       (
@@ -118,28 +118,28 @@ on_list-each P w m may_say_const inside (ArgumentList list) each =
         tt,
       ),
     ))
-on_list-each P w m may_say_const inside (Primitive p) each = tt
-on_list-each P w m may_say_const inside (Class c) each = tt
-on_list-each P w m may_say_const inside (MemberFunction f) each = tt
-on_list-each P w m may_say_const inside (Procedure p) each = tt
-on_list-each P w m may_say_const inside (Pointer p) each = tt
-on_list-each P w m may_say_const inside (Array a) each = tt
-on_list-each P w m may_say_const inside (Union u) each = tt
-on_list-each P w m may_say_const inside (Enumeration e) each = tt
-on_list-each P w m may_say_const inside (Enumerate e) each = tt
-on_list-each P w m may_say_const inside (Modifier f) each = tt
-on_list-each P w m may_say_const inside (Other kind) each = tt
+on_list-each P w m form inside (Primitive p) each = tt
+on_list-each P w m form inside (Class c) each = tt
+on_list-each P w m form inside (MemberFunction f) each = tt
+on_list-each P w m form inside (Procedure p) each = tt
+on_list-each P w m form inside (Pointer p) each = tt
+on_list-each P w m form inside (Array a) each = tt
+on_list-each P w m form inside (Union u) each = tt
+on_list-each P w m form inside (Enumeration e) each = tt
+on_list-each P w m form inside (Enumerate e) each = tt
+on_list-each P w m form inside (Modifier f) each = tt
+on_list-each P w m form inside (Other kind) each = tt
 
 -- a method's arguments
 pub method_arguments-each : (n : ℕ) (w : PrintInputs) → IsBelow n w
-    → (P : List ℕ → Task → Type 0) (inside : List ℕ) (m : MemberFunctionType) (may_say_const : Bool)
+    → (P : List ℕ → Task → Type 0) (inside : List ℕ) (m : MemberFunctionType) (form : MethodForm)
     → ((further : List ℕ) (i : ℕ) → free n further < free n inside → P further (Index i))
-    → EachTask P (method_arguments w inside m may_say_const)
-method_arguments-each n w below P inside m may_say_const each =
+    → EachTask P (method_arguments w inside m form)
+method_arguments-each n w below P inside m form each =
     elim (without_arguments w.flags) as (λ b. EachTask P
-    (cond b (written []) (opening w inside m.argument_list.0 (on_list w m may_say_const)))) [
+    (cond b (written []) (opening w inside m.argument_list.0 (on_list w m form)))) [
       | true ↦ tt
-      | false ↦ opening-each n w below P inside m.argument_list.0 (on_list w m may_say_const)
-          (λ type less. on_list-each P w m may_say_const (m.argument_list.0 ∷ inside) type
+      | false ↦ opening-each n w below P inside m.argument_list.0 (on_list w m form)
+          (λ type less. on_list-each P w m form (m.argument_list.0 ∷ inside) type
           (λ i. each (m.argument_list.0 ∷ inside) i less))
     ]

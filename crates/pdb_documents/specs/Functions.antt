@@ -6,16 +6,20 @@ use Rattle.pdb_documents.specs.Wording.{comma}
 use Rattle.pdb_documents.specs.PrintInputs.{PrintInputs}
 use Rattle.pdb_documents.specs.Plans.{Index, Plan, Later, ◌▸◌, written}
 
--- the type that a function returns, with a space behind it: nothing where it is left out, or where there is none
-abbrev pub returned : List ℕ → Bool → Option TypeIndex → Plan
-returned inside left_out None = written []
-returned inside left_out (Some index) =
-    if left_out then written [] else Later inside (Index index.0) ▸ written (codes " ")
+-- the type that a function returns, unless it is left out
+abbrev pub unless_left_out : Bool → Option TypeIndex → Option TypeIndex
+unless_left_out left_out index = if left_out then None else index
+
+-- the type that a function returns, with a space behind it: nothing where there is none to print
+abbrev pub returned : List ℕ → Option TypeIndex → Plan
+returned inside None = written []
+returned inside (Some index) = Later inside (Index index.0) ▸ written (codes " ")
 
 -- the same, for a function that is printed by itself: left out for a constructor, and where functions are printed
 -- without it
 abbrev pub returned_if_wanted : PrintInputs → List ℕ → Bool → Option TypeIndex → Plan
-returned_if_wanted w inside constructor index = returned inside (constructor || without_return_type w.flags) index
+returned_if_wanted w inside constructor index =
+    returned inside (unless_left_out (constructor || without_return_type w.flags) index)
 
 -- further types, each behind a separator
 abbrev pub further_types : List ℕ → List ℕ → List TypeIndex → Plan

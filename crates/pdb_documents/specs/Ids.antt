@@ -1,6 +1,6 @@
 -- The rules by which ids are printed, each of them one step deep. The list `inside` has the indices of types that are
 -- open.
-use Rattle.std.specs.Prelude.{ℕ, true, List, [], ◌∷◌, Option, Some, None, codes}
+use Rattle.std.specs.Prelude.{ℕ, List, [], ◌∷◌, Option, Some, None, codes}
 use Rattle.pdb_records.specs.Names.{lossy}
 use Rattle.pdb_records.specs.declared.ids.FunctionId.{FunctionId}
 use Rattle.pdb_records.specs.declared.ids.IdData.{IdData}
@@ -14,6 +14,7 @@ use Rattle.pdb_types.specs.declared.error.Error.TheVariants.{MemberFunctionIdIsN
 use Rattle.pdb_types.specs.Errors.{Plain}
 use Rattle.pdb_documents.specs.Functions.{returned_if_wanted, types_between, function_arguments}
 use Rattle.pdb_documents.specs.Namespaces.{namespace_text}
+use Rattle.pdb_documents.specs.declared.tasks.MethodForm.TheVariants.{Signature}
 use Rattle.pdb_documents.specs.Plans.{Index, Id, MethodArguments, Plan, Later, ◌▸◌, written, failing, on_read}
 use Rattle.pdb_documents.specs.Wording.{function_name, static_text, unhandled_scope_text}
 use Rattle.pdb_documents.specs.PrintInputs.{PrintInputs}
@@ -26,7 +27,7 @@ method_id w method inside (MemberFunction m) =
     ▸ Later inside (Index method.parent.0)
     ▸ written (codes "::")
     ▸ written (function_name (lossy method.name))
-    ▸ Later inside (MethodArguments m true)
+    ▸ Later inside (MethodArguments m Signature)
 method_id w method inside other = failing (Plain MemberFunctionIdIsNotMemberFunctionType)
 
 -- the scope of a function, and `::` behind it: nothing where it has none. Each id that this one is a scope of, or a

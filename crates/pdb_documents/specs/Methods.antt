@@ -1,5 +1,5 @@
 -- The arguments of methods. The list `inside` has the indices of types that are open.
-use Rattle.std.specs.Prelude.{◌==◌, ◌&&◌, ℕ, Bool, false, List, [], ◌∷◌, Option}
+use Rattle.std.specs.Prelude.{◌==◌, ℕ, Bool, true, false, List, [], ◌∷◌, Option}
 use Rattle.std.specs.Prelude.{Some, None, Result, Ok, codes, if◌then◌else◌}
 use Rattle.pdb_records.specs.declared.types.TypeIndex.{TypeIndex}
 use Rattle.pdb_records.specs.declared.types.MemberFunctionType.{MemberFunctionType}
@@ -9,6 +9,8 @@ use Rattle.pdb_types.specs.declared.error.Error.TheVariants.{ArgumentTypeNotArgu
 use Rattle.pdb_types.specs.Errors.{Plain}
 use Rattle.pdb_types.specs.Outcomes.{and_then}
 use Rattle.pdb_types.specs.ReadError.{ReadErrorView}
+use Rattle.pdb_documents.specs.declared.tasks.MethodForm.{MethodForm}
+use Rattle.pdb_documents.specs.declared.tasks.MethodForm.TheVariants.{Signature}
 use Rattle.pdb_documents.specs.declared.this.This.{This}
 use Rattle.pdb_documents.specs.Flags.{without_arguments}
 use Rattle.pdb_documents.specs.Functions.{list_of_arguments}
@@ -48,20 +50,25 @@ abbrev pub arguments_behind : Option TypeIndex → List TypeIndex → List TypeI
 arguments_behind None list = list
 arguments_behind (Some this) list = this ∷ list
 
--- a method's arguments in parentheses, and `const` behind them where the method is constant and that may be said
-abbrev pub method_list : PrintInputs → List ℕ → Bool → List TypeIndex → This → Plan
-method_list w inside may_say_const list this =
+-- what stands behind a method's arguments: `const` too, in the signature of a constant method
+abbrev pub closing : MethodForm → Bool → List ℕ
+closing Signature true = codes ") const"
+closing form constant = codes ")"
+
+-- a method's arguments in parentheses, and `const` behind them in the signature of a constant method
+abbrev pub method_list : PrintInputs → List ℕ → MethodForm → List TypeIndex → This → Plan
+method_list w inside form list this =
     written (codes "(")
     ▸ list_of_arguments w inside (arguments_behind this.argument list)
-    ▸ written (if this.constant && may_say_const then codes ") const" else codes ")")
+    ▸ written (closing form this.constant)
 
 -- what follows the type of a method's list of arguments
-abbrev pub on_list : PrintInputs → MemberFunctionType → Bool → List ℕ → TypeData → Plan
-on_list w m may_say_const inside (ArgumentList list) =
-    on_read (this_of w m.class_type m.this_pointer_type) (method_list w inside may_say_const list)
-on_list w m may_say_const inside other = failing (Plain ArgumentTypeNotArgumentList)
+abbrev pub on_list : PrintInputs → MemberFunctionType → MethodForm → List ℕ → TypeData → Plan
+on_list w m form inside (ArgumentList list) =
+    on_read (this_of w m.class_type m.this_pointer_type) (method_list w inside form list)
+on_list w m form inside other = failing (Plain ArgumentTypeNotArgumentList)
 
 -- a method's arguments, unless functions are printed without them; then nothing is read
-abbrev pub method_arguments : PrintInputs → List ℕ → MemberFunctionType → Bool → Plan
-method_arguments w inside m may_say_const =
-    if without_arguments w.flags then written [] else opening w inside m.argument_list.0 (on_list w m may_say_const)
+abbrev pub method_arguments : PrintInputs → List ℕ → MemberFunctionType → MethodForm → Plan
+method_arguments w inside m form =
+    if without_arguments w.flags then written [] else opening w inside m.argument_list.0 (on_list w m form)

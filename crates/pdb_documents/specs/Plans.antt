@@ -10,6 +10,7 @@ use Rattle.pdb_types.specs.Errors.{ErrorView, Plain}
 use Rattle.pdb_types.specs.ReadError.{ReadErrorView, Missing, Unimplemented, Refused, Broken}
 use Rattle.pdb_documents.specs.Documents.{Document, TypeNotFound, OfError}
 use Rattle.pdb_documents.specs.Documents as document
+use Rattle.pdb_documents.specs.declared.tasks.MethodForm.{MethodForm}
 use Rattle.pdb_documents.specs.Attributes.{Attribute}
 use Rattle.pdb_documents.specs.PrintInputs.{PrintInputs}
 use Rattle.pdb_documents.specs.Wording.{missing_text, unimplemented_text}
@@ -20,8 +21,8 @@ pub data Task : Type 0 where
   Index : ℕ → Task
   -- this type
   OfType : TypeData → Task
-  -- the arguments of a method, in parentheses, and `const` behind them where it is constant and that may be said
-  MethodArguments : MemberFunctionType → Bool → Task
+  -- the arguments of a method in this form, in parentheses
+  MethodArguments : MemberFunctionType → MethodForm → Task
   -- a chain of pointers, the last first, that points to the type of an index
   Chain : List Attribute → ℕ → Task
   -- the same, where a modifier stands between the last pointer and the type of the index

@@ -18,6 +18,7 @@ use Rattle.pdb_documents.specs.declared.tasks.Pending.{Pending}
 use Rattle.pdb_documents.specs.declared.tasks.Pending.TheVariants.{Print, Close, EndId, EndCatch, EndBuffer}
 use Rattle.pdb_documents.specs.declared.progress.Next.{Next}
 use Rattle.pdb_documents.specs.declared.progress.Next.TheVariants as next
+use Rattle.pdb_documents.specs.declared.attributes.Predecessor.TheVariants.{Sigil, Text}
 use Rattle.pdb_documents.specs.Attributes.{attributes_text}
 use Rattle.pdb_documents.specs.Wording.{wording_text}
 use Rattle.pdb_documents.specs.Documents.{Failure, TypeNotFound, OfError, Run, caught_by, ends_in_sigil}
@@ -110,16 +111,16 @@ abbrev pub task_plan : PrintInputs → List ℕ → tasks.Task → Plan
 task_plan w inside (task.Written wording) = written (wording_text w.flags wording)
 task_plan w inside (task.Index index) = Later inside (Index index.0)
 task_plan w inside (task.OfType type) = Later inside (OfType type.now)
-task_plan w inside (task.Returned left_out index) = returned inside left_out index
+task_plan w inside (task.Returned index) = returned inside index
 task_plan w inside (task.Types separator this list) =
     types_between separator.now inside (arguments_behind this list.now)
 task_plan w inside (task.FurtherTypes separator list) = further_types separator.now inside list.now
 task_plan w inside (task.FunctionArguments list) = function_arguments w inside list
-task_plan w inside (task.MethodArguments m may_say_const) = Later inside (MethodArguments m.now may_say_const)
+task_plan w inside (task.MethodArguments m form) = Later inside (MethodArguments m.now form)
 task_plan w inside (task.Chain attributes target) = Later inside (Chain (reverse attributes.items) target.0)
 task_plan w inside (task.BehindModifier attributes target) =
     Later inside (BehindModifier (reverse attributes.items) target.0)
-task_plan w inside (task.Modified constant target) = Later inside (Modified constant target.0)
+task_plan w inside (task.Modified m) = Later inside (Modified m.now.constant m.now.underlying_type.0)
 task_plan w inside (task.Elements elements levels next) =
     Later inside (Elements elements.keys levels.items next.0)
 task_plan w inside (task.Id met index) = Later inside (Id met.keys index.0)
@@ -158,8 +159,8 @@ ended_run chosen (EndId outer index) r = r
 ended_run chosen EndCatch r = caught_by r.fault r
 ended_run chosen (EndBuffer mark attributes) r =
     released_by r.fault r mark
-    (attributes_text chosen true true (reverse attributes.items))
-    (attributes_text chosen true false (reverse attributes.items))
+    (attributes_text chosen Sigil (reverse attributes.items))
+    (attributes_text chosen Text (reverse attributes.items))
 
 -- something is to be printed in a stage only where printing failed
 abbrev pub IsPassedOver : Pending → Stage → Type 0

@@ -1,6 +1,6 @@
 -- The rules by which types and ids are printed, each of them one step deep. The list `inside` has the indices of types
 -- that are open.
-use Rattle.std.specs.Prelude.{ℕ, ◌++◌, Bool, true, false, List, [], ◌∷◌, Some, codes, if◌then◌else◌}
+use Rattle.std.specs.Prelude.{ℕ, ◌++◌, Bool, false, List, [], ◌∷◌, Some, codes, if◌then◌else◌}
 use Rattle.std.specs.BTreeSet.{insert_key}
 use Rattle.std.specs.Ordering.{nat_cmp}
 use Rattle.pdb_records.specs.declared.types.MemberFunctionType.{MemberFunctionType}
@@ -9,6 +9,8 @@ use Rattle.pdb_records.specs.declared.types.TypeData.{TypeData}
 use Rattle.pdb_records.specs.declared.types.TypeData.TheVariants.{Primitive, Class, MemberFunction, Procedure}
 use Rattle.pdb_records.specs.declared.types.TypeData.TheVariants.{Pointer, Array, Union, Enumeration}
 use Rattle.pdb_records.specs.declared.types.TypeData.TheVariants.{Enumerate, Modifier, ArgumentList, Other}
+use Rattle.pdb_documents.specs.declared.attributes.Predecessor.TheVariants.{Opening, Sigil, Text}
+use Rattle.pdb_documents.specs.declared.tasks.MethodForm.TheVariants.{TypeName}
 use Rattle.pdb_documents.specs.Primitives.{primitive_text}
 use Rattle.pdb_documents.specs.Attributes.{Attribute, attribute_of, with_target, attributes_text}
 use Rattle.pdb_documents.specs.Wording.{unhandled_text, class_word, declared_text, dimensions_text}
@@ -16,26 +18,26 @@ use Rattle.pdb_documents.specs.PrintInputs.{PrintInputs}
 use Rattle.pdb_documents.specs.Plans.{Task, Index, OfType, MethodArguments, Chain, BehindModifier}
 use Rattle.pdb_documents.specs.Plans.{Modified, Elements, Id, Plan, Later, Buffered, Catch, ◌▸◌, written}
 use Rattle.pdb_documents.specs.Plans.{circular, is_among, on_read, on_printed, opened, opening, met_before}
-use Rattle.pdb_documents.specs.Functions.{returned, returned_if_wanted, list_of_arguments}
+use Rattle.pdb_documents.specs.Functions.{unless_left_out, returned, returned_if_wanted, list_of_arguments}
 use Rattle.pdb_documents.specs.Methods.{method_arguments}
 use Rattle.pdb_documents.specs.Ids.{id_by_kind}
 
 -- a pointer to a method: what it returns, the class and the pointers in parentheses, and its arguments
 abbrev pub pointers_to_method : PrintInputs → List Attribute → List ℕ → MemberFunctionType → Plan
 pointers_to_method w attributes inside m =
-    returned inside m.is_constructor (Some m.return_type)
+    returned inside (unless_left_out m.is_constructor (Some m.return_type))
     ▸ written (codes "(")
     ▸ Later inside (Index m.class_type.0)
-    ▸ written (attributes_text w.flags false false attributes)
+    ▸ written (attributes_text w.flags Opening attributes)
     ▸ written (codes ")")
-    ▸ Later inside (MethodArguments m false)
+    ▸ Later inside (MethodArguments m TypeName)
 
 -- a pointer to a function: what it returns, the pointers in parentheses, and its arguments in parentheses
 abbrev pub pointers_to_function : PrintInputs → List Attribute → List ℕ → ProcedureType → Plan
 pointers_to_function w attributes inside p =
-    returned inside p.is_constructor p.return_type
+    returned inside (unless_left_out p.is_constructor p.return_type)
     ▸ written (codes "(")
-    ▸ written (attributes_text w.flags false false attributes)
+    ▸ written (attributes_text w.flags Opening attributes)
     ▸ written (codes ")(")
     ▸ Later inside (Index p.argument_list.0)
     ▸ written (codes ")")
@@ -46,8 +48,8 @@ chain_end w attributes inside (MemberFunction m) = pointers_to_method w attribut
 chain_end w attributes inside (Procedure p) = pointers_to_function w attributes inside p
 chain_end w attributes inside other =
     Buffered (Later inside (OfType other))
-    (attributes_text w.flags true true attributes)
-    (attributes_text w.flags true false attributes)
+    (attributes_text w.flags Sigil attributes)
+    (attributes_text w.flags Text attributes)
 
 -- what follows a modifier in a chain of pointers: a pointer goes on with the chain, all else ends it
 abbrev pub behind_modifier : PrintInputs → List Attribute → List ℕ → TypeData → Plan
@@ -88,7 +90,7 @@ by_kind w inside (Enumerate e) = written (declared_text w.flags (codes "enum cla
 by_kind w inside (MemberFunction m) =
     returned_if_wanted w inside m.is_constructor (Some m.return_type)
     ▸ written (codes "()")
-    ▸ Later inside (MethodArguments m false)
+    ▸ Later inside (MethodArguments m TypeName)
 by_kind w inside (Procedure p) =
     returned_if_wanted w inside p.is_constructor p.return_type
     ▸ written (codes "()(")
@@ -104,7 +106,7 @@ abbrev pub rule : PrintInputs → List ℕ → Task → Plan
 rule w inside (Index index) =
     on_printed (w.read index) (λ type. opened inside index (Later (index ∷ inside) (OfType type)))
 rule w inside (OfType type) = Catch (by_kind w inside type)
-rule w inside (MethodArguments m may_say_const) = method_arguments w inside m may_say_const
+rule w inside (MethodArguments m form) = method_arguments w inside m form
 rule w inside (Chain attributes target) = opening w inside target (behind_pointer w attributes)
 rule w inside (BehindModifier attributes target) = opening w inside target (behind_modifier w attributes)
 rule w inside (Modified constant target) = opening w inside target (modified w constant)

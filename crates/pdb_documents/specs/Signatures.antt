@@ -1,9 +1,10 @@
 -- Signatures of functions.
-use Rattle.std.specs.Prelude.{ℕ, ◌==◌, true, List, [], ◌∷◌, Some, if◌then◌else◌}
+use Rattle.std.specs.Prelude.{ℕ, ◌==◌, List, [], ◌∷◌, Some, if◌then◌else◌}
 use Rattle.pdb_records.specs.declared.types.TypeData.{TypeData}
 use Rattle.pdb_records.specs.declared.types.TypeData.TheVariants.{MemberFunction, Procedure}
 use Rattle.pdb_documents.specs.Wording.{function_name, static_text}
 use Rattle.pdb_documents.specs.PrintInputs.{PrintInputs}
+use Rattle.pdb_documents.specs.declared.tasks.MethodForm.TheVariants.{Signature}
 use Rattle.pdb_documents.specs.Plans.{Index, MethodArguments, Plan, Later, ◌▸◌, written, on_read}
 use Rattle.pdb_documents.specs.Functions.{returned_if_wanted, function_arguments}
 
@@ -13,7 +14,7 @@ signature_by_type w name inside (MemberFunction m) =
     written (static_text w.flags m.this_pointer_type)
     ▸ returned_if_wanted w inside m.is_constructor (Some m.return_type)
     ▸ written (function_name name)
-    ▸ Later inside (MethodArguments m true)
+    ▸ Later inside (MethodArguments m Signature)
 signature_by_type w name inside (Procedure p) =
     returned_if_wanted w inside p.is_constructor p.return_type
     ▸ written (function_name name)

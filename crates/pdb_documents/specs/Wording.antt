@@ -15,6 +15,7 @@ use Rattle.pdb_documents.specs.declared.wording.Wording.TheVariants.{Primitive, 
 use Rattle.pdb_documents.specs.Flags.{with_names_alone, with_space_after_comma, without_static}
 use Rattle.pdb_documents.specs.Namespaces.{namespace_text}
 use Rattle.pdb_documents.specs.Primitives.{primitive_text}
+use Rattle.pdb_documents.specs.declared.attributes.Predecessor.TheVariants.{Opening}
 use Rattle.pdb_documents.specs.Attributes.{attributes_text}
 
 -- a number in lower case hexadecimal, with `0x` before it
@@ -86,5 +87,5 @@ wording_text chosen (Declared word name) = declared_text chosen word.now name.no
 wording_text chosen (FunctionName name) = function_name (lossy name.now)
 wording_text chosen (Namespace name) = namespace_text (lossy name.now)
 wording_text chosen (Primitive primitive constant) = primitive_text chosen primitive constant
-wording_text chosen (Pointers attributes) = attributes_text chosen false false (reverse attributes.items)
+wording_text chosen (Pointers attributes) = attributes_text chosen Opening (reverse attributes.items)
 wording_text chosen (Dimensions levels base) = dimensions_text levels.items base

@@ -1,6 +1,6 @@
 ghost use Rattle.std.specs.Prelude.{◌≡◌, ◌++◌, OnOk, reverse, string_bytes};
 ghost use Rattle.pdb_documents.specs.Attributes.{attribute_of, with_target, sigil, space_before_sigil};
-ghost use Rattle.pdb_documents.specs.Attributes.{before_sigil, attribute_text, attributes_text};
+ghost use Rattle.pdb_documents.specs.Attributes.{end_of, before_sigil, attribute_text, attributes_text};
 
 use crate::options::with_space_before_pointer;
 use pdb_records::{PointerMode, PointerType};
@@ -16,6 +16,17 @@ pub struct Attribute {
     pub constant_pointer: bool,
     /// Whether what it points to is constant.
     pub constant_target: bool,
+}
+
+/// What stands just before a pointer of a chain.
+#[derive(Clone, Copy)]
+pub enum Predecessor {
+    /// The opening of pointers to functions: a parenthesis, and behind it the class of a method's.
+    Opening,
+    /// The sign of a pointer or a reference.
+    Sigil,
+    /// Any other text.
+    Text,
 }
 
 /// A pointer, before it is known what it points to: constant as it says itself, or where `const`
@@ -39,9 +50,7 @@ pub fn point_to(attributes: &mut Vec<Attribute>, constant: bool)
     }
 }
 
-/// Appends the pointers of a chain, the last collected first.
-///
-/// A space may stand before the first of them or not, and a sign is just before it or not.
+/// Appends the pointers of a chain, the last collected first, behind what stands just before them.
 ///
 /// # Errors
 ///
@@ -49,41 +58,43 @@ pub fn point_to(attributes: &mut Vec<Attribute>, constant: bool)
 pub fn write_attributes(
     text: &mut String,
     flags: TypeFormatterFlags,
-    mut may_space: bool,
-    mut after_sigil: bool,
+    mut predecessor: Predecessor,
     attributes: &[Attribute],
 ) -> Result<(), AllocError>
     ensures { OnOk result (string_bytes text.new
-        ≡ string_bytes text.old ++ attributes_text flags may_space after_sigil (reverse attributes.now)) }
+        ≡ string_bytes text.old ++ attributes_text flags predecessor (reverse attributes.now)) }
 {
     let mut rest = attributes;
     while let Some((last, earlier)) = rest.split_last() {
-        write_attribute(text, flags, may_space, after_sigil, last)?;
-        may_space = true;
-        after_sigil = !last.constant_pointer;
+        write_attribute(text, flags, predecessor, last)?;
+        predecessor = end_of(last);
         rest = earlier;
     }
     Ok(())
+}
+
+/// What a pointer ends in: its sign, or `const`.
+fn end_of(attribute: &Attribute) -> Predecessor
+    ensures { result ≡ end_of attribute.now }
+{
+    if attribute.constant_pointer {
+        Predecessor::Text
+    } else {
+        Predecessor::Sigil
+    }
 }
 
 /// Appends one pointer: what stands before its sign, the sign, and `const` where it is constant.
 fn write_attribute(
     text: &mut String,
     flags: TypeFormatterFlags,
-    may_space: bool,
-    after_sigil: bool,
+    predecessor: Predecessor,
     attribute: &Attribute,
 ) -> Result<(), AllocError>
     ensures { OnOk result (string_bytes text.new
-        ≡ string_bytes text.old ++ attribute_text flags may_space after_sigil attribute.now) }
+        ≡ string_bytes text.old ++ attribute_text flags predecessor attribute.now) }
 {
-    write_before_sigil(
-        text,
-        flags,
-        may_space,
-        after_sigil,
-        attribute.constant_target,
-    )?;
+    write_before_sigil(text, flags, predecessor, attribute.constant_target)?;
     text.push_str(sigil(attribute.points))?;
     if attribute.constant_pointer {
         text.push_str(" const")?;
@@ -92,25 +103,23 @@ fn write_attribute(
 }
 
 /// Appends what stands before a sign: `const` where the target is constant, and the space that is
-/// wanted, unless none may stand here or a sign is just before it.
+/// wanted, unless the opening or a sign is just before it.
 fn write_before_sigil(
     text: &mut String,
     flags: TypeFormatterFlags,
-    may_space: bool,
-    after_sigil: bool,
+    predecessor: Predecessor,
     constant_target: bool,
 ) -> Result<(), AllocError>
     ensures { OnOk result (string_bytes text.new
-        ≡ string_bytes text.old ++ before_sigil flags may_space after_sigil constant_target) }
+        ≡ string_bytes text.old ++ before_sigil flags predecessor constant_target) }
 {
-    if constant_target {
-        text.push_str(if may_space { " const" } else { "const" })?;
-        text.push_str(space_before_sigil(flags))
-    } else if may_space && !after_sigil {
-        text.push_str(space_before_sigil(flags))
-    } else {
-        Ok(())
+    match predecessor {
+        Predecessor::Opening if constant_target => text.push_str("const")?,
+        _ if constant_target => text.push_str(" const")?,
+        Predecessor::Text => {}
+        _ => return Ok(()),
     }
+    text.push_str(space_before_sigil(flags))
 }
 
 /// The space before a sign, where one is wanted.

@@ -2,6 +2,7 @@ ghost use Rattle.std.specs.Prelude.{◌≡◌, ◌++◌, ℕ, true, false, [], �
 ghost use Rattle.std.specs.Prelude.{reverse, take, drop, string_bytes, IfOk, OnOk, is_some};
 ghost use Rattle.std.specs.String.Boundary.{IsSplitPoint};
 ghost use Rattle.pdb_types.specs.FailedParts.{Parts};
+ghost use Rattle.pdb_documents.specs.declared.attributes.Predecessor.TheVariants.{Sigil, Text};
 ghost use Rattle.pdb_documents.specs.Attributes.{attributes_text};
 ghost use Rattle.pdb_documents.specs.Documents.{caught_by, is_sigil, ends_in_sigil};
 ghost use Rattle.pdb_documents.specs.Progress.{released_by, Stage, beginning, with_step, with_text, with_failure};
@@ -9,7 +10,7 @@ ghost use Rattle.pdb_documents.specs.Progress.{failure_of, failure_in, MayBeCut,
 ghost use Rattle.pdb_documents.specs.Wording.{wording_text, missing_text};
 
 use crate::answers::Printed;
-use crate::attributes::{Attribute, write_attributes};
+use crate::attributes::{Attribute, Predecessor, write_attributes};
 use crate::failures::Failure;
 use crate::tasks::{Pending, Task};
 use crate::wording::{Wording, write, write_missing};
@@ -264,13 +265,17 @@ fn end_buffer(
         ≡ released_by (failure_in failure.now)
         (record { text = string_bytes text.old; fault = failure_in failure.now; failed = failed })
         mark
-        (attributes_text flags true true (reverse attributes.now))
-        (attributes_text flags true false (reverse attributes.now))) }
+        (attributes_text flags Sigil (reverse attributes.now))
+        (attributes_text flags Text (reverse attributes.now))) }
 {
     if failure.is_some() {
         text.truncate(mark);
         return Ok(());
     }
-    let after_sigil = has_sigil_at_end(text.as_str(), mark);
-    write_attributes(text, flags, true, after_sigil, attributes)
+    let predecessor = if has_sigil_at_end(text.as_str(), mark) {
+        Predecessor::Sigil
+    } else {
+        Predecessor::Text
+    };
+    write_attributes(text, flags, predecessor, attributes)
 }

@@ -1,7 +1,16 @@
 use crate::attributes::Attribute;
 use crate::wording::Wording;
-use pdb_records::{IdIndex, MemberFunctionType, TypeData, TypeIndex};
+use pdb_records::{IdIndex, MemberFunctionType, ModifierType, TypeData, TypeIndex};
 use std::collections::BTreeSet;
+
+/// The form in which a method is printed.
+#[derive(Clone, Copy)]
+pub enum MethodForm {
+    /// A signature, in which `const` stands behind the arguments of a constant method.
+    Signature,
+    /// The name of a type, in which it doesn't.
+    TypeName,
+}
 
 /// What is to be printed.
 #[derive(Drop)]
@@ -12,22 +21,22 @@ pub enum Task<'s> {
     Index(TypeIndex),
     /// This type.
     OfType(&'s TypeData),
-    /// The type that a function returns, unless it is left out.
-    Returned(bool, Option<TypeIndex>),
+    /// The type that a function returns, if there is one to print.
+    Returned(Option<TypeIndex>),
     /// Types, with a separator between them, behind `this` where that is one of them.
     Types(&'static str, Option<TypeIndex>, &'s [TypeIndex]),
     /// Further types, each behind a separator.
     FurtherTypes(&'static str, &'s [TypeIndex]),
     /// The arguments of a function in parentheses, by the index of their list.
     FunctionArguments(TypeIndex),
-    /// The arguments of a method in parentheses, and whether `const` may be said behind them.
-    MethodArguments(&'s MemberFunctionType, bool),
+    /// The arguments of a method in this form, in parentheses.
+    MethodArguments(&'s MemberFunctionType, MethodForm),
     /// A chain of pointers, the last one last, to the type of an index.
     Chain(Vec<Attribute>, TypeIndex),
     /// The same, where a modifier stands between the last pointer and the type of the index.
     BehindModifier(Vec<Attribute>, TypeIndex),
-    /// The type of an index, constant or not.
-    Modified(bool, TypeIndex),
+    /// The target of a modifier.
+    Modified(&'s ModifierType),
     /// An array: the indices of its elements so far, the sizes of its levels so far, and the index of its
     /// next element.
     Elements(BTreeSet<u32>, Vec<u32>, TypeIndex),

@@ -5,7 +5,7 @@ ghost use Rattle.pdb_documents.specs.Wording.{missing_text, unimplemented_text, 
 ghost use Rattle.pdb_documents.specs.Wording.{unhandled_scope_text, class_word, declared_text};
 ghost use Rattle.pdb_documents.specs.Wording.{function_name, static_text, comma, wording_text};
 
-use crate::attributes::{Attribute, write_attributes};
+use crate::attributes::{Attribute, Predecessor, write_attributes};
 use crate::dimensions::write_dimensions;
 use crate::namespaces::namespace_name;
 use crate::options::{with_names_alone, with_space_after_comma, without_static};
@@ -66,7 +66,7 @@ pub fn write(
             write_primitive(text, flags, primitive, *constant)
         }
         Wording::Pointers(attributes) => {
-            write_attributes(text, flags, false, false, attributes.as_slice())
+            write_attributes(text, flags, Predecessor::Opening, attributes.as_slice())
         }
         Wording::Dimensions(levels, base) => write_dimensions(text, levels.as_slice(), *base),
     }

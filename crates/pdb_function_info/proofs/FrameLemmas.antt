@@ -12,6 +12,7 @@ use Rattle.pdb_types.specs.declared.error.Error.{Error}
 use Rattle.pdb_functions.specs.GlobalFunctions.{GlobalFunction}
 use Rattle.pdb_functions.specs.Lookup.{FoundFunction}
 use Rattle.pdb_function_info.specs.Function.{sum_in_32_bits}
+use Rattle.pdb_function_info.specs.declared.frames.FunctionAddresses.{FunctionAddresses}
 use Rattle.pdb_function_info.specs.Frames.{Strings, function_frames, function_size, info_of_frames, failed_by_ids}
 use Rattle.pdb_function_info.specs.Frames.{bodies_over, failed_by_frames}
 use Rattle.pdb_function_info.specs.Names.{function_name, failed_by_function_name, id_name, failed_by_id}
@@ -24,14 +25,15 @@ with_start view seen None next none answer is same = absurd cc
 with_start view seen (Some s) next none answer is same = same s
 
 -- where a function with this start begins and ends
-abbrev pub addresses : List GlobalFunction → FoundFunction → Rva → ℕ × Option ℕ
-addresses globals found start = (start.0, option_and_then (sum_in_32_bits start.0) (function_size globals found))
+abbrev pub addresses : List GlobalFunction → FoundFunction → Rva → FunctionAddresses
+addresses globals found start =
+    record { start_rva = start.0; end_rva = option_and_then (sum_in_32_bits start.0) (function_size globals found) }
 
 -- where a function has an address and its frames are refused, so is its frames info
 pub frames_refused : {P : Type 0} (info : P → ProviderInfos) (type_inputs : TypeInputs P) (strings : Strings)
     (sections : List AddressRange)
     (globals : List GlobalFunction) (records : Option ModuleInfo) (found : FoundFunction) (x : ℕ) (e : Error)
-    (seen : ℕ × Option ℕ) → option_map (addresses globals found) (rva sections (function_start found)) ≡ Some seen
+    (seen : FunctionAddresses) → option_map (addresses globals found) (rva sections (function_start found)) ≡ Some seen
     → function_frames strings (id_name info type_inputs (function_module found))
     (function_name info type_inputs globals found) records found x ≡ Err e
     → info_of_frames info type_inputs strings sections globals records found x ≡ Err e
@@ -42,7 +44,7 @@ frames_refused info type_inputs strings sections globals records found x e seen 
 -- where a function has an address, the parts that failed are those by all names
 pub all_named : {P : Type 0} (info : P → ProviderInfos) (type_inputs : TypeInputs P) (sections : List AddressRange)
     (globals : List GlobalFunction) (records : Option ModuleInfo) (found : FoundFunction) (x : ℕ) (failed after : Parts)
-    (seen : ℕ × Option ℕ) → option_map (addresses globals found) (rva sections (function_start found)) ≡ Some seen
+    (seen : FunctionAddresses) → option_map (addresses globals found) (rva sections (function_start found)) ≡ Some seen
     → after ≡ failed_by_ids (failed_by_id info type_inputs (function_module found)) (bodies_over records found x)
     (failed_by_function_name info type_inputs globals found failed)
     → after ≡ failed_by_frames info type_inputs sections globals records found x failed

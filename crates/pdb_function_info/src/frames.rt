@@ -212,24 +212,34 @@ fn function_size(
     }
 }
 
-/// Where a function starts, and where it ends, if that is known and fits 32 bits. `None` where it has no
-/// address.
+/// Where a function starts, and where it ends, if that is known and fits 32 bits.
+#[derive(Clone, Copy)]
+struct FunctionAddresses {
+    start_rva: u32,
+    end_rva: Option<u32>,
+}
+
+/// The addresses of a function. `None` where it has none.
 fn addresses_of(
     address_map: &AddressMap,
     functions: &GlobalFunctionTable<'_>,
     function: PublicOrProcedureSymbol<'_>,
-) -> Option<(u32, Option<u32>)>
+) -> Option<FunctionAddresses>
     ensures { let found = found_function function.entry in
         let size = function_size functions.now found in
-        result ≡ option_map (λ start. (start.0, option_and_then (sum_in_32_bits start.0) size))
+        result ≡ option_map
+        (λ start. record { start_rva = start.0; end_rva = option_and_then (sum_in_32_bits start.0) size })
         (rva address_map.now (function_start found)) }
 {
     let start = function_start(function).to_rva(address_map)?;
-    let end = match function_size(functions, function) {
+    let end_rva = match function_size(functions, function) {
         Some(size) => start.0.checked_add(size),
         None => None,
     };
-    Some((start.0, end))
+    Some(FunctionAddresses {
+        start_rva: start.0,
+        end_rva,
+    })
 }
 
 /// The frames info of a function that lies over a section offset, at an offset there. `None` where
@@ -263,7 +273,7 @@ pub fn frames_info<'a, P: ModuleProvider>(
         names.old.failed names.new.failed }
     ensures code { IsCodeCache records code.new }
 {
-    let Some((start_rva, end_rva)) = addresses_of(address_map, functions, function) else {
+    let Some(addresses) = addresses_of(address_map, functions, function) else {
         return Ok(None);
     };
     let name = names.name_of_function(functions, function)?;
@@ -278,8 +288,8 @@ pub fn frames_info<'a, P: ModuleProvider>(
         offset,
     )?;
     Ok(Some(FunctionFrames {
-        start_rva,
-        end_rva,
+        start_rva: addresses.start_rva,
+        end_rva: addresses.end_rva,
         frames,
     }))
 }

@@ -24,12 +24,14 @@ use Rattle.pdb_types.specs.FailedParts.{Parts, has_failed, unsuccessful, part_er
 use Rattle.pdb_types.specs.Outcomes.{and_then}
 use Rattle.pdb_types.specs.ReadError.{ReadErrorView, Missing, Unimplemented, Refused, Broken}
 use Rattle.pdb_documents.specs.declared.attributes.Attribute.{Attribute}
+use Rattle.pdb_documents.specs.declared.attributes.Predecessor.TheVariants.{Opening}
+use Rattle.pdb_documents.specs.declared.tasks.MethodForm.{MethodForm}
 use Rattle.pdb_documents.specs.Attributes.{attributes_text}
 use Rattle.pdb_documents.specs.Documents.{Document, TypeNotFound, OfError, run}
 use Rattle.pdb_documents.specs.Documents as document
 use Rattle.pdb_documents.specs.Flags.{without_arguments, without_return_type}
 use Rattle.pdb_documents.specs.Wording.{comma, function_name, dimensions_text}
-use Rattle.pdb_documents.specs.Functions.{returned, further_types, types_between, function_arguments}
+use Rattle.pdb_documents.specs.Functions.{unless_left_out, returned, further_types, types_between, function_arguments}
 use Rattle.pdb_documents.specs.Ids.{method_id, scope, function_id, id_by_kind}
 use Rattle.pdb_documents.specs.Methods.{plain_this, this_by_target, this_by_type, this_of, arguments_behind}
 use Rattle.pdb_documents.specs.Methods.{method_list, on_list}
@@ -115,10 +117,9 @@ good_on_printed Good has (Err read_error_view) next reads plans = good_note Good
 
 -- what a function returns
 pub good_returned : (Good : ErrorView → Type 0) → HasPrintErrors Good
-    → (inside : List ℕ) (left_out : Bool) (index : Option TypeIndex) → IsGoodPlan Good (returned inside left_out index)
-good_returned Good has inside left_out None = good_text Good has []
-good_returned Good has inside true (Some index) = good_text Good has []
-good_returned Good has inside false (Some index) = (tt, good_text Good has (codes " "))
+    → (inside : List ℕ) (index : Option TypeIndex) → IsGoodPlan Good (returned inside index)
+good_returned Good has inside None = good_text Good has []
+good_returned Good has inside (Some index) = (tt, good_text Good has (codes " "))
 
 -- further types
 good_further : (Good : ErrorView → Type 0) → HasPrintErrors Good → (separator inside : List ℕ) (list : List TypeIndex)
@@ -147,18 +148,18 @@ good_chain_end : (Good : ErrorView → Type 0) → HasPrintErrors Good
     → (w : PrintInputs) (attributes : List Attribute) (inside : List ℕ) (type : TypeData)
     → IsGoodPlan Good (chain_end w attributes inside type)
 good_chain_end Good has w attributes inside (MemberFunction m) = (
-  good_returned Good has inside m.is_constructor (Some m.return_type),
+  good_returned Good has inside (unless_left_out m.is_constructor (Some m.return_type)),
   (
     good_text Good has (codes "("),
-    (tt, (good_text Good has (attributes_text w.flags false false attributes), (good_text Good has (codes ")"), tt))),
+    (tt, (good_text Good has (attributes_text w.flags Opening attributes), (good_text Good has (codes ")"), tt))),
   ),
 )
 good_chain_end Good has w attributes inside (Procedure p) = (
-  good_returned Good has inside p.is_constructor p.return_type,
+  good_returned Good has inside (unless_left_out p.is_constructor p.return_type),
   (
     good_text Good has (codes "("),
     (
-      good_text Good has (attributes_text w.flags false false attributes),
+      good_text Good has (attributes_text w.flags Opening attributes),
       (good_text Good has (codes ")("), (tt, good_text Good has (codes ")"))),
     ),
   ),
@@ -210,11 +211,11 @@ good_kind Good has w inside (Union u) = good_text Good has []
 good_kind Good has w inside (Enumeration e) = good_text Good has []
 good_kind Good has w inside (Enumerate e) = good_text Good has []
 good_kind Good has w inside (MemberFunction m) = (
-  good_returned Good has inside (m.is_constructor || without_return_type w.flags) (Some m.return_type),
+  good_returned Good has inside (unless_left_out (m.is_constructor || without_return_type w.flags) (Some m.return_type)),
   (good_text Good has (codes "()"), tt),
 )
 good_kind Good has w inside (Procedure p) = (
-  good_returned Good has inside (p.is_constructor || without_return_type w.flags) p.return_type,
+  good_returned Good has inside (unless_left_out (p.is_constructor || without_return_type w.flags) p.return_type),
   (good_text Good has (codes "()("), tt),
 )
 good_kind Good has w inside (ArgumentList list) = good_between Good has (comma w.flags) inside list
@@ -243,16 +244,16 @@ good_this Good has w reads class (Some this) = reads_then Good (w.read this.0) (
 
 -- a method's list of arguments
 pub good_on_list : (Good : ErrorView → Type 0) → HasPrintErrors Good → (w : PrintInputs) → AreGoodPrintInputs Good w
-    → (m : MemberFunctionType) (may_say_const : Bool) (inside : List ℕ) (type : TypeData)
-    → IsGoodPlan Good (on_list w m may_say_const inside type)
-good_on_list Good has w reads m may_say_const inside (ArgumentList list) =
-    good_on_read Good has (this_of w m.class_type m.this_pointer_type) (method_list w inside may_say_const list)
+    → (m : MemberFunctionType) (form : MethodForm) (inside : List ℕ) (type : TypeData)
+    → IsGoodPlan Good (on_list w m form inside type)
+good_on_list Good has w reads m form inside (ArgumentList list) =
+    good_on_read Good has (this_of w m.class_type m.this_pointer_type) (method_list w inside form list)
     (good_this Good has w reads m.class_type m.this_pointer_type)
     (λ this. (
       good_text Good has (codes "("),
       (good_between Good has (comma w.flags) inside (arguments_behind this.argument list), good_text Good has []),
     ))
-good_on_list Good has w reads m may_say_const inside other =
+good_on_list Good has w reads m form inside other =
     good_error Good has (Plain ArgumentTypeNotArgumentList) has.no_list
 
 -- the scope of a function
@@ -268,8 +269,7 @@ good_method_id : (Good : ErrorView → Type 0) → HasPrintErrors Good
 good_method_id Good has w method inside (MemberFunction m) = (
   good_text Good has [],
   (
-    good_returned Good has inside (m.is_constructor || without_return_type w.flags)
-        (Some m.return_type),
+    good_returned Good has inside (unless_left_out (m.is_constructor || without_return_type w.flags) (Some m.return_type)),
     (tt, (good_text Good has (codes "::"), (good_text Good has [], tt))),
   ),
 )
@@ -281,7 +281,7 @@ good_function_id : (Good : ErrorView → Type 0) → HasPrintErrors Good
     → (w : PrintInputs) (met : List ℕ) (function : FunctionId) (inside : List ℕ) (type : TypeData)
     → IsGoodPlan Good (function_id w met function inside type)
 good_function_id Good has w met function inside (Procedure p) = (
-  good_returned Good has inside (p.is_constructor || without_return_type w.flags) p.return_type,
+  good_returned Good has inside (unless_left_out (p.is_constructor || without_return_type w.flags) p.return_type),
   (
     good_scope Good has met inside function.scope,
     (good_text Good has [], good_arguments Good has w inside p.argument_list),
@@ -312,13 +312,12 @@ good_signature Good has w reads name index = by_test (index == 0) where
   by_type inside (MemberFunction m) = (
     good_text Good has [],
     (
-      good_returned Good has inside (m.is_constructor || without_return_type w.flags)
-          (Some m.return_type),
+      good_returned Good has inside (unless_left_out (m.is_constructor || without_return_type w.flags) (Some m.return_type)),
       (good_text Good has [], tt),
     ),
   )
   by_type inside (Procedure p) = (
-    good_returned Good has inside (p.is_constructor || without_return_type w.flags) p.return_type,
+    good_returned Good has inside (unless_left_out (p.is_constructor || without_return_type w.flags) p.return_type),
     (good_text Good has [], good_arguments Good has w inside p.argument_list),
   )
   by_type inside other = good_text Good has name

@@ -54,20 +54,20 @@ rule_gives Good has w reads inside (Index index) = by_tests (is_among index insi
       (rw closed (good_on_printed Good has (w.read index) (λ type. Later (index ∷ inside) (OfType type))
       (reads.types index) (λ type. tt)))
 rule_gives Good has w reads inside (OfType type) = other (good_kind Good has w inside type)
-rule_gives Good has w reads inside (MethodArguments m may_say_const) = by_flag (without_arguments w.flags) refl where
+rule_gives Good has w reads inside (MethodArguments m form) = by_flag (without_arguments w.flags) refl where
   by_opening : without_arguments w.flags ≡ false
       → ((is_among m.argument_list.0 inside ≡ true) ×
-      (opening w inside m.argument_list.0 (on_list w m may_say_const) ≡ circular m.argument_list.0)) ⊎ IsGoodPlan Good
-      (opening w inside m.argument_list.0 (on_list w m may_say_const))
-      → RuleGives Good w inside (MethodArguments m may_say_const)
+      (opening w inside m.argument_list.0 (on_list w m form) ≡ circular m.argument_list.0)) ⊎ IsGoodPlan Good
+      (opening w inside m.argument_list.0 (on_list w m form))
+      → RuleGives Good w inside (MethodArguments m form)
   by_opening printed (inl again) = circle m.argument_list.0 (refl, again.0, printed) (rw printed again.1)
   by_opening printed (inr plan) = other (rw printed plan)
 
-  by_flag : (t : Bool) → without_arguments w.flags ≡ t → RuleGives Good w inside (MethodArguments m may_say_const)
+  by_flag : (t : Bool) → without_arguments w.flags ≡ t → RuleGives Good w inside (MethodArguments m form)
   by_flag true without = other (rw without (good_text Good has []))
   by_flag false printed = by_opening printed
-      (gives_opening Good has w reads inside m.argument_list.0 (on_list w m may_say_const)
-      (good_on_list Good has w reads m may_say_const (m.argument_list.0 ∷ inside)))
+      (gives_opening Good has w reads inside m.argument_list.0 (on_list w m form)
+      (good_on_list Good has w reads m form (m.argument_list.0 ∷ inside)))
 rule_gives Good has w reads inside (Chain attributes target) =
     by_opening (gives_opening Good has w reads inside target (behind_pointer w attributes)
     (good_behind_pointer Good has w attributes (target ∷ inside))) where
@@ -111,7 +111,7 @@ pub repeats_circular : (w : PrintInputs) (inside : List ℕ) (task : Task) (inde
     → rule w inside task ≡ circular index
 repeats_circular w inside (Index i) index (one, among, (type, is)) = rw (is, among, one) refl
 repeats_circular w inside (OfType type) index never = absurd never
-repeats_circular w inside (MethodArguments m may_say_const) index (one, among, printed) = rw (printed, among, one) refl
+repeats_circular w inside (MethodArguments m form) index (one, among, printed) = rw (printed, among, one) refl
 repeats_circular w inside (Chain attributes target) index (one, among) = rw (among, one) refl
 repeats_circular w inside (BehindModifier attributes target) index (one, among) = rw (among, one) refl
 repeats_circular w inside (Modified constant target) index (one, among) = rw (among, one) refl

@@ -20,7 +20,7 @@ abbrev pub Repeats : PrintInputs → List ℕ → Task → ℕ → Type 0
 Repeats w inside (Index index) circle =
     (index ≡ circle) × (is_among index inside ≡ true) × ((type : TypeData) × (w.read index ≡ Ok type))
 Repeats w inside (OfType type) circle = ⊥
-Repeats w inside (MethodArguments m may_say_const) circle =
+Repeats w inside (MethodArguments m form) circle =
     (m.argument_list.0 ≡ circle) × (is_among m.argument_list.0 inside ≡ true) × (without_arguments w.flags ≡ false)
 Repeats w inside (Chain attributes target) circle = (target ≡ circle) × (is_among target inside ≡ true)
 Repeats w inside (BehindModifier attributes target) circle = (target ≡ circle) × (is_among target inside ≡ true)

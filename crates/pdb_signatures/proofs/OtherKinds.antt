@@ -1,5 +1,5 @@
 -- What the rules say of types of other kinds than those that they distinguish.
-use Rattle.std.proofs.Common.{◌≡◌, ℕ, Bool, true, false, List, [], refl}
+use Rattle.std.proofs.Common.{◌≡◌, ℕ, Bool, List, [], refl}
 use Rattle.std.specs.Prelude.{codes, Ok, if◌then◌else◌}
 use Rattle.pdb_records.specs.declared.types.TypeIndex.{TypeIndex}
 use Rattle.pdb_records.specs.declared.types.PrimitiveType.{PrimitiveType}
@@ -20,6 +20,8 @@ use Rattle.pdb_records.specs.declared.ids.MemberFunctionId.{MemberFunctionId}
 use Rattle.pdb_records.specs.declared.ids.FunctionId.{FunctionId}
 use Rattle.pdb_documents.specs.Ids.{method_id, function_id}
 use Rattle.pdb_documents.specs.declared.attributes.Attribute.{Attribute}
+use Rattle.pdb_documents.specs.declared.tasks.MethodForm.{MethodForm}
+use Rattle.pdb_documents.specs.declared.attributes.Predecessor.TheVariants.{Sigil, Text}
 use Rattle.pdb_documents.specs.Attributes.{attributes_text}
 use Rattle.pdb_documents.specs.Wording.{dimensions_text}
 use Rattle.pdb_documents.specs.PrintInputs.{PrintInputs}
@@ -32,7 +34,7 @@ use Rattle.pdb_documents.specs.Signatures.{signature_by_type}
 pub chain_end-other : (w : PrintInputs) (attributes : List Attribute) (inside : List ℕ) (type : TypeData)
     → ((x : MemberFunctionType) → type ≡ MemberFunction x → ⊥) → ((x : ProcedureType) → type ≡ Procedure x → ⊥)
     → chain_end w attributes inside type ≡ Buffered (Later inside (OfType type))
-    (attributes_text w.flags true true attributes) (attributes_text w.flags true false attributes)
+    (attributes_text w.flags Sigil attributes) (attributes_text w.flags Text attributes)
 chain_end-other w attributes inside (Primitive x) not0 not1 = refl
 chain_end-other w attributes inside (Class x) not0 not1 = refl
 chain_end-other w attributes inside (MemberFunction x) not0 not1 = absurd (not0 x refl)
@@ -148,21 +150,21 @@ this_by_type-other w class this (ArgumentList x) not0 = refl
 this_by_type-other w class this (Other x) not0 = refl
 
 -- any other type than a list of arguments is none
-pub on_list-other : (w : PrintInputs) (m : MemberFunctionType) (may_say_const : Bool) (inside : List ℕ)
+pub on_list-other : (w : PrintInputs) (m : MemberFunctionType) (form : MethodForm) (inside : List ℕ)
     (type : TypeData) → ((x : List TypeIndex) → type ≡ ArgumentList x → ⊥)
-    → on_list w m may_say_const inside type ≡ failing (Plain ArgumentTypeNotArgumentList)
-on_list-other w m may_say_const inside (Primitive x) not0 = refl
-on_list-other w m may_say_const inside (Class x) not0 = refl
-on_list-other w m may_say_const inside (MemberFunction x) not0 = refl
-on_list-other w m may_say_const inside (Procedure x) not0 = refl
-on_list-other w m may_say_const inside (Pointer x) not0 = refl
-on_list-other w m may_say_const inside (Array x) not0 = refl
-on_list-other w m may_say_const inside (Union x) not0 = refl
-on_list-other w m may_say_const inside (Enumeration x) not0 = refl
-on_list-other w m may_say_const inside (Enumerate x) not0 = refl
-on_list-other w m may_say_const inside (Modifier x) not0 = refl
-on_list-other w m may_say_const inside (ArgumentList x) not0 = absurd (not0 x refl)
-on_list-other w m may_say_const inside (Other x) not0 = refl
+    → on_list w m form inside type ≡ failing (Plain ArgumentTypeNotArgumentList)
+on_list-other w m form inside (Primitive x) not0 = refl
+on_list-other w m form inside (Class x) not0 = refl
+on_list-other w m form inside (MemberFunction x) not0 = refl
+on_list-other w m form inside (Procedure x) not0 = refl
+on_list-other w m form inside (Pointer x) not0 = refl
+on_list-other w m form inside (Array x) not0 = refl
+on_list-other w m form inside (Union x) not0 = refl
+on_list-other w m form inside (Enumeration x) not0 = refl
+on_list-other w m form inside (Enumerate x) not0 = refl
+on_list-other w m form inside (Modifier x) not0 = refl
+on_list-other w m form inside (ArgumentList x) not0 = absurd (not0 x refl)
+on_list-other w m form inside (Other x) not0 = refl
 
 -- a name with any other type than a function stands alone
 pub signature_by_type-other : (w : PrintInputs) (name inside : List ℕ) (type : TypeData)

@@ -1,11 +1,12 @@
 -- What stands among the steps of a stage.
 use Rattle.std.proofs.Common.{◌≡◌, ℕ, ◌+◌, ◌≤◌, List, [], ◌∷◌, ◌++◌, length, refl, sym, ap, subst, ◌∙◌, arith}
-use Rattle.std.specs.Prelude.{true, false, reverse, Vec, Option, Some, None}
+use Rattle.std.specs.Prelude.{reverse, Vec, Option, Some, None}
 use Rattle.std.specs.declared.alloc.Global.{Global}
 use Rattle.std.proofs.lemmas.List.{append-nil}
 use Rattle.pdb_documents.specs.declared.tasks.Task as tasks
 use Rattle.pdb_documents.specs.declared.tasks.Pending.TheVariants.{Print, EndBuffer}
 use Rattle.pdb_documents.specs.declared.attributes.Attribute.{Attribute}
+use Rattle.pdb_documents.specs.declared.attributes.Predecessor.TheVariants.{Sigil, Text}
 use Rattle.pdb_documents.specs.Attributes.{attributes_text}
 use Rattle.pdb_documents.specs.Documents.{Failure, Document, Run, run, then_by}
 use Rattle.pdb_documents.specs.Documents as document
@@ -87,12 +88,12 @@ stands_here stands = record { goes = λ before text. stands.goes before; text = 
 pub stands_held_back : (w : PrintInputs) (attributes : Vec Attribute Global) (task : tasks.Task) (old mid new : Stage)
     → mid ≡ with_step (EndBuffer (length old.text) attributes) old → new ≡ with_step (Print task) mid
     → StandsHere w (Buffered (task_plan w (open_in old.steps) task)
-    (attributes_text w.flags true true (reverse attributes.items))
-    (attributes_text w.flags true false (reverse attributes.items))) old new
+    (attributes_text w.flags Sigil (reverse attributes.items))
+    (attributes_text w.flags Text (reverse attributes.items))) old new
 stands_held_back w attributes task old mid new cached is =
     let target : Plan = task_plan w (open_in old.steps) task in
-    let u : List ℕ = attributes_text w.flags true true (reverse attributes.items) in
-    let v : List ℕ = attributes_text w.flags true false (reverse attributes.items) in
+    let u : List ℕ = attributes_text w.flags Sigil (reverse attributes.items) in
+    let v : List ℕ = attributes_text w.flags Text (reverse attributes.items) in
     let all : new ≡ with_step (Print task) (with_step (EndBuffer (length old.text) attributes) old) =
     is ∙ ap (with_step (Print task)) cached in
     subst (λ (s : Stage). StandsHere w (Buffered target u v) old s) (sym all) (record {

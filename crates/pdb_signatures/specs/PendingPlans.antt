@@ -1,11 +1,12 @@
 -- What is still to be done, as plans, and what printing comes to from there.
-use Rattle.std.specs.Prelude.{◌≡◌, ℕ, suc, ◌+◌, ◌≤◌, true, false, List, [], ◌∷◌, reverse, Option, Some, None, Ok}
+use Rattle.std.specs.Prelude.{◌≡◌, ℕ, suc, ◌+◌, ◌≤◌, false, List, [], ◌∷◌, reverse, Option, Some, None, Ok}
 use Rattle.pdb_records.specs.declared.types.TypeData.{TypeData}
 use Rattle.pdb_types.specs.declared.read_error.ReadError.{ReadError}
 use Rattle.pdb_types.specs.FailedParts.{Parts}
 use Rattle.pdb_types.specs.ReadError.{ReadErrorView}
 use Rattle.pdb_documents.specs.declared.tasks.Pending.{Pending}
 use Rattle.pdb_documents.specs.declared.tasks.Pending.TheVariants.{Print, Close, EndId, EndCatch, EndBuffer}
+use Rattle.pdb_documents.specs.declared.attributes.Predecessor.TheVariants.{Sigil, Text}
 use Rattle.pdb_documents.specs.Attributes.{attributes_text}
 use Rattle.pdb_documents.specs.Documents.{Document, Run, run, then_by, caught_by}
 use Rattle.pdb_signatures.specs.ReadErrorViews.{IsViewOf}
@@ -35,8 +36,8 @@ frame w inside (EndId outer index) = Closing
 frame w inside EndCatch = Caught
 frame w inside (EndBuffer mark attributes) =
     HeldBack mark
-    (attributes_text w.flags true true (reverse attributes.items))
-    (attributes_text w.flags true false (reverse attributes.items))
+    (attributes_text w.flags Sigil (reverse attributes.items))
+    (attributes_text w.flags Text (reverse attributes.items))
 
 -- what is still to be done, the next first
 abbrev pub frames : PrintInputs → List Pending → List PendingPlan

@@ -1,6 +1,7 @@
 ghost use Rattle.std.specs.Prelude.{◌≡◌, ◌||◌, OnOk};
 ghost use Rattle.pdb_documents.specs.Flags.{without_return_type};
-ghost use Rattle.pdb_documents.specs.Functions.{returned, further_types, types_between, function_arguments};
+ghost use Rattle.pdb_documents.specs.Functions.{unless_left_out, returned, further_types};
+ghost use Rattle.pdb_documents.specs.Functions.{types_between, function_arguments};
 ghost use Rattle.pdb_documents.specs.Methods.{arguments_behind};
 ghost use Rattle.pdb_documents.specs.Progress.{open_in};
 ghost use Rattle.pdb_documents.specs.PrintInputs.{PrintInputs};
@@ -21,21 +22,24 @@ pub(crate) fn is_left_out(flags: TypeFormatterFlags, constructor: bool) -> bool
     constructor || without_return_type(flags)
 }
 
-/// The type that a function returns, with a space behind it, unless it is left out.
+/// The type that a function returns, unless it is left out.
+pub(crate) fn unless_left_out(left_out: bool, index: Option<TypeIndex>) -> Option<TypeIndex>
+    ensures { result ≡ unless_left_out left_out index }
+{
+    if left_out { None } else { index }
+}
+
+/// The type that a function returns, with a space behind it, where there is one to print.
 pub(crate) fn returned(
     progress: &mut Progress<'_>,
-    left_out: bool,
     index: Option<TypeIndex>,
 ) -> Result<(), AllocError>
-    ensures { OnOk result ((w : PrintInputs) → Stands w 1 (returned (open_in progress.old.steps) left_out index)
+    ensures { OnOk result ((w : PrintInputs) → Stands w 1 (returned (open_in progress.old.steps) index)
         progress.old progress.new) }
 {
     let Some(index) = index else {
         return Ok(());
     };
-    if left_out {
-        return Ok(());
-    }
     progress.first(Task::Written(Wording::Text(" ")))?;
     progress.first(Task::Index(index))
 }

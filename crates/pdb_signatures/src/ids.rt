@@ -10,12 +10,12 @@ ghost use Rattle.pdb_documents.specs.PrintInputs.{PrintInputs, formatter_inputs}
 ghost use Rattle.pdb_signatures.specs.Formatters.{IsLater};
 ghost use Rattle.pdb_signatures.specs.PendingPlans.{Advances, AdvancesClosing, Stands};
 
-use crate::functions::is_left_out;
+use crate::functions::{is_left_out, unless_left_out};
 use crate::type_formatter::TypeFormatter;
 use pdb_documents::answers::Printed;
 use pdb_documents::failures::Failure;
 use pdb_documents::progress::Progress;
-use pdb_documents::tasks::Task;
+use pdb_documents::tasks::{MethodForm, Task};
 use pdb_documents::wording::{Wording, static_word};
 use pdb_records::{
     FunctionId, IdData, IdIndex, MemberFunctionId, MemberFunctionType, ProcedureType, TypeData,
@@ -52,12 +52,12 @@ fn method<'s>(
         → Stands w 0 (method_id w method.now (open_in progress.old.steps) (MemberFunction m.now))
         progress.old progress.new) }
 {
-    let left_out = is_left_out(flags, m.is_constructor);
-    progress.first(Task::MethodArguments(m, true))?;
+    let return_type = unless_left_out(is_left_out(flags, m.is_constructor), Some(m.return_type));
+    progress.first(Task::MethodArguments(m, MethodForm::Signature))?;
     progress.first(Task::Written(Wording::FunctionName(&method.name)))?;
     progress.first(Task::Written(Wording::Text("::")))?;
     progress.first(Task::Index(method.parent))?;
-    progress.first(Task::Returned(left_out, Some(m.return_type)))?;
+    progress.first(Task::Returned(return_type))?;
     progress.first(Task::Written(Wording::Text(static_word(flags, m.this_pointer_type))))
 }
 
@@ -73,11 +73,11 @@ fn function<'s>(
         → Stands w 0 (function_id w met.keys function.now (open_in progress.old.steps) (Procedure p.now))
         progress.old progress.new) }
 {
-    let left_out = is_left_out(flags, p.is_constructor);
+    let return_type = unless_left_out(is_left_out(flags, p.is_constructor), p.return_type);
     progress.first(Task::FunctionArguments(p.argument_list))?;
     progress.first(Task::Written(Wording::FunctionName(&function.name)))?;
     progress.first(Task::Scope(met, function.scope))?;
-    progress.first(Task::Returned(left_out, p.return_type))
+    progress.first(Task::Returned(return_type))
 }
 
 /// A function of a class, whose type was read: it has to be a method's.

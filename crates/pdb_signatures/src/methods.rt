@@ -1,8 +1,8 @@
-ghost use Rattle.std.specs.Prelude.{◌≡◌, ◌&&◌, None, codes, if◌then◌else◌, OnOk};
+ghost use Rattle.std.specs.Prelude.{◌≡◌, None, OnOk};
 ghost use Rattle.pdb_types.specs.ReadError.{Matches};
 ghost use Rattle.pdb_documents.specs.Plans.{MethodArguments, Later, on_read};
 ghost use Rattle.pdb_documents.specs.Progress.{open_in};
-ghost use Rattle.pdb_documents.specs.Methods.{this_of, method_list, on_list};
+ghost use Rattle.pdb_documents.specs.Methods.{this_of, closing, method_list, on_list};
 ghost use Rattle.pdb_documents.specs.PrintInputs.{PrintInputs, formatter_inputs};
 ghost use Rattle.pdb_signatures.specs.Formatters.{IsLater};
 ghost use Rattle.pdb_signatures.specs.PendingPlans.{Advances, Stands};
@@ -11,38 +11,36 @@ use crate::type_formatter::TypeFormatter;
 use pdb_documents::failures::Failure;
 use pdb_documents::options::without_arguments;
 use pdb_documents::progress::Progress;
-use pdb_documents::tasks::Task;
+use pdb_documents::tasks::{MethodForm, Task};
 use pdb_documents::this::{PLAIN_THIS, This, this_by_target};
 use pdb_documents::wording::{Wording, comma};
 use pdb_records::{MemberFunctionType, TypeData, TypeIndex};
 use pdb_types::{Error, ModuleProvider, ReadError, TypeFormatterFlags};
 use std::alloc::AllocError;
 
-/// What stands behind a method's arguments.
-fn closing(constant: bool, may_say_const: bool) -> &'static str
-    ensures { result.now ≡ (if constant && may_say_const then codes ") const" else codes ")") }
+/// What stands behind a method's arguments: `const` too, in the signature of a constant method.
+fn closing(form: MethodForm, constant: bool) -> &'static str
+    ensures { result.now ≡ closing form constant }
 {
-    if constant && may_say_const {
-        ") const"
-    } else {
-        ")"
+    match form {
+        MethodForm::Signature if constant => ") const",
+        _ => ")",
     }
 }
 
-/// A method's arguments in parentheses, and `const` behind them where the method is constant and that may
-/// be said.
+/// A method's arguments in parentheses, and `const` behind them in the signature of a constant method.
 pub(crate) fn method_list<'s>(
     progress: &mut Progress<'s>,
     flags: TypeFormatterFlags,
-    may_say_const: bool,
+    form: MethodForm,
     list: &'s [TypeIndex],
     this: This,
 ) -> Result<(), AllocError>
     ensures { OnOk result ((w : PrintInputs) → w.flags ≡ flags
-        → Stands w 0 (method_list w (open_in progress.old.steps) may_say_const list.now this)
+        → Stands w 0 (method_list w (open_in progress.old.steps) form list.now this)
         progress.old progress.new) }
 {
-    progress.first(Task::Written(Wording::Text(closing(this.constant, may_say_const))))?;
+    progress.first(Task::Written(Wording::Text(closing(form, this.constant))))?;
     progress.first(Task::Types(comma(flags), this.argument, list))?;
     progress.first(Task::Written(Wording::Text("(")))
 }
@@ -82,7 +80,7 @@ impl<'a, P: ModuleProvider> TypeFormatter<'a, P> {
         module_index: usize,
         progress: &mut Progress<'s>,
         m: &MemberFunctionType,
-        may_say_const: bool,
+        form: MethodForm,
         list: &'s [TypeIndex],
     ) -> Result<(), AllocError>
     where
@@ -92,11 +90,11 @@ impl<'a, P: ModuleProvider> TypeFormatter<'a, P> {
         ensures advances { OnOk result
             (let w = formatter_inputs P.info self.old.type_inputs module_index in
             Advances w (on_read (this_of w m.now.class_type m.now.this_pointer_type)
-            (method_list w (open_in progress.old.steps) may_say_const list.now)) 0
+            (method_list w (open_in progress.old.steps) form list.now)) 0
             progress.old self.old.failed progress.new self.new.failed) }
     {
         match self.read_this(module_index, m.class_type, m.this_pointer_type) {
-            Ok(this) => method_list(progress, self.flags(), may_say_const, list, this),
+            Ok(this) => method_list(progress, self.flags(), form, list, this),
             Err(read_error) => self.refuse(progress, read_error),
         }
     }
@@ -107,7 +105,7 @@ impl<'a, P: ModuleProvider> TypeFormatter<'a, P> {
         module_index: usize,
         progress: &mut Progress<'s>,
         m: &MemberFunctionType,
-        may_say_const: bool,
+        form: MethodForm,
         type_data: &'s TypeData,
     ) -> Result<(), AllocError>
     where
@@ -116,7 +114,7 @@ impl<'a, P: ModuleProvider> TypeFormatter<'a, P> {
         ensures later { IsLater P.info module_index self.old self.new }
         ensures advances { OnOk result
             (let w = formatter_inputs P.info self.old.type_inputs module_index in
-            Advances w (on_list w m.now may_say_const (open_in progress.old.steps) type_data.now) 0
+            Advances w (on_list w m.now form (open_in progress.old.steps) type_data.now) 0
             progress.old self.old.failed progress.new self.new.failed) }
     {
         match type_data {
@@ -124,7 +122,7 @@ impl<'a, P: ModuleProvider> TypeFormatter<'a, P> {
                 module_index,
                 progress,
                 m,
-                may_say_const,
+                form,
                 &list.arguments,
             ),
             _ => {
@@ -140,7 +138,7 @@ impl<'a, P: ModuleProvider> TypeFormatter<'a, P> {
         module_index: usize,
         progress: &mut Progress<'s>,
         m: &MemberFunctionType,
-        may_say_const: bool,
+        form: MethodForm,
     ) -> Result<(), AllocError>
     where
         'a: 's,
@@ -148,7 +146,7 @@ impl<'a, P: ModuleProvider> TypeFormatter<'a, P> {
         ensures later { IsLater P.info module_index self.old self.new }
         ensures advances { OnOk result
             (Advances (formatter_inputs P.info self.old.type_inputs module_index)
-            (Later (open_in progress.old.steps) (MethodArguments m.now may_say_const)) 1
+            (Later (open_in progress.old.steps) (MethodArguments m.now form)) 1
             progress.old self.old.failed progress.new self.new.failed) }
     {
         if without_arguments(self.flags()) {
@@ -156,7 +154,7 @@ impl<'a, P: ModuleProvider> TypeFormatter<'a, P> {
         }
         match self.enter(module_index, progress, m.argument_list)? {
             None => Ok(()),
-            Some(type_data) => self.on_list(module_index, progress, m, may_say_const, type_data),
+            Some(type_data) => self.on_list(module_index, progress, m, form, type_data),
         }
     }
 }

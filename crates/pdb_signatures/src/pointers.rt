@@ -7,9 +7,10 @@ ghost use Rattle.pdb_documents.specs.Rules.{chain_end, behind_modifier, behind_p
 ghost use Rattle.pdb_documents.specs.PrintInputs.{PrintInputs};
 ghost use Rattle.pdb_signatures.specs.PendingPlans.{Stands, StandsHere};
 
+use crate::functions::unless_left_out;
 use pdb_documents::attributes::{Attribute, attribute_of, point_to};
 use pdb_documents::progress::Progress;
-use pdb_documents::tasks::Task;
+use pdb_documents::tasks::{MethodForm, Task};
 use pdb_documents::wording::Wording;
 use pdb_records::{MemberFunctionType, PointerType, ProcedureType, TypeData};
 use std::alloc::AllocError;
@@ -24,12 +25,13 @@ fn pointers_to_method<'s>(
         → Stands w 0 (pointers_to_method w (reverse attributes.items) (open_in progress.old.steps) m.now)
         progress.old progress.new) }
 {
-    progress.first(Task::MethodArguments(m, false))?;
+    let return_type = unless_left_out(m.is_constructor, Some(m.return_type));
+    progress.first(Task::MethodArguments(m, MethodForm::TypeName))?;
     progress.first(Task::Written(Wording::Text(")")))?;
     progress.first(Task::Written(Wording::Pointers(attributes)))?;
     progress.first(Task::Index(m.class_type))?;
     progress.first(Task::Written(Wording::Text("(")))?;
-    progress.first(Task::Returned(m.is_constructor, Some(m.return_type)))
+    progress.first(Task::Returned(return_type))
 }
 
 /// A pointer to a function: what it returns, the pointers in parentheses, and its arguments in
@@ -43,12 +45,13 @@ fn pointers_to_function<'s>(
         → Stands w 0 (pointers_to_function w (reverse attributes.items) (open_in progress.old.steps) p.now)
         progress.old progress.new) }
 {
+    let return_type = unless_left_out(p.is_constructor, p.return_type);
     progress.first(Task::Written(Wording::Text(")")))?;
     progress.first(Task::Index(p.argument_list))?;
     progress.first(Task::Written(Wording::Text(")(")))?;
     progress.first(Task::Written(Wording::Pointers(attributes)))?;
     progress.first(Task::Written(Wording::Text("(")))?;
-    progress.first(Task::Returned(p.is_constructor, p.return_type))
+    progress.first(Task::Returned(return_type))
 }
 
 /// The end of a chain of pointers: functions are printed around the pointers, and any other type before

@@ -8,10 +8,10 @@ ghost use Rattle.pdb_documents.specs.Wording.{declared_text};
 ghost use Rattle.pdb_documents.specs.PrintInputs.{PrintInputs};
 ghost use Rattle.pdb_signatures.specs.PendingPlans.{Stands};
 
-use crate::functions::{is_left_out, types_between};
+use crate::functions::{is_left_out, types_between, unless_left_out};
 use pdb_documents::attributes::attribute_of;
 use pdb_documents::progress::Progress;
-use pdb_documents::tasks::Task;
+use pdb_documents::tasks::{MethodForm, Task};
 use pdb_documents::wording::{Wording, class_word, comma};
 use pdb_records::{
     ArrayType, MemberFunctionType, PointerType, ProcedureType, RawString, TypeData, TypeIndex,
@@ -41,10 +41,10 @@ fn method<'s>(
     ensures { OnOk result ((w : PrintInputs) → w.flags ≡ flags
         → Stands w 0 (by_kind w (open_in progress.old.steps) (MemberFunction m.now)) progress.old progress.new) }
 {
-    let left_out = is_left_out(flags, m.is_constructor);
-    progress.first(Task::MethodArguments(m, false))?;
+    let return_type = unless_left_out(is_left_out(flags, m.is_constructor), Some(m.return_type));
+    progress.first(Task::MethodArguments(m, MethodForm::TypeName))?;
     progress.first(Task::Written(Wording::Text("()")))?;
-    progress.first(Task::Returned(left_out, Some(m.return_type)))
+    progress.first(Task::Returned(return_type))
 }
 
 /// A procedure: what it returns where that is wanted, and its arguments, with no parenthesis behind them.
@@ -56,10 +56,10 @@ fn procedure<'s>(
     ensures { OnOk result ((w : PrintInputs) → w.flags ≡ flags
         → Stands w 0 (by_kind w (open_in progress.old.steps) (Procedure p.now)) progress.old progress.new) }
 {
-    let left_out = is_left_out(flags, p.is_constructor);
+    let return_type = unless_left_out(is_left_out(flags, p.is_constructor), p.return_type);
     progress.first(Task::Index(p.argument_list))?;
     progress.first(Task::Written(Wording::Text("()(")))?;
-    progress.first(Task::Returned(left_out, p.return_type))
+    progress.first(Task::Returned(return_type))
 }
 
 /// A pointer, constant where it says so or `constant` does: a chain of pointers begins.
@@ -139,7 +139,7 @@ pub(crate) fn by_kind<'s>(
         ),
         TypeData::Pointer(p) => pointer(progress, p, false),
         TypeData::Array(a) => array(progress, a),
-        TypeData::Modifier(m) => progress.first(Task::Modified(m.constant, m.underlying_type)),
+        TypeData::Modifier(m) => progress.first(Task::Modified(m)),
         TypeData::Other(kind) => progress.first(Task::Written(Wording::UnhandledKind(
             kind.kind_name.as_str(),
         ))),

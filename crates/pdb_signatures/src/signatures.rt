@@ -7,11 +7,11 @@ ghost use Rattle.pdb_documents.specs.PrintInputs.{PrintInputs, formatter_inputs}
 ghost use Rattle.pdb_signatures.specs.Formatters.{IsLater};
 ghost use Rattle.pdb_signatures.specs.PendingPlans.{Begins, Stands};
 
-use crate::functions::is_left_out;
+use crate::functions::{is_left_out, unless_left_out};
 use crate::type_formatter::TypeFormatter;
 use pdb_documents::answers::Printed;
 use pdb_documents::progress::Progress;
-use pdb_documents::tasks::Task;
+use pdb_documents::tasks::{MethodForm, Task};
 use pdb_documents::wording::{Wording, function_name, static_word};
 use pdb_records::{MemberFunctionType, ProcedureType, TypeData, TypeIndex};
 use pdb_types::{ModuleProvider, TypeFormatterFlags};
@@ -28,10 +28,10 @@ fn method<'s>(
         → Stands w 0 (signature_by_type w name.now (open_in progress.old.steps) (MemberFunction m.now))
         progress.old progress.new) }
 {
-    let left_out = is_left_out(flags, m.is_constructor);
-    progress.first(Task::MethodArguments(m, true))?;
+    let return_type = unless_left_out(is_left_out(flags, m.is_constructor), Some(m.return_type));
+    progress.first(Task::MethodArguments(m, MethodForm::Signature))?;
     progress.first(Task::Written(Wording::Text(function_name(name))))?;
-    progress.first(Task::Returned(left_out, Some(m.return_type)))?;
+    progress.first(Task::Returned(return_type))?;
     progress.first(Task::Written(Wording::Text(static_word(flags, m.this_pointer_type))))
 }
 
@@ -46,10 +46,10 @@ fn procedure<'s>(
         → Stands w 0 (signature_by_type w name.now (open_in progress.old.steps) (Procedure p.now))
         progress.old progress.new) }
 {
-    let left_out = is_left_out(flags, p.is_constructor);
+    let return_type = unless_left_out(is_left_out(flags, p.is_constructor), p.return_type);
     progress.first(Task::FunctionArguments(p.argument_list))?;
     progress.first(Task::Written(Wording::Text(function_name(name))))?;
-    progress.first(Task::Returned(left_out, p.return_type))
+    progress.first(Task::Returned(return_type))
 }
 
 /// The signature of a function with this name and type. Where the type is no function's, the name as it is.

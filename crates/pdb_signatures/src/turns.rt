@@ -14,7 +14,7 @@ use crate::type_formatter::TypeFormatter;
 use pdb_documents::attributes::Attribute;
 use pdb_documents::progress::{Next, Progress};
 use pdb_documents::tasks::Task;
-use pdb_records::{TypeData, TypeIndex};
+use pdb_records::{ModifierType, TypeData, TypeIndex};
 use pdb_types::{ModuleProvider, TypeFormatterFlags};
 use std::alloc::AllocError;
 
@@ -119,13 +119,12 @@ impl<'a, P: ModuleProvider> TypeFormatter<'a, P> {
         }
     }
 
-    /// The type of an index, constant or not.
+    /// The target of a modifier.
     pub(crate) fn modified<'s>(
         &mut self,
         module_index: usize,
         progress: &mut Progress<'s>,
-        constant: bool,
-        target: TypeIndex,
+        m: &ModifierType,
     ) -> Result<(), AllocError>
     where
         'a: 's,
@@ -133,12 +132,12 @@ impl<'a, P: ModuleProvider> TypeFormatter<'a, P> {
         ensures later { IsLater P.info module_index self.old self.new }
         ensures advances { OnOk result
             (Advances (formatter_inputs P.info self.old.type_inputs module_index)
-            (Later (open_in progress.old.steps) (Modified constant target.0)) 1
+            (Later (open_in progress.old.steps) (Modified m.now.constant m.now.underlying_type.0)) 1
             progress.old self.old.failed progress.new self.new.failed) }
     {
-        match self.enter(module_index, progress, target)? {
+        match self.enter(module_index, progress, m.underlying_type)? {
             None => Ok(()),
-            Some(type_data) => modified(progress, constant, type_data),
+            Some(type_data) => modified(progress, m.constant, type_data),
         }
     }
 
@@ -162,15 +161,15 @@ impl<'a, P: ModuleProvider> TypeFormatter<'a, P> {
             Task::Written(wording) => progress.write(self.flags(), &wording),
             Task::Index(index) => self.index(module_index, progress, index),
             Task::OfType(type_data) => of_type(progress, self.flags(), type_data),
-            Task::Returned(left_out, index) => returned(progress, left_out, index),
+            Task::Returned(index) => returned(progress, index),
             Task::Types(separator, this, list) => types_between(progress, separator, this, list),
             Task::FurtherTypes(separator, list) => further_types(progress, separator, list),
             Task::FunctionArguments(list) => function_arguments(progress, self.flags(), list),
-            Task::MethodArguments(m, may_say_const) => self.method_arguments(
+            Task::MethodArguments(m, form) => self.method_arguments(
                 module_index,
                 progress,
                 m,
-                may_say_const,
+                form,
             ),
             Task::Chain(attributes, target) => self.chain(
                 module_index,
@@ -184,12 +183,7 @@ impl<'a, P: ModuleProvider> TypeFormatter<'a, P> {
                 attributes,
                 target,
             ),
-            Task::Modified(constant, target) => self.modified(
-                module_index,
-                progress,
-                constant,
-                target,
-            ),
+            Task::Modified(m) => self.modified(module_index, progress, m),
             Task::Elements(elements, levels, next) => self.elements(
                 module_index,
                 progress,

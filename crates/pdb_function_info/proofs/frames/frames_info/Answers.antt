@@ -12,7 +12,7 @@ returns-in_err-frames-clause-shown g c =
     rw (p.1, p.2) (λ no_memory. frames_refused g.P.ModuleProvider.info c.args.names.now.type_inputs
     c.args.files.now c.args.address_map.now c.args.functions.now
     (option_copied c.args.module_info) (found_function c.args.function) c.args.offset c.in_err-frames.field-0.0
-    (c.in-Some.start_rva, c.in-Some.end_rva) (sym c.addresses_of.ensures ∙ c.in-Some.is)
+    c.in-Some.addresses (sym c.addresses_of.ensures ∙ c.in-Some.is)
     (rw (c.name_of_function.ensures.type_inputs, c.in_ok-name.ensures.name)
     at (c.in_err-frames.ensures.frames no_memory)))
 
@@ -23,7 +23,7 @@ returns-in_err-frames-clause-failed g c =
     c.args.address_map.now c.args.functions.now
     (option_copied c.args.module_info) (found_function c.args.function) c.args.offset c.args.names.now.failed
     c.frames_of_function.new.names.failed
-    (c.in-Some.start_rva, c.in-Some.end_rva) (sym c.addresses_of.ensures ∙ c.in-Some.is)
+    c.in-Some.addresses (sym c.addresses_of.ensures ∙ c.in-Some.is)
     (rw (c.name_of_function.ensures.type_inputs, c.in_ok-name.ensures.failed)
     at (c.in_err-frames.ensures.failed no_memory)))
 

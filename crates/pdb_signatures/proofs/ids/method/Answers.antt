@@ -11,5 +11,5 @@ returns c = on_ok_weaker c.first-6.result (λ put w flags.
     let row = stands_before w _ _ _ _ _ _ row c.in_ok-first-4.ensures in
     let row = stands_before w _ _ _ _ _ _ row c.in_ok-first-5.ensures in
     let all = stands_fewer 0 (omega arith) (stands_before w _ _ _ _ _ _ row put) in
-    rw (c.is_left_out-left_out.ensures, c.static_word.ensures, ← flags) at all)
+    rw (c.unless_left_out-return_type.ensures, c.is_left_out.ensures, c.static_word.ensures, ← flags) at all)
     c.first-6.ensures

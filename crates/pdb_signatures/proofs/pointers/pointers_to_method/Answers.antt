@@ -10,5 +10,6 @@ returns c = on_ok_weaker c.first-6.result (λ put w.
     let row = stands_before w _ _ _ _ _ _ row c.in_ok-first-3.ensures in
     let row = stands_before w _ _ _ _ _ _ row c.in_ok-first-4.ensures in
     let row = stands_before w _ _ _ _ _ _ row c.in_ok-first-5.ensures in
-    stands_fewer 0 (omega arith) (stands_before w _ _ _ _ _ _ row put))
+    let all = stands_fewer 0 (omega arith) (stands_before w _ _ _ _ _ _ row put) in
+    rw c.unless_left_out-return_type.ensures at all)
     c.first-6.ensures

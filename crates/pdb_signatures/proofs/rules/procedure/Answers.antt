@@ -8,5 +8,5 @@ returns c = on_ok_weaker c.first-3.result (λ put w flags.
     let last = stands_first w _ _ _ c.in_ok-first.ensures in
     let row = stands_before w _ _ _ _ _ _ last c.in_ok-first-2.ensures in
     let all = stands_fewer 0 (omega arith) (stands_before w _ _ _ _ _ _ row put) in
-    rw (c.is_left_out-left_out.ensures, ← flags) at all)
+    rw (c.unless_left_out-return_type.ensures, c.is_left_out.ensures, ← flags) at all)
     c.first-3.ensures

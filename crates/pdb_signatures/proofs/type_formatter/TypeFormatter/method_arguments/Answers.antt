@@ -13,12 +13,12 @@ returns-in-None-clause-advances g c =
     let s = c.args.self.now.type_inputs in
     let module_index = c.args.module_index in
     let w = formatter_inputs g.P.ModuleProvider.info s module_index in
-    let next = on_list w c.args.m.now c.args.may_say_const in
+    let next = on_list w c.args.m.now c.args.form in
     let list = c.args.m.now.argument_list.0 in
     let wanted : without_arguments w.flags ≡ false = sym (rw c.flags.ensures at c.if-without_arguments.ensures) in
     let rules = ap (λ b. cond b (written []) (opening w (open_in c.args.progress.now.steps) list next)) wanted in
     let failed = rw c.in-None.is at c.in_ok-enter.ensures.entered in
-    turned_none w (MethodArguments c.args.m.now c.args.may_say_const) list next c.args.progress.now _
+    turned_none w (MethodArguments c.args.m.now c.args.form) list next c.args.progress.now _
     c.args.self.now.failed _ rules (failed next)
 
 pub returns-in-Some-clause-advances : goal.returns-in-Some-clause-advances
@@ -26,12 +26,12 @@ returns-in-Some-clause-advances g c = on_ok_weaker c.on_list.result (λ ok.
     let s = c.args.self.now.type_inputs in
     let module_index = c.args.module_index in
     let w = formatter_inputs g.P.ModuleProvider.info s module_index in
-    let next = on_list w c.args.m.now c.args.may_say_const in
+    let next = on_list w c.args.m.now c.args.form in
     let list = c.args.m.now.argument_list.0 in
     let wanted : without_arguments w.flags ≡ false = sym (rw c.flags.ensures at c.if-without_arguments.ensures) in
     let rules = ap (λ b. cond b (written []) (opening w (open_in c.args.progress.now.steps) list next)) wanted in
     let entered = rw c.in-Some.is at c.in_ok-enter.ensures.entered in
-    turned_entered w (MethodArguments c.args.m.now c.args.may_say_const) list next c.in-Some.type_data.now
+    turned_entered w (MethodArguments c.args.m.now c.args.form) list next c.in-Some.type_data.now
     c.args.progress.now _ _ c.args.self.now.failed _ _ rules entered
     (rw c.in_ok-enter.ensures.later.type_inputs at ok))
     c.on_list.ensures.advances

@@ -20,5 +20,5 @@ returns-in_default-clause-advances g c =
     let fewer = advances_fewer w
     (failing (Plain ArgumentTypeNotArgumentList)) 1 0 c.args.progress.now _ c.args.self.now.failed _
     (omega arith) failed in
-    rw (on_list-other w c.args.m.now c.args.may_say_const
+    rw (on_list-other w c.args.m.now c.args.form
     (open_in c.args.progress.now.steps) c.args.type_data.now c.in_default.not-ArgumentList) fewer
