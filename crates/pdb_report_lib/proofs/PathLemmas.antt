@@ -1,8 +1,8 @@
 -- Where the last slash of a path is, and what is answered for a module file that can't be read.
 use Rattle.std.proofs.Common.{◌≡◌, ℕ, zero, suc, ◌+◌, ◌-◌, ◌≤◌, ◌<◌, List, length, get_or, take, drop, Option, Some}
-use Rattle.std.proofs.Common.{None}
+use Rattle.std.proofs.Common.{None, Ok, map, refl, Contains}
 use Rattle.std.proofs.Common.{MatchOption, sym, ap, ◌∙◌, ⊎_elim, arith, Bor, eq-eqb, ne_eqb, length-drop, get_or-drop}
-use Rattle.std.proofs.Common.{refl}
+use Rattle.std.proofs.lemmas.List.{length-map, get_or-map}
 use Rattle.std.specs.Prelude.{option_map}
 use Rattle.std.specs.Path.{rfind_below, rsplit_once}
 use Rattle.std.specs.Str.Pattern.{RFindsChar}
@@ -10,6 +10,7 @@ use Rattle.std.proofs.lemmas.Str.Pattern.{NoCharPasses-char}
 use Rattle.std.proofs.lemmas.Bool.{cases_eq, cond-true, cond-false}
 use Rattle.std.proofs.lemmas.Str.{len_utf8_ascii}
 use Rattle.serde_json.specs.Data.{Data}
+use Rattle.pdb_json.specs.RecordsFile.{wanted_files_of}
 use Rattle.pdb_report_lib.specs.declared.stops.Stop.{Stop}
 use Rattle.pdb_report_lib.specs.declared.stops.Stop.TheVariants.{Refused, Usage, CannotRead, CannotReadModule}
 use Rattle.pdb_report_lib.specs.declared.stops.Stop.TheVariants.{CannotWrite}
@@ -55,12 +56,20 @@ split_at_last c text (Some x) h low =
     let second = h.4 ∙ ap (λ n. drop n text) next in
     (λ t. Some (h.3 t, second t)) ∙ sym (ap (option_map (λ k. (take k text, drop (k + 1) text))) found)
 
--- a module file of some name can't be read
-pub some_module_stops_the_read : (records name : List ℕ) (value : Data) (why : Stop)
-    → IsModuleReadStop (module_path records name) why → AreModuleReadStops records value why
-some_module_stops_the_read records name value (CannotReadModule shown) at_path = (name, at_path)
-some_module_stops_the_read records name value (Refused error) at_path = at_path
-some_module_stops_the_read records name value (CannotRead shown) at_path = absurd at_path
-some_module_stops_the_read records name value (stop.Records shown fault) at_path = absurd at_path
-some_module_stops_the_read records name value Usage at_path = absurd at_path
-some_module_stops_the_read records name value CannotWrite at_path = absurd at_path
+-- what a list has at a position, seen in another way, is among what the list has, seen so
+pub Contains-map : {X Y : Type 0} (f : X → Y) (xs : List X) (k : ℕ) (x : X) → k < length xs → x ≡ get_or xs k x
+    → Contains (map f xs) (f x)
+Contains-map f xs k x below is =
+    (k, omega (arith, length-map xs f), get_or-map f xs k x (f x) below ∙ ap f (sym is))
+
+-- a module file that a value wants can't be read
+pub module_stops_the_read : (records name : List ℕ) (names : List (List ℕ)) (value : Data) (why : Stop)
+    → wanted_files_of value ≡ Ok names → Contains names name → IsModuleReadStop (module_path records name) why
+    → AreModuleReadStops records value why
+module_stops_the_read records name names value (CannotReadModule shown) wanted among at_path =
+    record { names = names; wanted = wanted; name = name; among = among; shown = at_path }
+module_stops_the_read records name names value (Refused error) wanted among at_path = at_path
+module_stops_the_read records name names value (CannotRead shown) wanted among at_path = absurd at_path
+module_stops_the_read records name names value (stop.Records shown fault) wanted among at_path = absurd at_path
+module_stops_the_read records name names value Usage wanted among at_path = absurd at_path
+module_stops_the_read records name names value CannotWrite wanted among at_path = absurd at_path

@@ -27,15 +27,15 @@ text_stops_the_run asked sink bytes fault refused =
 pub module_files_stop_the_run : (A : Type 0) (asked : Asked) (sink : SinkState) (bytes : List ℕ) (value : Data)
     (why : Stop) → value_of bytes ≡ Ok value → AreModuleReadStops asked.records value why
     → StopsAsked A asked sink sink why
-module_files_stop_the_run A asked sink bytes value (CannotReadModule shown) is_value stops = (stops, refl)
+module_files_stop_the_run A asked sink bytes value (CannotReadModule shown) is_value stops =
+    record { bytes = bytes; shown = rw (wanted_by_text bytes value is_value) stops; same = refl }
 module_files_stop_the_run A asked sink bytes value (Refused error) is_value stops = inl (stops, refl)
 module_files_stop_the_run A asked sink bytes value (stop.Records shown fault) is_value stops =
     inl (record {
       shown = stops.0;
       bytes = bytes;
       refused = rw (wanted_by_text bytes value is_value) stops.1;
-      same =
-          refl;
+      same = refl;
     })
 module_files_stop_the_run A asked sink bytes value (CannotRead shown) is_value stops = absurd stops
 module_files_stop_the_run A asked sink bytes value Usage is_value stops = absurd stops

@@ -1,11 +1,12 @@
 -- How a run of the program ends.
 use Rattle.std.specs.Prelude.{◌≡◌, ◌⊎◌, Bool, true, false, List, ℕ, Option, Some, None, Result, Ok, Err, string_bytes}
+use Rattle.std.specs.List.{Contains}
 use Rattle.std.specs.Io.KnownBytes.{Keeps}
 use Rattle.std.specs.declared.io.ErrorKind.{ErrorKind}
 use Rattle.std.specs.declared.io.ErrorKind.TheVariants as kind
 use Rattle.pdb_types.specs.declared.error.Error.TheVariants.{OutOfMemory}
 use Rattle.pdb_json_values.specs.declared.faults.RecordFault.{RecordFault}
-use Rattle.pdb_json_values.specs.Faults.{IsFaultOf}
+use Rattle.pdb_json_values.specs.Faults.{Fault, IsFaultOf}
 use Rattle.serde_json.specs.Data.{Data}
 use Rattle.pdb_json.specs.RecordsFile.{records_of_files, wanted_files_of, module_files_of}
 use Rattle.pdb_report_lib.specs.declared.stops.Stop.{Stop}
@@ -40,11 +41,19 @@ IsModuleReadStop path (stop.Records shown fault) = ⊥
 IsModuleReadStop path Usage = ⊥
 IsModuleReadStop path CannotWrite = ⊥
 
--- a module file of a records file with this value can't be read, and is shown by its path, for some name; or the
--- value shows no module files; or memory ran out
+-- a path is that of one of the module files which are wanted beside a records file
+pub record IsWantedPath (records : List ℕ) (files : Result (List (List ℕ)) Fault) (path : List ℕ) : Type 0 where
+  pub names : List (List ℕ)
+  pub wanted : files ≡ Ok names
+  pub name : List ℕ
+  pub among : Contains names name
+  pub shown : path ≡ module_path records name
+
+-- a module file that a records file with this value wants can't be read, and is shown by its path; or the value shows
+-- no module files; or memory ran out
 abbrev pub AreModuleReadStops : List ℕ → Data → Stop → Type 0
 AreModuleReadStops records value (CannotReadModule shown) =
-    (name : List ℕ) × (string_bytes shown ≡ module_path records name)
+    IsWantedPath records (wanted_files_of value) (string_bytes shown)
 AreModuleReadStops records value (Refused error) = error ≡ OutOfMemory
 AreModuleReadStops records value (stop.Records shown fault) =
     (shown.now ≡ records) × IsFaultOf fault (wanted_files_of value)
@@ -91,6 +100,12 @@ pub record StopsWithoutModules (asked : Asked) (before after : SinkState) (path 
   pub refused : IsFaultOf fault (module_files_of bytes)
   pub same : after ≡ before
 
+-- a module file that some bytes want can't be read, and is shown by its path; the sink is as it was
+pub record StopsAtModule (asked : Asked) (before after : SinkState) (path : List ℕ) : Type 0 where
+  pub bytes : List ℕ
+  pub shown : IsWantedPath asked.records (module_files_of bytes) path
+  pub same : after ≡ before
+
 -- why a run ends early whose words ask for something: a file can't be read, and is shown by its path, or memory ran
 -- out before a text was written; or it ends over what the files hold; or the sink refused to hand the texts on
 abbrev pub StopsAsked : Type 0 → Asked → SinkState → SinkState → Stop → Type 0
@@ -99,7 +114,7 @@ StopsAsked A asked before after (Refused error) =
     ((error ≡ OutOfMemory) × (after ≡ before)) ⊎ EndsOverSomeFile {A = A} asked before after (Err (Refused error))
 StopsAsked A asked before after (CannotRead path) = (path.now ≡ asked.records) × (after ≡ before)
 StopsAsked A asked before after (CannotReadModule path) =
-    ((name : List ℕ) × (string_bytes path ≡ module_path asked.records name)) × (after ≡ before)
+    StopsAtModule asked before after (string_bytes path)
 StopsAsked A asked before after (stop.Records path fault) =
     StopsWithoutModules asked before after path.now fault
     ⊎ EndsOverSomeFile {A = A} asked before after (Err (stop.Records path fault))

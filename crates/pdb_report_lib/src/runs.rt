@@ -75,8 +75,8 @@ fn read_module_files<'w, R: Files + AllocGlobal>(
     };
     let mut files = Vec::new(rt.alloc());
     for name in &names {
-        let file = read_module_file(rt, records, name.as_str())?;
-        if files.push(file).is_err() {
+        let bytes = read_module_file(rt, records, name.as_str())?;
+        if files.push(bytes).is_err() {
             return Err(Stop::Refused(Error::OutOfMemory));
         }
     }
