@@ -6,6 +6,9 @@ use std::alloc::AllocError;
 /// What is printed of a name that isn't known.
 const UNKNOWN: &str = "??";
 
+/// What is printed before a frame that others are inlined into, where it stands on one line.
+const INLINED_INTO: &str = " (inlined by) ";
+
 /// Appends the answer of an address: its frames, from inside to outside, or that there are none.
 pub fn write_answer(
     out: &mut String,
@@ -54,7 +57,12 @@ fn write_plain(
         write_unknown(out, options)?;
     }
     for (position, frame) in frames.iter().enumerate() {
-        write_frame(out, options, position > 0, frame)?;
+        let start = if options.pretty && position > 0 {
+            INLINED_INTO
+        } else {
+            ""
+        };
+        write_frame(out, options, start, frame)?;
     }
     match options.style {
         Style::Llvm => out.push('\n'),
@@ -63,18 +71,18 @@ fn write_plain(
 }
 
 fn write_unknown(out: &mut String, options: &Options<'_>) -> Result<(), AllocError> {
-    write_name(out, options, false, UNKNOWN)?;
+    write_name(out, options, "", UNKNOWN)?;
     write_location(out, options, UNKNOWN, 0)
 }
 
-// The lines of a frame. One that another was inlined into is shown as that on one line.
+// The lines of a frame, behind a text that says what it is.
 fn write_frame(
     out: &mut String,
     options: &Options<'_>,
-    outer: bool,
+    start: &str,
     frame: &Frame<'_>,
 ) -> Result<(), AllocError> {
-    write_name(out, options, outer, name_of(frame, UNKNOWN))?;
+    write_name(out, options, start, name_of(frame, UNKNOWN))?;
     write_location(
         out,
         options,
@@ -86,17 +94,12 @@ fn write_frame(
 fn write_name(
     out: &mut String,
     options: &Options<'_>,
-    outer: bool,
+    start: &str,
     name: &str,
 ) -> Result<(), AllocError> {
     if options.functions == FunctionNames::None {
         return Ok(());
     }
-    let start = if options.pretty && outer {
-        " (inlined by) "
-    } else {
-        ""
-    };
     let end = if options.pretty { " at " } else { "\n" };
     write!(out, "{start}{name}{end}")
 }
