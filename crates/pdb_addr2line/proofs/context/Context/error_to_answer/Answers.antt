@@ -1,0 +1,28 @@
+use Rattle.std.proofs.Common.{◌≡◌, ◌∙◌, refl, rules}
+use Rattle.pdb_types.specs.PartSet.{add_part, error_of_part}
+use Rattle.pdb_types.specs.declared.error.Error.{Error}
+use Rattle.pdb_frames.specs.CodeParts.{CodeParts, unsuccessful_code, with_code_part, code_part_error}
+use Rattle.pdb_frames.specs.contracts.code_parts.CodePartOrd.TheImpl as order
+use Rattle.pdb_frames.specs.declared.code_parts.CodePart.{CodePart}
+use Rattle.pdb_addr2line.proofs.context.Context.error_to_answer.Goals as goal
+
+-- what a part answers, by the order that is derived
+error_in_order : (failed : CodeParts) (part : CodePart) (e : Error)
+    → error_of_part (order.ghosts).cmp unsuccessful_code failed part e ≡ code_part_error failed part e
+error_in_order failed part e = search rules
+
+-- one more part, by the order that is derived
+parts_in_order : (failed : CodeParts) (part : CodePart)
+    → add_part (order.ghosts).cmp failed part ≡ with_code_part failed part
+parts_in_order failed part = search rules
+
+pub returns-in_ok-error-in_default-Some-clause-shown : goal.returns-in_ok-error-in_default-Some-clause-shown
+returns-in_ok-error-in_default-Some-clause-shown g c = rw (← c.self.view_is, c.in_default-Some.is-1)
+    (c.in_ok-error-in_default-Some.ensures.error
+    ∙ error_in_order c.self.inside.code_failed c.in_default-Some.part c.args.error)
+
+pub returns-in_ok-error-in_default-Some-clause-added : goal.returns-in_ok-error-in_default-Some-clause-added
+returns-in_ok-error-in_default-Some-clause-added g c =
+    let added = c.in_ok-error-in_default-Some.ensures.added
+    ∙ parts_in_order c.self.inside.code_failed c.in_default-Some.part in
+    rw (← c.self.view_is, c.in_default-Some.is-1, added) refl
