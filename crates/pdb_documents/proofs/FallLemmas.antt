@@ -31,7 +31,8 @@ pub chain_end-each : (n : ℕ) (w : PrintInputs) (P : List ℕ → Task → Type
     → ((further : List ℕ) (task : Task) → room n further task ≤ free n inside → P further task)
     → EachTask P (chain_end w attributes inside type)
 chain_end-each n w P attributes inside (MemberFunction m) each = (
-  returned-each P inside (unless_left_out m.is_constructor (Some m.return_type)) (λ i. each inside (Index i) (omega arith)),
+  returned-each P inside (unless_left_out m.is_constructor (Some m.return_type))
+      (λ i. each inside (Index i) (omega arith)),
   (
     tt,
     (
@@ -166,12 +167,14 @@ by_kind-each n w inside (Enumeration e) = tt
 by_kind-each n w inside (Enumerate e) = tt
 by_kind-each n w inside (MemberFunction m) = (
   returned-each (Before n inside (OfType (MemberFunction m))) inside
-      (unless_left_out (m.is_constructor || without_return_type w.flags) (Some m.return_type)) (λ i. inr (omega arith, omega arith)),
+      (unless_left_out (m.is_constructor || without_return_type w.flags) (Some m.return_type))
+      (λ i. inr (omega arith, omega arith)),
   (tt, inr (omega arith, omega arith)),
 )
 by_kind-each n w inside (Procedure p) = (
   returned-each (Before n inside (OfType (Procedure p))) inside
-      (unless_left_out (p.is_constructor || without_return_type w.flags) p.return_type) (λ i. inr (omega arith, omega arith)),
+      (unless_left_out (p.is_constructor || without_return_type w.flags) p.return_type)
+      (λ i. inr (omega arith, omega arith)),
   (tt, inr (omega arith, omega arith)),
 )
 by_kind-each n w inside (ArgumentList list) = types_between-each (Before n inside (OfType (ArgumentList list)))

@@ -211,7 +211,8 @@ good_kind Good has w inside (Union u) = good_text Good has []
 good_kind Good has w inside (Enumeration e) = good_text Good has []
 good_kind Good has w inside (Enumerate e) = good_text Good has []
 good_kind Good has w inside (MemberFunction m) = (
-  good_returned Good has inside (unless_left_out (m.is_constructor || without_return_type w.flags) (Some m.return_type)),
+  good_returned Good has inside
+      (unless_left_out (m.is_constructor || without_return_type w.flags) (Some m.return_type)),
   (good_text Good has (codes "()"), tt),
 )
 good_kind Good has w inside (Procedure p) = (
@@ -269,7 +270,8 @@ good_method_id : (Good : ErrorView → Type 0) → HasPrintErrors Good
 good_method_id Good has w method inside (MemberFunction m) = (
   good_text Good has [],
   (
-    good_returned Good has inside (unless_left_out (m.is_constructor || without_return_type w.flags) (Some m.return_type)),
+    good_returned Good has inside
+        (unless_left_out (m.is_constructor || without_return_type w.flags) (Some m.return_type)),
     (tt, (good_text Good has (codes "::"), (good_text Good has [], tt))),
   ),
 )
@@ -312,7 +314,8 @@ good_signature Good has w reads name index = by_test (index == 0) where
   by_type inside (MemberFunction m) = (
     good_text Good has [],
     (
-      good_returned Good has inside (unless_left_out (m.is_constructor || without_return_type w.flags) (Some m.return_type)),
+      good_returned Good has inside
+          (unless_left_out (m.is_constructor || without_return_type w.flags) (Some m.return_type)),
       (good_text Good has [], tt),
     ),
   )

@@ -8,6 +8,7 @@ returns-in-Pointer c = on_ok_weaker c.further_pointer.result (λ ok w. rw c.in-P
     c.further_pointer.ensures
 
 pub returns-in_default : goal.returns-in_default
-returns-in_default c = on_ok_weaker c.chain_end.result (λ ok w. rw (behind_pointer-other w _ _ c.args.type_data.now c.in_default.not-Pointer c.in_default.not-Modifier)
+returns-in_default c = on_ok_weaker c.chain_end.result (λ ok w.
+    rw (behind_pointer-other w _ _ c.args.type_data.now c.in_default.not-Pointer c.in_default.not-Modifier)
     (ok w))
     c.chain_end.ensures

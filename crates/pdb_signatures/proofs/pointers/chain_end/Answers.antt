@@ -4,7 +4,8 @@ use Rattle.pdb_signatures.proofs.OtherKinds.{chain_end-other}
 use Rattle.pdb_signatures.proofs.pointers.chain_end.Goals as goal
 
 pub returns-in-MemberFunction : goal.returns-in-MemberFunction
-returns-in-MemberFunction c = on_ok_weaker c.pointers_to_method.result (λ ok w. rw c.in-MemberFunction.is (stands_here (ok w)))
+returns-in-MemberFunction c = on_ok_weaker c.pointers_to_method.result (λ ok w.
+    rw c.in-MemberFunction.is (stands_here (ok w)))
     c.pointers_to_method.ensures
 
 pub returns-in-Procedure : goal.returns-in-Procedure

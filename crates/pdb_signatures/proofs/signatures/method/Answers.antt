@@ -9,5 +9,11 @@ returns c = on_ok_weaker c.first-4.result (λ put w flags.
     let row = stands_before w _ _ _ _ _ _ last c.in_ok-first-2.ensures in
     let row = stands_before w _ _ _ _ _ _ row c.in_ok-first-3.ensures in
     let all = stands_fewer 0 (omega arith) (stands_before w _ _ _ _ _ _ row put) in
-    rw (c.unless_left_out-return_type.ensures, c.is_left_out.ensures, c.function_name.ensures, c.static_word.ensures, ← flags) at all)
+    rw (
+      c.unless_left_out-return_type.ensures,
+      c.is_left_out.ensures,
+      c.function_name.ensures,
+      c.static_word.ensures,
+      ← flags,
+    ) at all)
     c.first-4.ensures

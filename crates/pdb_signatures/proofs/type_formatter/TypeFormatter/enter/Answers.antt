@@ -33,10 +33,12 @@ pub returns-in_ok-refuse-in-Err-clause-later : goal.returns-in_ok-refuse-in-Err-
 returns-in_ok-refuse-in-Err-clause-later g c =
     let w = formatter_inputs g.P.ModuleProvider.info c.args.self.now.type_inputs c.args.module_index in
     later-adds c.in-Err.ensures.unchanged c.in_ok-refuse-in-Err.ensures.type_inputs
-    (c.in_ok-refuse-in-Err.ensures.broken w (read_error-broken w c.args.index.0 c.in-Err.read_error c.in-Err.ensures.read))
+    (c.in_ok-refuse-in-Err.ensures.broken w
+    (read_error-broken w c.args.index.0 c.in-Err.read_error c.in-Err.ensures.read))
 
 pub returns-in_err-refuse-in-Err-clause-later : goal.returns-in_err-refuse-in-Err-clause-later
 returns-in_err-refuse-in-Err-clause-later g c =
     let w = formatter_inputs g.P.ModuleProvider.info c.args.self.now.type_inputs c.args.module_index in
     later-adds c.in-Err.ensures.unchanged c.in_err-refuse-in-Err.ensures.type_inputs
-    (c.in_err-refuse-in-Err.ensures.broken w (read_error-broken w c.args.index.0 c.in-Err.read_error c.in-Err.ensures.read))
+    (c.in_err-refuse-in-Err.ensures.broken w
+    (read_error-broken w c.args.index.0 c.in-Err.read_error c.in-Err.ensures.read))

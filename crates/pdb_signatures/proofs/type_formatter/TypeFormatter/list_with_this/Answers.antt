@@ -27,7 +27,8 @@ returns-in-Err-clause-advances g c = on_ok_weaker c.refuse.result (λ ok.
     let error_view = this_of w c.args.m.now.class_type c.args.m.now.this_pointer_type in
     let next = method_list w (open_in c.args.progress.now.steps) c.args.form c.args.list.now in
     let refused = ok in
-    let read_error = read_error-is error_view c.in-Err.read_error refused.read_error_view c.in-Err.ensures.this refused.known in
+    let read_error = read_error-is error_view c.in-Err.read_error
+    refused.read_error_view c.in-Err.ensures.this refused.known in
     let ran = rw c.in-Err.ensures.unchanged at refused.ran in
     let failed = advances_refused w error_view next refused.read_error_view c.args.progress.now _
     c.args.self.now.failed _ read_error c.requires.well refused.steps ran in
@@ -38,4 +39,5 @@ pub returns-in-Err-clause-later : goal.returns-in-Err-clause-later
 returns-in-Err-clause-later g c =
     let w = formatter_inputs g.P.ModuleProvider.info c.args.self.now.type_inputs c.args.module_index in
     later-adds c.in-Err.ensures.unchanged c.refuse.ensures.type_inputs
-    (c.refuse.ensures.broken w (this-broken w c.args.m.now.class_type c.args.m.now.this_pointer_type c.in-Err.read_error c.in-Err.ensures.this))
+    (c.refuse.ensures.broken w
+    (this-broken w c.args.m.now.class_type c.args.m.now.this_pointer_type c.in-Err.read_error c.in-Err.ensures.this))

@@ -29,7 +29,8 @@ returns-in_ok-open-in-Ok-clause-begins g c = on_ok_weaker c.by_type.result (λ o
     let read = c.in-Ok.ensures.read in
     begins_stands w c.args.name.now c.args.index.0 c.in-Ok.type_data.now c.args.progress.now _ _
     c.args.self.now.failed _ (ne_eqb c.args.index.0 0 c.if-index-eq0.false) read c.requires.beginning _
-    c.in_ok-open-in-Ok.ensures (ap (λ f. f.failed) c.in-Ok.ensures.unchanged) (ok w (sym (rw c.in-Ok.ensures.unchanged at c.flags.ensures))))
+    c.in_ok-open-in-Ok.ensures (ap (λ f. f.failed) c.in-Ok.ensures.unchanged)
+    (ok w (sym (rw c.in-Ok.ensures.unchanged at c.flags.ensures))))
     c.by_type.ensures
 
 pub returns-in-Err-clause-later : goal.returns-in-Err-clause-later
