@@ -77,7 +77,7 @@ IN_A_LOOK_UP = "out of memory in a look-up, behind the texts before"
 WHILE_READ = "out of memory while the file's text was read"
 
 MADE_AGAIN = "a call was made again, and all answers are as wanted"
-OF_A_BROKEN_PART = "a call was made again, and tells that a broken part failed before"
+OF_A_BROKEN_PART = "a call was made again, and says that a broken part failed before"
 ENDS_EARLY = "a growth of the list's own program was refused"
 QUESTIONS = ("calls.txt", "sizes.txt", "signatures.txt", "ids.txt")
 
@@ -95,8 +95,8 @@ def cases():
 
 def case(words, rest):
     """The case of a run with these words, of which the rest of its text says what is wanted."""
-    told, status = re.fullmatch(r"(.*?)status (\d)\n\n?", rest, re.S).groups()
-    lines = told.splitlines(True)
+    printed, status = re.fullmatch(r"(.*?)status (\d)\n\n?", rest, re.S).groups()
+    lines = printed.splitlines(True)
     stderr = lines.pop() if status != "0" else ""
     folder = CRATES / "pdb_report_tests" / "data"
     return Case(words, folder, words.split(), "".join(lines).encode(), stderr.encode(), int(status))
@@ -110,18 +110,18 @@ def answer_ends(stdout):
     return ends
 
 
-def ask(program, words, folder, library, told, **refusal):
+def ask(program, words, folder, library, counts_file, **refusal):
     """A run of the program with growths refused."""
-    environment = dict(os.environ, LD_PRELOAD=str(library), COUNT_TO=str(told))
+    environment = dict(os.environ, LD_PRELOAD=str(library), COUNT_TO=str(counts_file))
     environment.update({name: str(number) for name, number in refusal.items()})
     done = subprocess.run([program, *words], cwd=folder, env=environment, capture_output=True, timeout=SECONDS,
                           stdin=subprocess.DEVNULL)
     return Run(done.returncode, done.stdout, done.stderr)
 
 
-def counts(told):
+def counts(counts_file):
     """How many growths the last run asked for, and how many of them were refused."""
-    calls, refused = told.read_text().split()
+    calls, refused = counts_file.read_text().split()
     return int(calls), int(refused)
 
 
@@ -147,25 +147,25 @@ def numbers(calls, near, between):
 
 def trial(program, case, library, folder, mode, number):
     """The outcome of a run with a growth refused and how many were; the outcome None has the run beside it."""
-    told = folder / f"{mode}-{number}"
+    counts_file = folder / f"{mode}-{number}"
     try:
-        run = ask(program, case.words, case.folder, library, told, **{mode: number})
+        run = ask(program, case.words, case.folder, library, counts_file, **{mode: number})
     except subprocess.TimeoutExpired:
         return None, 0, f"no end after {SECONDS} s"
-    if not told.exists():
+    if not counts_file.exists():
         return None, 0, run
-    refused = counts(told)[1]
-    told.unlink()
+    refused = counts(counts_file)[1]
+    counts_file.unlink()
     return outcome(case, run) if refused else None, refused, run
 
 
 def trials(program, case, library, folder):
     """The arguments of all trials of a case, after a run with no refusal that has to be as wanted."""
-    told = folder / "told"
-    run = ask(program, case.words, case.folder, library, told)
+    counts_file = folder / "counts"
+    run = ask(program, case.words, case.folder, library, counts_file)
     if outcome(case, run) != AS_WANTED:
         sys.exit(f"{case.name}: not as wanted with no growth refused: {run}")
-    calls = counts(told)[0]
+    calls = counts(counts_file)[0]
     chosen = numbers(calls, NEAR, BETWEEN)
     print(f"{case.name[:60]}: {len(chosen)} of {calls} growths", flush=True)
     return [(program, case, library, folder, mode, number) for mode in MODES for number in chosen]
@@ -195,9 +195,9 @@ def calls_outcome(wanted, lists, run):
         return ENDS_EARLY
     if run.stdout == wanted:
         return AS_WANTED
-    told = run.stdout.decode().splitlines()
-    again = [line for line in told if line.endswith(" was made again")]
-    differ = [line for line in told if line.endswith(" differs")]
+    lines = run.stdout.decode().splitlines()
+    again = [line for line in lines if line.endswith(" was made again")]
+    differ = [line for line in lines if line.endswith(" differs")]
     if len(again) == 1 and not differ:
         return MADE_AGAIN
     if len(again) == 1 and [line[: -len(" differs")] for line in differ] == [again[0][: -len(" was made again")]]:
@@ -218,7 +218,7 @@ def calls_folder(folder, name, lists):
 def calls_trial(program, wanted, lists, library, folder, number):
     """The outcome of a run of pdb_call_tests with a growth refused, and the run."""
     try:
-        run = ask(program, [], folder, library, folder / f"told-{number}", REFUSE_AT=number)
+        run = ask(program, [], folder, library, folder / f"counts-{number}", REFUSE_AT=number)
     except subprocess.TimeoutExpired:
         return None, f"no end after {SECONDS} s"
     return calls_outcome(wanted, lists, run), run
@@ -236,10 +236,10 @@ def over_calls(program, library, folder):
 
 def over_lists(program, name, lists, library, folder):
     """Tries the lists of calls for one records file, and gives the outcomes with their counts."""
-    run = ask(program, [], folder, library, folder / "told-0", REFUSE_AT=0)
+    run = ask(program, [], folder, library, folder / "counts-0", REFUSE_AT=0)
     if run.status or b" 0 differ" not in run.stdout:
         sys.exit(f"{name}: not as wanted with no growth refused: {run}")
-    calls = counts(folder / "told-0")[0]
+    calls = counts(folder / "counts-0")[0]
     chosen = numbers(calls, CALLS_NEAR, CALLS_BETWEEN)
     print(f"calls over {name}: {len(chosen)} of {calls} growths", flush=True)
     seen = Counter()

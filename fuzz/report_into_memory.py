@@ -94,16 +94,16 @@ def main():
     seen, growths = Counter(), 0
     with tempfile.TemporaryDirectory() as folder:
         folder = pathlib.Path(folder)
-        program, library, told = built(folder), compiled(folder), folder / "told"
+        program, library, counts_file = built(folder), compiled(folder), folder / "counts"
         for case in (case for case in cases() if f"{case.name} ".startswith(CASES)):
-            run = ask(program, case.words, case.folder, library, told)
+            run = ask(program, case.words, case.folder, library, counts_file)
             if outcome(case, run) != AS_WANTED:
                 sys.exit(f"{case.name}: not as wanted with no growth refused: {run}")
             for mode in MODES:
-                for number in numbers(counts(told)[0], NEAR, BETWEEN):
-                    told_here = folder / f"{mode}-{number}"
-                    run = ask(program, case.words, case.folder, library, told_here, **{mode: number})
-                    growths += counts(told_here)[1]
+                for number in numbers(counts(counts_file)[0], NEAR, BETWEEN):
+                    counts_here = folder / f"{mode}-{number}"
+                    run = ask(program, case.words, case.folder, library, counts_here, **{mode: number})
+                    growths += counts(counts_here)[1]
                     what = into_memory(case, run)
                     seen[what] += 1
                     if what is None:

@@ -128,9 +128,9 @@ def print_statistics(program, counts, seconds):
         print(f"{head} of the model alone")
     else:
         print(f"{head} compared, {counts['agree']} agree, {counts['differ']} differ")
-    told = [key for key in counts if key.startswith("stderr ")]
+    errors = [key for key in counts if key.startswith("stderr ")]
     swallowed = [key for key in counts if key.startswith("met name swallowed")]
-    print(f"{len(told)} distinct texts on standard error, {len(swallowed)} distinct errors of names that "
+    print(f"{len(errors)} distinct texts on standard error, {len(swallowed)} distinct errors of names that "
           f"became <unknown> (numbers past two digits and those in paths count as one)")
     for key, count in sorted(counts.items()):
         if key not in ("seeds", "runs", "agree", "differ") and count:

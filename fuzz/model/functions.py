@@ -132,7 +132,7 @@ def name_and_type(data, last):
     if last is None or (last.section, last.offset) != (data.parent_section, data.parent_offset):
         note("separated code dropped")
         return None
-    note("separated code kept")
+    note("separated code counted")
     return last.name, last.type_index
 
 
@@ -143,11 +143,11 @@ def procedure_at(position, symbol, last):
         return None
     if data.kind not in ("Procedure", "SeparatedCode", "Thunk") or data.len == 0:
         return None
-    told = name_and_type(data, last)
-    if told is None:
+    pair = name_and_type(data, last)
+    if pair is None:
         return None
     return Record(section=data.section, offset=data.offset, len=data.len, position=position, end=data.end,
-                  name=told[0], type_index=told[1])
+                  name=pair[0], type_index=pair[1])
 
 
 def symbol_procedures(symbols):
