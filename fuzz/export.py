@@ -3,9 +3,10 @@
 
 Usage: export.py PROGRAM REPORT PDB ADDRESSES
 
-ADDRESSES is a file with an address a line. The PDB file is exported as one records file, and as one with a file for
-each module; both are exported again, which has to give the same bytes. Of each address pdb_symbolizer has to say the
-same of the PDB file and of both records files, and the built pdb_report has to print the same frames of both.
+ADDRESSES is a file with an address a line, each of which lies in a function. The PDB file is exported as one records
+file, and as one with a file for each module; both are exported again, which has to give the same bytes. Of each address
+pdb_symbolizer has to say the same of the PDB file and of both records files, and the built pdb_report has to print the
+same frames of both.
 """
 import itertools
 import json
