@@ -31,9 +31,11 @@ pub fn repair_records(alloc: Global, records: &mut PDB) -> Result<Vec<Repair>, A
     if let Ok(table) = &mut records.global_symbols {
         repair_global_symbols(table, &mut repairs)?;
     }
-    if let (Ok(debug), Ok(Some(sections))) = (&mut records.debug_information, &records.sections) {
+    if let Ok(debug) = &mut records.debug_information {
         repair_debug(debug, &mut repairs)?;
-        retain_claims(alloc, sections, debug, &mut repairs)?;
+        if let Ok(Some(sections)) = &records.sections {
+            retain_claims(alloc, sections, debug, &mut repairs)?;
+        }
     }
     for (module, read) in records.module_infos.iter_mut().enumerate() {
         repair_read_module(alloc, module, read, &mut repairs)?;

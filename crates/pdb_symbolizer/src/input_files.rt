@@ -67,7 +67,7 @@ fn read_records_file<'w, R: Files + AllocGlobal>(
     let value = RecordsFile::from_slice(rt.alloc(), &bytes);
     drop(bytes);
     match value {
-        Ok(file) => read_module_records(rt, path, &file),
+        Ok(file) => read_module_records(rt, path, file),
         Err(fault) => Err(Stop::Records(path, fault)),
     }
 }
@@ -75,9 +75,9 @@ fn read_records_file<'w, R: Files + AllocGlobal>(
 fn read_module_records<'w, R: Files + AllocGlobal>(
     rt: &R,
     path: &'w str,
-    file: &RecordsFile,
+    file: RecordsFile,
 ) -> Result<InputFile, Stop<'w>> {
-    let files = read_module_files(rt, path, file)?;
+    let files = read_module_files(rt, path, &file)?;
     match file.read_records(&files) {
         Ok(records) => Ok(InputFile {
             records,
@@ -102,10 +102,11 @@ fn read_module_files<'w, R: Files + AllocGlobal>(
     path: &'w str,
     file: &RecordsFile,
 ) -> Result<Vec<Vec<u8>>, Stop<'w>> {
-    match file.module_files() {
-        Ok(names) => read_named_files(rt, path, &names),
-        Err(fault) => Err(Stop::Records(path, fault)),
-    }
+    let names = match file.module_files() {
+        Ok(names) => names,
+        Err(fault) => return Err(Stop::Records(path, fault)),
+    };
+    read_named_files(rt, path, &names)
 }
 
 fn read_named_files<'w, R: Files + AllocGlobal>(

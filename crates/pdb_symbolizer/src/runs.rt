@@ -18,6 +18,7 @@ use std::time::Clock;
 type FileContext<'a, 'p> = Context<'a, ContextPdbData<'p>>;
 
 /// What is asked, and what names are had from beside the context.
+#[derive(Clone, Copy)]
 struct Questions<'q, 'w, 'p> {
     options: &'q Options<'w>,
     names: &'q SymbolNames,
