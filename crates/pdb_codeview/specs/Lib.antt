@@ -5,3 +5,5 @@ pub mod Places
 pub mod LineRows
 pub mod ProcedureSpans
 pub mod LineEntries
+pub mod Files
+pub mod Inlinees
