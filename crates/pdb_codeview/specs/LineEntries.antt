@@ -1,5 +1,5 @@
 -- The entries of a module's line program, by its parts of lines and its procedures.
-use Rattle.std.specs.Prelude.{ℕ, ◌+◌, ◌-◌, ◌^◌, ◌==◌, ◌&&◌, Bool, false, nat_lt, nat_le, List, [], ◌∷◌, ◌++◌, map}
+use Rattle.std.specs.Prelude.{ℕ, ◌+◌, ◌-◌, ◌^◌, ◌==◌, ◌&&◌, Bool, false, min, nat_lt, nat_le, List, [], ◌∷◌, ◌++◌, map}
 use Rattle.std.specs.Prelude.{if◌then◌else◌}
 use Rattle.pdb_ranges.specs.InOrder.{in_order}
 use Rattle.pdb_records.specs.declared.addresses.PdbInternalSectionOffset.{PdbInternalSectionOffset}
@@ -22,10 +22,14 @@ abbrev pub starts_behind : ℕ → List RowBounds → List RowBounds
 starts_behind x [] = []
 starts_behind x (bounds ∷ others) = if nat_le (place bounds.start) x then others else bounds ∷ others
 
+-- where a part ends, in bytes from its section's start
+abbrev pub part_end : LinePart → ℕ
+part_end part = part.offset.offset + part.size
+
 -- a procedure starts in the bytes of a part, and before the next part does
 abbrev pub starts_in : LinePart → ℕ → RowBounds → Bool
 starts_in part next bounds =
-    (bounds.start.section == part.offset.section) && nat_lt bounds.start.offset (part.offset.offset + part.size)
+    (bounds.start.section == part.offset.section) && nat_lt bounds.start.offset (part_end part)
     && nat_lt (place bounds.start) next
 
 -- the entry of a part itself: where a procedure starts there too, the first row begins with it
@@ -38,11 +42,14 @@ part_entry part rows here = record {
   };
 }
 
--- the entry of a procedure that starts in a part
+-- the entry of a procedure that starts in a part: the rows over its bytes there
 abbrev pub procedure_entry : LinePart → List LineInfo → RowBounds → SymbolLines
 procedure_entry part rows bounds = record {
   offset = bounds.start;
-  lines = record { items = rows_between bounds.start.offset bounds.end rows; fault = part.rows.fault };
+  lines = record {
+    items = rows_between bounds.start.offset (min bounds.end (part_end part)) rows;
+    fault = part.rows.fault;
+  };
 }
 
 -- the entries of a part, of the procedures from the last one on that starts where it does or before it: its own, and

@@ -1,6 +1,7 @@
 ghost use Rattle.std.specs.Prelude.{◌≡◌, ◌≤◌, ◌++◌, ℕ, List, map, IfOk, OnOk};
 ghost use Rattle.pdb_records.specs.declared.lines.LineInfo.{LineInfo};
-ghost use Rattle.pdb_codeview.specs.LineEntries.{starts_at, starts_behind, starts_in, part_entry, procedure_entry};
+ghost use Rattle.pdb_codeview.specs.LineEntries.{starts_at, starts_behind, starts_in};
+ghost use Rattle.pdb_codeview.specs.LineEntries.{part_end, part_entry, procedure_entry};
 ghost use Rattle.pdb_codeview.specs.LineEntries.{part_entries, next_place, entries_of, program_entries};
 ghost use Rattle.pdb_codeview.specs.Places.{place, from_last, front};
 
@@ -39,11 +40,17 @@ fn starts_behind(x: u64, procedures: &[RowBounds]) -> &[RowBounds]
     }
 }
 
+fn part_end(part: &LinePart) -> u64
+    ensures { result ≡ part_end part.now }
+{
+    u64::from(part.offset.offset) + u64::from(part.size)
+}
+
 fn starts_in(part: &LinePart, next: u64, bounds: RowBounds) -> bool
     ensures { result ≡ starts_in part.now next bounds }
 {
     bounds.start.section == part.offset.section
-        && u64::from(bounds.start.offset) < u64::from(part.offset.offset) + u64::from(part.size)
+        && u64::from(bounds.start.offset) < part_end(part)
         && place(bounds.start) < next
 }
 
@@ -82,7 +89,8 @@ fn procedure_entry(
     ensures { (rows : List LineInfo) → over.now ≡ from_last (λ row. row.offset) bounds.start.offset rows
         → IfOk result (λ entry. entry ≡ procedure_entry part.now rows bounds) }
 {
-    let items = begun_rows_before(alloc, over, bounds.start.offset, bounds.end)?;
+    let end = bounds.end.min(part_end(part));
+    let items = begun_rows_before(alloc, over, bounds.start.offset, end)?;
     Ok(SymbolLines {
         offset: bounds.start,
         lines: Reading {
