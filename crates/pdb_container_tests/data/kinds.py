@@ -403,20 +403,41 @@ def lines():
     return subsection(0xF2, content), wanted
 
 
+def lines_of_more_procedures():
+    """A part of lines over three procedures of 32 bytes, the first at its start. Of two rows at one offset the last
+    counts, the first row of a procedure begins with it, and the rows of the second and third stand under their own."""
+    of_first = u32(0, 2, 12 + 2 * 8) + u32(4, 20, 4, 21)
+    of_last = u32(16, 1, 12 + 8) + u32(0x30, 22)
+    content = u32(0x220) + u16(1, 0) + u32(0x60) + of_first + of_last
+
+    def entry(offset, *rows):
+        return {"section": 1, "offset": offset,
+                "lines": [{"offset": at, "file_index": index, "line_start": line} for at, index, line in rows]}
+
+    wanted = [entry(0x220, (0x220, 0, 21), (0x250, 4, 22)), entry(0x240, (0x240, 0, 21), (0x250, 4, 22)),
+              entry(0x260, (0x260, 4, 22))]
+    return subsection(0xF2, content), wanted
+
+
 def module_code():
-    """The parts behind a module's symbols, and what is wanted of them."""
+    """The parts behind a module's symbols, and what is wanted of them. Of files and inlinees there are two parts, and
+    the first of equal offsets or ids counts."""
     files = u32(FIRST) + u8(0, 0) + u16(0) + u32(SECOND) + u8(16, 1) + bytes(16)
+    more_files = b"".join(u32(name) + u8(0, 0) + u16(0) for name in (IMPORTED, IMPORTED, FIRST))
     inlinees = u32(0) + u32(0x1000, 0, 50)
+    more_inlinees = u32(0) + u32(0x1000, 8, 70) + u32(0x1001, 0, 60)
     imports = u32(IMPORTED, 2, 0x1001, 0x80001002)
     exports = u32(0x1001, 0x2001, 0x1002, 0x2002)
     rows, entry = lines()
     short_rows = u32(0x200) + u16(1, 0) + u32(32) + u32(0, 2, 12 + 16) + u32(0, 1)
     cut = {"section": 1, "offset": 0x200, "lines": faulty([], CUT)}
-    data = (subsection(0xF4, files) + subsection(0xF6, inlinees) + rows + subsection(0xF2, short_rows)
-            + subsection(0xF7, imports) + subsection(0xF8, exports) + subsection(0xF1, u32(0)))
+    more_rows, entries = lines_of_more_procedures()
+    data = (subsection(0xF4, files) + subsection(0xF6, inlinees) + more_rows + rows + subsection(0xF2, short_rows)
+            + subsection(0xF7, imports) + subsection(0xF8, exports) + subsection(0xF1, u32(0))
+            + subsection(0xF4, more_files) + subsection(0xF6, more_inlinees))
     return data, {
-        "line_program": {"entries": [entry, cut], "files": [FIRST, SECOND]},
-        "inlinees": [0x1000],
+        "line_program": {"entries": [entry, cut, *entries], "files": [FIRST, SECOND, IMPORTED, IMPORTED, FIRST]},
+        "inlinees": [0x1000, 0x1000, 0x1001],
         "imports": [{"module": IMPORTED, "locals": [0x1001, 0x80001002]}],
         "exports": [{"local": 0x1001, "global": 0x2001}, {"local": 0x1002, "global": 0x2002}],
     }
