@@ -1,50 +1,80 @@
-ghost use Rattle.std.specs.Prelude.{◌≡◌, IfSome, Some, slice_get};
+ghost use Rattle.std.specs.Prelude.{◌≡◌, ℕ, IfOk};
+ghost use Rattle.std.specs.BTreeMap.{get};
+ghost use Rattle.std.specs.Ordering.{nat_cmp};
+ghost use Rattle.pdb_codeview.specs.Files.{file_position, file_index, named_file};
 
+use crate::first_values::insert_first;
 use pdb_msf::faults::{Fault, ended};
 use pdb_msf::{Bytes, offset_of, u32_at};
 use pdb_records::{FileIndex, FileInfo, StreamError, StringRef};
-use std::alloc::Global;
+use std::alloc::{AllocError, Global};
+use std::collections::BTreeMap;
 
 /// The files that a module's code came from.
 #[derive(Drop)]
 pub struct Files {
-    /// Where the entry of each starts among the entries. They ascend.
+    /// Where the entry of each starts in its part.
     starts: Vec<u32>,
+    positions: BTreeMap<u32, usize>,
     pub files: Vec<FileInfo>,
     pub fault: Option<StreamError>,
+    ghost first: { (start : ℕ) → get nat_cmp positions start ≡ file_position start starts.items },
 }
 
 impl Files {
-    /// The position of the file whose entry starts there, where one does.
+    /// The position of the file whose entry starts there: of several parts the first that has one.
     pub fn position(&self, start: u32) -> Option<FileIndex>
-        ensures { IfSome result (λ index. slice_get self.now.starts.items index.0 ≡ Some start) }
+        ensures { result ≡ named_file start self.now.starts.items }
     {
-        position_in(&self.starts, start)
+        match self.positions.get(&start) {
+            Some(position) => file_index(*position),
+            None => None,
+        }
     }
 }
 
-fn position_in(starts: &[u32], start: u32) -> Option<FileIndex>
-    ensures { IfSome result (λ index. slice_get starts.now index.0 ≡ Some start) }
+fn file_index(position: usize) -> Option<FileIndex>
+    ensures { result ≡ file_index position }
 {
-    let Ok(position) = starts.binary_search(&start) else {
-        return None;
-    };
     match u32::try_from(position) {
         Ok(position) => Some(FileIndex(position)),
         Err(_) => None,
     }
 }
 
-/// The files that these entries name.
-pub fn read_files(alloc: Global, bytes: &[u8]) -> Result<Files, Fault> {
+fn first_positions(alloc: Global, starts: &[u32]) -> Result<BTreeMap<u32, usize>, AllocError>
+    ensures { IfOk result (λ positions. (start : ℕ) → get nat_cmp positions start ≡ file_position start starts.now) }
+{
+    let mut positions = BTreeMap::new(alloc);
+    for (position, &start) in starts.iter().enumerate() {
+        insert_first(&mut positions, start, position)?;
+    }
+    Ok(positions)
+}
+
+/// The files that the entries of these parts name, one part after the other.
+pub fn read_files(alloc: Global, parts: &[&[u8]]) -> Result<Files, Fault> {
     let mut starts = Vec::new(alloc);
     let mut files = Vec::new(alloc);
-    let fault = ended(fill_files(bytes, &mut starts, &mut files))?;
+    let fault = ended(fill_parts(parts, &mut starts, &mut files))?;
+    let positions = first_positions(alloc, &starts)?;
     Ok(Files {
         starts,
+        positions,
         files,
         fault,
     })
+}
+
+fn fill_parts(
+    parts: &[&[u8]],
+    starts: &mut Vec<u32>,
+    files: &mut Vec<FileInfo>,
+) -> Result<(), Fault> {
+    for part in parts {
+        fill_files(part, starts, files)?;
+    }
+    Ok(())
 }
 
 fn fill_files(bytes: &[u8], starts: &mut Vec<u32>, files: &mut Vec<FileInfo>) -> Result<(), Fault> {

@@ -1,7 +1,13 @@
+ghost use Rattle.std.specs.Prelude.{◌≡◌, ℕ, IfOk};
+ghost use Rattle.std.specs.BTreeMap.{get};
+ghost use Rattle.std.specs.Ordering.{nat_cmp};
+ghost use Rattle.pdb_codeview.specs.Inlinees.{inlinee_source};
+
+use crate::first_values::insert_first;
 use pdb_msf::faults::{Fault, UNKNOWN_VERSION, ended};
 use pdb_msf::{Bytes, u32_at};
 use pdb_records::{IdIndex, Inlinee, Reading};
-use std::alloc::Global;
+use std::alloc::{AllocError, Global};
 use std::collections::BTreeMap;
 
 /// A list whose entries have one file each.
@@ -18,28 +24,61 @@ pub struct InlineeSource {
     pub line: u32,
 }
 
+/// One of the functions whose bodies stand in a module's code.
+#[derive(Clone, Copy)]
+struct ListedInlinee {
+    id: u32,
+    source: InlineeSource,
+}
+
 /// The functions whose bodies stand in a module's code.
 #[derive(Drop)]
 pub struct Inlinees {
     pub list: Reading<Inlinee>,
+    /// By their ids. Of two with one id the first counts.
     pub sources: BTreeMap<u32, InlineeSource>,
 }
 
-/// The functions that were inlined, by the bytes of their list.
-pub fn read_inlinees(alloc: Global, bytes: &[u8]) -> Result<Inlinees, Fault> {
+/// The functions that were inlined, by the bytes of their lists, one after the other.
+pub fn read_inlinees(alloc: Global, parts: &[&[u8]]) -> Result<Inlinees, Fault> {
     let mut items = Vec::new(alloc);
-    let mut sources = BTreeMap::new(alloc);
-    let fault = ended(fill_inlinees(bytes, &mut items, &mut sources))?;
+    let mut listed = Vec::new(alloc);
+    let fault = ended(fill_parts(parts, &mut items, &mut listed))?;
+    let sources = first_sources(alloc, &listed)?;
     Ok(Inlinees {
         list: Reading { items, fault },
         sources,
     })
 }
 
+fn first_sources(
+    alloc: Global,
+    listed: &[ListedInlinee],
+) -> Result<BTreeMap<u32, InlineeSource>, AllocError>
+    ensures { IfOk result (λ sources. (id : ℕ) → get nat_cmp sources id ≡ inlinee_source id listed.now) }
+{
+    let mut sources = BTreeMap::new(alloc);
+    for inlinee in listed {
+        insert_first(&mut sources, inlinee.id, inlinee.source)?;
+    }
+    Ok(sources)
+}
+
+fn fill_parts(
+    parts: &[&[u8]],
+    list: &mut Vec<Inlinee>,
+    listed: &mut Vec<ListedInlinee>,
+) -> Result<(), Fault> {
+    for part in parts {
+        fill_inlinees(part, list, listed)?;
+    }
+    Ok(())
+}
+
 fn fill_inlinees(
     bytes: &[u8],
     list: &mut Vec<Inlinee>,
-    sources: &mut BTreeMap<u32, InlineeSource>,
+    listed: &mut Vec<ListedInlinee>,
 ) -> Result<(), Fault> {
     let mut rest = Bytes::new(bytes);
     if rest.is_empty() {
@@ -58,14 +97,13 @@ fn fill_inlinees(
             let count = rest.u32()?;
             rest.take((count as usize).saturating_mul(4))?;
         }
+        let id = u32_at(front, 0);
         let source = InlineeSource {
             file: u32_at(front, 4),
             line: u32_at(front, 8),
         };
-        list.push(Inlinee {
-            index: IdIndex(u32_at(front, 0)),
-        })?;
-        sources.insert(u32_at(front, 0), source)?;
+        list.push(Inlinee { index: IdIndex(id) })?;
+        listed.push(ListedInlinee { id, source })?;
     }
     Ok(())
 }

@@ -8,13 +8,20 @@
 mod annotations;
 mod cross_modules;
 mod files;
+mod first_values;
 mod inline_rows;
 mod inline_sites;
 mod inlinees;
+mod line_entries;
+mod line_rows;
 mod lines;
+mod places;
+mod procedure_spans;
 
 pub use cross_modules::{read_exports, read_imports};
 pub use files::{Files, read_files};
 pub use inline_sites::{CodeRecords, site_rows};
 pub use inlinees::{Inlinees, read_inlinees};
-pub use lines::read_lines;
+pub use line_entries::program_entries;
+pub use lines::{LinePart, read_lines};
+pub use procedure_spans::{ProcedureSpan, symbol_spans};

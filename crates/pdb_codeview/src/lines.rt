@@ -1,8 +1,17 @@
 use crate::files::Files;
 use pdb_msf::faults::{BAD_LENGTH, Fault, ended};
 use pdb_msf::{Bytes, u16_at, u32_at};
-use pdb_records::{FileIndex, LineInfo, PdbInternalSectionOffset, Reading, SymbolLines};
+use pdb_records::{FileIndex, LineInfo, PdbInternalSectionOffset, Reading};
 use std::alloc::Global;
+
+/// A part of lines: rows over bytes of a section, in the order in which they are read.
+#[derive(Drop)]
+pub struct LinePart {
+    pub offset: PdbInternalSectionOffset,
+    /// How many bytes it is of.
+    pub size: u32,
+    pub rows: Reading<LineInfo>,
+}
 
 /// The bits of a row that are its line.
 const LINE: u32 = 0x00ff_ffff;
@@ -21,8 +30,8 @@ pub fn file_at(files: &Files, start: u32) -> FileIndex {
     files.position(start).unwrap_or(NO_FILE)
 }
 
-/// The rows of one function.
-pub fn read_lines(alloc: Global, bytes: &[u8], files: &Files) -> Result<SymbolLines, Fault> {
+/// The rows of one part.
+pub fn read_lines(alloc: Global, bytes: &[u8], files: &Files) -> Result<LinePart, Fault> {
     let mut rest = Bytes::new(bytes);
     let front = rest.take(12)?;
     let offset = PdbInternalSectionOffset {
@@ -31,9 +40,10 @@ pub fn read_lines(alloc: Global, bytes: &[u8], files: &Files) -> Result<SymbolLi
     };
     let mut items = Vec::new(alloc);
     let fault = ended(fill_lines(rest.rest(), files, offset.offset, &mut items))?;
-    Ok(SymbolLines {
+    Ok(LinePart {
         offset,
-        lines: Reading { items, fault },
+        size: u32_at(front, 8),
+        rows: Reading { items, fault },
     })
 }
 

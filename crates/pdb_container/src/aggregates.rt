@@ -16,10 +16,27 @@ const UNIQUE_NAME: u16 = 0x200;
 pub fn class(alloc: Global, class_kind: ClassKind, bytes: &[u8]) -> Result<TypeData, Fault> {
     let mut rest = Bytes::new(bytes);
     let front = rest.take(16)?;
-    let properties = u16_at(front, 2);
-    let size = take_size(&mut rest)?;
+    class_behind(alloc, class_kind, u16_at(front, 2), &mut rest)
+}
+
+/// A class, a struct or an interface of the newer layout: the properties in four bytes, three indices, and how many
+/// members it has.
+pub fn newer_class(alloc: Global, class_kind: ClassKind, bytes: &[u8]) -> Result<TypeData, Fault> {
+    let mut rest = Bytes::new(bytes);
+    let front = rest.take(18)?;
+    class_behind(alloc, class_kind, u16_at(front, 0), &mut rest)
+}
+
+// What stands behind the fixed part of a class: its size and its names.
+fn class_behind(
+    alloc: Global,
+    class_kind: ClassKind,
+    properties: u16,
+    rest: &mut Bytes<'_>,
+) -> Result<TypeData, Fault> {
+    let size = take_size(rest)?;
     let name = copy_name(alloc, rest.text()?)?;
-    let unique_name = unique_name(alloc, properties, &mut rest)?;
+    let unique_name = unique_name(alloc, properties, rest)?;
     Ok(TypeData::Class(ClassType {
         class_kind,
         name,
@@ -33,10 +50,21 @@ pub fn class(alloc: Global, class_kind: ClassKind, bytes: &[u8]) -> Result<TypeD
 pub fn union(alloc: Global, bytes: &[u8]) -> Result<TypeData, Fault> {
     let mut rest = Bytes::new(bytes);
     let front = rest.take(8)?;
-    let properties = u16_at(front, 2);
-    let size = take_size(&mut rest)?;
+    union_behind(alloc, u16_at(front, 2), &mut rest)
+}
+
+/// A union of the newer layout: the properties in four bytes, an index, and how many members it has.
+pub fn newer_union(alloc: Global, bytes: &[u8]) -> Result<TypeData, Fault> {
+    let mut rest = Bytes::new(bytes);
+    let front = rest.take(10)?;
+    union_behind(alloc, u16_at(front, 0), &mut rest)
+}
+
+// What stands behind the fixed part of a union: its size and its names.
+fn union_behind(alloc: Global, properties: u16, rest: &mut Bytes<'_>) -> Result<TypeData, Fault> {
+    let size = take_size(rest)?;
     let name = copy_name(alloc, rest.text()?)?;
-    let unique_name = unique_name(alloc, properties, &mut rest)?;
+    let unique_name = unique_name(alloc, properties, rest)?;
     Ok(TypeData::Union(UnionType {
         name,
         unique_name,

@@ -91,7 +91,8 @@ pub fn take_part<'a>(bytes: &mut Bytes<'a>, length: u32) -> Part<'a> {
 fn machine_type(number: u16) -> MachineType {
     match number {
         0x8664 => MachineType::Amd64,
-        0xaa64 => MachineType::Arm64,
+        // 0xa641 has the code of Arm64 that goes beside code of x64
+        0xaa64 | 0xa641 => MachineType::Arm64,
         0x0200 => MachineType::Ia64,
         0x5064 => MachineType::RiscV64,
         0x5128 => MachineType::RiscV128,

@@ -6,6 +6,7 @@
 #![tactic(auto)]
 
 mod aggregates;
+mod code_apart;
 mod dbi;
 mod ids;
 mod info;
@@ -13,11 +14,13 @@ mod modules;
 mod numbers;
 mod primitives;
 mod records;
+mod refusals;
 mod sections;
 mod strings;
 mod symbols;
 mod type_records;
 mod types;
 
-pub use pdb_msf::{ContainerFault, faults};
-pub use records::read_pdb;
+pub use pdb_msf::{ContainerFault, faults, other_file};
+pub use records::{PdbFile, read_pdb, read_pdb_file};
+pub use refusals::Refusal;

@@ -1,15 +1,15 @@
 use crate::dbi::{ModuleStream, Part, take_part};
 use crate::symbols::{list_symbols, read_symbols};
 use pdb_codeview::{
-    CodeRecords, Files, read_exports, read_files, read_imports, read_inlinees, read_lines,
+    CodeRecords, Files, ProcedureSpan, program_entries, read_exports, read_files, read_imports,
+    read_inlinees, read_lines, symbol_spans,
 };
 use pdb_msf::Bytes;
 use pdb_msf::faults::{Fault, UNKNOWN_VERSION, apart, ended};
 use pdb_records::{
     CrossModuleExports, CrossModuleImports, LineProgram, ModuleInfo, Reading, StreamError, Symbol,
-    SymbolLines,
 };
-use std::alloc::Global;
+use std::alloc::{AllocError, Global};
 
 /// The form of symbols that is known, as the number in front of them.
 const SYMBOLS_FORM: u32 = 4;
@@ -49,6 +49,17 @@ impl<'a> Subsections<'a> {
         None
     }
 
+    /// The bytes of all parts of this kind.
+    fn all(&self, alloc: Global, kind: u32) -> Result<Vec<&'a [u8]>, AllocError> {
+        let mut parts = Vec::new(alloc);
+        for subsection in &self.list {
+            if subsection.kind == kind {
+                parts.push(subsection.bytes)?;
+            }
+        }
+        Ok(parts)
+    }
+
     /// The bytes of the first part of this kind, none where there is no such part and all were read.
     fn wanted(&self, kind: u32) -> Result<&'a [u8], StreamError> {
         match (self.first(kind), self.fault) {
@@ -72,7 +83,9 @@ pub fn read_module(
     let subsections = read_subsections(alloc, lines)?;
     let code = read_code(alloc, &subsections)?;
     let symbols = module_symbols(alloc, symbols, &code)?;
-    let line_program = apart(read_line_program(alloc, &subsections, &code.files))?;
+    let procedures = symbol_spans(alloc, &symbols.items)?;
+    let program = read_line_program(alloc, &subsections, &code.files, procedures);
+    let line_program = apart(program)?;
     let imports = apart(module_imports(alloc, &subsections))?;
     let exports = apart(module_exports(alloc, &subsections))?;
     let CodeRecords { files: _, inlinees } = code;
@@ -110,8 +123,8 @@ fn fill_subsections<'a>(bytes: &'a [u8], list: &mut Vec<Subsection<'a>>) -> Resu
 }
 
 fn read_code(alloc: Global, subsections: &Subsections<'_>) -> Result<CodeRecords, Fault> {
-    let files = read_files(alloc, subsections.first(FILES).unwrap_or(&[]))?;
-    let mut inlinees = read_inlinees(alloc, subsections.first(INLINEES).unwrap_or(&[]))?;
+    let files = read_files(alloc, &subsections.all(alloc, FILES)?)?;
+    let mut inlinees = read_inlinees(alloc, &subsections.all(alloc, INLINEES)?)?;
     inlinees.list.fault = inlinees.list.fault.or(subsections.fault);
     Ok(CodeRecords { files, inlinees })
 }
@@ -152,16 +165,18 @@ fn read_line_program(
     alloc: Global,
     subsections: &Subsections<'_>,
     files: &Files,
+    procedures: Vec<ProcedureSpan>,
 ) -> Result<LineProgram, Fault> {
     if let Some(error) = subsections.fault.or(files.fault) {
         return Err(Fault::Broken(error));
     }
-    let mut entries: Vec<SymbolLines> = Vec::new(alloc);
+    let mut parts = Vec::new(alloc);
     for subsection in &subsections.list {
         if subsection.kind == LINES {
-            entries.push(read_lines(alloc, subsection.bytes, files)?)?;
+            parts.push(read_lines(alloc, subsection.bytes, files)?)?;
         }
     }
+    let entries = program_entries(alloc, parts, procedures)?;
     let files = Vec::from_slice(alloc, &files.files)?;
     Ok(LineProgram { entries, files })
 }

@@ -1,9 +1,11 @@
+use crate::code_apart::{ReadModule, name_code_apart};
 use crate::dbi::{
     DebugHeader, ModuleStream, more_stream, read_contributions, read_header, read_modules,
 };
 use crate::ids::read_ids;
-use crate::info::named_stream;
+use crate::info::InfoStream;
 use crate::modules::read_module;
+use crate::refusals::{Refusal, refusal_of};
 use crate::sections::{map_addresses, read_sections};
 use crate::strings::read_strings;
 use crate::symbols::read_global_symbols;
@@ -17,8 +19,6 @@ use pdb_records::{
 use std::alloc::Global;
 
 /// The numbers of the streams that stand at fixed places.
-const INFO: u32 = 1;
-
 const TYPES: u32 = 2;
 
 const DEBUG: u32 = 3;
@@ -46,7 +46,17 @@ struct DebugRecords {
     sections: Result<Option<Vec<ImageSectionHeader>>, StreamError>,
     address_map: Result<AddressMap, StreamError>,
     global_symbols: Result<SymbolTable, StreamError>,
-    module_infos: Vec<Result<Option<ModuleInfo>, StreamError>>,
+    module_infos: Vec<ReadModule>,
+}
+
+/// What a PDB file has.
+#[derive(Drop)]
+pub struct PdbFile {
+    pub records: PDB,
+    /// Why nothing can be answered over the records, if so.
+    pub refusal: Option<Refusal>,
+    /// Whether the file has names alone, since it was made with `/DEBUG:FASTLINK`: lines and types are in objects.
+    pub names_only: bool,
 }
 
 /// The records of a PDB file.
@@ -55,13 +65,30 @@ struct DebugRecords {
 /// memory. All else that is broken is a failed stream or a fault in the records.
 pub fn read_pdb(alloc: Global, bytes: &[u8]) -> Result<PDB, ContainerFault> {
     let mut container = Container::open(alloc, bytes)?;
-    Ok(read_records(alloc, &mut container)?)
+    let info = InfoStream::read(alloc, &mut container)?;
+    Ok(read_records(alloc, &mut container, &info)?)
 }
 
-fn read_records(alloc: Global, container: &mut Container<'_>) -> Result<PDB, Fault> {
-    let string_table = apart(read_texts(alloc, container))?;
+/// The records of a PDB file, and what a reader of them wants to be told. The errors are those of [`read_pdb`].
+pub fn read_pdb_file(alloc: Global, bytes: &[u8]) -> Result<PdbFile, ContainerFault> {
+    let mut container = Container::open(alloc, bytes)?;
+    let info = InfoStream::read(alloc, &mut container)?;
+    let records = read_records(alloc, &mut container, &info)?;
+    Ok(PdbFile {
+        refusal: refusal_of(info.version(), &records),
+        names_only: info.features().names_only,
+        records,
+    })
+}
+
+fn read_records(
+    alloc: Global,
+    container: &mut Container<'_>,
+    info: &InfoStream<'_>,
+) -> Result<PDB, Fault> {
+    let string_table = apart(read_texts(alloc, container, info))?;
     let type_information = apart(type_information(alloc, container))?;
-    let id_information = apart(id_information(alloc, container))?;
+    let id_information = apart(id_information(alloc, container, info))?;
     let debug = debug_records(alloc, container)?;
     Ok(PDB {
         sections: debug.sections,
@@ -75,9 +102,12 @@ fn read_records(alloc: Global, container: &mut Container<'_>) -> Result<PDB, Fau
     })
 }
 
-fn read_texts(alloc: Global, container: &mut Container<'_>) -> Result<StringTable, Fault> {
-    let info = container.stream(alloc, INFO)?;
-    let number = named_stream(info.as_slice(), &NAMES)?;
+fn read_texts(
+    alloc: Global,
+    container: &mut Container<'_>,
+    info: &InfoStream<'_>,
+) -> Result<StringTable, Fault> {
+    let number = info.named_stream(&NAMES)?;
     let names = container.stream(alloc, number)?;
     read_strings(alloc, names.as_slice())
 }
@@ -90,8 +120,15 @@ fn type_information(
     read_types(alloc, stream.as_slice())
 }
 
-// The ids. A file from before there were any has none.
-fn id_information(alloc: Global, container: &mut Container<'_>) -> Result<IdInformation, Fault> {
+// The ids. A file that doesn't list that it has ids, as those from before there were any, has none.
+fn id_information(
+    alloc: Global,
+    container: &mut Container<'_>,
+    info: &InfoStream<'_>,
+) -> Result<IdInformation, Fault> {
+    if !info.features().ids {
+        return read_ids(alloc, &[]);
+    }
     match apart(container.stream(alloc, IDS))? {
         Ok(stream) => read_ids(alloc, stream.as_slice()),
         Err(NO_STREAM) => read_ids(alloc, &[]),
@@ -100,6 +137,9 @@ fn id_information(alloc: Global, container: &mut Container<'_>) -> Result<IdInfo
 }
 
 fn debug_records(alloc: Global, container: &mut Container<'_>) -> Result<DebugRecords, Fault> {
+    if container.is_empty_stream(DEBUG) {
+        return Ok(failed(alloc, NO_STREAM));
+    }
     let stream = match apart(container.stream(alloc, DEBUG))? {
         Ok(stream) => stream,
         Err(error) => return Ok(failed(alloc, error)),
@@ -129,9 +169,15 @@ fn headed_records(
     let mut streams = Vec::new(alloc);
     let debug_information = debug_information(alloc, header, &mut streams)?;
     let sections = apart(section_headers(alloc, container, header))?;
-    let address_map = apart(address_map(alloc, header, &sections))?;
+    let address_map = apart(address_map(alloc, container, header, &sections))?;
     let global_symbols = apart(global_symbols(alloc, container, header.global_symbols))?;
-    let module_infos = module_infos(alloc, container, &streams)?;
+    let mut module_infos = module_infos(alloc, container, &streams)?;
+    name_code_apart(
+        alloc,
+        &mut module_infos,
+        &global_symbols,
+        container.file_length(),
+    )?;
     Ok(DebugRecords {
         debug_information: Ok(debug_information),
         sections,
@@ -170,12 +216,13 @@ fn section_headers(
 // Where the sections are loaded. That isn't known if addresses were rearranged after linking.
 fn address_map(
     alloc: Global,
+    container: &Container<'_>,
     header: &DebugHeader<'_>,
     sections: &Result<Option<Vec<ImageSectionHeader>>, StreamError>,
 ) -> Result<AddressMap, Fault> {
     let numbers = header.more_streams.bytes;
-    if more_stream(numbers, REARRANGED_TO).is_some()
-        || more_stream(numbers, REARRANGED_FROM).is_some()
+    if is_rearranged(container, more_stream(numbers, REARRANGED_TO))
+        || is_rearranged(container, more_stream(numbers, REARRANGED_FROM))
     {
         return Err(Fault::Broken(REARRANGED));
     }
@@ -183,6 +230,14 @@ fn address_map(
         Ok(Some(sections)) => map_addresses(alloc, sections),
         Ok(None) => Err(Fault::Broken(NO_STREAM)),
         Err(error) => Err(Fault::Broken(*error)),
+    }
+}
+
+// Whether a stream says how addresses were rearranged: one that is there and empty says nothing.
+fn is_rearranged(container: &Container<'_>, number: Option<u16>) -> bool {
+    match number {
+        Some(number) => !container.is_empty_stream(u32::from(number)),
+        None => false,
     }
 }
 
@@ -202,7 +257,7 @@ fn module_infos(
     alloc: Global,
     container: &mut Container<'_>,
     streams: &[ModuleStream],
-) -> Result<Vec<Result<Option<ModuleInfo>, StreamError>>, Fault> {
+) -> Result<Vec<ReadModule>, Fault> {
     let mut infos = Vec::with_capacity(alloc, streams.len())?;
     for module in streams {
         infos.push(apart(module_info(alloc, container, *module))?)?;

@@ -1,3 +1,4 @@
+use crate::code_apart::S_TRAMPOLINE;
 use pdb_codeview::{CodeRecords, site_rows};
 use pdb_msf::faults::{BAD_LENGTH, Fault, apart, ended};
 use pdb_msf::{Bytes, copy_name, offset_of, u16_at, u32_at};
@@ -136,7 +137,7 @@ pub fn read_symbols(
             Ok(content) => Some(content),
             Err(_) => None,
         };
-        start = procedure_start(&content, start);
+        start = code_start(&content, start);
         items.push(Symbol {
             raw_kind: record.raw_kind,
             content,
@@ -148,10 +149,11 @@ pub fn read_symbols(
     })
 }
 
-// Where the procedure starts that sites behind this symbol stand in.
-fn procedure_start(content: &Option<SymbolData>, before: u32) -> u32 {
+// Where the procedure starts, or the chunk of one, that sites behind this symbol stand in.
+fn code_start(content: &Option<SymbolData>, before: u32) -> u32 {
     match content {
         Some(SymbolData::Procedure(procedure)) => procedure.offset.offset,
+        Some(SymbolData::SeparatedCode(code)) => code.offset.offset,
         _ => before,
     }
 }
@@ -174,6 +176,7 @@ fn module_content(
         | S_LPROC32_DPC_ID => procedure(alloc, record, list),
         S_THUNK32 | S_THUNK32_ST => thunk(alloc, record, list),
         S_SEPCODE => separated_code(record, list),
+        S_TRAMPOLINE => trampoline(record),
         S_INLINESITE => inline_site(alloc, record, list, code, 12, start),
         S_INLINESITE2 => inline_site(alloc, record, list, code, 16, start),
         _ => global_content(alloc, record),
@@ -253,6 +256,23 @@ fn separated_code(record: SymbolRecord<'_>, list: &SymbolRecords<'_>) -> Result<
             offset: u32_at(front, 20),
         },
         end: list.position(u32_at(front, 4)),
+    }))
+}
+
+// A jump, as code apart from the function that it leads to. No symbol closes it.
+fn trampoline(record: SymbolRecord<'_>) -> Result<SymbolData, Fault> {
+    let front = Bytes::new(record.content).take(16)?;
+    Ok(SymbolData::SeparatedCode(SeparatedCodeSymbol {
+        offset: PdbInternalSectionOffset {
+            section: u16_at(front, 12),
+            offset: u32_at(front, 4),
+        },
+        len: u32::from(u16_at(front, 2)),
+        parent_offset: PdbInternalSectionOffset {
+            section: u16_at(front, 14),
+            offset: u32_at(front, 8),
+        },
+        end: SymbolIndex(0),
     }))
 }
 

@@ -1,4 +1,4 @@
-use crate::aggregates::{class, enumerate, enumeration, union};
+use crate::aggregates::{class, enumerate, enumeration, newer_class, newer_union, union};
 use crate::numbers::take_size;
 use crate::primitives::put_primitives;
 use crate::type_records::{ItemFault, TypeRecord, content_of, list_types};
@@ -51,6 +51,10 @@ fn type_data(alloc: Global, record: TypeRecord<'_>) -> Result<TypeData, ItemFaul
         0x1519 => Ok(class(alloc, ClassKind::Interface, bytes)?),
         0x1506 => Ok(union(alloc, bytes)?),
         0x1507 => Ok(enumeration(alloc, bytes)?),
+        0x1608 => Ok(newer_class(alloc, ClassKind::Class, bytes)?),
+        0x1609 => Ok(newer_class(alloc, ClassKind::Struct, bytes)?),
+        0x160b => Ok(newer_class(alloc, ClassKind::Interface, bytes)?),
+        0x160a => Ok(newer_union(alloc, bytes)?),
         kind => other(alloc, kind),
     }
 }

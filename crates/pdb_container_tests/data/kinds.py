@@ -1,16 +1,10 @@
-#!/usr/bin/env python3
-"""Writes a PDB file with a record of each kind, by its bytes, and the records file that is wanted of it.
+"""A PDB file with a record of each kind, by its bytes, and the records that are wanted of it.
 
-Usage: kinds.py FOLDER
-
-FOLDER gets the files `stdin` (the PDB file) and `stdout` (the records file). Every record stands here twice, side by
-side: as the bytes that Microsoft's headers and LLVM's documents lay out, and as what docs/FORMAT.md has it as. Nothing
-is taken from the reader under test.
+Every record stands here twice, side by side: as the bytes that Microsoft's headers and LLVM's documents lay out, and as
+what docs/FORMAT.md has it as. Nothing is taken from the reader under test. `write_files.py` writes the file.
 """
 import json
-import pathlib
 import struct
-import sys
 
 BLOCK = 512
 VERSION = 20040203
@@ -91,6 +85,16 @@ def class_of(leaf, kind, properties, size, front, name, unique=None, forward=Fal
     return (leaf, u16(3, properties) + u32(0x1234, 0, 0) + front + text(name) + more, wanted)
 
 
+def newer_class(leaf, kind, properties, front, size, name, unique=None):
+    """A class, a struct or an interface of three members in the newer layout."""
+    wanted = {"kind": "Class", "class_kind": kind, "name": shown(name)}
+    if unique is not None:
+        wanted["unique_name"] = shown(unique)
+    wanted.update({"size": size, "forward_reference": properties & 0x80 != 0})
+    more = b"" if unique is None else text(unique)
+    return (leaf, u32(properties, 0x1234, 0, 0) + u16(3) + front + text(name) + more, wanted)
+
+
 def union(properties, name, unique=None, forward=False):
     """A union of sixteen bytes and two members."""
     wanted = {"kind": "Union", "name": shown(name)}
@@ -159,6 +163,13 @@ TYPES = [
      {"kind": "Array", "element_type": 0x74, "first": 24, "rest": []}),
     (0x1503, u32(0x74, 0x23) + u16(0x800A) + struct.pack("<Q", 5000000000) + text(b""),
      {"error": {"stream": BAD_NUMBER}}),
+    newer_class(0x1608, "Class", 0, u16(12), 12, b"C2"),
+    newer_class(0x1609, "Struct", 0x200, u16(0x8004) + u32(70000), 70000, b"S2", unique=b".?AUS2@@"),
+    newer_class(0x1609, "Struct", 0x10280, u16(0), 0, b"S2", unique=b".?AUS2@@"),
+    newer_class(0x160B, "Interface", 0xFD7F, u16(8), 8, b"I2"),
+    (0x160A, u32(0x200, 0x1234) + u16(2, 16) + text(b"U2") + text(b".?ATU2@@"),
+     {"kind": "Union", "name": "U2", "unique_name": ".?ATU2@@", "size": 16, "forward_reference": False}),
+    (0x1608, u32(0, 0, 0, 0), {"error": {"stream": CUT}}),
     other(0x1203, "FieldList"),
     other(0x1205, "Bitfield"),
     other(0x1206, "MethodList"),
@@ -248,6 +259,30 @@ def put_site(symbols, kind, inlinee, annotations, rows):
     symbols.put(kind, front + annotations, {"kind": "InlineSite", "inlinee": inlinee, "end": 0, "rows": rows}, opens=4)
 
 
+def put_chunk(symbols, offset, parent, name=None):
+    """Eight bytes of code apart from their function. With a name it is a procedure that goes by it."""
+    content = u32(0, 0, 8, 0, offset, parent) + u16(1, 1)
+    if name is None:
+        wanted = {"kind": "SeparatedCode", "section": 1, "offset": offset, "len": 8, "parent_section": 1,
+                  "parent_offset": parent, "end": 0}
+    else:
+        wanted = {"kind": "Procedure", "section": 1, "offset": offset, "len": 8, "name": name, "end": 0,
+                  "type_index": 0x1009}
+    symbols.put(0x1132, content, wanted, opens=4)
+
+
+def put_trampoline(symbols, offset, target, name=None, type_index=0):
+    """A jump of five bytes. Where its function is known it is a procedure of that name."""
+    content = u16(0, 5) + u32(offset, target) + u16(1, 1)
+    if name is None:
+        symbols.put(0x112C, content, {"kind": "SeparatedCode", "section": 1, "offset": offset, "len": 5,
+                                      "parent_section": 1, "parent_offset": target, "end": 0})
+        return
+    symbols.put(0x112C, content, {"kind": "Procedure", "section": 1, "offset": offset, "len": 5, "name": name,
+                                  "end": 0, "type_index": type_index})
+    symbols.wanted[-1]["raw_kind"] = 0x1102
+
+
 def row(offset, length, file_index, line):
     """A row of a site."""
     wanted = {"offset": offset}
@@ -298,9 +333,11 @@ def module_symbols():
     symbols.close(6)
     put_thunk(symbols, 0x1102, 0x410, b"thunk\xe9")
     symbols.close(6)
-    content = u32(0, 0, 8, 0, 0x500, 0x100) + u16(1, 1)
-    symbols.put(0x1132, content, {"kind": "SeparatedCode", "section": 1, "offset": 0x500, "len": 8,
-                                  "parent_section": 1, "parent_offset": 0x100, "end": 0}, opens=4)
+    # a chunk that isn't behind its function is a procedure of the function's name
+    put_chunk(symbols, 0x500, 0x100, "with sites")
+    symbols.close(6)
+    # one of no function that is known stays as it is
+    put_chunk(symbols, 0x508, 0x9999)
     symbols.close(6)
     symbols.passed(0x0402, u16(0))
     symbols.passed(0x0007, u32(0))
@@ -312,6 +349,17 @@ def module_symbols():
     put_site(symbols, 0x114D, 0x1003, u8(3, 4), [])
     symbols.close(0x114E)
     symbols.close(6)
+    # a chunk behind its function, with a site that starts at the chunk, and a second one
+    put_chunk(symbols, 0x520, 0x100)
+    put_site(symbols, 0x114D, 0x1000, u8(3, 4, 4, 2), [row(0x524, 2, 0, 50)])
+    symbols.close(0x114E)
+    symbols.close(6)
+    put_chunk(symbols, 0x540, 0x100, "with sites")
+    symbols.close(6)
+    put_trampoline(symbols, 0x600, 0x200, "local, old", 0x1009)
+    put_trampoline(symbols, 0x605, 0x20, "?f@@YAXXZ", 0)
+    put_trampoline(symbols, 0x60A, 0x7777)
+    symbols.put(0x112C, u16(0, 5) + u32(0x60F, 0x200), None)
     symbols.put(0x110E, u32(0, 0x10) + u16(1) + text(b"public here"),
                 {"kind": "Public", "section": 1, "offset": 0x10, "name": "public here"})
     symbols.put(0x1101, u32(0) + text(b"object"), {"kind": "Other"})
@@ -355,20 +403,41 @@ def lines():
     return subsection(0xF2, content), wanted
 
 
+def lines_of_more_procedures():
+    """A part of lines over three procedures of 32 bytes, the first at its start. Of two rows at one offset the last
+    counts, the first row of a procedure begins with it, and the rows of the second and third stand under their own."""
+    of_first = u32(0, 2, 12 + 2 * 8) + u32(4, 20, 4, 21)
+    of_last = u32(16, 1, 12 + 8) + u32(0x30, 22)
+    content = u32(0x220) + u16(1, 0) + u32(0x60) + of_first + of_last
+
+    def entry(offset, *rows):
+        return {"section": 1, "offset": offset,
+                "lines": [{"offset": at, "file_index": index, "line_start": line} for at, index, line in rows]}
+
+    wanted = [entry(0x220, (0x220, 0, 21), (0x250, 4, 22)), entry(0x240, (0x240, 0, 21), (0x250, 4, 22)),
+              entry(0x260, (0x260, 4, 22))]
+    return subsection(0xF2, content), wanted
+
+
 def module_code():
-    """The parts behind a module's symbols, and what is wanted of them."""
+    """The parts behind a module's symbols, and what is wanted of them. Of files and inlinees there are two parts, and
+    the first of equal offsets or ids counts."""
     files = u32(FIRST) + u8(0, 0) + u16(0) + u32(SECOND) + u8(16, 1) + bytes(16)
+    more_files = b"".join(u32(name) + u8(0, 0) + u16(0) for name in (IMPORTED, IMPORTED, FIRST))
     inlinees = u32(0) + u32(0x1000, 0, 50)
+    more_inlinees = u32(0) + u32(0x1000, 8, 70) + u32(0x1001, 0, 60)
     imports = u32(IMPORTED, 2, 0x1001, 0x80001002)
     exports = u32(0x1001, 0x2001, 0x1002, 0x2002)
     rows, entry = lines()
     short_rows = u32(0x200) + u16(1, 0) + u32(32) + u32(0, 2, 12 + 16) + u32(0, 1)
     cut = {"section": 1, "offset": 0x200, "lines": faulty([], CUT)}
-    data = (subsection(0xF4, files) + subsection(0xF6, inlinees) + rows + subsection(0xF2, short_rows)
-            + subsection(0xF7, imports) + subsection(0xF8, exports) + subsection(0xF1, u32(0)))
+    more_rows, entries = lines_of_more_procedures()
+    data = (subsection(0xF4, files) + subsection(0xF6, inlinees) + more_rows + rows + subsection(0xF2, short_rows)
+            + subsection(0xF7, imports) + subsection(0xF8, exports) + subsection(0xF1, u32(0))
+            + subsection(0xF4, more_files) + subsection(0xF6, more_inlinees))
     return data, {
-        "line_program": {"entries": [entry, cut], "files": [FIRST, SECOND]},
-        "inlinees": [0x1000],
+        "line_program": {"entries": [entry, cut, *entries], "files": [FIRST, SECOND, IMPORTED, IMPORTED, FIRST]},
+        "inlinees": [0x1000, 0x1000, 0x1001],
         "imports": [{"module": IMPORTED, "locals": [0x1001, 0x80001002]}],
         "exports": [{"local": 0x1001, "global": 0x2001}, {"local": 0x1002, "global": 0x2002}],
     }
@@ -399,18 +468,30 @@ def section_header(address, size, flags):
     return b".name\0\0\0" + u32(size, address) + bytes(20) + u32(flags)
 
 
-def debug_stream(modules):
-    """The header of the debug information, and its parts."""
-    contributions = u32(0xF12EBA2D) + contribution(1, 0, 0x80, 0) + contribution(1, 0x80, 0x900, 65535)
-    more = u16(*[0xFFFF] * 5, 9)
+CONTRIBUTIONS = u32(0xF12EBA2D) + contribution(1, 0, 0x80, 0) + contribution(1, 0x80, 0x900, 65535)
+
+
+def more_streams(sections=9, to=0xFFFF, back=0xFFFF):
+    """The numbers of the streams that not every file has: of rearranged addresses, and of section headers."""
+    return u16(0xFFFF, 0xFFFF, 0xFFFF, to, back, sections)
+
+
+def debug_stream(modules, contributions=CONTRIBUTIONS, more=more_streams(), machine=0x8664, parts=(b"", b"", b"", b"")):
+    """The header of the debug information, and its parts: modules, contributions, the map of sections, the list of
+    sources, the map of type servers, edit and continue, and last more streams."""
+    of_sections, sources, servers, edits = parts
     front = u32(0xFFFFFFFF, 19990903, 1) + u16(6, 0, 7, 0, 8, 0)
-    front += u32(len(modules), len(contributions), 0, 0, 0, 0, len(more), 0) + u16(0, 0x8664) + u32(0)
-    return front + modules + contributions + more
+    front += u32(len(modules), len(contributions), len(of_sections), len(sources), len(servers), 0, len(more), len(edits))
+    front += u16(0, machine) + u32(0)
+    return front + modules + contributions + of_sections + sources + servers + edits + more
 
 
-def info_stream():
-    """The stream that names another one: a table of hashes with one entry."""
-    return u32(20000404, 0, 1) + bytes(16) + u32(7) + b"/names\0" + u32(1, 1, 1, 1, 0, 0, 5)
+HAS_IDS = u32(20140508)
+
+
+def info_stream(features=u32(0, 0x4D544F4E) + HAS_IDS, version=20000404):
+    """The stream that names another one: a table of hashes with one entry, and what the file lists that it has."""
+    return u32(version, 0, 1) + bytes(16) + u32(7) + b"/names\0" + u32(1, 1, 1, 1, 0, 0, 5) + features
 
 
 def string_stream():
@@ -418,26 +499,55 @@ def string_stream():
     return u32(0xEFFEEFFE, 1, len(TEXTS)) + TEXTS + u32(0, 0)
 
 
-def container(streams):
-    """A file with these streams, in blocks: the superblock, two maps of what is free, the streams, the directory."""
+def container(streams, block=BLOCK, between=0):
+    """A file with these streams, in blocks: the superblock, two maps of what is free, the streams, the directory, and
+    the list of the directory's blocks, of which so many blocks lie between each other."""
     blocks = [b"", b"", b""]
-    numbers = []
-    for stream in streams:
+
+    def put(data):
+        """The numbers of the blocks that data are put into."""
         own = []
-        for start in range(0, len(stream or b""), BLOCK):
+        for start in range(0, len(data), block):
             own.append(len(blocks))
-            blocks.append(stream[start:start + BLOCK])
-        numbers.append(own)
+            blocks.append(data[start:start + block])
+        return own
+
+    numbers = [put(stream or b"") for stream in streams]
     directory = u32(len(streams), *[0xFFFFFFFF if s is None else len(s) for s in streams])
     directory += b"".join(u32(*own) for own in numbers)
-    own = []
-    for start in range(0, len(directory), BLOCK):
-        own.append(len(blocks))
-        blocks.append(directory[start:start + BLOCK])
-    block_map = len(blocks)
-    blocks.append(u32(*own))
-    blocks[0] = b"Microsoft C/C++ MSF 7.00\r\n\x1aDS\0\0\0" + u32(BLOCK, 1, len(blocks), len(directory), 0, block_map)
-    return b"".join(block.ljust(BLOCK, b"\0") for block in blocks)
+    listed = u32(*put(directory))
+    lists = []
+    for start in range(0, len(listed), block):
+        lists += put(listed[start:start + block])
+        blocks.extend([b""] * between)
+    blocks[0] = (b"Microsoft C/C++ MSF 7.00\r\n\x1aDS\0\0\0"
+                 + u32(block, 1, len(blocks), len(directory), 0, *lists))
+    return b"".join(it.ljust(block, b"\0") for it in blocks)
+
+
+SECTIONS = section_header(0x1000, 0x800, 0x60000020) + section_header(0x2000, 0x30, 0x40000040)
+SECTIONS_WANTED = [{"virtual_address": 0x1000, "virtual_size": 0x800, "execute": True},
+                   {"virtual_address": 0x2000, "virtual_size": 0x30, "execute": False}]
+TEXTS_WANTED = [{"ref": 0, "text": ""}, {"ref": 1, "text": "a.cpp"}, {"ref": 7, "text": "b.h"},
+                {"ref": 11, "text": "c.obj"}]
+
+
+def records(**changed):
+    """The records that are wanted of a file with no modules, with what is changed of them, as a line."""
+    wanted = {
+        "version": 2,
+        "sections": SECTIONS_WANTED,
+        "address_map": [{"virtual_address": it["virtual_address"], "virtual_size": it["virtual_size"]}
+                        for it in SECTIONS_WANTED],
+        "global_symbols": [],
+        "debug_information": {"machine_type": "Amd64", "modules": [], "section_contributions": []},
+        "type_information": primitives(),
+        "id_information": [],
+        "string_table": TEXTS_WANTED,
+        "module_infos": [],
+    }
+    wanted.update(changed)
+    return json.dumps(wanted, separators=(",", ":"))
 
 
 def whole():
@@ -449,38 +559,19 @@ def whole():
     modules = (module_header(10, len(symbols.data), len(code), b"a.obj") + module_header(0xFFFF, 0, 0, b"* Linker *")
                + module_header(11, 0, len(more), b"b\xff.obj") + module_header(12, 0, 0, b"c.obj")
                + module_header(40, 0, 0, b"d.obj"))
-    sections = section_header(0x1000, 0x800, 0x60000020) + section_header(0x2000, 0x30, 0x40000040)
     streams = [b"", info_stream(), item_stream(TYPES), debug_stream(modules), item_stream(IDS), string_stream(), b"",
-               None, publics.data, sections, symbols.data + code, more, None]
-    wanted = {
-        "version": 2,
-        "sections": [{"virtual_address": 0x1000, "virtual_size": 0x800, "execute": True},
-                     {"virtual_address": 0x2000, "virtual_size": 0x30, "execute": False}],
-        "address_map": [{"virtual_address": 0x1000, "virtual_size": 0x800},
-                        {"virtual_address": 0x2000, "virtual_size": 0x30}],
-        "global_symbols": faulty(publics.wanted, CUT),
-        "debug_information": {
+               None, publics.data, SECTIONS, symbols.data + code, more, None]
+    wanted = records(
+        global_symbols=faulty(publics.wanted, CUT),
+        debug_information={
             "machine_type": "Amd64",
             "modules": [{"name": "a.obj"}, {"name": "* Linker *"}, {"name": list(b"b\xff.obj")}, {"name": "c.obj"},
                         {"name": "d.obj"}],
             "section_contributions": [{"section": 1, "offset": 0, "size": 0x80, "module": 0},
                                       {"section": 1, "offset": 0x80, "size": 0x900, "module": 65535}]},
-        "type_information": primitives() + item_list(TYPES),
-        "id_information": item_list(IDS),
-        "string_table": [{"ref": 0, "text": ""}, {"ref": 1, "text": "a.cpp"}, {"ref": 7, "text": "b.h"},
-                         {"ref": 11, "text": "c.obj"}],
-        "module_infos": [{"symbols": symbols.wanted, **info}, None, other_info, {"error": 2}, {"error": 2}],
-    }
-    return container(streams), json.dumps(wanted, separators=(",", ":")).encode() + b"\n"
-
-
-def main():
-    """Writes both files."""
-    folder = pathlib.Path(sys.argv[1])
-    given, wanted = whole()
-    (folder / "stdin").write_bytes(given)
-    (folder / "stdout").write_bytes(wanted)
-
-
-if __name__ == "__main__":
-    main()
+        type_information=primitives() + item_list(TYPES),
+        id_information=item_list(IDS),
+        module_infos=[{"symbols": symbols.wanted, **info}, None, other_info, {"error": 2}, {"error": 2}])
+    broken = ["GlobalSymbols(StreamError(1))", "Lines { module: 0, fault: StreamError(1) }",
+              "Module { module: 3, fault: StreamError(2) }", "Module { module: 4, fault: StreamError(2) }"]
+    return container(streams), [wanted, *broken]

@@ -7,12 +7,41 @@ pub enum ContainerFault {
     /// The file doesn't begin as a PDB file of version 7.00 does, or has blocks of a size that none has.
     #[error("not a PDB file")]
     NotAPdbFile,
+    /// The file is a program or a library.
+    #[error("a program (EXE or DLL), not its PDB file")]
+    Program,
+    /// The file has the debugging records of a program for .NET.
+    #[error("a .NET portable PDB")]
+    PortablePdb,
+    /// The file is compressed, as symbol stores have files.
+    #[error("a compressed file (CAB, .pd_)")]
+    Compressed,
+    /// The file is a PDB file of the version before 7.00.
+    #[error("a PDB file of version 2.00 (JG)")]
+    OldPdbFile,
     /// The file ends before its directory of streams does.
     #[error("the file is cut short before the end of its directory")]
     CutShort,
     /// There was no memory. The same call may succeed later.
     #[error("out of memory")]
     OutOfMemory,
+}
+
+/// What a file is that is no PDB file of version 7.00, by its first bytes.
+pub fn other_file(file: &[u8]) -> ContainerFault {
+    if file.starts_with(b"MZ") {
+        return ContainerFault::Program;
+    }
+    if file.starts_with(b"BSJB") {
+        return ContainerFault::PortablePdb;
+    }
+    if file.starts_with(b"MSCF") || file.starts_with(b"SZDD") {
+        return ContainerFault::Compressed;
+    }
+    if file.starts_with(b"Microsoft C/C++ program database 2.00") {
+        return ContainerFault::OldPdbFile;
+    }
+    ContainerFault::NotAPdbFile
 }
 
 impl From<Fault> for ContainerFault {

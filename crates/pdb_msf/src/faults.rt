@@ -26,6 +26,23 @@ pub const BAD_NUMBER: StreamError = StreamError(9);
 /// Code of an inlined body stands apart from its function's, in a place that isn't shown.
 pub const APART: StreamError = StreamError(10);
 
+/// What a number says in words.
+pub fn fault_text(error: StreamError) -> &'static str {
+    match error {
+        CUT => "the bytes end before what is said to stand there",
+        NO_STREAM => "the file has no such stream",
+        BLOCK_OUTSIDE => "a block lies outside of the file",
+        TOO_LONG => "the streams are longer than the file together",
+        UNKNOWN_VERSION => "a signature or a version that isn't known",
+        BAD_LENGTH => "a length that can't stand there",
+        POINTS_NOWHERE => "it begins behind its own end",
+        REARRANGED => "addresses were rearranged after linking",
+        BAD_NUMBER => "a number or a kind that can't stand there",
+        APART => "code of an inlined body in a separated chunk",
+        _ => "it can't be read",
+    }
+}
+
 /// Why reading a part ended early.
 #[derive(Debug, Clone, Copy)]
 pub enum Fault {

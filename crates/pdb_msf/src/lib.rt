@@ -14,7 +14,7 @@ mod number_lists;
 mod streams;
 
 pub use bytes::{Bytes, u16_at, u32_at};
-pub use container_fault::ContainerFault;
+pub use container_fault::{ContainerFault, other_file};
 pub use msf::Container;
 pub use names::{copy_name, offset_of};
 pub use number_lists::take_numbers;

@@ -1,5 +1,5 @@
 use crate::bytes::{Bytes, u32_at};
-use crate::container_fault::ContainerFault;
+use crate::container_fault::{ContainerFault, other_file};
 use crate::faults::{CUT, Fault, NO_STREAM, TOO_LONG};
 use crate::number_lists::take_numbers;
 use crate::streams::{StreamBytes, read_stream};
@@ -11,6 +11,10 @@ const MAGIC: [u8; 32] = *b"Microsoft C/C++ MSF 7.00\r\n\x1aDS\0\0\0";
 /// The bytes of the superblock.
 const SUPERBLOCK: usize = 56;
 
+/// Where the superblock names the blocks that list those of the directory: most often one, and as many as the list
+/// takes.
+const DIRECTORY_LISTS: usize = 52;
+
 /// The length that stands for a stream that isn't there.
 const ABSENT: u32 = 0xffff_ffff;
 
@@ -19,7 +23,6 @@ const ABSENT: u32 = 0xffff_ffff;
 struct Superblock {
     block_size: usize,
     directory_length: usize,
-    block_map: u32,
 }
 
 /// Where the directory has a stream.
@@ -54,6 +57,19 @@ impl<'a> Container<'a> {
             streams,
             left: file.len(),
         })
+    }
+
+    /// The length of the file.
+    pub fn file_length(&self) -> usize {
+        self.file.len()
+    }
+
+    /// Whether the stream of this number is there and has no bytes.
+    pub fn is_empty_stream(&self, number: u32) -> bool {
+        match self.streams.get(number as usize) {
+            Some(extent) => extent.length == 0,
+            None => false,
+        }
     }
 
     /// The bytes of the stream of this number. Whatever asks for the same bytes again asks for more
@@ -93,7 +109,7 @@ fn is_block_size(size: u32) -> bool {
 
 fn read_superblock(file: &[u8]) -> Result<Superblock, ContainerFault> {
     if !file.starts_with(&MAGIC) {
-        return Err(ContainerFault::NotAPdbFile);
+        return Err(other_file(file));
     }
     let Ok(front) = Bytes::new(file).take(SUPERBLOCK) else {
         return Err(ContainerFault::CutShort);
@@ -105,11 +121,10 @@ fn read_superblock(file: &[u8]) -> Result<Superblock, ContainerFault> {
     Ok(Superblock {
         block_size: block_size as usize,
         directory_length: u32_at(front, 44) as usize,
-        block_map: u32_at(front, 52),
     })
 }
 
-// The directory's bytes: its own blocks are listed in the block that the superblock names.
+// The directory's bytes: its own blocks are listed in the blocks that the superblock names.
 fn read_directory<'a>(
     alloc: Global,
     file: &'a [u8],
@@ -119,17 +134,25 @@ fn read_directory<'a>(
     if file.len() < length {
         return Err(Fault::Broken(CUT));
     }
-    let Some(start) = (superblock.block_map as usize).checked_mul(superblock.block_size) else {
-        return Err(Fault::Broken(CUT));
-    };
-    let mut numbers = Bytes::new(file);
-    numbers.take(start)?;
-    let blocks = take_numbers(
-        alloc,
-        &mut numbers,
-        block_count(length, superblock.block_size),
-    )?;
+    let list = read_directory_list(alloc, file, superblock)?;
+    let mut numbers = Bytes::new(list.as_slice());
+    let count = block_count(length, superblock.block_size);
+    let blocks = take_numbers(alloc, &mut numbers, count)?;
     read_stream(alloc, file, superblock.block_size, length, &blocks)
+}
+
+// The numbers of the directory's blocks, four bytes each.
+fn read_directory_list<'a>(
+    alloc: Global,
+    file: &'a [u8],
+    superblock: &Superblock,
+) -> Result<StreamBytes<'a>, Fault> {
+    let block_size = superblock.block_size;
+    let length = block_count(superblock.directory_length, block_size).saturating_mul(4);
+    let mut front = Bytes::new(file);
+    front.take(DIRECTORY_LISTS)?;
+    let blocks = take_numbers(alloc, &mut front, block_count(length, block_size))?;
+    read_stream(alloc, file, block_size, length, &blocks)
 }
 
 // Where the directory has each stream: first stands how many there are, then their lengths, then the

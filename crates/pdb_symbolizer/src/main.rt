@@ -14,8 +14,10 @@ mod input_files;
 mod json_text;
 mod options;
 mod progress;
+mod repairs;
 mod runs;
 mod stops;
+mod symbol_names;
 
 use pdb_addr2line::Error;
 use progress::Progress;

@@ -2,14 +2,28 @@ use crate::addresses::parse_number;
 use crate::answers::{write_answer, write_no_answer};
 use crate::command_line::parse;
 use crate::export_files::write_files;
-use crate::input_files::read_records_of;
-use crate::options::{Export, Options, Style};
+use crate::input_files::{InputFile, read_input_file};
+use crate::options::{Options, Style};
 use crate::progress::Progress;
+use crate::repairs::print_repairs;
 use crate::stops::Stop;
-use pdb_addr2line::{Context, ContextPdbData, Error, Frame, FunctionFrames, ModuleProvider};
+use crate::symbol_names::SymbolNames;
+use pdb_addr2line::pdb::PDB;
+use pdb_addr2line::{Context, ContextPdbData, Error, Frame, FunctionFrames};
 use std::io::{self, BufRead, BufReader, Write};
 use std::rt::Files;
 use std::time::Clock;
+
+/// A context over the records of a file.
+type FileContext<'a, 'p> = Context<'a, ContextPdbData<'p>>;
+
+/// What is asked, and what names are had from beside the context.
+#[derive(Clone, Copy)]
+struct Questions<'q, 'w, 'p> {
+    options: &'q Options<'w>,
+    names: &'q SymbolNames,
+    data: &'q ContextPdbData<'p>,
+}
 
 /// Does what the words of a command line ask for: reads the file, and answers each address or writes the records.
 pub fn run<'w, R: Files + Input + Print + Eprint + Clock + AllocGlobal>(
@@ -18,60 +32,82 @@ pub fn run<'w, R: Files + Input + Print + Eprint + Clock + AllocGlobal>(
     words: &'w [String],
 ) -> Result<(), Stop<'w>> {
     let options = parse(rt.alloc(), words)?;
+    run_over(rt, progress, &options)
+}
+
+fn run_over<'w, R: Files + Input + Print + Eprint + Clock + AllocGlobal>(
+    rt: &R,
+    progress: &mut Progress,
+    options: &Options<'w>,
+) -> Result<(), Stop<'w>> {
+    let mut file = read_input_file(rt, progress, options.file)?;
     match options.export {
-        Some(export) => write_over(rt, progress, options.file, export),
-        None => answer_over(rt, progress, &options),
+        Some(export) => write_files(rt, progress, export, &file.records),
+        None => answer_over(rt, options, &mut file),
     }
 }
 
-fn write_over<'w, R: Files + Eprint + Clock + AllocGlobal>(
+fn answer_over<'w, R: Input + Print + Eprint + AllocGlobal>(
     rt: &R,
-    progress: &mut Progress,
-    file: &'w str,
-    export: Export<'w>,
+    options: &Options<'w>,
+    file: &mut InputFile,
 ) -> Result<(), Stop<'w>> {
-    let records = read_records_of(rt, progress, file)?;
-    write_files(rt, progress, export, &records)
+    if let Some(refusal) = file.refusal {
+        return Err(Stop::PdbFile(options.file, refusal));
+    }
+    if file.names_only {
+        let _ = eprintln!(rt;
+            "pdb_symbolizer: {}: made with /DEBUG:FASTLINK: names but no lines",
+            options.file
+        );
+    }
+    print_repairs(rt, options.file, &mut file.records)?;
+    answer_repaired(rt, options, &mut file.records)
 }
 
-fn answer_over<'w, R: Files + Input + Print + Eprint + AllocGlobal>(
+fn answer_repaired<'w, R: Input + Print + Eprint + AllocGlobal>(
     rt: &R,
-    progress: &Progress,
     options: &Options<'w>,
+    records: &mut PDB,
 ) -> Result<(), Stop<'w>> {
-    let records = read_records_of(rt, progress, options.file)?;
-    let data = ContextPdbData::try_from_pdb(rt.alloc(), records)?;
-    answer_all(rt, options, &data)
+    let names = SymbolNames::new(rt.alloc(), records)?;
+    let data = ContextPdbData::try_from_pdb_ref(rt.alloc(), records)?;
+    let questions = Questions {
+        options,
+        names: &names,
+        data: &data,
+    };
+    answer_all(rt, &questions)
 }
 
 fn answer_all<'w, R: Input + Print + Eprint + AllocGlobal>(
     rt: &R,
-    options: &Options<'_>,
-    data: &ContextPdbData<'_>,
+    questions: &Questions<'_, '_, '_>,
 ) -> Result<(), Stop<'w>> {
-    let mut context = data.make_context_with_formatter_flags(options.flags())?;
-    if options.addresses.is_empty() {
-        answer_lines(rt, options, &mut context)
+    let flags = questions.options.flags();
+    let mut context = questions.data.make_context_with_formatter_flags(flags)?;
+    if questions.options.addresses.is_empty() {
+        answer_lines(rt, questions, &mut context)
     } else {
-        answer_words(rt, options, &mut context)
+        answer_words(rt, questions, &mut context)
     }
 }
 
 /// Answers the addresses of the command line. In JSON the answers are one array.
-fn answer_words<'w, R: Print + Eprint + AllocGlobal, P: ModuleProvider>(
+fn answer_words<'w, R: Print + Eprint + AllocGlobal>(
     rt: &R,
-    options: &Options<'_>,
-    context: &mut Context<'_, P>,
+    questions: &Questions<'_, '_, '_>,
+    context: &mut FileContext<'_, '_>,
 ) -> Result<(), Stop<'w>> {
-    let json = options.style == Style::Json;
+    let json = questions.options.style == Style::Json;
     if json {
         write_out(rt, "[")?;
     }
-    for (position, given) in options.addresses.iter().enumerate() {
+    for (position, given) in questions.options.addresses.iter().enumerate() {
         if json && position > 0 {
             write_out(rt, ",")?;
         }
-        let text = answer_text(rt, options, context, given)?;
+        let text = answer_text(rt, questions, context, given)?;
         write_out(rt, text.as_str())?;
     }
     if json {
@@ -81,19 +117,19 @@ fn answer_words<'w, R: Print + Eprint + AllocGlobal, P: ModuleProvider>(
 }
 
 /// Answers the lines of standard input, each before the next is read.
-fn answer_lines<'w, R: Input + Print + Eprint + AllocGlobal, P: ModuleProvider>(
+fn answer_lines<'w, R: Input + Print + Eprint + AllocGlobal>(
     rt: &R,
-    options: &Options<'_>,
-    context: &mut Context<'_, P>,
+    questions: &Questions<'_, '_, '_>,
+    context: &mut FileContext<'_, '_>,
 ) -> Result<(), Stop<'w>> {
     let Ok(reader) = BufReader::new(rt.alloc(), rt.reader()) else {
         return Err(Stop::Refused(Error::OutOfMemory));
     };
     for line in reader.lines(rt.alloc()) {
         match line {
-            Ok(line) => answer_line(rt, options, context, line.as_str().trim())?,
+            Ok(line) => answer_line(rt, questions, context, line.as_str().trim())?,
             Err(error) if matches!(error.kind(), io::ErrorKind::InvalidData) => {
-                answer_line(rt, options, context, "?")?;
+                answer_line(rt, questions, context, "?")?;
             }
             Err(_) => return Err(Stop::CannotReadInput),
         }
@@ -101,26 +137,27 @@ fn answer_lines<'w, R: Input + Print + Eprint + AllocGlobal, P: ModuleProvider>(
     Ok(())
 }
 
-fn answer_line<'w, R: Print + Eprint + AllocGlobal, P: ModuleProvider>(
+fn answer_line<'w, R: Print + Eprint + AllocGlobal>(
     rt: &R,
-    options: &Options<'_>,
-    context: &mut Context<'_, P>,
+    questions: &Questions<'_, '_, '_>,
+    context: &mut FileContext<'_, '_>,
     given: &str,
 ) -> Result<(), Stop<'w>> {
-    let mut text = answer_text(rt, options, context, given)?;
-    if options.style == Style::Json {
+    let mut text = answer_text(rt, questions, context, given)?;
+    if questions.options.style == Style::Json {
         text.push('\n')?;
     }
     write_out(rt, text.as_str())
 }
 
 /// The answer of what was given as an address. What is none is shown on standard error.
-fn answer_text<'w, R: Eprint + AllocGlobal, P: ModuleProvider>(
+fn answer_text<'w, R: Eprint + AllocGlobal>(
     rt: &R,
-    options: &Options<'_>,
-    context: &mut Context<'_, P>,
+    questions: &Questions<'_, '_, '_>,
+    context: &mut FileContext<'_, '_>,
     given: &str,
 ) -> Result<String, Stop<'w>> {
+    let options = questions.options;
     let mut text = String::new(rt.alloc());
     match parse_number(given) {
         None => {
@@ -128,25 +165,33 @@ fn answer_text<'w, R: Eprint + AllocGlobal, P: ModuleProvider>(
             write_no_answer(&mut text, options, given)?;
         }
         Some(number) => {
-            let found = frames_at(rt, options, context, number)?;
+            let found = frames_at(rt, questions, context, number)?;
             write_answer(&mut text, options, number, shown(options, &found))?;
         }
     }
     Ok(text)
 }
 
-/// The frames of an address. Where the records of its module can't be read that is shown on standard error.
-fn frames_at<'a, 'w, R: Eprint, P: ModuleProvider>(
+/// The frames of an address, of which the last has a name wherever its symbol has one. Where the records of its module
+/// can't be read that is shown on standard error.
+fn frames_at<'a, 'w, R: Eprint + AllocGlobal>(
     rt: &R,
-    options: &Options<'_>,
-    context: &mut Context<'a, P>,
+    questions: &Questions<'_, '_, '_>,
+    context: &mut FileContext<'a, '_>,
     given: u64,
 ) -> Result<Option<FunctionFrames<'a>>, Stop<'w>> {
-    let Some(address) = options.relative(given) else {
+    let Some(address) = questions.options.relative(given) else {
         return Ok(None);
     };
     match context.find_frames(address) {
-        Ok(found) => Ok(found),
+        Ok(mut found) => {
+            if let Some(frames) = &mut found {
+                questions
+                    .names
+                    .name_function(rt.alloc(), questions.data, frames)?;
+            }
+            Ok(found)
+        }
         Err(Error::OutOfMemory) => Err(Stop::Refused(Error::OutOfMemory)),
         Err(error) => {
             let _ = eprintln!(rt; "pdb_symbolizer: 0x{given:x}: {error}");

@@ -1,5 +1,5 @@
 use pdb_addr2line::Error;
-use pdb_container::ContainerFault;
+use pdb_container::{ContainerFault, Refusal};
 use pdb_export::ExportFault;
 use pdb_json::RecordFault;
 use std::alloc::{AllocError, AllocFailed};
@@ -25,6 +25,9 @@ pub enum Stop<'w> {
     /// The file is a PDB file that can't be read.
     #[error("pdb_symbolizer: {0}: {1}")]
     Container(&'w str, ContainerFault),
+    /// The file is a PDB file over which nothing can be answered.
+    #[error("pdb_symbolizer: {0}: {1}")]
+    PdbFile(&'w str, Refusal),
     /// The file is a records file that holds no records.
     #[error("pdb_symbolizer: {0}: {1}")]
     Records(&'w str, RecordFault),
@@ -51,7 +54,7 @@ impl Stop<'_> {
         match self {
             Stop::Words(error) if !error.use_stderr() => 0,
             Stop::ClosedPipe => 0,
-            Stop::Refused(_) => 1,
+            Stop::Refused(_) | Stop::PdbFile(_, _) => 1,
             _ => 2,
         }
     }

@@ -1,0 +1,63 @@
+use pdb_msf::faults::{NO_STREAM, REARRANGED, UNKNOWN_VERSION, fault_text};
+use pdb_records::{PDB, StreamError};
+use thiserror::Error;
+
+/// Why nothing can be answered over the records of a PDB file.
+#[derive(Debug, Clone, Copy, PartialEq, Eq, Error)]
+pub enum Refusal {
+    /// The file is one that a compiler keeps beside its objects.
+    #[error("a compiler's PDB file, of objects and not of a program")]
+    OfObjects,
+    /// The types have a form that isn't read. The number is the file's version.
+    #[error("types: made by a version from before 2005 ({0})")]
+    OldTypes(u32),
+    /// Nothing says where the sections are loaded.
+    #[error("no section headers (stripped)")]
+    NoSectionHeaders,
+    /// Addresses were rearranged after linking.
+    #[error("rearranged addresses (OMAP): not read")]
+    Rearranged,
+    /// A stream is broken: its name, and why it can't be read.
+    #[error("{0}: {1}")]
+    Broken(&'static str, &'static str),
+}
+
+/// Why nothing can be answered over the records of a file of this version, if so. Of several reasons the first counts,
+/// in the order debug information, global symbols, types, ids, sections, address map.
+pub fn refusal_of(version: u32, records: &PDB) -> Option<Refusal> {
+    if let Err(error) = &records.debug_information {
+        return Some(debug_refusal(*error));
+    }
+    if let Err(error) = &records.global_symbols {
+        return Some(Refusal::Broken("global symbols", fault_text(*error)));
+    }
+    if let Err(error) = &records.type_information {
+        return Some(types_refusal(version, *error));
+    }
+    if let Err(error) = &records.id_information {
+        return Some(Refusal::Broken("ids", fault_text(*error)));
+    }
+    if let Err(error) = &records.sections {
+        return Some(Refusal::Broken("section headers", fault_text(*error)));
+    }
+    match &records.address_map {
+        Ok(_) => None,
+        Err(REARRANGED) => Some(Refusal::Rearranged),
+        Err(_) => Some(Refusal::NoSectionHeaders),
+    }
+}
+
+// Without debug information a file is of no program.
+fn debug_refusal(error: StreamError) -> Refusal {
+    match error {
+        NO_STREAM => Refusal::OfObjects,
+        _ => Refusal::Broken("debug information", fault_text(error)),
+    }
+}
+
+fn types_refusal(version: u32, error: StreamError) -> Refusal {
+    match error {
+        UNKNOWN_VERSION => Refusal::OldTypes(version),
+        _ => Refusal::Broken("types", fault_text(error)),
+    }
+}

@@ -1,0 +1,54 @@
+"""Files over which nothing is answered, by their bytes, and why."""
+from kinds import (SECTIONS, container, debug_stream, info_stream, item_stream, more_streams, string_stream, u32)
+
+CUT = "the bytes end before what is said to stand there"
+
+
+def streams(**changed):
+    """The streams of a file with no modules, with what is changed of them."""
+    made = {"info": info_stream(), "types": item_stream([]), "debug": debug_stream(b"", b""), "ids": item_stream([]),
+            "publics": b"", "sections": SECTIONS, "more": b""}
+    made.update(changed)
+    return [b"", made["info"], made["types"], made["debug"], made["ids"], string_stream(), made["more"], None,
+            made["publics"], made["sections"]]
+
+
+def file_of(**changed):
+    """A function that gives the file with these streams."""
+    return lambda: container(streams(**changed))
+
+
+def old_types():
+    """A file whose types have the form from before 2005."""
+    return container(streams(types=u32(19990903) + item_stream([])[4:]))
+
+
+FILES = [
+    ("program.exe", lambda: b"MZ" + bytes(510), "a program (EXE or DLL), not its PDB file"),
+    ("portable.pdb", lambda: b"BSJB" + bytes(508), "a .NET portable PDB"),
+    ("cabinet.pd_", lambda: b"MSCF" + bytes(508), "a compressed file (CAB, .pd_)"),
+    ("compressed.pd_", lambda: b"SZDD\x88\xf0\x27\x33" + bytes(504), "a compressed file (CAB, .pd_)"),
+    ("version_2.pdb", lambda: b"Microsoft C/C++ program database 2.00\r\n\x1aJG\0\0" + bytes(470),
+     "a PDB file of version 2.00 (JG)"),
+    ("text.pdb", lambda: b"Microsoft C", "not a PDB file"),
+    ("blocks_of_no_size.pdb", lambda: file_of()()[:32] + u32(1000) + file_of()()[36:], "not a PDB file"),
+    ("superblock_alone.pdb", lambda: file_of()()[:56], "the file is cut short before the end of its directory"),
+    ("objects.pdb", file_of(debug=b""), "a compiler's PDB file, of objects and not of a program"),
+    ("no_debug_stream.pdb", file_of(debug=None), "a compiler's PDB file, of objects and not of a program"),
+    ("old_debug.pdb", file_of(debug=u32(930803) + bytes(60)),
+     "debug information: a signature or a version that isn't known"),
+    ("cut_debug.pdb", file_of(debug=debug_stream(b"", b"")[:63]), "debug information: " + CUT),
+    ("old_types.pdb", old_types, "types: made by a version from before 2005 (20000404)"),
+    ("no_types.pdb", file_of(types=None), "types: the file has no such stream"),
+    ("types_behind_their_end.pdb", file_of(types=item_stream([])[:4] + u32(57) + item_stream([])[8:]),
+     "types: it begins behind its own end"),
+    ("cut_ids.pdb", file_of(ids=item_stream([])[:19]), "ids: " + CUT),
+    ("no_global_symbols.pdb", file_of(publics=None), "global symbols: the file has no such stream"),
+    ("stripped.pdb", file_of(debug=debug_stream(b"", b"", more_streams(sections=0xFFFF))), "no section headers (stripped)"),
+    ("stripped_of_all.pdb", file_of(debug=debug_stream(b"", b"", b"")), "no section headers (stripped)"),
+    ("cut_sections.pdb", file_of(sections=SECTIONS[:79]), "section headers: " + CUT),
+    ("rearranged_to.pdb", file_of(debug=debug_stream(b"", b"", more_streams(to=6)), more=u32(0x1000, 0x2000)),
+     "rearranged addresses (OMAP): not read"),
+    ("rearranged_back.pdb", file_of(debug=debug_stream(b"", b"", more_streams(back=6)), more=u32(0x1000, 0x2000)),
+     "rearranged addresses (OMAP): not read"),
+]

@@ -1,0 +1,34 @@
+#!/usr/bin/env python3
+"""Writes the PDB files of the stored run by their bytes, and what is wanted of them.
+
+Usage: write_files.py FOLDER
+
+FOLDER, that of the crate, gets the files `args` (the names of the PDB files), `stdout` (what is wanted of all, one after
+the other), and `data/NAME` for each.
+"""
+import pathlib
+import sys
+
+import broken_parts
+import kinds
+import other_forms
+import refused_files
+
+FILES = [("kinds.pdb", kinds.whole), *other_forms.FILES, *broken_parts.FILES,
+         *[(name, lambda made=made, why=why: (made(), [why])) for name, made, why in refused_files.FILES]]
+
+
+def main():
+    """Writes all files."""
+    folder = pathlib.Path(sys.argv[1])
+    wanted = ""
+    for name, made in FILES:
+        data, lines = made()
+        (folder / "data" / name).write_bytes(data)
+        wanted += "".join(f"{line}\n" for line in [name, *lines])
+    (folder / "args").write_text("".join(f"{name}\n" for name, _ in FILES))
+    (folder / "stdout").write_text(wanted)
+
+
+if __name__ == "__main__":
+    main()

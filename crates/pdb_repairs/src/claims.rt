@@ -1,0 +1,155 @@
+use crate::repairs::Repair;
+use pdb_ranges::{Probes, Segment, Segments};
+use pdb_records::{DebugInformation, ImageSectionHeader, SectionContribution};
+use std::alloc::{AllocError, Global};
+
+/// How many offsets a section has.
+const OFFSETS: u64 = 1 << 32;
+
+/// The bytes that a contribution claims for its module, as numbers that no other section has.
+#[derive(Clone, Copy)]
+struct Claim {
+    start: u64,
+    /// The number past the last.
+    end: u64,
+    module: usize,
+}
+
+/// Neighbouring bytes that count for one module, or for none.
+#[derive(Clone, Copy)]
+struct Run {
+    start: u64,
+    /// The number past the last.
+    end: u64,
+    module: Option<usize>,
+}
+
+/// Leaves out each contribution that has a byte which counts for another module. Of each byte the greatest claim over it
+/// counts, of equal ones the first. Left out is also what ends past the offsets of a section. So no byte is claimed by
+/// two modules.
+pub fn retain_claims(
+    alloc: Global,
+    sections: &[ImageSectionHeader],
+    debug: &mut DebugInformation,
+    repairs: &mut Vec<Repair>,
+) -> Result<(), AllocError> {
+    let contributions = debug.section_contributions.items.as_slice();
+    let claims = claims(alloc, sections, contributions)?;
+    let runs = runs(alloc, &claims)?;
+    let mut retained = Vec::new(alloc);
+    let mut left_out = Vec::new(alloc);
+    for contribution in contributions {
+        if counts(sections, contribution) && is_opposed(contribution, &runs) {
+            left_out.push(contribution.module)?;
+        } else {
+            retained.push(*contribution)?;
+        }
+    }
+    push_modules(&mut left_out, repairs)?;
+    debug.section_contributions.items = retained;
+    Ok(())
+}
+
+// Each module once.
+fn push_modules(modules: &mut Vec<usize>, repairs: &mut Vec<Repair>) -> Result<(), AllocError> {
+    modules.sort_unstable();
+    modules.dedup();
+    for &module in modules.iter() {
+        repairs.push(Repair::ModuleContributions { module })?;
+    }
+    Ok(())
+}
+
+// Whether a contribution has bytes, in a section that holds code.
+fn counts(sections: &[ImageSectionHeader], contribution: &SectionContribution) -> bool {
+    let number = usize::from(contribution.offset.section);
+    match sections.get(number.wrapping_sub(1)) {
+        Some(section) => section.execute && contribution.size > 0,
+        None => false,
+    }
+}
+
+// What a contribution claims, where its end fits the offsets of a section.
+fn claim_of(contribution: &SectionContribution) -> Option<Claim> {
+    let end = contribution.offset.offset.checked_add(contribution.size)?;
+    let section = u64::from(contribution.offset.section) * OFFSETS;
+    Some(Claim {
+        start: section + u64::from(contribution.offset.offset),
+        end: section + u64::from(end),
+        module: contribution.module,
+    })
+}
+
+fn claims(
+    alloc: Global,
+    sections: &[ImageSectionHeader],
+    contributions: &[SectionContribution],
+) -> Result<Vec<Claim>, AllocError> {
+    let mut claims = Vec::new(alloc);
+    for contribution in contributions {
+        if counts(sections, contribution)
+            && let Some(claim) = claim_of(contribution)
+        {
+            claims.push(claim)?;
+        }
+    }
+    Ok(claims)
+}
+
+// The claims, the greatest last, and of equal ones the first.
+fn painted(alloc: Global, claims: &[Claim]) -> Result<Vec<Segment<usize>>, AllocError> {
+    let mut segments = Vec::new(alloc);
+    for claim in claims.iter().rev() {
+        segments.push(Segment {
+            start: claim.start,
+            end: claim.end,
+            value: claim.module,
+        })?;
+    }
+    segments.sort_by_key(|segment: &Segment<usize>| segment.end.saturating_sub(segment.start))?;
+    Ok(segments)
+}
+
+// The runs of bytes that count for one module, ascending. Where they change a claim begins or ends.
+fn runs(alloc: Global, claims: &[Claim]) -> Result<Vec<Run>, AllocError> {
+    let owners = Segments::of_painted(alloc, &painted(alloc, claims)?)?;
+    let mut ends: Vec<u64> = Vec::new(alloc);
+    for claim in claims {
+        ends.push(claim.start)?;
+        ends.push(claim.end)?;
+    }
+    ends.sort_unstable();
+    let mut runs = Vec::new(alloc);
+    for &number in &ends {
+        begin_run(&mut runs, number, owners.find(number, &mut Probes::new()))?;
+    }
+    Ok(runs)
+}
+
+// Begins a run, where the last one is of another module.
+fn begin_run(runs: &mut Vec<Run>, start: u64, module: Option<usize>) -> Result<(), AllocError> {
+    if let Some(last) = runs.last_mut() {
+        if last.module == module {
+            return Ok(());
+        }
+        last.end = start;
+    }
+    runs.push(Run {
+        start,
+        end: u64::MAX,
+        module,
+    })?;
+    Ok(())
+}
+
+// Whether a byte of a contribution counts for another module, or its end fits no offset.
+fn is_opposed(contribution: &SectionContribution, runs: &[Run]) -> bool {
+    let Some(claim) = claim_of(contribution) else {
+        return true;
+    };
+    let behind = runs.partition_point(|run| run.start <= claim.start);
+    match runs.get(behind.wrapping_sub(1)) {
+        Some(run) => run.module != Some(claim.module) || run.end < claim.end,
+        None => false,
+    }
+}
