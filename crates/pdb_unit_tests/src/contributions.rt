@@ -1,6 +1,7 @@
+use crate::checks::Checks;
 use pdb_functions::{
     ContributionTable, GlobalFunctionTable, ModuleSectionContribution, compute_global_functions,
-    compute_section_contributions, laws,
+    compute_section_contributions,
 };
 use pdb_records::{
     DebugInformation, ImageSectionHeader, MachineType, PdbInternalSectionOffset, PublicSymbol,
@@ -129,15 +130,6 @@ fn is_merged(alloc: Global) -> bool {
     }
 }
 
-#[test]
-fn contributions_and_where_they_start(rt: HostRuntime) {
-    assert!(rt; is_merged(rt.alloc()));
-    laws::merged_contributions_are_apart();
-    laws::merged_contributions_hold_all();
-    laws::merged_contributions_hold_no_other_module();
-    laws::order_of_contributions_agrees_with_equality();
-}
-
 /// Two sections of code.
 static CODE: [ImageSectionHeader; 2] = [
     ImageSectionHeader {
@@ -193,20 +185,20 @@ static MERGED: [(&[Given], &[Given]); 5] = [
     ),
 ];
 
-#[test]
-fn modules_take_turns(rt: HostRuntime) {
-    laws::contributions_in_reading_order_stay();
-    for (given, wanted) in &MERGED {
-        assert!(rt; are_merged_into(rt.alloc(), given, wanted));
+/// Whether contributions are refused for an end in the first section that is too large, of this module.
+fn is_too_large(alloc: Global, given: &[Given], module: usize) -> bool {
+    match merged(alloc, given) {
+        Err(Error::SectionContributionEndTooLarge(found, 1)) => found == module,
+        _ => false,
     }
 }
 
-/// Why these contributions are refused.
-fn refusal(alloc: Global, given: &[Given]) -> Option<Error> {
-    match merged(alloc, given) {
-        Ok(_) => None,
-        Err(error) => Some(error),
-    }
+/// Whether contributions are refused for an overlap in the first section, of the first two modules.
+fn is_overlap(alloc: Global, given: &[Given]) -> bool {
+    matches!(
+        merged(alloc, given),
+        Err(Error::OverlappingSectionContributions(1, 0, 1))
+    )
 }
 
 /// Whether contributions of which two overlap are refused for the fault behind them.
@@ -216,28 +208,6 @@ fn is_fault_first(alloc: Global) -> bool {
         merged_in(alloc, &CODE, &given, Some(StreamError(9))),
         Err(Error::PdbError(pdb_records::Error::Stream(StreamError(9))))
     )
-}
-
-#[test]
-fn refused_contributions(rt: HostRuntime) {
-    laws::contributions_are_refused_for();
-    assert!(rt; is_fault_first(rt.alloc()));
-    let before_overlap = [
-        (1, 0, 0x20, 0),
-        (1, 0x10, 0x20, 1),
-        (1, 0xffff_fff0, 0x20, 3),
-    ];
-    let first = refusal(rt.alloc(), &before_overlap);
-    assert!(rt; matches!(first, Some(Error::SectionContributionEndTooLarge(3, 1))));
-    let too_large = refusal(rt.alloc(), &[(1, 0xffff_fff0, 0x20, 0)]);
-    assert!(rt; matches!(too_large, Some(Error::SectionContributionEndTooLarge(0, 1))));
-    let overlapping = refusal(rt.alloc(), &[(1, 0, 0x20, 0), (1, 0x10, 0x20, 1)]);
-    assert!(rt;
-        matches!(
-            overlapping,
-            Some(Error::OverlappingSectionContributions(1, 0, 1))
-        )
-    );
 }
 
 /// Three thousand contributions, one behind the other, each of another module.
@@ -272,11 +242,12 @@ fn are_thousands_found(alloc: Global, given: &[Given]) -> bool {
     }
 }
 
-#[test]
-fn thousands_of_contributions(rt: HostRuntime) -> Result<(), AllocError> {
-    let given = side_by_side(rt.alloc())?;
-    assert!(rt; are_thousands_found(rt.alloc(), &given));
-    Ok(())
+/// Whether three thousand contributions side by side are found.
+fn finds_thousands(alloc: Global) -> bool {
+    match side_by_side(alloc) {
+        Ok(given) => are_thousands_found(alloc, &given),
+        Err(_) => false,
+    }
 }
 
 /// Three thousand public symbols, one behind the other.
@@ -322,11 +293,50 @@ fn have_thousands(alloc: Global, symbols: &[Symbol]) -> bool {
     }
 }
 
-#[test]
-fn thousands_of_global_functions(rt: HostRuntime) -> Result<(), AllocError> {
-    let symbols = publics(rt.alloc())?;
-    laws::first_global_function_of_each_start_is_kept();
-    laws::first_procedure_of_each_start_is_kept();
-    assert!(rt; have_thousands(rt.alloc(), &symbols));
-    Ok(())
+/// Whether three thousand public symbols have such functions.
+fn finds_thousands_of_functions(alloc: Global) -> bool {
+    match publics(alloc) {
+        Ok(symbols) => have_thousands(alloc, &symbols),
+        Err(_) => false,
+    }
+}
+
+/// Whether all of [`MERGED`] are merged so.
+fn take_turns(alloc: Global) -> bool {
+    for (given, wanted) in &MERGED {
+        if !are_merged_into(alloc, given, wanted) {
+            return false;
+        }
+    }
+    true
+}
+
+/// The checks of contributions and of global functions.
+pub(crate) fn checks(alloc: Global) -> Checks {
+    let end_before_overlap = [
+        (1, 0, 0x20, 0),
+        (1, 0x10, 0x20, 1),
+        (1, 0xffff_fff0, 0x20, 3),
+    ];
+    Checks::NONE
+        .and("contributions and where they start", is_merged(alloc))
+        .and("modules that take turns", take_turns(alloc))
+        .and("a fault behind an overlap", is_fault_first(alloc))
+        .and(
+            "an end that is too large behind an overlap",
+            is_too_large(alloc, &end_before_overlap, 3),
+        )
+        .and(
+            "an end that is too large",
+            is_too_large(alloc, &[(1, 0xffff_fff0, 0x20, 0)], 0),
+        )
+        .and(
+            "an overlap",
+            is_overlap(alloc, &[(1, 0, 0x20, 0), (1, 0x10, 0x20, 1)]),
+        )
+        .and("thousands of contributions", finds_thousands(alloc))
+        .and(
+            "thousands of global functions",
+            finds_thousands_of_functions(alloc),
+        )
 }

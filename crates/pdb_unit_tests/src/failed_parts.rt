@@ -1,3 +1,4 @@
+use crate::checks::Checks;
 use pdb_records::StreamError;
 use pdb_types::{Error, FailedParts, Part};
 use std::alloc::{AllocError, Global};
@@ -53,8 +54,16 @@ fn parts_fail(alloc: Global, failed: &mut FailedParts) -> Result<bool, AllocErro
     )
 }
 
-#[test]
-fn a_part_answers_its_own_error_once(rt: HostRuntime) {
-    let mut failed = FailedParts::new(rt.alloc());
-    assert!(rt; matches!(parts_fail(rt.alloc(), &mut failed), Ok(true)));
+/// Whether two parts that are met broken answer their own errors once.
+fn answers_own_error_once(alloc: Global) -> bool {
+    let mut failed = FailedParts::new(alloc);
+    matches!(parts_fail(alloc, &mut failed), Ok(true))
+}
+
+/// The checks of failed parts.
+pub(crate) fn checks(alloc: Global) -> Checks {
+    Checks::NONE.and(
+        "a part that answers its own error once",
+        answers_own_error_once(alloc),
+    )
 }

@@ -1,13 +1,24 @@
+use crate::checks::Checks;
 use bitflags::Flags;
 use pdb_types::TypeFormatterFlags;
 
-#[test]
-fn flags_are_joined_and_asked_for(rt: HostRuntime) {
+/// The checks of flags.
+pub(crate) fn checks() -> Checks {
     let chosen = TypeFormatterFlags::default();
-    assert!(rt; chosen.bits() == 23);
     let joined = chosen.union(TypeFormatterFlags::NO_ARGUMENTS);
-    assert!(rt; joined.bits() == 55);
-    assert!(rt; joined.intersects(TypeFormatterFlags::NO_ARGUMENTS));
-    assert!(rt; !chosen.intersects(TypeFormatterFlags::NO_ARGUMENTS));
-    assert!(rt; TypeFormatterFlags::from_bits_retain(256).bits() == 256);
+    Checks::NONE
+        .and("flags where none are named", chosen.bits() == 23)
+        .and("flags that are joined", joined.bits() == 55)
+        .and(
+            "a flag that is among others",
+            joined.intersects(TypeFormatterFlags::NO_ARGUMENTS),
+        )
+        .and(
+            "a flag that is not",
+            !chosen.intersects(TypeFormatterFlags::NO_ARGUMENTS),
+        )
+        .and(
+            "a bit without a name",
+            TypeFormatterFlags::from_bits_retain(256).bits() == 256,
+        )
 }

@@ -1,6 +1,7 @@
+use crate::checks::Checks;
 use crate::modules::{is_fault, module_of};
 use crate::symbols::{Content, Row, Shown, symbols_of};
-use pdb_inline::{InlineRange, inline_ranges_of_procedure, laws};
+use pdb_inline::{InlineRange, inline_ranges_of_procedure};
 use pdb_records::{
     FileIndex, IdIndex, ModuleInfo, S_GPROC32, S_INLINESITE, S_THUNK32, StreamError, SymbolIndex,
 };
@@ -149,13 +150,6 @@ fn are_filled(alloc: Global, gap: &Gap<'_>) -> bool {
     has_ranges(alloc, &symbols, None, wanted)
 }
 
-#[test]
-fn fills_the_callers_gaps(rt: HostRuntime) {
-    for gap in &GAPS {
-        assert!(rt; are_filled(rt.alloc(), gap));
-    }
-}
-
 /// A procedure with a site that has another inside, and a site behind it.
 static INSIDE_AND_BEHIND: [Shown<'static>; 8] = [
     (S_GPROC32, Content::Procedure(7)),
@@ -174,11 +168,6 @@ static ROWS_BEFORE_ADDED: [Range; 3] = [
     (0x20, 0x30, 0, A, None, None),
     (0x20, 0x30, 1, B, Some(FileIndex(0)), Some(7)),
 ];
-
-#[test]
-fn holds_rows_before_added_ranges(rt: HostRuntime) {
-    assert!(rt; has_ranges(rt.alloc(), &INSIDE_AND_BEHIND, None, &ROWS_BEFORE_ADDED));
-}
 
 /// A procedure with sites side by side.
 static SIDE_BY_SIDE: [Shown<'static>; 8] = [
@@ -206,11 +195,6 @@ static ROWS_SIDE_BY_SIDE: [Range; 3] = [
     ),
 ];
 
-#[test]
-fn takes_sites_side_by_side_and_long_rows(rt: HostRuntime) {
-    assert!(rt; has_ranges(rt.alloc(), &SIDE_BY_SIDE, None, &ROWS_SIDE_BY_SIDE));
-}
-
 /// A procedure with symbols whose kind does not go with what they hold.
 static MIXED_KINDS: [Shown<'static>; 10] = [
     (S_GPROC32, Content::Procedure(9)),
@@ -230,11 +214,6 @@ static ROWS_OF_MIXED_KINDS: [Range; 2] = [
     (0x20, 0x30, 0, UNLISTED, None, None),
     (0x20, 0x30, 1, B, Some(FileIndex(0)), Some(7)),
 ];
-
-#[test]
-fn counts_symbols_by_kind_and_content(rt: HostRuntime) {
-    assert!(rt; has_ranges(rt.alloc(), &MIXED_KINDS, None, &ROWS_OF_MIXED_KINDS));
-}
 
 /// A fault behind the symbols.
 const FAULT: StreamError = StreamError(4);
@@ -259,12 +238,6 @@ fn is_unclosed_refused(alloc: Global) -> bool {
         Ok(_) => false,
         Err(error) => is_fault(&error, FAULT),
     }
-}
-
-#[test]
-fn refuses_where_the_walk_meets_a_fault(rt: HostRuntime) {
-    assert!(rt; is_unclosed_refused(rt.alloc()));
-    assert!(rt; has_ranges(rt.alloc(), &CLOSED, Some(FAULT), &[]));
 }
 
 /// How many sites are nested.
@@ -322,15 +295,44 @@ fn have_nested_ranges(alloc: Global, symbols: &[Shown<'_>]) -> bool {
     }
 }
 
-#[test]
-fn goes_down_a_thousand_sites(rt: HostRuntime) -> Result<(), AllocError> {
-    let symbols = nested_sites(rt.alloc())?;
-    assert!(rt; have_nested_ranges(rt.alloc(), &symbols));
-    laws::ranges_cover_deeper_sites();
-    laws::stacks_have_all_levels();
-    laws::ranges_lie_in_ranges_above();
-    laws::stacks_lie_directly_inside();
-    laws::well_nested_sites_are_inside_by_position();
-    laws::added_ranges_are_of_maximal_runs();
-    Ok(())
+/// Whether all of [`GAPS`] are filled so.
+fn are_all_filled(alloc: Global) -> bool {
+    for gap in &GAPS {
+        if !are_filled(alloc, gap) {
+            return false;
+        }
+    }
+    true
+}
+
+/// Whether nested sites have their ranges.
+fn goes_down(alloc: Global) -> bool {
+    match nested_sites(alloc) {
+        Ok(symbols) => have_nested_ranges(alloc, &symbols),
+        Err(_) => false,
+    }
+}
+
+/// The checks of inline ranges.
+pub(crate) fn checks(alloc: Global) -> Checks {
+    Checks::NONE
+        .and("a caller's gaps", are_all_filled(alloc))
+        .and(
+            "rows before added ranges",
+            has_ranges(alloc, &INSIDE_AND_BEHIND, None, &ROWS_BEFORE_ADDED),
+        )
+        .and(
+            "sites side by side and long rows",
+            has_ranges(alloc, &SIDE_BY_SIDE, None, &ROWS_SIDE_BY_SIDE),
+        )
+        .and(
+            "symbols by kind and content",
+            has_ranges(alloc, &MIXED_KINDS, None, &ROWS_OF_MIXED_KINDS),
+        )
+        .and("a fault that the walk meets", is_unclosed_refused(alloc))
+        .and(
+            "a fault that it doesn't meet",
+            has_ranges(alloc, &CLOSED, Some(FAULT), &[]),
+        )
+        .and("a thousand nested sites", goes_down(alloc))
 }

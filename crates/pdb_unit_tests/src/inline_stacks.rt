@@ -1,3 +1,4 @@
+use crate::checks::Checks;
 use pdb_inline::{InlineRange, ProcedureStacks, StackTable, inline_stack};
 use pdb_ranges::Probes;
 use pdb_records::IdIndex;
@@ -163,16 +164,6 @@ fn all_find(alloc: Global, shown: &[Range], over: &[Over<'_>]) -> bool {
     true
 }
 
-#[test]
-fn finds_positions_at_several_offsets(rt: HostRuntime) {
-    assert!(rt; all_find(rt.alloc(), &SEVERAL, &OVER_SEVERAL));
-}
-
-#[test]
-fn takes_the_first_of_equal_starts(rt: HostRuntime) {
-    assert!(rt; all_find(rt.alloc(), &EQUAL_STARTS, &OVER_EQUAL_STARTS));
-}
-
 /// Ranges of one id, so that those with the same bounds and depth are equal.
 fn ranges_of_one_id(alloc: Global, shown: &[Range]) -> Result<Vec<InlineRange>, AllocError> {
     let mut ranges = ranges_of(alloc, shown)?;
@@ -180,18 +171,6 @@ fn ranges_of_one_id(alloc: Global, shown: &[Range]) -> Result<Vec<InlineRange>, 
         range.inlinee = IdIndex(0);
     }
     Ok(ranges)
-}
-
-#[test]
-fn has_the_position_of_the_first_of_equal_ranges(rt: HostRuntime) -> Result<(), AllocError> {
-    let ranges = ranges_of_one_id(rt.alloc(), &EQUAL)?;
-    assert!(rt; table_finds(rt.alloc(), &ranges, 0x20, &[0, 1]));
-    Ok(())
-}
-
-#[test]
-fn has_no_stack_without_ranges(rt: HostRuntime) {
-    assert!(rt; all_find(rt.alloc(), &[], &OVER_NOTHING));
 }
 
 /// Ranges, each in the one before it.
@@ -245,9 +224,37 @@ fn are_nested_stacks(alloc: Global, stacks: &ProcedureStacks) -> Result<bool, Al
     )
 }
 
-#[test]
-fn answers_alike_for_a_thousand_nested_ranges(rt: HostRuntime) -> Result<(), AllocError> {
-    let stacks = nested_stacks(rt.alloc())?;
-    assert!(rt; matches!(are_nested_stacks(rt.alloc(), &stacks), Ok(true)));
-    Ok(())
+/// Whether the table of equal ranges has the position of the first.
+fn has_first_of_equal(alloc: Global) -> bool {
+    match ranges_of_one_id(alloc, &EQUAL) {
+        Ok(ranges) => table_finds(alloc, &ranges, 0x20, &[0, 1]),
+        Err(_) => false,
+    }
+}
+
+/// Whether stacks of nested ranges have the positions that the scan has.
+fn answers_nested(alloc: Global) -> bool {
+    match nested_stacks(alloc) {
+        Ok(stacks) => matches!(are_nested_stacks(alloc, &stacks), Ok(true)),
+        Err(_) => false,
+    }
+}
+
+/// The checks of stacks.
+pub(crate) fn checks(alloc: Global) -> Checks {
+    Checks::NONE
+        .and(
+            "positions at several offsets",
+            all_find(alloc, &SEVERAL, &OVER_SEVERAL),
+        )
+        .and(
+            "the first of equal starts",
+            all_find(alloc, &EQUAL_STARTS, &OVER_EQUAL_STARTS),
+        )
+        .and("the first of equal ranges", has_first_of_equal(alloc))
+        .and(
+            "no stack without ranges",
+            all_find(alloc, &[], &OVER_NOTHING),
+        )
+        .and("a thousand nested ranges", answers_nested(alloc))
 }

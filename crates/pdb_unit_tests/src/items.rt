@@ -1,3 +1,4 @@
+use crate::checks::Checks;
 use pdb_records::{
     ClassKind, ClassType, IdData, IdIndex, IdInformation, Item, ItemInformation, RawString,
     Reading, StreamError, StringId, TypeData, TypeIndex, TypeInformation,
@@ -92,16 +93,6 @@ fn list_answers(
     answers_twice(alloc, &mut ItemMap::new(alloc, &ids), wanted)
 }
 
-#[test]
-fn ids_are_found_by_their_index_and_a_fault_stays(rt: HostRuntime) {
-    assert!(rt; IdIndex(7).number() == 7 && TypeIndex(8).number() == 8);
-    let unknown = list_answers(rt.alloc(), None, "PDB error: type 0x8 not found");
-    assert!(rt; matches!(unknown, Ok(true)));
-    let fault = Some(StreamError(5));
-    let faulty = list_answers(rt.alloc(), fault, "PDB error: stream error 5");
-    assert!(rt; matches!(faulty, Ok(true)));
-}
-
 /// The size that the public look-up answers for a name behind an index.
 fn size_for(
     alloc: Global,
@@ -168,9 +159,32 @@ fn types(alloc: Global) -> Result<TypeInformation, AllocError> {
     })
 }
 
-#[test]
-fn the_first_definition_behind_an_index_has_the_size(rt: HostRuntime) -> Result<(), AllocError> {
-    let types = types(rt.alloc())?;
-    assert!(rt; have_sizes(rt.alloc(), &types));
-    Ok(())
+/// Whether the list with this fault is found to answer so.
+fn is_list_answering(alloc: Global, fault: Option<StreamError>, wanted: &str) -> bool {
+    matches!(list_answers(alloc, fault, wanted), Ok(true))
+}
+
+/// Whether the first definition behind an index has the size.
+fn finds_sizes(alloc: Global) -> bool {
+    match types(alloc) {
+        Ok(types) => have_sizes(alloc, &types),
+        Err(_) => false,
+    }
+}
+
+/// The checks of items.
+pub(crate) fn checks(alloc: Global) -> Checks {
+    let fault = Some(StreamError(5));
+    Checks::NONE
+        .and("the number of an id", IdIndex(7).number() == 7)
+        .and("the number of a type", TypeIndex(8).number() == 8)
+        .and(
+            "an unknown id",
+            is_list_answering(alloc, None, "PDB error: type 0x8 not found"),
+        )
+        .and(
+            "a fault that stays",
+            is_list_answering(alloc, fault, "PDB error: stream error 5"),
+        )
+        .and("the first definition behind an index", finds_sizes(alloc))
 }

@@ -1,7 +1,8 @@
+use crate::checks::Checks;
 use crate::modules::{is_fault, module_of};
 use pdb_functions::{
     BasicModuleInfo, ModuleSectionContribution, ProcedureSymbolFunction, PublicOrProcedureSymbol,
-    PublicSymbolFunctionOrPlaceholder, global_function_in, laws,
+    PublicSymbolFunctionOrPlaceholder, global_function_in,
 };
 use pdb_records::{
     ModuleInfo, PdbInternalSectionOffset, ProcedureSymbol, RawString, S_GPROC32, S_LPROC32,
@@ -180,18 +181,6 @@ fn code_gives(
     }
 }
 
-#[test]
-fn procedures_by_their_starts(rt: HostRuntime) {
-    laws::pick_covers_with_greatest_start();
-    assert!(rt; code_gives(rt.alloc(), &CODE, None, Wanted::Procedures(&PROCEDURES)));
-}
-
-#[test]
-fn module_with_a_fault(rt: HostRuntime) {
-    let fault = StreamError(3);
-    assert!(rt; code_gives(rt.alloc(), &[], Some(fault), Wanted::Fault(fault)));
-}
-
 /// Three thousand procedures, the last in the code first, each with the start of the next one in it.
 fn descending(alloc: Global) -> Result<Vec<Code<'static>>, AllocError> {
     let mut code = Vec::new(alloc);
@@ -199,13 +188,6 @@ fn descending(alloc: Global) -> Result<Vec<Code<'static>>, AllocError> {
         code.push(Code::Procedure(S_GPROC32, 0x10 * (2999 - at), 0x18, b"f"))?;
     }
     Ok(code)
-}
-
-#[test]
-fn thousands_of_procedures(rt: HostRuntime) -> Result<(), AllocError> {
-    let code = descending(rt.alloc())?;
-    assert!(rt; code_gives(rt.alloc(), &code, None, Wanted::Thousands));
-    Ok(())
 }
 
 /// What a global function that starts at an offset is in the contribution of module 5 from 0x10 on.
@@ -223,19 +205,43 @@ fn found_from(offset: u32) -> Option<PublicOrProcedureSymbol<'static>> {
     global_function_in(contribution, Some(function))
 }
 
-#[test]
-fn global_function_of_a_contribution(rt: HostRuntime) {
-    assert!(rt; found_from(0x0f).is_none());
-    assert!(rt;
-        matches!(
-            found_from(0x10),
-            Some(PublicOrProcedureSymbol::Public(5, _))
+/// Whether three thousand procedures are found.
+fn finds_thousands(alloc: Global) -> bool {
+    match descending(alloc) {
+        Ok(code) => code_gives(alloc, &code, None, Wanted::Thousands),
+        Err(_) => false,
+    }
+}
+
+/// Whether the global function of a contribution that starts at an offset is one of module 5.
+fn is_found_from(offset: u32) -> bool {
+    matches!(
+        found_from(offset),
+        Some(PublicOrProcedureSymbol::Public(5, _))
+    )
+}
+
+/// The checks of procedures, and of the global function of a contribution.
+pub(crate) fn checks(alloc: Global) -> Checks {
+    let fault = StreamError(3);
+    let refused = code_gives(alloc, &[], Some(fault), Wanted::Fault(fault));
+    Checks::NONE
+        .and(
+            "procedures by their starts",
+            code_gives(alloc, &CODE, None, Wanted::Procedures(&PROCEDURES)),
         )
-    );
-    assert!(rt;
-        matches!(
-            found_from(0x18),
-            Some(PublicOrProcedureSymbol::Public(5, _))
+        .and("a module with a fault", refused)
+        .and("thousands of procedures", finds_thousands(alloc))
+        .and(
+            "a function that starts before the contribution",
+            found_from(0x0f).is_none(),
         )
-    );
+        .and(
+            "a function that starts with the contribution",
+            is_found_from(0x10),
+        )
+        .and(
+            "a function that starts in the contribution",
+            is_found_from(0x18),
+        )
 }

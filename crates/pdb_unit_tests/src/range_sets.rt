@@ -1,4 +1,5 @@
-use pdb_ranges::{RangeSet, laws};
+use crate::checks::Checks;
+use pdb_ranges::RangeSet;
 use std::alloc::{AllocError, Global};
 
 /// A range: its start, and its end behind it.
@@ -46,24 +47,6 @@ fn join(alloc: Global, ranges: &[Range], runs: &[Range]) -> bool {
     }
 }
 
-#[test]
-fn joins_what_overlaps_or_touches(rt: HostRuntime) {
-    assert!(rt; join(rt.alloc(), &[], &[]));
-    assert!(rt; join(rt.alloc(), &ADDED[..8], &[(0, 5), (10, 45)]));
-    let runs = [(0, 5), (10, 45), (u64::MAX - 1, u64::MAX)];
-    assert!(rt; join(rt.alloc(), &ADDED, &runs));
-}
-
-#[test]
-fn takes_rows_in_any_order(rt: HostRuntime) -> Result<(), AllocError> {
-    let set = RangeSet::of_rows(rt.alloc(), &ROWS)?;
-    assert!(rt; set.runs() == RUNS.as_slice());
-    laws::runs_are_determined();
-    laws::runs_of_ranges_hold_their_numbers();
-    laws::missing_runs_hold_what_is_missing();
-    Ok(())
-}
-
 /// Whether a set lacks some of another, and has all of it and more once that is put in.
 fn takes_in(set: &mut RangeSet, inner: &RangeSet) -> bool {
     !set.is_superset(inner)
@@ -84,14 +67,6 @@ fn is_joined_and_parted(alloc: Global, set: &mut RangeSet) -> bool {
         Ok(inner) => takes_in(set, &inner) && gives_back(set, &inner),
         Err(_) => false,
     }
-}
-
-#[test]
-fn joins_parts_and_compares_sets(rt: HostRuntime) -> Result<(), AllocError> {
-    let mut set = RangeSet::of_rows(rt.alloc(), &[(0, 40), (60, 70)])?;
-    assert!(rt; is_joined_and_parted(rt.alloc(), &mut set));
-    assert!(rt; set.is_superset(&RangeSet::empty(rt.alloc())));
-    Ok(())
 }
 
 /// Three thousand ranges of two numbers from this number on, each four behind the one before.
@@ -128,10 +103,48 @@ fn are_thousands_parted(alloc: Global, set: &mut RangeSet) -> bool {
     }
 }
 
-#[test]
-fn holds_thousands_of_runs(rt: HostRuntime) -> Result<(), AllocError> {
-    let mut set = thousands_from(rt.alloc(), 0)?;
-    assert!(rt; set.runs().len() == 3000);
-    assert!(rt; are_thousands_parted(rt.alloc(), &mut set));
-    Ok(())
+/// Whether ranges that are added are joined.
+fn are_joined(alloc: Global) -> bool {
+    let runs = [(0, 5), (10, 45), (u64::MAX - 1, u64::MAX)];
+    join(alloc, &[], &[])
+        && join(alloc, &ADDED[..8], &[(0, 5), (10, 45)])
+        && join(alloc, &ADDED, &runs)
+}
+
+/// Whether rows in any order are joined.
+fn are_rows_joined(alloc: Global) -> bool {
+    match RangeSet::of_rows(alloc, &ROWS) {
+        Ok(set) => set.runs() == RUNS.as_slice(),
+        Err(_) => false,
+    }
+}
+
+/// Whether a set is joined with parts of it and compared with them.
+fn is_compared(alloc: Global) -> bool {
+    match RangeSet::of_rows(alloc, &[(0, 40), (60, 70)]) {
+        Ok(mut set) => {
+            is_joined_and_parted(alloc, &mut set) && set.is_superset(&RangeSet::empty(alloc))
+        }
+        Err(_) => false,
+    }
+}
+
+/// Whether a set holds thousands of runs.
+fn holds_thousands(alloc: Global) -> bool {
+    match thousands_from(alloc, 0) {
+        Ok(mut set) => set.runs().len() == 3000 && are_thousands_parted(alloc, &mut set),
+        Err(_) => false,
+    }
+}
+
+/// The checks of sets of ranges.
+pub(crate) fn checks(alloc: Global) -> Checks {
+    Checks::NONE
+        .and("ranges that overlap or touch", are_joined(alloc))
+        .and("rows in any order", are_rows_joined(alloc))
+        .and(
+            "sets that are joined, parted and compared",
+            is_compared(alloc),
+        )
+        .and("thousands of runs", holds_thousands(alloc))
 }

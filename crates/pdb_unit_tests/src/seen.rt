@@ -1,7 +1,9 @@
+use crate::checks::Checks;
+use crate::errors::says;
 use pdb_documents::seen::{Seen, SeenError};
 use pdb_records::TypeIndex;
 use pdb_types::Error;
-use std::alloc::{AllocError, Global};
+use std::alloc::Global;
 use std::collections::BTreeSet;
 
 /// Whether a set has the numbers below this one, in their order, and no others.
@@ -68,48 +70,44 @@ fn holds_levels(alloc: Global, set: &mut BTreeSet<TypeIndex>) -> bool {
     holds_outer_level(&mut seen) && has_numbers_below(seen.set, 1)
 }
 
-#[test]
-fn levels_take_out_what_they_put_in(rt: HostRuntime) {
-    let mut set = BTreeSet::new(rt.alloc());
-    assert!(rt; set.insert(TypeIndex(0)).is_ok());
-    assert!(rt; holds_levels(rt.alloc(), &mut set) && has_numbers_below(&set, 1));
-}
-
-/// Whether an error has this text.
-fn prints(alloc: Global, error: SeenError, wanted: &str) -> Result<bool, AllocError> {
-    let error = Error::from(error);
-    Ok(format!(in alloc; "{error}")?.as_str() == wanted)
-}
-
 /// Whether an index is refused with this text.
-fn is_refused(
-    alloc: Global,
-    seen: &mut Seen<'_>,
-    index: TypeIndex,
-    wanted: &str,
-) -> Result<bool, AllocError> {
+fn is_refused(alloc: Global, seen: &mut Seen<'_>, index: TypeIndex, wanted: &str) -> bool {
     match seen.insert(index) {
-        Ok(()) => Ok(false),
-        Err(error) => prints(alloc, error, wanted),
+        Ok(()) => false,
+        Err(error) => says(alloc, &Error::from(error), wanted),
     }
 }
 
 /// Whether an index is put into a set, and is circular from then on.
-fn is_circular_once_put_in(
-    alloc: Global,
-    set: &mut BTreeSet<TypeIndex>,
-) -> Result<bool, AllocError> {
+fn is_circular_once_put_in(alloc: Global, set: &mut BTreeSet<TypeIndex>) -> bool {
     let index = TypeIndex(4097);
     let mut seen = Seen::new(alloc, set);
-    let is_put_in = seen.insert(index).is_ok();
-    let is_circular = is_refused(alloc, &mut seen, index, "Type with index 4097 is circular");
-    Ok(is_put_in && is_circular?)
+    seen.insert(index).is_ok()
+        && is_refused(alloc, &mut seen, index, "Type with index 4097 is circular")
 }
 
-#[test]
-fn an_index_that_is_open_is_circular(rt: HostRuntime) {
-    let mut set = BTreeSet::new(rt.alloc());
-    assert!(rt; matches!(is_circular_once_put_in(rt.alloc(), &mut set), Ok(true)));
-    let shown = prints(rt.alloc(), SeenError::OutOfMemory, "Out of memory");
-    assert!(rt; matches!(shown, Ok(true)));
+/// Whether levels take out of a set what they put in.
+fn take_out_what_they_put_in(alloc: Global) -> bool {
+    let mut set = BTreeSet::new(alloc);
+    set.insert(TypeIndex(0)).is_ok() && holds_levels(alloc, &mut set) && has_numbers_below(&set, 1)
+}
+
+/// Whether an index that is open is circular.
+fn is_open_circular(alloc: Global) -> bool {
+    let mut set = BTreeSet::new(alloc);
+    is_circular_once_put_in(alloc, &mut set)
+}
+
+/// The checks of open indices.
+pub(crate) fn checks(alloc: Global) -> Checks {
+    Checks::NONE
+        .and(
+            "levels that take out what they put in",
+            take_out_what_they_put_in(alloc),
+        )
+        .and("an index that is open", is_open_circular(alloc))
+        .and(
+            "no memory for an index",
+            says(alloc, &Error::from(SeenError::OutOfMemory), "Out of memory"),
+        )
 }

@@ -1,4 +1,5 @@
-use pdb_ranges::{Probes, Segment, Segments, laws};
+use crate::checks::Checks;
+use pdb_ranges::{Probes, Segment, Segments};
 use std::alloc::{AllocError, Global};
 
 /// A segment: its start, its end and its value.
@@ -76,27 +77,11 @@ fn paint(alloc: Global, painted: &[Painted], len: usize, values: &[Valued]) -> b
     }
 }
 
-#[test]
-fn paints_over_what_was_there(rt: HostRuntime) {
-    assert!(rt; paint(rt.alloc(), &FEW[..4], 3, &BEFORE_LAST));
-    let values = [(1, Some(1)), (u64::MAX - 1, Some(4))];
-    assert!(rt; paint(rt.alloc(), &FEW, 2, &values));
-}
-
 /// Whether a table without segments has no value for a number, and looks at nothing.
 fn looks_at_nothing(table: &Segments<u8>) -> bool {
     let mut probes = Probes::new();
     probes.tick();
     table.find(7, &mut probes).is_none() && probes.count() == 1
-}
-
-#[test]
-fn counts_probes(rt: HostRuntime) {
-    let mut probes = Probes::new();
-    assert!(rt; probes.count() == 0);
-    probes.tick();
-    assert!(rt; probes.count() == 1);
-    assert!(rt; looks_at_nothing(&Segments::new(rt.alloc())));
 }
 
 /// How many entries of a list a binary search for x looks at, where the entry at a place is the range from 4 times
@@ -156,13 +141,6 @@ fn are_spaced(table: &Segments<u64>) -> bool {
     table.len() == 1000
 }
 
-#[test]
-fn searches_with_few_probes(rt: HostRuntime) -> Result<(), AllocError> {
-    let table = spaced(rt.alloc())?;
-    assert!(rt; are_spaced(&table));
-    Ok(())
-}
-
 /// Segments that are painted at once.
 fn painted_at_once(alloc: Global, painted: &[Painted]) -> Result<Segments<u64>, AllocError> {
     let mut segments = Vec::new(alloc);
@@ -191,21 +169,6 @@ fn is_painted_in_turn(alloc: Global, table: &Segments<u64>) -> bool {
     }
 }
 
-#[test]
-fn paints_a_list_as_one_after_the_other(rt: HostRuntime) -> Result<(), AllocError> {
-    let table = painted_at_once(rt.alloc(), &MANY)?;
-    assert!(rt; has_values(&table, &OF_MANY) && is_painted_in_turn(rt.alloc(), &table));
-    Ok(())
-}
-
-#[test]
-fn paints_nothing(rt: HostRuntime) -> Result<(), AllocError> {
-    let table = painted_at_once(rt.alloc(), &[])?;
-    assert!(rt; table.len() == 0);
-    laws::last_painted_gives_the_value::<u64>();
-    Ok(())
-}
-
 /// Three thousand segments, each in the one before it.
 fn nested(alloc: Global) -> Result<Vec<Painted>, AllocError> {
     let mut painted = Vec::new(alloc);
@@ -232,9 +195,61 @@ fn are_nested(table: &Segments<u64>) -> bool {
         && probes.count() <= 4 * 13
 }
 
-#[test]
-fn paints_thousands_of_segments(rt: HostRuntime) -> Result<(), AllocError> {
-    let table = nested_table(rt.alloc())?;
-    assert!(rt; are_nested(&table));
-    Ok(())
+/// Whether a table counts what it looks at, from nothing on.
+fn counts_probes(alloc: Global) -> bool {
+    let mut probes = Probes::new();
+    let none = probes.count();
+    probes.tick();
+    none == 0 && probes.count() == 1 && looks_at_nothing(&Segments::new(alloc))
+}
+
+/// Whether ranges that are apart are found with few probes.
+fn searches_with_few_probes(alloc: Global) -> bool {
+    match spaced(alloc) {
+        Ok(table) => are_spaced(&table),
+        Err(_) => false,
+    }
+}
+
+/// Whether a list is painted as one segment after the other is.
+fn paints_a_list(alloc: Global) -> bool {
+    match painted_at_once(alloc, &MANY) {
+        Ok(table) => has_values(&table, &OF_MANY) && is_painted_in_turn(alloc, &table),
+        Err(_) => false,
+    }
+}
+
+/// Whether no segments are painted as nothing.
+fn paints_nothing(alloc: Global) -> bool {
+    match painted_at_once(alloc, &[]) {
+        Ok(table) => table.len() == 0,
+        Err(_) => false,
+    }
+}
+
+/// Whether thousands of segments are painted.
+fn paints_thousands(alloc: Global) -> bool {
+    match nested_table(alloc) {
+        Ok(table) => are_nested(&table),
+        Err(_) => false,
+    }
+}
+
+/// The checks of segments.
+pub(crate) fn checks(alloc: Global) -> Checks {
+    let over_all = [(1, Some(1)), (u64::MAX - 1, Some(4))];
+    Checks::NONE
+        .and(
+            "segments over others",
+            paint(alloc, &FEW[..4], 3, &BEFORE_LAST),
+        )
+        .and(
+            "a segment over all others",
+            paint(alloc, &FEW, 2, &over_all),
+        )
+        .and("probes that are counted", counts_probes(alloc))
+        .and("a search with few probes", searches_with_few_probes(alloc))
+        .and("a list of segments", paints_a_list(alloc))
+        .and("no segments", paints_nothing(alloc))
+        .and("thousands of segments", paints_thousands(alloc))
 }

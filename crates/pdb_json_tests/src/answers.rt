@@ -1,0 +1,86 @@
+//! Answers to records files.
+
+use crate::changes::around;
+use pdb_export::write_records;
+use pdb_json::RecordFault;
+use pdb_records::{Item, PDB, TypeData, TypeIndex};
+use std::alloc::Global;
+
+/// Whether the answer to a file is the one that is wanted.
+pub(crate) fn is_wanted(alloc: Global, answer: &Result<PDB, RecordFault>, wanted: &str) -> bool {
+    match answer {
+        Ok(records) => wanted == "read" || are_read_as(alloc, records, wanted),
+        Err(fault) => is_refused_as(alloc, fault, wanted),
+    }
+}
+
+/// Whether a fault has this text.
+pub(crate) fn is_refused_as(alloc: Global, fault: &RecordFault, wanted: &str) -> bool {
+    match fault.to_string(alloc) {
+        Ok(text) => text.as_str() == wanted,
+        Err(_) => false,
+    }
+}
+
+/// Whether records have the variant that is wanted, or are written again as is wanted.
+fn are_read_as(alloc: Global, records: &PDB, wanted: &str) -> bool {
+    match around(wanted, "variant ") {
+        Some((_, number)) => is_number(variant_of(records), number),
+        None => are_written_as(alloc, records, wanted),
+    }
+}
+
+/// Whether a number is there, and is the one of this text.
+fn is_number(found: Option<u8>, wanted: &str) -> bool {
+    match (found, wanted.parse::<u8>()) {
+        (Some(found), Ok(wanted)) => found == wanted,
+        _ => false,
+    }
+}
+
+/// The number of the variant of the one type in records, or of the machine where they have no type.
+fn variant_of(records: &PDB) -> Option<u8> {
+    let Ok(types) = &records.type_information else {
+        return None;
+    };
+    match types.items.items.as_slice() {
+        [] => machine_variant(records),
+        [item] => type_variant(item),
+        _ => None,
+    }
+}
+
+/// The number of the variant of the machine.
+fn machine_variant(records: &PDB) -> Option<u8> {
+    match &records.debug_information {
+        Ok(debug) => Some(debug.machine_type.ok()? as u8),
+        Err(_) => None,
+    }
+}
+
+/// The number of the variant that a type is of: of a primitive, a class or a pointer.
+fn type_variant(item: &Item<TypeIndex, TypeData>) -> Option<u8> {
+    match &item.content {
+        Ok(TypeData::Primitive(primitive)) => Some(primitive.kind as u8),
+        Ok(TypeData::Class(class)) => Some(class.class_kind as u8),
+        Ok(TypeData::Pointer(pointer)) => Some(pointer.mode as u8),
+        _ => None,
+    }
+}
+
+/// Whether records are written as this line.
+fn are_written_as(alloc: Global, records: &PDB, wanted: &str) -> bool {
+    let mut text = Vec::new(alloc);
+    match write_records(alloc, &mut text, records, &[]) {
+        Ok(()) => is_line(&text, wanted),
+        Err(_) => false,
+    }
+}
+
+/// Whether bytes are those of this line.
+fn is_line(bytes: &[u8], wanted: &str) -> bool {
+    match bytes.split_last() {
+        Some((end, line)) => *end == b'\n' && line == wanted.as_bytes(),
+        None => false,
+    }
+}

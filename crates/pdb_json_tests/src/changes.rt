@@ -1,0 +1,47 @@
+//! Changes of texts.
+
+use crate::answers::is_wanted;
+use pdb_json::read_records;
+use std::alloc::{AllocError, Global};
+
+/// What stands before a text in another one, and what stands behind it.
+pub(crate) fn around<'t>(text: &'t str, inner: &str) -> Option<(&'t str, &'t str)> {
+    text.split_once(inner)
+}
+
+/// What a line says before two ` => `, and what stands behind them.
+pub(crate) fn parts(line: &str) -> Option<(&str, &str, &str)> {
+    let (old, rest) = around(line, " => ")?;
+    let (new, wanted) = around(rest, " => ")?;
+    Some((old, new, wanted))
+}
+
+/// Three texts, one behind the other.
+pub(crate) fn joined(
+    alloc: Global,
+    first: &str,
+    second: &str,
+    third: &str,
+) -> Result<String, AllocError> {
+    let mut text = String::from_str(alloc, first)?;
+    text.push_str(second)?;
+    text.push_str(third)?;
+    Ok(text)
+}
+
+/// A text with another one in the place of what stands there.
+pub(crate) fn changed(alloc: Global, text: &str, old: &str, new: &str) -> Option<String> {
+    let (before, after) = around(text, old)?;
+    joined(alloc, before, new, after).ok()
+}
+
+/// Whether a text with the change of a line is answered as is wanted.
+pub(crate) fn is_answered(alloc: Global, text: &str, line: &str) -> bool {
+    let Some((old, new, wanted)) = parts(line) else {
+        return false;
+    };
+    match changed(alloc, text, old, new) {
+        Some(text) => is_wanted(alloc, &read_records(alloc, text.as_bytes()), wanted),
+        None => false,
+    }
+}

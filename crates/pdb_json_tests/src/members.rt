@@ -1,0 +1,114 @@
+//! Files of which a member has another value, or is absent.
+
+use crate::answers::is_wanted;
+use crate::changes::{around, joined};
+use crate::tally::Tally;
+use pdb_json::read_records;
+use serde_json::Value;
+use std::alloc::Global;
+
+/// What stands in the place of a value that a member no longer has.
+const ABSENT: &str = "absent";
+
+/// The path of what holds the value at a path, and its name or its number there.
+fn parts(path: &str) -> (&str, &str) {
+    path.rsplit_once('/').unwrap_or(("", ""))
+}
+
+/// Whether the value at a path is an element, which can't be absent.
+fn is_element(path: &str) -> bool {
+    let (_, name) = parts(path);
+    name.parse::<u32>().is_ok()
+}
+
+/// Takes the member at a path out of a file, and answers whether it was there.
+fn remove(file: &mut Value, path: &str) -> bool {
+    let (outer, name) = parts(path);
+    match file.pointer_mut(outer) {
+        Some(Value::Object(members)) => members.remove(name).is_some(),
+        _ => false,
+    }
+}
+
+/// Puts another value in the place of the one at a path, and answers whether one was there.
+fn replace(file: &mut Value, path: &str, value: Value) -> bool {
+    match file.pointer_mut(path) {
+        Some(place) => {
+            *place = value;
+            true
+        }
+        None => false,
+    }
+}
+
+/// Changes what is at a path, and answers whether that was done.
+fn change(alloc: Global, file: &mut Value, path: &str, new: &str) -> bool {
+    if new == ABSENT {
+        return remove(file, path);
+    }
+    match Value::from_str(alloc, new) {
+        Ok(value) => replace(file, path, value),
+        Err(_) => false,
+    }
+}
+
+/// A file with another value at a path.
+fn changed(alloc: Global, text: &str, path: &str, new: &str) -> Option<String> {
+    let mut file = Value::from_str(alloc, text).ok()?;
+    if !change(alloc, &mut file, path, new) {
+        return None;
+    }
+    file.to_string(alloc).ok()
+}
+
+/// What stands before the fault behind a path, and before `read`.
+fn before<'t>(path: &'t str, fault: &str) -> &'t str {
+    if fault == "read" { "" } else { path }
+}
+
+/// Whether a file is answered with a fault behind a path, or `read`.
+fn is_read_as(alloc: Global, text: &[u8], path: &str, fault: &str) -> bool {
+    match joined(alloc, before(path, fault), fault, "") {
+        Ok(wanted) => is_wanted(alloc, &read_records(alloc, text), wanted.as_str()),
+        Err(_) => false,
+    }
+}
+
+/// Whether a file with another value at a path is answered with a fault behind the path, or `read`.
+fn is_answered(alloc: Global, text: &str, path: &str, new: &str, fault: &str) -> bool {
+    match changed(alloc, text, path, new) {
+        Some(text) => is_read_as(alloc, text.as_bytes(), path, fault),
+        None => false,
+    }
+}
+
+/// Makes the change of a part `VALUE FAULT` of a line, if it can be made.
+fn over_case(alloc: Global, text: &str, path: &str, case: &str) -> Tally {
+    let (new, fault) = around(case, " ").unwrap_or(("", ""));
+    if new == ABSENT && is_element(path) {
+        return Tally::NOTHING;
+    }
+    Tally::of_case(is_answered(alloc, text, path, new, fault))
+}
+
+/// Makes each change of a member of this sort.
+fn over_cases(alloc: Global, sorts: &str, text: &str, path: &str, wanted: &str) -> Tally {
+    let mut tally = Tally::NOTHING;
+    for line in sorts.lines() {
+        match around(line, " ") {
+            Some((sort, case)) if sort == wanted => {
+                tally = tally.and(over_case(alloc, text, path, case));
+            }
+            _ => {}
+        }
+    }
+    tally
+}
+
+/// Makes each change of the member of a line `PATH SORT`.
+pub(crate) fn over_sorts(alloc: Global, sorts: &str, text: &str, line: &str) -> Tally {
+    match around(line, " ") {
+        Some((path, sort)) => over_cases(alloc, sorts, text, path, sort),
+        None => Tally::of_case(false),
+    }
+}

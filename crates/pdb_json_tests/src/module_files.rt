@@ -1,0 +1,100 @@
+//! Files with module files, and the names of these.
+
+use crate::answers::{is_refused_as, is_wanted};
+use crate::changes::{around, changed, joined, parts};
+use pdb_json::{RecordFault, RecordsFile, module_files, read_records_with};
+use pdb_records::PDB;
+use std::alloc::{AllocError, Global};
+
+/// The bytes of the module files that a part of a line holds.
+fn files_of(alloc: Global, part: &str) -> Result<Vec<Vec<u8>>, AllocError> {
+    let mut files = Vec::new(alloc);
+    if part == "-" {
+        return Ok(files);
+    }
+    for file in part.split(" & ") {
+        let bytes = if file == "~" { "" } else { file };
+        files.push(Vec::from_slice(alloc, bytes.as_bytes())?)?;
+    }
+    Ok(files)
+}
+
+/// The records of a file whose text is read once.
+fn read_once(alloc: Global, text: &[u8], files: &[Vec<u8>]) -> Result<PDB, RecordFault> {
+    RecordsFile::from_slice(alloc, text)?.read_records(files)
+}
+
+/// Whether a file with module files is answered as is wanted, each time that it is read.
+fn is_read_as(alloc: Global, text: &[u8], files: &[Vec<u8>], wanted: &str) -> bool {
+    is_wanted(alloc, &read_records_with(alloc, text, files), wanted)
+        && is_wanted(alloc, &read_once(alloc, text, files), wanted)
+}
+
+/// Whether a file with the module files of a part of a line is answered as is wanted.
+fn is_read_with(alloc: Global, text: &[u8], files: &str, wanted: &str) -> bool {
+    match files_of(alloc, files) {
+        Ok(files) => is_read_as(alloc, text, &files, wanted),
+        Err(_) => false,
+    }
+}
+
+/// Whether a text with the change of a line is answered as is wanted, with the module files of the line.
+pub(crate) fn is_answered(alloc: Global, text: &str, line: &str) -> bool {
+    let Some((old, new, rest)) = parts(line) else {
+        return false;
+    };
+    let Some((wanted, files)) = around(rest, " => ") else {
+        return false;
+    };
+    match changed(alloc, text, old, new) {
+        Some(text) => is_read_with(alloc, text.as_bytes(), files, wanted),
+        None => false,
+    }
+}
+
+/// The names of module files in a line.
+fn line_of(alloc: Global, names: &[String]) -> Result<String, AllocError> {
+    let mut line = String::from_str(alloc, "names:")?;
+    for name in names {
+        line = joined(alloc, line.as_str(), name.as_str(), ";")?;
+    }
+    Ok(line)
+}
+
+/// Whether names of module files are those that are wanted.
+fn are_in_line(alloc: Global, names: &[String], wanted: &str) -> bool {
+    match line_of(alloc, names) {
+        Ok(line) => line.as_str() == wanted,
+        Err(_) => false,
+    }
+}
+
+/// Whether the names of module files, or the refusal of them, are what is wanted.
+fn are_wanted(alloc: Global, names: &Result<Vec<String>, RecordFault>, wanted: &str) -> bool {
+    match names {
+        Ok(names) => are_in_line(alloc, names, wanted),
+        Err(fault) => is_refused_as(alloc, fault, wanted),
+    }
+}
+
+/// The names of module files of a file whose text is read once.
+fn named_once(alloc: Global, text: &[u8]) -> Result<Vec<String>, RecordFault> {
+    RecordsFile::from_slice(alloc, text)?.module_files()
+}
+
+/// Whether a file is answered with the names of module files that are wanted, each time that it is read.
+fn is_named(alloc: Global, text: &[u8], wanted: &str) -> bool {
+    are_wanted(alloc, &module_files(alloc, text), wanted)
+        && are_wanted(alloc, &named_once(alloc, text), wanted)
+}
+
+/// Whether a text with the change of a line is answered with the names of module files that are wanted.
+pub(crate) fn are_named(alloc: Global, text: &str, line: &str) -> bool {
+    let Some((old, new, wanted)) = parts(line) else {
+        return false;
+    };
+    match changed(alloc, text, old, new) {
+        Some(text) => is_named(alloc, text.as_bytes(), wanted),
+        None => false,
+    }
+}

@@ -1,0 +1,39 @@
+/// How many checks were made, and which of them failed.
+#[derive(Clone, Copy)]
+pub(crate) struct Checks {
+    pub(crate) made: u64,
+    pub(crate) failed: u64,
+    /// What the first one that failed is of, or nothing.
+    pub(crate) first: &'static str,
+}
+
+impl Checks {
+    /// No check yet.
+    pub(crate) const NONE: Checks = Checks {
+        made: 0,
+        failed: 0,
+        first: "",
+    };
+
+    /// One more check: what it is of, and whether it holds.
+    pub(crate) fn and(self, name: &'static str, holds: bool) -> Checks {
+        self.with(Checks {
+            made: 1,
+            failed: if holds { 0 } else { 1 },
+            first: if holds { "" } else { name },
+        })
+    }
+
+    /// These checks and others.
+    pub(crate) fn with(self, others: Checks) -> Checks {
+        Checks {
+            made: self.made.saturating_add(others.made),
+            failed: self.failed.saturating_add(others.failed),
+            first: if self.failed > 0 {
+                self.first
+            } else {
+                others.first
+            },
+        }
+    }
+}
