@@ -9,7 +9,7 @@ abbrev pub invariant-loop-rest : goal.invariant-loop-rest
 invariant-loop-rest l = record {
   entries : entries_of l.procedures l.parts ≡ l.entries.items ++ entries_of l.procedures l.rest;
   onward : (y : ℕ) → l.asked ≤ y
-  → from_last (λ b. place b.start) y l.here ≡ from_last (λ b. place b.start) y l.procedures;
+      → from_last (λ b. place b.start) y l.here ≡ from_last (λ b. place b.start) y l.procedures;
 }
 
 abbrev pub decreases-loop-rest : goal.decreases-loop-rest
