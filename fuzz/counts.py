@@ -5,7 +5,8 @@ Usage: counts.py PROGRAM PDB
 
 The built pdb_symbolizer exports the PDB file. A line is printed for each kind, with both counts; of what modules have
 the counts are compared module by module. A module without a stream counts as one without records: llvm-pdbutil 14
-shows for such a module the lines and the inlinees of the module in front of it once more.
+shows for such a module the lines and the inlinees of the module in front of it once more. Of rows at one offset of a
+part one counts, as the reader has it, and of entries those that are a part's, and not a procedure's inside of one.
 """
 import collections
 import itertools
@@ -21,8 +22,8 @@ SYMBOL = re.compile(r"\s*\d+ \| (S_\w+)")
 SHOWN = re.compile(r"\s*Showing ([\d,]+) records")
 LEAF = re.compile(r"\s*0x[0-9A-F]+ \| (LF_\w+)")
 INLINEE = re.compile(r"\s*0x[0-9A-F]+ \| +\d+ \| ")
-BLOCK = re.compile(r"\s*(\d+:[0-9A-F]+-[0-9A-F]+), line/addr entries = \d+")
-ROW = re.compile(r"(NSI|ASI|\d+|\?+) [0-9A-F]{8}")
+BLOCK = re.compile(r"\s*(\d+):([0-9A-F]+)-([0-9A-F]+), line/(?:column/)?addr entries = \d+")
+ROW = re.compile(r"(NSI|ASI|\d+|\?+) ([0-9A-F]{8})")
 PROCEDURES = {"S_GPROC32", "S_LPROC32", "S_GPROC32_ID", "S_LPROC32_ID", "S_LPROC32_DPC", "S_LPROC32_DPC_ID"}
 KINDS = {"InlineSite": {"S_INLINESITE", "S_INLINESITE2"}, "Procedure": PROCEDURES, "SeparatedCode": {"S_SEPCODE"},
          "Thunk": {"S_THUNK32"}}
@@ -66,17 +67,23 @@ def by_kind(name, count, counts):
     return {f"{name}, {kind}": count for kind, count in (counts | {"unknown": count - sum(counts.values())}).items()}
 
 
+def shown_parts(lines):
+    """The parts of lines of a module, each of them shown once for each of its files."""
+    return [part for part, _ in itertools.groupby(block.groups() for block in map(BLOCK.match, lines) if block)]
+
+
 def shown_lines(lines):
-    """The counts of parts of lines, each of them shown once for each of its files, and of rows that are of a line."""
-    blocks = [BLOCK.match(line) for line in lines]
-    ranges = [block[1] for block in blocks if block]
-    rows = [row for line, block in zip(lines, blocks) if not block for row in ROW.findall(line)]
-    return {"parts of lines": sum(1 for _ in itertools.groupby(ranges)),
-            "rows": sum(row not in ("NSI", "ASI") for row in rows)}
+    """The counts of parts of lines, and of their offsets with a row of a line."""
+    part, rows = None, set()
+    for line in lines:
+        block = BLOCK.match(line)
+        part = block.groups() if block else part
+        rows |= {(part, at) for row, at in ([] if block else ROW.findall(line)) if row not in ("NSI", "ASI")}
+    return {"parts of lines": len(shown_parts(lines)), "rows": len(rows)}
 
 
 def shown(pdb):
-    """What llvm-pdbutil shows: counts of the file, and of each module that has a stream."""
+    """What llvm-pdbutil shows: counts of the file, and of each module that has a stream; and where parts start there."""
     modules = by_module("--modules", pdb)
     globals_ = [found[1] for found in map(SYMBOL.match, dump("--gsi-records", pdb)) if found]
     whole = {"modules": len(modules), "global symbols": len(globals_),
@@ -90,14 +97,15 @@ def shown(pdb):
         counts = {kind: sum(leaves[leaf] for leaf in kinds[kind]) for kind in kinds}
         whole |= by_kind(name, whole[name], counts)
     parts = {option: by_module(option, pdb) for option in ("--symbols", "-l", "--il")}
-    known = {}
+    known, starts = {}, {}
     for module, lines in modules.items():
+        starts[module] = {(int(section), int(start, 16)) for section, start, _ in shown_parts(parts["-l"][module])}
         if any("debug stream: 65535" in line for line in lines):
             continue
         symbols = [found[1] for found in map(SYMBOL.match, parts["--symbols"][module]) if found]
         inlinees = sum(bool(INLINEE.match(line)) for line in parts["--il"][module])
         known[module] = symbol_counts(symbols) | shown_lines(parts["-l"][module]) | {"inlinees": inlinees}
-    return whole, known
+    return whole, known, starts
 
 
 def items(reading):
@@ -110,16 +118,17 @@ def kind_of(symbol):
     return symbol.get("data", {}).get("kind")
 
 
-def module_counts(info):
-    """What a records file has of a module."""
+def module_counts(info, starts):
+    """What a records file has of a module whose parts of lines have these starts."""
     kinds = [kind_of(symbol) for symbol in items(info["symbols"])]
-    entries = info["line_program"].get("entries", [])
+    entries = [entry for entry in info["line_program"].get("entries", [])
+               if (entry["section"], entry["offset"]) in starts]
     counts = {kind: kinds.count(kind) for kind in KINDS} | {"symbols": len(kinds)}
     return counts | {"parts of lines": len(entries), "rows": sum(len(items(entry["lines"])) for entry in entries),
                      "inlinees": len(items(info["inlinees"]))}
 
 
-def recorded(records):
+def recorded(records, starts):
     """What a records file has: counts of the file, and of each module that has records."""
     debug = records["debug_information"]
     symbols = items(records["global_symbols"])
@@ -132,14 +141,16 @@ def recorded(records):
         found = [kind for kind in found if kind != "Primitive"]
         whole[name] = len(found)
         whole |= by_kind(name, len(found), {kind: found.count(kind) for kind in kinds})
-    return whole, {module: module_counts(info) for module, info in enumerate(records["module_infos"]) if info}
+    modules = enumerate(records["module_infos"])
+    return whole, {module: module_counts(info, starts[module]) for module, info in modules if info}
 
 
 def main(program, pdb):
     with tempfile.TemporaryDirectory() as folder:
         out = pathlib.Path(folder) / "records.json"
         subprocess.run([program, "--export", out, pdb], check=True)
-        (ours, our_modules), (theirs, their_modules) = recorded(json.loads(out.read_bytes())), shown(pdb)
+        theirs, their_modules, starts = shown(pdb)
+        ours, our_modules = recorded(json.loads(out.read_bytes()), starts)
     wrong = 0
     for kind in ours:
         wrong += ours[kind] != theirs[kind]

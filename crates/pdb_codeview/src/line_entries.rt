@@ -174,8 +174,8 @@ fn entries_of(
     Ok(entries)
 }
 
-/// The entries of a module's line program: one for each part of lines, and one for each procedure that starts further on
-/// in a part, so that the rows of each procedure stand under its own start.
+/// The entries of a module's line program: one for each part of lines, and one for each procedure that starts further
+/// on in a part, so that the rows of each procedure stand under its own start.
 pub fn program_entries(
     alloc: Global,
     mut parts: Vec<LinePart>,

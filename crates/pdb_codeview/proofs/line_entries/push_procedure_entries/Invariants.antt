@@ -8,7 +8,8 @@ use Rattle.pdb_codeview.proofs.line_entries.push_procedure_entries.Given as goal
 
 abbrev pub invariant-loop-bounds : goal.invariant-loop-bounds
 invariant-loop-bounds l = record {
-  entries : l.initial.entries.items ++ map (procedure_entry l.part l.rows) (front (starts_in l.part l.next) l.procedures)
+  entries : l.initial.entries.items
+      ++ map (procedure_entry l.part l.rows) (front (starts_in l.part l.next) l.procedures)
       ≡ l.entries.items ++ map (procedure_entry l.part l.rows) (front (starts_in l.part l.next)
       (drop l.bounds-index l.procedures));
   onward : (y : ℕ) → l.asked ≤ y

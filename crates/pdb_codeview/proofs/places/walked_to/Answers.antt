@@ -1,5 +1,5 @@
 -- The rest from a place on is the rest of all from there on, and so from each greater place on.
-use Rattle.std.proofs.Common.{◌≡◌, ◌∙◌, ap, arith}
+use Rattle.std.proofs.Common.{◌∙◌, ap, arith}
 use Rattle.pdb_codeview.specs.Places.{from_last}
 use Rattle.pdb_codeview.proofs.PlaceLemmas.{from_last-from_last}
 use Rattle.pdb_codeview.proofs.places.walked_to.Goals as goal
