@@ -1,0 +1,47 @@
+-- Worked examples of the rules of lines.
+use Rattle.std.proofs.Common.{◌≡◌, ℕ, List, [], ◌∷◌, refl}
+use Rattle.std.specs.Prelude.{None}
+use Rattle.pdb_records.specs.declared.addresses.PdbInternalSectionOffset.{PdbInternalSectionOffset}
+use Rattle.pdb_records.specs.declared.lines.LineInfo.{LineInfo}
+use Rattle.pdb_records.specs.declared.lines.SymbolLines.{SymbolLines}
+use Rattle.pdb_codeview.specs.declared.lines.LinePart.{LinePart}
+use Rattle.pdb_codeview.specs.declared.procedure_spans.ProcedureSpan.{ProcedureSpan}
+use Rattle.pdb_codeview.specs.LineEntries.{program_entries}
+use Rattle.pdb_codeview.specs.LineRows.{rows_with_bytes}
+
+-- an offset in the first section
+abbrev at : ℕ → PdbInternalSectionOffset
+at offset = record { section = 1; offset = offset }
+
+abbrev row : ℕ → ℕ → LineInfo
+row offset line = record { offset = offset; file_index = record { 0 = 0 }; line_start = line }
+
+abbrev part : ℕ → ℕ → List LineInfo → LinePart
+part start size rows = record { offset = at start; size = size; rows = record { items = rows; fault = None } }
+
+abbrev procedure : ℕ → ℕ → ProcedureSpan
+procedure start len = record { start = at start; len = len }
+
+abbrev entry : ℕ → List LineInfo → SymbolLines
+entry start rows = record { offset = at start; lines = record { items = rows; fault = None } }
+
+-- an opening brace that makes no code, and the first statement
+brace_and_statement : rows_with_bytes (row 0 14 ∷ row 0 15 ∷ row 9 17 ∷ []) ≡ row 0 15 ∷ row 9 17 ∷ []
+brace_and_statement = refl
+
+-- a function that begins with an inlined body
+inlined_at_the_start : program_entries (part 16 32 (row 34 37 ∷ row 40 38 ∷ []) ∷ []) (procedure 16 32 ∷ [])
+    ≡ entry 16 (row 16 37 ∷ row 40 38 ∷ []) ∷ []
+inlined_at_the_start = refl
+
+-- a part of assembler code with two procedures, neither at its start
+assembler : program_entries (part 16 64 (row 20 5 ∷ row 40 6 ∷ []) ∷ []) (procedure 48 16 ∷ procedure 32 16 ∷ [])
+    ≡ entry 16 (row 20 5 ∷ row 40 6 ∷ []) ∷ entry 32 (row 32 5 ∷ row 40 6 ∷ []) ∷ entry 48 (row 48 6 ∷ []) ∷ []
+assembler = refl
+
+-- a procedure inside of another: behind its end the outer one goes on
+nested : program_entries (part 16 64 (row 16 1 ∷ row 32 2 ∷ row 40 3 ∷ []) ∷ [])
+    (procedure 24 48 ∷ procedure 32 8 ∷ [])
+    ≡ entry 16 (row 16 1 ∷ row 32 2 ∷ row 40 3 ∷ []) ∷ entry 24 (row 24 1 ∷ row 32 2 ∷ row 40 3 ∷ [])
+    ∷ entry 32 (row 32 2 ∷ []) ∷ []
+nested = refl
