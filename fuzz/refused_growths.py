@@ -79,7 +79,7 @@ WHILE_READ = "out of memory while the file's text was read"
 MADE_AGAIN = "a call was made again, and all answers are as wanted"
 OF_A_BROKEN_PART = "a call was made again, and says that a broken part failed before"
 ENDS_EARLY = "a growth of the list's own program was refused"
-QUESTIONS = ("calls.txt", "sizes.txt", "signatures.txt", "ids.txt")
+QUESTIONS = ("calls.txt", "sizes.txt", "signatures.txt", "ids.txt", "ways.txt", "lent.txt", "parts.txt")
 
 Case = namedtuple("Case", "name folder words stdout stderr status")
 Run = namedtuple("Run", "status stdout stderr")

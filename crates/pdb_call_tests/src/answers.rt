@@ -1,5 +1,6 @@
 //! Answers as text.
 
+use crate::texts::joined;
 use pdb_addr2line::{Answer, Error, Frame, Function, FunctionFrames};
 use std::alloc::{AllocError, Global};
 
@@ -12,16 +13,26 @@ pub(crate) fn text_of_answer(alloc: Global, answer: &Answer<'_>) -> Result<Strin
         Answer::Frames(Ok(Some(frames))) => text_of_frames(alloc, frames),
         Answer::Frames(Err(error)) => text_of_error(alloc, error),
         Answer::Functions(functions) => text_of_functions(alloc, functions),
-        Answer::Count(count) => format!(in alloc; "{count}"),
-        Answer::Size(size) => format!(in alloc; "{size}"),
+        Answer::Count(count) => count.to_string(alloc),
+        Answer::Size(size) => size.to_string(alloc),
         Answer::Text(Ok(text)) => text.clone(),
         Answer::Text(Err(error)) => text_of_error(alloc, error),
     }
 }
 
+/// An answer as text, of a clone where a function or frames were found.
+pub(crate) fn text_of_clone(alloc: Global, answer: &Answer<'_>) -> Result<String, AllocError> {
+    match answer {
+        Answer::Function(Some(function)) => text_of_function(alloc, &function.clone()?),
+        Answer::Frames(Ok(Some(frames))) => text_of_frames(alloc, &frames.clone()?),
+        other => text_of_answer(alloc, other),
+    }
+}
+
 /// An error as text.
-fn text_of_error(alloc: Global, error: &Error) -> Result<String, AllocError> {
-    format!(in alloc; "! {error}")
+pub(crate) fn text_of_error(alloc: Global, error: &Error) -> Result<String, AllocError> {
+    let text = error.to_string(alloc)?;
+    joined(alloc, "! ", text.as_str(), "")
 }
 
 /// A name as text, or `?` where none is known.
@@ -32,19 +43,33 @@ fn text_of_name(name: &Option<String>) -> &str {
     }
 }
 
+/// An address as text, or nothing.
+fn text_of_address(alloc: Global, address: Option<u32>) -> Result<String, AllocError> {
+    match address {
+        Some(address) => format!(in alloc; "{address:x}"),
+        None => Ok(String::new(alloc)),
+    }
+}
+
+/// A line as text, or `?` where none is known.
+fn text_of_line(alloc: Global, line: Option<u32>) -> Result<String, AllocError> {
+    match line {
+        Some(line) => line.to_string(alloc),
+        None => String::from_str(alloc, "?"),
+    }
+}
+
 /// Where a function lies.
 fn text_of_range(alloc: Global, start: u32, end: Option<u32>) -> Result<String, AllocError> {
-    match end {
-        Some(end) => format!(in alloc; "{start:x}..{end:x}"),
-        None => format!(in alloc; "{start:x}.."),
-    }
+    let start = text_of_address(alloc, Some(start))?;
+    let end = text_of_address(alloc, end)?;
+    joined(alloc, start.as_str(), "..", end.as_str())
 }
 
 /// A function as text: where it lies, and its name.
 fn text_of_function(alloc: Global, function: &Function) -> Result<String, AllocError> {
     let range = text_of_range(alloc, function.start_rva, function.end_rva)?;
-    let name = text_of_name(&function.name);
-    format!(in alloc; "{range} {name}")
+    joined(alloc, range.as_str(), " ", text_of_name(&function.name))
 }
 
 /// Functions as text, one behind the other.
@@ -52,22 +77,24 @@ fn text_of_functions(alloc: Global, functions: &[Function]) -> Result<String, Al
     let mut text = String::new(alloc);
     for function in functions {
         let function = text_of_function(alloc, function)?;
-        write!(text, "{function}; ")?;
+        text = joined(alloc, text.as_str(), function.as_str(), "; ")?;
     }
     Ok(text)
 }
 
-/// A frame as text: its name, file and line.
-fn text_of_frame(alloc: Global, frame: &Frame<'_>) -> Result<String, AllocError> {
-    let name = text_of_name(&frame.function);
-    let file = match &frame.file {
-        Some(file) => file.as_str(),
-        None => "?",
-    };
-    match frame.line {
-        Some(line) => format!(in alloc; "{name} at {file}:{line}"),
-        None => format!(in alloc; "{name} at {file}:?"),
+/// The place of a frame as text: its file and line.
+fn text_of_place(alloc: Global, frame: &Frame<'_>) -> Result<String, AllocError> {
+    let line = text_of_line(alloc, frame.line)?;
+    match &frame.file {
+        Some(file) => joined(alloc, file.as_str(), ":", line.as_str()),
+        None => joined(alloc, "?", ":", line.as_str()),
     }
+}
+
+/// A frame as text: its name and its place.
+fn text_of_frame(alloc: Global, frame: &Frame<'_>) -> Result<String, AllocError> {
+    let place = text_of_place(alloc, frame)?;
+    joined(alloc, text_of_name(&frame.function), " at ", place.as_str())
 }
 
 /// Frames as text: where the function lies, and then each frame.
@@ -75,7 +102,7 @@ fn text_of_frames(alloc: Global, frames: &FunctionFrames<'_>) -> Result<String, 
     let mut text = text_of_range(alloc, frames.start_rva, frames.end_rva)?;
     for frame in &frames.frames {
         let frame = text_of_frame(alloc, frame)?;
-        write!(text, "; {frame}")?;
+        text = joined(alloc, text.as_str(), "; ", frame.as_str())?;
     }
     Ok(text)
 }

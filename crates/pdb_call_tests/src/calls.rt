@@ -2,6 +2,7 @@
 
 use crate::lists::{lists_of, outcome_of};
 use crate::tally::Tally;
+use crate::texts::print_line;
 use pdb_addr2line::ContextPdbData;
 use std::io;
 
@@ -17,10 +18,10 @@ pub(crate) fn over_data<R: Print + AllocGlobal>(
         tally = tally.asked(list.calls());
         let outcome = outcome_of(rt.alloc(), data, list)?;
         if outcome.made_again {
-            println!(rt; "{0} was made again", list.first())?;
+            print_line(rt, list.first(), " was made again")?;
         }
         if outcome.differs {
-            println!(rt; "{0} differs", list.first())?;
+            print_line(rt, list.first(), " differs")?;
             tally = tally.differing();
         }
     }

@@ -1,6 +1,7 @@
 //! Lists of calls, and what is wanted of them.
 
-use crate::answers::text_of_answer;
+use crate::answers::{text_of_answer, text_of_clone};
+use crate::texts::{around, hexadecimal, module_index};
 use pdb_addr2line::pdb::{IdIndex, TypeIndex};
 use pdb_addr2line::{Answer, Call, Context, ContextPdbData};
 use std::alloc::{AllocError, Global};
@@ -21,6 +22,11 @@ impl<'t> CallList<'t> {
         calls
     }
 
+    /// Its lines.
+    pub(crate) fn lines(self) -> &'t str {
+        self.lines
+    }
+
     /// Its first line.
     pub(crate) fn first(self) -> &'t str {
         self.lines.lines().next().unwrap_or("")
@@ -30,58 +36,83 @@ impl<'t> CallList<'t> {
 /// The lists of calls in the lines for one file.
 pub(crate) fn lists_of(alloc: Global, part: &str) -> Result<Vec<CallList<'_>>, AllocError> {
     let mut lists = Vec::new(alloc);
-    let Some((_, text)) = part.split_once('\n') else {
+    let Some((_, text)) = around(part, "\n") else {
         return Ok(lists);
     };
     for lines in text.split("\n\n") {
-        if lines.contains('|') {
+        if around(lines, " | ").is_some() {
             lists.push(CallList { lines })?;
         }
     }
     Ok(lists)
 }
 
-/// A number in hexadecimal.
-fn hexadecimal(word: Option<&str>) -> Option<u32> {
-    u32::from_str_radix(word?, 16).ok()
+/// The call `size MODULE INDEX`, without its first word.
+fn size_call(text: &str) -> Option<Call<'_>> {
+    let (module, index) = module_index(text)?;
+    Some(Call::TypeSize(module, TypeIndex(hexadecimal(index)?)))
 }
 
-/// A module index.
-fn position(word: Option<&str>) -> Option<usize> {
-    word?.parse::<usize>().ok()
+/// The call `signature MODULE INDEX NAME`, without its first word.
+fn signature_call(text: &str) -> Option<Call<'_>> {
+    let (module, rest) = module_index(text)?;
+    let (index, name) = around(rest, " ")?;
+    Some(Call::FormatFunction(name, module, TypeIndex(hexadecimal(index)?)))
+}
+
+/// The call `id MODULE INDEX`, without its first word.
+fn id_call(text: &str) -> Option<Call<'_>> {
+    let (module, index) = module_index(text)?;
+    Some(Call::FormatId(module, IdIndex(hexadecimal(index)?)))
 }
 
 /// The call that a text spells, if it is one.
 fn call_of(text: &str) -> Option<Call<'_>> {
-    let mut words = text.splitn(4, ' ');
-    match words.next()? {
-        "function" => Some(Call::FindFunction(hexadecimal(words.next())?)),
-        "frames" => Some(Call::FindFrames(hexadecimal(words.next())?)),
+    let (word, rest) = around(text, " ").unwrap_or((text, ""));
+    match word {
+        "function" => Some(Call::FindFunction(hexadecimal(rest)?)),
+        "frames" => Some(Call::FindFrames(hexadecimal(rest)?)),
         "functions" => Some(Call::Functions),
         "count" => Some(Call::FunctionCount),
-        "size" => {
-            let module = position(words.next())?;
-            Some(Call::TypeSize(module, TypeIndex(hexadecimal(words.next())?)))
-        }
-        "signature" => {
-            let module = position(words.next())?;
-            let index = TypeIndex(hexadecimal(words.next())?);
-            Some(Call::FormatFunction(words.next()?, module, index))
-        }
-        "id" => {
-            let module = position(words.next())?;
-            Some(Call::FormatId(module, IdIndex(hexadecimal(words.next())?)))
-        }
+        "size" => size_call(rest),
+        "signature" => signature_call(rest),
+        "id" => id_call(rest),
         _ => None,
     }
 }
 
+/// A line's call and what is wanted of it.
+fn parts(line: &str) -> (&str, &str) {
+    around(line, " | ").unwrap_or((line, ""))
+}
+
+/// A size that is asked for: the module index of the module that asks, the index, and the size that is wanted.
+#[derive(Clone, Copy)]
+pub(crate) struct WantedSize {
+    pub(crate) module: usize,
+    pub(crate) index: TypeIndex,
+    pub(crate) size: u64,
+}
+
+/// The size that a line asks for, if it asks for one.
+pub(crate) fn wanted_size(line: &str) -> Option<WantedSize> {
+    let (text, wanted) = parts(line);
+    let Call::TypeSize(module, index) = call_of(text)? else {
+        return None;
+    };
+    let size = wanted.parse::<u64>().ok()?;
+    Some(WantedSize {
+        module,
+        index,
+        size,
+    })
+}
+
 /// The calls of a list. A line that is none has none.
-fn calls_of(alloc: Global, list: CallList<'_>) -> Result<Vec<Call<'_>>, AllocError> {
+pub(crate) fn calls_of(alloc: Global, list: CallList<'_>) -> Result<Vec<Call<'_>>, AllocError> {
     let mut calls = Vec::new(alloc);
     for line in list.lines.lines() {
-        let (text, _) = line.split_once(" | ").unwrap_or((line, ""));
-        if let Some(call) = call_of(text) {
+        if let Some(call) = call_of(parts(line).0) {
             calls.push(call)?;
         }
     }
@@ -157,21 +188,40 @@ fn refusals_of<'d>(
     ATTEMPTS
 }
 
+/// Whether texts are those that are wanted, one for each line.
+fn are_texts(list: CallList<'_>, texts: &[String]) -> bool {
+    let mut left = texts;
+    for line in list.lines.lines() {
+        match left {
+            [first, others @ ..] if first.as_str() == parts(line).1 => left = others,
+            _ => return false,
+        }
+    }
+    left.is_empty()
+}
+
 /// Whether answers are those that are wanted, one for each line.
-fn are_wanted(
+pub(crate) fn are_wanted(
     alloc: Global,
     list: CallList<'_>,
     answers: &[Answer<'_>],
 ) -> Result<bool, AllocError> {
-    let mut left = answers.iter();
-    for line in list.lines.lines() {
-        let (_, wanted) = line.split_once(" | ").unwrap_or((line, ""));
-        let Some(answer) = left.next() else {
-            return Ok(false);
-        };
-        if text_of_answer(alloc, answer)?.as_str() != wanted {
-            return Ok(false);
-        }
+    let mut texts = Vec::new(alloc);
+    for answer in answers {
+        texts.push(text_of_answer(alloc, answer)?)?;
     }
-    Ok(left.next().is_none())
+    Ok(are_texts(list, &texts))
+}
+
+/// Whether clones of answers are those that are wanted, one for each line.
+pub(crate) fn are_clones_wanted(
+    alloc: Global,
+    list: CallList<'_>,
+    answers: &[Answer<'_>],
+) -> Result<bool, AllocError> {
+    let mut texts = Vec::new(alloc);
+    for answer in answers {
+        texts.push(text_of_clone(alloc, answer)?)?;
+    }
+    Ok(are_texts(list, &texts))
 }

@@ -19,15 +19,28 @@
 //! `ids.txt` is such a file too. A line with no NAME asks for the id of the index; one with a NAME asks for a
 //! signature, where a formatter is to be asked for both. Its last records file, `small_x64_types.json`, has the
 //! types and ids of a genuine program.
+//!
+//! `ways.txt` has lists of calls as `calls.txt` has. Each goes to contexts that are made in other ways: with flags, of
+//! parts, of parts whose provider counts, and over lent records. They answer at once, one by one, and in clones.
+//!
+//! `lent.txt` has a line `NAME | OUTCOME` for each records file whose records are lent: `taken`, or the text of an
+//! error behind `!`. Either way they stay as they were.
+//!
+//! `parts.txt` has a line `NAME | PART` for each part of a context that no list of calls shows, over a records file.
 #![tactic(auto)]
 
 mod answers;
 mod calls;
+mod lent_records;
 mod lists;
+mod parts;
 mod printed;
 mod signatures;
+mod single_parts;
 mod sizes;
 mod tally;
+mod texts;
+mod ways;
 
 use pdb_addr2line::ContextPdbData;
 use pdb_json::read_records;
@@ -35,6 +48,7 @@ use std::alloc::Global;
 use std::rt::Files;
 use std::{fs, io};
 use tally::Tally;
+use texts::{around, print_line};
 
 /// What is asked for.
 #[derive(Clone, Copy)]
@@ -43,7 +57,21 @@ enum Subject {
     Sizes,
     Signatures,
     Ids,
+    Ways,
+    Lent,
+    Parts,
 }
+
+/// All of it, in the order in which it is asked for.
+const SUBJECTS: [Subject; 7] = [
+    Subject::Calls,
+    Subject::Sizes,
+    Subject::Signatures,
+    Subject::Ids,
+    Subject::Ways,
+    Subject::Lent,
+    Subject::Parts,
+];
 
 impl Subject {
     /// The file with the questions.
@@ -53,6 +81,9 @@ impl Subject {
             Subject::Sizes => "sizes.txt",
             Subject::Signatures => "signatures.txt",
             Subject::Ids => "ids.txt",
+            Subject::Ways => "ways.txt",
+            Subject::Lent => "lent.txt",
+            Subject::Parts => "parts.txt",
         }
     }
 
@@ -63,17 +94,15 @@ impl Subject {
             Subject::Sizes => "sizes",
             Subject::Signatures => "signatures",
             Subject::Ids => "ids",
+            Subject::Ways => "calls in other ways",
+            Subject::Lent => "lent files",
+            Subject::Parts => "parts",
         }
     }
 }
 
 fn main(rt: HostRuntime) -> io::Result<()> {
-    for subject in [
-        Subject::Calls,
-        Subject::Sizes,
-        Subject::Signatures,
-        Subject::Ids,
-    ] {
+    for subject in SUBJECTS {
         compare(&rt, subject)?;
     }
     Ok(())
@@ -83,13 +112,56 @@ fn main(rt: HostRuntime) -> io::Result<()> {
 /// lists of them.
 fn compare<R: Files + Print + AllocGlobal>(rt: &R, subject: Subject) -> io::Result<()> {
     let text = fs::read_to_string(rt, subject.file())?;
-    let tally = over_files(rt, subject, text.as_str())?;
+    let tally = match subject {
+        Subject::Lent | Subject::Parts => over_lines(rt, subject, text.as_str())?,
+        _ => over_files(rt, subject, text.as_str())?,
+    };
     println!(rt;
         "{0} {1}, {2} differ",
         tally.asked,
         subject.name(),
         tally.differ
     )
+}
+
+/// Asks the question of each line.
+fn over_lines<R: Files + Print + AllocGlobal>(
+    rt: &R,
+    subject: Subject,
+    text: &str,
+) -> io::Result<Tally> {
+    let mut tally = Tally::NOTHING;
+    for line in text.lines() {
+        tally = over_line(rt, subject, line, tally)?;
+    }
+    Ok(tally)
+}
+
+/// Asks the question of a line `NAME | WANTED` over the file of that name. A line that differs is printed.
+fn over_line<R: Files + Print + AllocGlobal>(
+    rt: &R,
+    subject: Subject,
+    line: &str,
+    tally: Tally,
+) -> io::Result<Tally> {
+    let (name, wanted) = around(line, " | ").unwrap_or((line, ""));
+    let bytes = fs::read(rt, name)?;
+    if is_as_wanted(rt.alloc(), subject, &bytes, wanted) {
+        return Ok(tally.asked(1));
+    }
+    print_line(rt, line, " differs")?;
+    Ok(tally.asked(1).differing())
+}
+
+/// Whether what is asked over a file is as is wanted.
+fn is_as_wanted(alloc: Global, subject: Subject, bytes: &[u8], wanted: &str) -> bool {
+    match subject {
+        Subject::Lent => lent_records::stay_as_lent(alloc, bytes, wanted),
+        _ => match data_of(alloc, bytes) {
+            Some(data) => single_parts::is_as_it_should(alloc, &data, wanted),
+            None => false,
+        },
+    }
 }
 
 /// Asks the questions over each of the files.
@@ -114,15 +186,13 @@ fn over_file<R: Files + Print + AllocGlobal>(
     part: &str,
     tally: Tally,
 ) -> io::Result<Tally> {
-    let name = part.lines().next().unwrap_or("");
+    let (name, _) = around(part, "\n").unwrap_or((part, ""));
     let bytes = fs::read(rt, name)?;
-    match data_of(rt.alloc(), &bytes) {
-        Some(data) => over_data(rt, subject, &data, part, tally),
-        None => {
-            println!(rt; "{name} was refused")?;
-            Ok(tally.asked(1).differing())
-        }
+    if let Some(data) = data_of(rt.alloc(), &bytes) {
+        return over_data(rt, subject, &data, &bytes, part, tally);
     }
+    print_line(rt, name, " was refused")?;
+    Ok(tally.asked(1).differing())
 }
 
 /// The records of a file, if it holds some.
@@ -131,11 +201,12 @@ fn data_of(alloc: Global, bytes: &[u8]) -> Option<ContextPdbData<'static>> {
     ContextPdbData::try_from_pdb(alloc, records).ok()
 }
 
-/// Asks the questions over records.
+/// Asks the questions over the records of a file.
 fn over_data<R: Print + AllocGlobal>(
     rt: &R,
     subject: Subject,
     data: &ContextPdbData<'_>,
+    file: &[u8],
     part: &str,
     tally: Tally,
 ) -> io::Result<Tally> {
@@ -143,5 +214,6 @@ fn over_data<R: Print + AllocGlobal>(
         Subject::Calls => calls::over_data(rt, data, part, tally),
         Subject::Sizes => sizes::over_data(rt, data, part, tally),
         Subject::Signatures | Subject::Ids => signatures::over_data(rt, data, part, tally),
+        _ => ways::over_data(rt, data, file, part, tally),
     }
 }

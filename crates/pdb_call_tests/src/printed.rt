@@ -1,5 +1,6 @@
 //! Signatures and ids that are asked for, and what is wanted of them.
 
+use crate::texts::{around, hexadecimal, module_index};
 use bitflags::Flags;
 use pdb_addr2line::pdb::{IdIndex, TypeIndex};
 use pdb_addr2line::{ContextPdbData, Error, TypeFormatter, TypeFormatterFlags};
@@ -30,23 +31,25 @@ pub(crate) struct PrintedQuestion<'t> {
     pub(crate) text: &'t str,
 }
 
+/// What the rest of a line asks for: `INDEX NAME` for a signature, or `INDEX` for an id.
+fn asked_of(rest: &str) -> Option<Asked<'_>> {
+    match around(rest, " ") {
+        Some((index, name)) => Some(Asked::Signature(name, TypeIndex(hexadecimal(index)?))),
+        None => Some(Asked::Id(IdIndex(hexadecimal(rest)?))),
+    }
+}
+
 /// The question in a line `FLAGS MODULE INDEX NAME | OUTCOME | TEXT` for a signature, or
 /// `FLAGS MODULE INDEX | OUTCOME | TEXT` for an id, if it is one.
 pub(crate) fn printed_question_of(line: &str) -> Option<PrintedQuestion<'_>> {
-    let (numbers, rest) = line.split_once(" | ")?;
-    let (outcome, text) = rest.split_once(" | ")?;
-    let mut words = numbers.splitn(4, ' ');
-    let flags = words.next()?.parse::<u32>().ok()?;
-    let module = words.next()?.parse::<usize>().ok()?;
-    let index = u32::from_str_radix(words.next()?, 16).ok()?;
-    let asked = match words.next() {
-        Some(name) => Asked::Signature(name, TypeIndex(index)),
-        None => Asked::Id(IdIndex(index)),
-    };
+    let (numbers, rest) = around(line, " | ")?;
+    let (outcome, text) = around(rest, " | ")?;
+    let (flags, rest) = around(numbers, " ")?;
+    let (module, rest) = module_index(rest)?;
     Some(PrintedQuestion {
-        flags,
+        flags: flags.parse::<u32>().ok()?,
         module,
-        asked,
+        asked: asked_of(rest)?,
         outcome,
         text,
     })
@@ -109,7 +112,9 @@ fn answers_refusal(
         room,
     };
     let outcome = emit(formatter, &mut writer, question);
-    matches!(outcome, Err(Error::FormatError(_))) && question.text.starts_with(writer.held.as_str())
+    let held = writer.held.as_bytes();
+    matches!(outcome, Err(Error::FormatError(_)))
+        && question.text.as_bytes().get(..held.len()) == Some(held)
 }
 
 /// Whether a formatter shows that each writer refuses that has less room than the text takes.

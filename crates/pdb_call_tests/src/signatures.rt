@@ -2,6 +2,7 @@
 
 use crate::printed::{answers, flags_of, printed_question_of};
 use crate::tally::Tally;
+use crate::texts::print_line;
 use pdb_addr2line::ContextPdbData;
 use std::io;
 
@@ -33,7 +34,7 @@ pub(crate) fn over_data<R: Print + AllocGlobal>(
         }
         tally = tally.asked(1);
         if !answers(rt.alloc(), &mut formatter, question) {
-            println!(rt; "{line} differs")?;
+            print_line(rt, line, " differs")?;
             tally = tally.differing();
         }
     }

@@ -1,6 +1,7 @@
 //! Sizes of types.
 
 use crate::tally::Tally;
+use crate::texts::{around, hexadecimal, module_index, print_line};
 use pdb_addr2line::pdb::TypeIndex;
 use pdb_addr2line::{ContextPdbData, TypeFormatter};
 use std::alloc::{AllocError, Global};
@@ -8,19 +9,22 @@ use std::io;
 
 /// A question for a size, and the size that is wanted.
 #[derive(Clone, Copy)]
-struct Question {
+struct Question<'t> {
+    /// The line that asks it.
+    line: &'t str,
     module: usize,
     index: u32,
     size: u64,
 }
 
 /// The question of a line `MODULE INDEX SIZE`, if it is one.
-fn question_of(line: &str) -> Option<Question> {
-    let mut words = line.split_whitespace();
-    let module = words.next()?.parse::<usize>().ok()?;
-    let index = u32::from_str_radix(words.next()?, 16).ok()?;
-    let size = words.next()?.parse::<u64>().ok()?;
+fn question_of(line: &str) -> Option<Question<'_>> {
+    let (module, rest) = module_index(line)?;
+    let (index, size) = around(rest, " ")?;
+    let index = hexadecimal(index)?;
+    let size = size.parse::<u64>().ok()?;
     Some(Question {
+        line,
         module,
         index,
         size,
@@ -28,7 +32,7 @@ fn question_of(line: &str) -> Option<Question> {
 }
 
 /// The questions in the lines of a part.
-fn questions_of(alloc: Global, part: &str) -> Result<Vec<Question>, AllocError> {
+fn questions_of(alloc: Global, part: &str) -> Result<Vec<Question<'_>>, AllocError> {
     let mut questions = Vec::new(alloc);
     for line in part.lines() {
         if let Some(question) = question_of(line) {
@@ -57,8 +61,8 @@ pub(crate) fn over_data<R: Print + AllocGlobal>(
 fn ask_all<R: Print>(
     rt: &R,
     data: &ContextPdbData<'_>,
-    first: Question,
-    questions: &[Question],
+    first: Question<'_>,
+    questions: &[Question<'_>],
     tally: Tally,
 ) -> io::Result<Tally> {
     let Ok(mut formatter) = data.make_type_formatter() else {
@@ -75,16 +79,13 @@ fn ask_all<R: Print>(
 fn ask<R: Print>(
     rt: &R,
     formatter: &mut TypeFormatter<'_, ContextPdbData<'_>>,
-    question: Question,
+    question: Question<'_>,
     tally: Tally,
 ) -> io::Result<Tally> {
     let size = formatter.get_type_size(question.module, TypeIndex(question.index));
     if size.ok() == Some(question.size) {
         return Ok(tally.asked(1));
     }
-    println!(rt;
-        "size of {0} {1:x} differs",
-        question.module, question.index
-    )?;
+    print_line(rt, question.line, " differs")?;
     Ok(tally.asked(1).differing())
 }

@@ -2,9 +2,11 @@
 //!
 //! `runs.txt` has a line `$ pdb_report WORD ..` for each run, then the lines that are wanted on standard
 //! output and on standard error, and a line `status N`. A run that ends well is made again into writers that
-//! refuse: one for each room that is too small for its text, and one that doesn't hand on what it took.
+//! refuse: one for each room that is too small for its text, and one that doesn't hand on what it took. Reports are
+//! written into such writers by `report` itself too.
 #![tactic(auto)]
 
+mod reports;
 mod runs;
 mod writers;
 
@@ -18,14 +20,27 @@ use std::{fs, io};
 /// The file with the runs.
 const RUNS: &str = "runs.txt";
 
+/// A records file without sections, so that each address has a short line.
+const NO_SECTIONS: &str = "null_sections.json";
+
 fn main(rt: HostRuntime) -> io::Result<ExitCode> {
     let text = fs::read_to_string(&rt, RUNS)?;
     let differing = compare(&rt, text.as_str())?;
-    Ok(if differing == 0 {
+    Ok(if are_reported(&rt)? && differing == 0 {
         ExitCode::SUCCESS
     } else {
         ExitCode::FAILURE
     })
+}
+
+/// Whether reports end as they should in writers that refuse. It is printed where they don't.
+fn are_reported<R: Files + Print + AllocGlobal>(rt: &R) -> io::Result<bool> {
+    let file = fs::read(rt, NO_SECTIONS)?;
+    if reports::end_as_they_should(rt.alloc(), &file) {
+        return Ok(true);
+    }
+    rt.println("reports differ where they can't be written")?;
+    Ok(false)
 }
 
 /// Compares each run, prints those that differ and how many there are, and counts those that differ.

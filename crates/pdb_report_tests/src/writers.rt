@@ -12,7 +12,7 @@ const LONGEST: usize = 256;
 
 /// Takes some bytes, so many at a time, and then refuses.
 #[derive(Drop)]
-struct Narrow {
+pub(crate) struct Narrow {
     held: Vec<u8>,
     room: usize,
     at_once: usize,
@@ -24,7 +24,7 @@ struct Narrow {
 
 impl Narrow {
     /// A writer with this much room.
-    fn new(alloc: Global, room: usize) -> Narrow {
+    pub(crate) fn new(alloc: Global, room: usize) -> Narrow {
         Narrow {
             held: Vec::new(alloc),
             room,

@@ -1,0 +1,39 @@
+//! Pieces of texts.
+
+use std::alloc::{AllocError, Global};
+use std::io;
+
+/// What stands before a text in another one, and what stands behind it.
+pub(crate) fn around<'t>(text: &'t str, inner: &str) -> Option<(&'t str, &'t str)> {
+    text.split_once(inner)
+}
+
+/// A number in hexadecimal.
+pub(crate) fn hexadecimal(word: &str) -> Option<u32> {
+    u32::from_str_radix(word, 16).ok()
+}
+
+/// A module index, and the text behind it.
+pub(crate) fn module_index(text: &str) -> Option<(usize, &str)> {
+    let (word, rest) = around(text, " ")?;
+    Some((word.parse::<usize>().ok()?, rest))
+}
+
+/// Prints a line, and what is said of it.
+pub(crate) fn print_line<R: Print>(rt: &R, line: &str, said: &str) -> io::Result<()> {
+    rt.print(line)?;
+    rt.println(said)
+}
+
+/// Three texts, one behind the other.
+pub(crate) fn joined(
+    alloc: Global,
+    first: &str,
+    second: &str,
+    third: &str,
+) -> Result<String, AllocError> {
+    let mut text = String::from_str(alloc, first)?;
+    text.push_str(second)?;
+    text.push_str(third)?;
+    Ok(text)
+}

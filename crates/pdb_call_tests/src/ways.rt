@@ -1,0 +1,237 @@
+//! Lists of calls to contexts that are made in other ways, and calls that are made one by one.
+
+use crate::lists::{
+    CallList, WantedSize, are_clones_wanted, are_wanted, calls_of, lists_of, wanted_size,
+};
+use crate::parts::{Counting, context_of, context_over};
+use crate::tally::Tally;
+use crate::texts::print_line;
+use pdb_addr2line::pdb::PDB;
+use pdb_addr2line::{
+    Answer, Call, Context, ContextPdbData, Error, Function, ModuleProvider, TypeFormatter,
+    TypeFormatterFlags,
+};
+use pdb_json::read_records;
+use std::alloc::Global;
+use std::cell::Cell;
+use std::io;
+
+/// Has contexts that are made in each of the ways answer the lists over a records file.
+pub(crate) fn over_data<R: Print + AllocGlobal>(
+    rt: &R,
+    data: &ContextPdbData<'_>,
+    file: &[u8],
+    part: &str,
+    tally: Tally,
+) -> io::Result<Tally> {
+    let mut tally = tally;
+    for list in lists_of(rt.alloc(), part)? {
+        tally = tally.asked(list.calls());
+        if !is_answered_in_each_way(rt.alloc(), data, file, list) {
+            print_line(rt, list.first(), " differs")?;
+            tally = tally.differing();
+        }
+    }
+    Ok(tally)
+}
+
+/// Whether contexts that are made in each of the ways answer a list.
+fn is_answered_in_each_way(
+    alloc: Global,
+    data: &ContextPdbData<'_>,
+    file: &[u8],
+    list: CallList<'_>,
+) -> bool {
+    match read_records(alloc, file) {
+        Ok(mut records) => {
+            is_answered_with_flags(alloc, data, list)
+                && is_answered_by_parts(alloc, data, &records, list)
+                && is_asked_once(alloc, data, &records, list)
+                && is_answered_when_lent(alloc, &mut records, list)
+        }
+        Err(_) => false,
+    }
+}
+
+/// Whether a context with flags of its own answers a list.
+fn is_answered_with_flags(alloc: Global, data: &ContextPdbData<'_>, list: CallList<'_>) -> bool {
+    match data.make_context_with_formatter_flags(TypeFormatterFlags::NO_ARGUMENTS) {
+        Ok(context) => is_answered_by(alloc, context, list),
+        Err(_) => false,
+    }
+}
+
+/// Whether a context of parts, over records of its own, answers a list.
+fn is_answered_by_parts(
+    alloc: Global,
+    data: &ContextPdbData<'_>,
+    records: &PDB,
+    list: CallList<'_>,
+) -> bool {
+    let Ok(formatter) = data.make_type_formatter() else {
+        return false;
+    };
+    match context_of(alloc, data, records, formatter) {
+        Some(context) => is_answered_by(alloc, context, list),
+        None => false,
+    }
+}
+
+/// Whether a context over lent records answers a list.
+fn is_answered_when_lent(alloc: Global, records: &mut PDB, list: CallList<'_>) -> bool {
+    match ContextPdbData::try_from_pdb_ref(alloc, records) {
+        Ok(data) => is_answered_over(alloc, &data, list),
+        Err(_) => false,
+    }
+}
+
+/// Whether the context that is made of something answers a list.
+fn is_answered_over(alloc: Global, data: &ContextPdbData<'_>, list: CallList<'_>) -> bool {
+    match data.make_context() {
+        Ok(context) => is_answered_by(alloc, context, list),
+        Err(_) => false,
+    }
+}
+
+/// Whether a context answers a list, at once and one by one, and the formatter that it gives back then answers the
+/// sizes in it.
+fn is_answered_by<P: ModuleProvider>(
+    alloc: Global,
+    context: Context<'_, P>,
+    list: CallList<'_>,
+) -> bool {
+    let mut context = context;
+    let is_answered = is_answered(alloc, &mut context, list)
+        && is_answered_one_by_one(alloc, &mut context, list);
+    let mut formatter = context.into_type_formatter();
+    is_answered && answers_sizes(&mut formatter, list)
+}
+
+/// Whether a context answers a list at once.
+fn is_answered<P: ModuleProvider>(
+    alloc: Global,
+    context: &mut Context<'_, P>,
+    list: CallList<'_>,
+) -> bool {
+    let Ok(calls) = calls_of(alloc, list) else {
+        return false;
+    };
+    let mut answers = Vec::new(alloc);
+    context.run_calls(&calls, &mut answers).is_ok()
+        && matches!(are_wanted(alloc, list, &answers), Ok(true))
+}
+
+/// The functions of a context, one by one.
+fn functions_of<P: ModuleProvider>(
+    alloc: Global,
+    context: &mut Context<'_, P>,
+) -> Result<Vec<Function>, Error> {
+    let mut found = Vec::new(alloc);
+    let mut functions = context.functions()?;
+    while let Some(function) = functions.next() {
+        found.push(function?)?;
+    }
+    Ok(found)
+}
+
+/// Asks a context by the call's own method, and appends the answer.
+fn ask<'d, P: ModuleProvider>(
+    alloc: Global,
+    context: &mut Context<'d, P>,
+    call: Call<'_>,
+    answers: &mut Vec<Answer<'d>>,
+) -> Result<(), Error> {
+    let answer = match call {
+        Call::FindFunction(address) => Answer::Function(context.find_function(address)?),
+        Call::FindFrames(address) => Answer::Frames(Ok(context.find_frames(address)?)),
+        Call::Functions => Answer::Functions(functions_of(alloc, context)?),
+        Call::FunctionCount => Answer::Count(context.function_count()),
+        other => return context.run_calls(&[other], answers),
+    };
+    answers.push(answer)?;
+    Ok(())
+}
+
+/// Asks a context one by one, and appends the answers.
+fn ask_all<'d, P: ModuleProvider>(
+    alloc: Global,
+    context: &mut Context<'d, P>,
+    calls: &[Call<'_>],
+    answers: &mut Vec<Answer<'d>>,
+) -> Result<(), Error> {
+    for call in calls {
+        ask(alloc, context, *call, answers)?;
+    }
+    Ok(())
+}
+
+/// Whether a context answers a list one by one. The answers, and clones of them, are looked at when all are there.
+fn is_answered_one_by_one<P: ModuleProvider>(
+    alloc: Global,
+    context: &mut Context<'_, P>,
+    list: CallList<'_>,
+) -> bool {
+    let Ok(calls) = calls_of(alloc, list) else {
+        return false;
+    };
+    let mut answers = Vec::new(alloc);
+    ask_all(alloc, context, &calls, &mut answers).is_ok()
+        && matches!(are_wanted(alloc, list, &answers), Ok(true))
+        && matches!(are_clones_wanted(alloc, list, &answers), Ok(true))
+}
+
+/// Whether a formatter answers a size.
+fn answers_size<P: ModuleProvider>(
+    formatter: &mut TypeFormatter<'_, P>,
+    wanted: WantedSize,
+) -> bool {
+    match formatter.get_type_size(wanted.module, wanted.index) {
+        Ok(size) => size == wanted.size,
+        Err(_) => false,
+    }
+}
+
+/// Whether a formatter answers the sizes in a list.
+fn answers_sizes<P: ModuleProvider>(
+    formatter: &mut TypeFormatter<'_, P>,
+    list: CallList<'_>,
+) -> bool {
+    for line in list.lines().lines() {
+        if let Some(wanted) = wanted_size(line) {
+            if !answers_size(formatter, wanted) {
+                return false;
+            }
+        }
+    }
+    true
+}
+
+/// Whether a context of parts, whose provider counts, answers a list twice and asks the provider at the first time
+/// alone.
+fn is_asked_once(
+    alloc: Global,
+    data: &ContextPdbData<'_>,
+    records: &PDB,
+    list: CallList<'_>,
+) -> bool {
+    let counting = Counting {
+        provider: data,
+        asked: Cell::new(0),
+    };
+    match context_over(alloc, &counting, records) {
+        Some(mut context) => asks_once(alloc, &mut context, &counting.asked, list),
+        None => false,
+    }
+}
+
+/// Whether a context answers a list twice and asks its provider at the first time alone.
+fn asks_once<P: ModuleProvider>(
+    alloc: Global,
+    context: &mut Context<'_, P>,
+    asked: &Cell<u32>,
+    list: CallList<'_>,
+) -> bool {
+    let is_answered_first = is_answered(alloc, context, list);
+    let first = asked.get();
+    is_answered_first && first > 0 && is_answered(alloc, context, list) && asked.get() == first
+}

@@ -1,0 +1,71 @@
+//! Reports that are written by `report` itself, into writers that refuse.
+
+use crate::writers::Narrow;
+use pdb_addr2line::{Context, ContextPdbData};
+use pdb_json::read_records;
+use pdb_report_lib::{Command, Out, ReportFault, Sink, report};
+use std::alloc::Global;
+use std::io::{self, BufWriter};
+
+/// How much room a report of two addresses takes that lie in no section.
+const REPORTED: usize = 44;
+
+/// Whether a report ended as one to a writer with this much room should.
+fn ends_as_it_should(ended: &Result<(), ReportFault>, room: usize) -> bool {
+    match ended {
+        Ok(()) => room >= REPORTED,
+        Err(ReportFault::Write) => room < REPORTED,
+        Err(ReportFault::Lookup(_)) => false,
+    }
+}
+
+/// Whether a report of two addresses to a writer with this much room is refused if there is too little.
+fn reports_into(alloc: Global, context: &mut Context<'_, ContextPdbData<'_>>, room: usize) -> bool {
+    let mut sink = Out::new(Narrow::new(alloc, room));
+    let ended = report(alloc, context, Command::Names, &[1, 2], &mut sink);
+    ends_as_it_should(&ended, room) && sink.failed() == (room < REPORTED)
+}
+
+/// Whether reports to writers with ever more room are refused until there is enough.
+fn reports_into_all(alloc: Global, context: &mut Context<'_, ContextPdbData<'_>>) -> bool {
+    for room in 0..=REPORTED {
+        if !reports_into(alloc, context, room) {
+            return false;
+        }
+    }
+    true
+}
+
+/// Whether a context that is made of something reports so.
+fn reports_over(alloc: Global, data: &ContextPdbData<'_>) -> bool {
+    match data.make_context() {
+        Ok(mut context) => reports_into_all(alloc, &mut context),
+        Err(_) => false,
+    }
+}
+
+/// What a context is made of, from the text of a records file.
+fn data_of(alloc: Global, file: &[u8]) -> Option<ContextPdbData<'static>> {
+    let records = read_records(alloc, file).ok()?;
+    ContextPdbData::try_from_pdb(alloc, records).ok()
+}
+
+/// Whether a writer refuses what it held back, when it is to write it, if there is too little room.
+fn is_refused_late(alloc: Global, room: usize, refused: bool) -> io::Result<bool> {
+    let mut sink = Out::new(BufWriter::new(alloc, Narrow::new(alloc, room))?);
+    let taken = sink.put(b"0x100").is_ok() && !sink.failed();
+    Ok(taken && sink.flush().is_err() == refused && sink.failed() == refused)
+}
+
+/// Whether reports over a records file without sections, and what is held back of them, end as they should in writers
+/// that refuse.
+pub(crate) fn end_as_they_should(alloc: Global, file: &[u8]) -> bool {
+    match data_of(alloc, file) {
+        Some(data) => {
+            reports_over(alloc, &data)
+                && matches!(is_refused_late(alloc, 5, false), Ok(true))
+                && matches!(is_refused_late(alloc, 4, true), Ok(true))
+        }
+        None => false,
+    }
+}
