@@ -194,10 +194,10 @@ IDS = [
 ]
 
 
-def item_stream(items, first=0x1000):
+def item_stream(items, first=0x1000, header=56):
     """A stream of types or of ids: its header, and each record behind its length."""
     records = b"".join(u16(len(content) + 2, leaf) + content for leaf, content, _ in items)
-    return u32(VERSION, 56, first, first + len(items), len(records)) + bytes(36) + records
+    return u32(VERSION, header, first, first + len(items), len(records)) + bytes(header - 20) + records
 
 
 def item_list(items, first=0x1000):
@@ -452,9 +452,9 @@ def inlinees_of_more_files():
 
 # --- the whole file --------------------------------------------------------------------------------------------------
 
-def module_header(stream, symbols, code, name):
+def module_header(stream, symbols, code, name, old_lines=0):
     """What the stream of debug information says of a module."""
-    front = bytes(34) + u16(stream) + u32(symbols, 0, code) + bytes(16)
+    front = bytes(34) + u16(stream) + u32(symbols, old_lines, code) + bytes(16)
     return aligned(front + text(name) + text(b"library"))
 
 

@@ -1,5 +1,6 @@
 """PDB files in other forms than the usual one, by their bytes, and the records that are wanted of them: of other ages,
 of other sizes of blocks, with other lengths."""
+import more_kinds
 from kinds import (SECTIONS, container, contribution, debug_stream, info_stream, item_stream, module_header,
                    more_streams, records, section_header, string_stream, u16, u32)
 
@@ -58,8 +59,8 @@ def names_only():
     """A file that has names alone: its lines and types are in objects."""
     streams = [b"", info_stream(u32(20140508, 0x494E494D)), item_stream([]), debug_stream(b"", b""), item_stream([]),
                string_stream(), b"", None, b"", SECTIONS]
-    return container(streams), ["names only", records()]
+    return container(streams, 16384), ["names only", records()]
 
 
-FILES = [("before_ids.pdb", before_ids), ("first_with_ids.pdb", first_with_ids), ("many_streams.pdb", many_streams),
+FILES = [("more_kinds.pdb", more_kinds.whole), ("before_ids.pdb", before_ids), ("first_with_ids.pdb", first_with_ids), ("many_streams.pdb", many_streams),
          ("names_only.pdb", names_only)]
