@@ -35,6 +35,9 @@ pub fn retain_claims(
 ) -> Result<(), AllocError> {
     let contributions = debug.section_contributions.items.as_slice();
     let claims = claims(alloc, sections, contributions)?;
+    if !has_opposed(alloc, sections, contributions, &claims)? {
+        return Ok(());
+    }
     let runs = runs(alloc, &claims)?;
     let mut retained = Vec::new(alloc);
     let mut left_out = Vec::new(alloc);
@@ -67,6 +70,38 @@ fn counts(sections: &[ImageSectionHeader], contribution: &SectionContribution) -
         Some(section) => section.execute && contribution.size > 0,
         None => false,
     }
+}
+
+// Whether any contribution is left out. Most programs have none, which costs no table of all bytes.
+fn has_opposed(
+    alloc: Global,
+    sections: &[ImageSectionHeader],
+    contributions: &[SectionContribution],
+    claims: &[Claim],
+) -> Result<bool, AllocError> {
+    let counted = contributions
+        .iter()
+        .filter(|contribution| counts(sections, contribution))
+        .count();
+    let mut by_start = Vec::from_slice(alloc, claims)?;
+    by_start.sort_by_key(|claim: &Claim| claim.start)?;
+    Ok(counted > claims.len() || has_overlap(&by_start))
+}
+
+// Whether a claim begins before one ends that stands in front of it and is another module's.
+fn has_overlap(claims: &[Claim]) -> bool {
+    let mut reach = 0;
+    let mut module = 0;
+    for claim in claims {
+        if claim.start < reach && claim.module != module {
+            return true;
+        }
+        if claim.end > reach {
+            reach = claim.end;
+            module = claim.module;
+        }
+    }
+    false
 }
 
 // What a contribution claims, where its end fits the offsets of a section.
