@@ -1,4 +1,4 @@
-//! Passes over addresses.
+//! Passes over addresses: a context asked for functions or for frames, again and again, with the time of each.
 
 use crate::steps::{print_memory, print_time};
 use anyhow::Result;

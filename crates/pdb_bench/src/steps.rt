@@ -1,4 +1,4 @@
-//! What is shown of a step.
+//! How long a step took, and the most memory so far, on standard error.
 
 use anyhow::Result;
 use std::fs;

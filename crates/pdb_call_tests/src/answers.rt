@@ -1,4 +1,4 @@
-//! Answers as text.
+//! Answers of calls to a context, as text to compare.
 
 use crate::texts::joined;
 use pdb_addr2line::{Answer, Error, Frame, Function, FunctionFrames};

@@ -1,4 +1,4 @@
-//! Records that are lent.
+//! Contexts over records that are lent, and how these are left.
 
 use crate::answers::text_of_error;
 use pdb_addr2line::ContextPdbData;

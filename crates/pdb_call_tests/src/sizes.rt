@@ -1,4 +1,4 @@
-//! Sizes of types.
+//! Sizes of types that are asked for by their index, and what is wanted.
 
 use crate::tally::Tally;
 use crate::texts::{around, hexadecimal, module_index, print_line};

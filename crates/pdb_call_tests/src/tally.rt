@@ -1,3 +1,5 @@
+//! Counts what was asked, and what was answered otherwise than wanted.
+
 /// What was asked, and what differed from what is wanted.
 #[derive(Clone, Copy)]
 pub(crate) struct Tally {

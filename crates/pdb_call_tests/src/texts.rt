@@ -1,4 +1,4 @@
-//! Pieces of texts.
+//! Words of the lines of data, taken apart and put together.
 
 use std::alloc::{AllocError, Global};
 use std::io;

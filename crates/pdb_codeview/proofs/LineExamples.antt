@@ -4,7 +4,7 @@ use Rattle.std.specs.Prelude.{None}
 use Rattle.pdb_records.specs.declared.addresses.PdbInternalSectionOffset.{PdbInternalSectionOffset}
 use Rattle.pdb_records.specs.declared.lines.LineInfo.{LineInfo}
 use Rattle.pdb_records.specs.declared.lines.SymbolLines.{SymbolLines}
-use Rattle.pdb_codeview.specs.declared.lines.LinePart.{LinePart}
+use Rattle.pdb_codeview.specs.declared.lines.LineSubsection.{LineSubsection}
 use Rattle.pdb_codeview.specs.declared.procedure_spans.ProcedureSpan.{ProcedureSpan}
 use Rattle.pdb_codeview.specs.LineEntries.{program_entries}
 use Rattle.pdb_codeview.specs.LineRows.{rows_with_bytes}
@@ -17,8 +17,8 @@ at offset = record { section = 1; offset = offset }
 abbrev at_line : ℕ → ℕ → LineInfo
 at_line offset line = record { offset = offset; file_index = record { 0 = 0 }; line_start = line }
 
-abbrev part : ℕ → ℕ → List LineInfo → LinePart
-part start size rows = record { offset = at start; size = size; rows = record { items = rows; fault = None } }
+abbrev subsection : ℕ → ℕ → List LineInfo → LineSubsection
+subsection start size rows = record { offset = at start; size = size; rows = record { items = rows; fault = None } }
 
 abbrev procedure : ℕ → ℕ → ProcedureSpan
 procedure start len = record { start = at start; len = len }
@@ -32,12 +32,13 @@ brace_and_statement : rows_with_bytes (at_line 0 14 ∷ at_line 0 15 ∷ at_line
 brace_and_statement = refl
 
 -- a function that begins with an inlined body
-inlined_at_the_start : program_entries (part 16 32 (at_line 34 37 ∷ at_line 40 38 ∷ []) ∷ []) (procedure 16 32 ∷ [])
+inlined_at_the_start : program_entries (subsection 16 32 (at_line 34 37 ∷ at_line 40 38 ∷ []) ∷ [])
+    (procedure 16 32 ∷ [])
     ≡ entry 16 (at_line 16 37 ∷ at_line 40 38 ∷ []) ∷ []
 inlined_at_the_start = refl
 
--- a part of assembler code with two procedures, neither at its start
-assembler : program_entries (part 16 64 (at_line 20 5 ∷ at_line 40 6 ∷ []) ∷ [])
+-- a subsection of assembler code with two procedures, neither at its start
+assembler : program_entries (subsection 16 64 (at_line 20 5 ∷ at_line 40 6 ∷ []) ∷ [])
     (procedure 48 16 ∷ procedure 32 16 ∷ [])
     ≡ entry 16 (at_line 20 5 ∷ at_line 40 6 ∷ [])
     ∷ entry 32 (at_line 32 5 ∷ at_line 40 6 ∷ [])
@@ -45,7 +46,7 @@ assembler : program_entries (part 16 64 (at_line 20 5 ∷ at_line 40 6 ∷ []) �
 assembler = refl
 
 -- a procedure inside of another: behind its end the outer one goes on
-nested : program_entries (part 16 64 (at_line 16 1 ∷ at_line 32 2 ∷ at_line 40 3 ∷ []) ∷ [])
+nested : program_entries (subsection 16 64 (at_line 16 1 ∷ at_line 32 2 ∷ at_line 40 3 ∷ []) ∷ [])
     (procedure 24 48 ∷ procedure 32 8 ∷ [])
     ≡ entry 16 (at_line 16 1 ∷ at_line 32 2 ∷ at_line 40 3 ∷ [])
     ∷ entry 24 (at_line 24 1 ∷ at_line 32 2 ∷ at_line 40 3 ∷ [])

@@ -53,6 +53,7 @@ abbrev pub closed_by : Option ℕ → ℕ → InlineRow → InlineRow
 closed_by (Some l) offset row = row
 closed_by None offset row = record row { length = way row.offset offset }
 
+-- the row before one that starts at this offset
 abbrev pub closed : ℕ → InlineRow → InlineRow
 closed offset row = closed_by row.length offset row
 

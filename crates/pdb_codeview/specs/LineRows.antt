@@ -1,4 +1,4 @@
--- The line rows of a part, and those of a procedure in it.
+-- The line rows of a subsection, and those of a procedure in it.
 use Rattle.std.specs.Prelude.{ℕ, nat_lt, List, [], ◌∷◌, reverse}
 use Rattle.pdb_records.specs.declared.lines.LineInfo.{LineInfo}
 use Rattle.pdb_codeview.specs.Places.{first_of_each_place, from_last, front}

@@ -1,8 +1,10 @@
+//! The annotations of an inline site: compressed numbers that say where its code and its lines go on.
+
 ghost use Rattle.std.specs.Prelude.{◌≡◌, ◌≤◌, length, drop, MatchResult, OnOk, Some, None, option_map};
 ghost use Rattle.pdb_codeview.specs.Compressed.{compressed, width};
 
 use pdb_msf::Bytes;
-use pdb_msf::faults::{APART, BAD_NUMBER, Fault, ended};
+use pdb_msf::faults::{APART, BAD_NUMBER, Fault, early_end};
 use pdb_records::StreamError;
 use std::alloc::Global;
 
@@ -39,7 +41,7 @@ pub struct Annotations {
 /// The annotations that these bytes hold, up to their end or an annotation of kind 0.
 pub fn read_annotations(alloc: Global, bytes: &[u8]) -> Result<Annotations, Fault> {
     let mut list = Vec::new(alloc);
-    let fault = ended(fill_annotations(bytes, &mut list))?;
+    let fault = early_end(fill_annotations(bytes, &mut list))?;
     Ok(Annotations { list, fault })
 }
 
@@ -77,9 +79,9 @@ fn take_annotation(kind: u32, rest: &mut Bytes<'_>) -> Result<Annotation, Stream
 
 // The next compressed number.
 fn take_number(rest: &mut Bytes<'_>) -> Result<u32, StreamError>
-    ensures number { MatchResult result (λ number. compressed rest.old ≡ Some number)
+    ensures answer { MatchResult result (λ number. compressed rest.old ≡ Some number)
         (λ _. compressed rest.old ≡ None) }
-    ensures left { OnOk result (rest.new ≡ drop (width rest.old) rest.old) }
+    ensures state { OnOk result (rest.new ≡ drop (width rest.old) rest.old) }
 {
     let bytes = rest.rest();
     let Some(number) = compressed(bytes) else {

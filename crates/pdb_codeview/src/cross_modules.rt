@@ -1,3 +1,5 @@
+//! What a module imports from others and exports to them.
+
 ghost use Rattle.std.specs.Prelude.{◌≡◌, IfOk};
 ghost use Rattle.pdb_codeview.specs.CrossModules.{first_import};
 

@@ -1,10 +1,12 @@
+//! The subsection of a module's files, which rows and sites name by where a file's entry starts.
+
 ghost use Rattle.std.specs.Prelude.{◌≡◌, ℕ, IfOk};
 ghost use Rattle.std.specs.BTreeMap.{get};
 ghost use Rattle.std.specs.Ordering.{nat_cmp};
 ghost use Rattle.pdb_codeview.specs.Files.{file_position, file_index, named_file};
 
 use crate::first_values::insert_first;
-use pdb_msf::faults::{Fault, ended};
+use pdb_msf::faults::{Fault, early_end};
 use pdb_msf::{Bytes, offset_of, u32_at};
 use pdb_records::{FileIndex, FileInfo, StreamError, StringRef};
 use std::alloc::{AllocError, Global};
@@ -13,7 +15,7 @@ use std::collections::BTreeMap;
 /// The files that a module's code came from.
 #[derive(Drop)]
 pub struct Files {
-    /// Where the entry of each starts in its part.
+    /// Where the entry of each starts in its subsection.
     starts: Vec<u32>,
     positions: BTreeMap<u32, usize>,
     pub files: Vec<FileInfo>,
@@ -22,7 +24,7 @@ pub struct Files {
 }
 
 impl Files {
-    /// The position of the file whose entry starts there: of several parts the first that has one.
+    /// The position of the file whose entry starts there: of several subsections the first that has one.
     pub fn position(&self, start: u32) -> Option<FileIndex>
         ensures { result ≡ named_file start self.now.starts.items }
     {
@@ -52,11 +54,11 @@ fn first_positions(alloc: Global, starts: &[u32]) -> Result<BTreeMap<u32, usize>
     Ok(positions)
 }
 
-/// The files that the entries of these parts name, one part after the other.
-pub fn read_files(alloc: Global, parts: &[&[u8]]) -> Result<Files, Fault> {
+/// The files that the entries of these subsections name, one subsection after the other.
+pub fn read_files(alloc: Global, subsections: &[&[u8]]) -> Result<Files, Fault> {
     let mut starts = Vec::new(alloc);
     let mut files = Vec::new(alloc);
-    let fault = ended(fill_parts(parts, &mut starts, &mut files))?;
+    let fault = early_end(fill_subsections(subsections, &mut starts, &mut files))?;
     let positions = first_positions(alloc, &starts)?;
     Ok(Files {
         starts,
@@ -66,13 +68,13 @@ pub fn read_files(alloc: Global, parts: &[&[u8]]) -> Result<Files, Fault> {
     })
 }
 
-fn fill_parts(
-    parts: &[&[u8]],
+fn fill_subsections(
+    subsections: &[&[u8]],
     starts: &mut Vec<u32>,
     files: &mut Vec<FileInfo>,
 ) -> Result<(), Fault> {
-    for part in parts {
-        fill_files(part, starts, files)?;
+    for subsection in subsections {
+        fill_files(subsection, starts, files)?;
     }
     Ok(())
 }

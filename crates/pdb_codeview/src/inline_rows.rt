@@ -1,3 +1,5 @@
+//! The rows of an inline site, made of its annotations one after the other.
+
 ghost use Rattle.std.specs.Prelude.{◌≡◌, IfOk, None};
 ghost use Rattle.pdb_codeview.specs.InlineRows.{moved, moved_line, starts_row, own_length, closed, lengthened};
 ghost use Rattle.pdb_codeview.specs.InlineRows.{new_row};

@@ -1,3 +1,5 @@
+//! An inline site's rows, beginning with the line and the file of its inlinee.
+
 use crate::annotations::read_annotations;
 use crate::files::Files;
 use crate::inline_rows::{RowPosition, rows_of};

@@ -1,10 +1,12 @@
+//! The subsection of a module's inlinees: the functions that were inlined, with their source lines.
+
 ghost use Rattle.std.specs.Prelude.{◌≡◌, ℕ, IfOk};
 ghost use Rattle.std.specs.BTreeMap.{get};
 ghost use Rattle.std.specs.Ordering.{nat_cmp};
 ghost use Rattle.pdb_codeview.specs.Inlinees.{inlinee_source};
 
 use crate::first_values::insert_first;
-use pdb_msf::faults::{Fault, UNKNOWN_VERSION, ended};
+use pdb_msf::faults::{Fault, UNKNOWN_VERSION, early_end};
 use pdb_msf::{Bytes, u32_at};
 use pdb_records::{IdIndex, Inlinee, Reading};
 use std::alloc::{AllocError, Global};
@@ -40,10 +42,10 @@ pub struct Inlinees {
 }
 
 /// The functions that were inlined, by the bytes of their lists, one after the other.
-pub fn read_inlinees(alloc: Global, parts: &[&[u8]]) -> Result<Inlinees, Fault> {
+pub fn read_inlinees(alloc: Global, subsections: &[&[u8]]) -> Result<Inlinees, Fault> {
     let mut items = Vec::new(alloc);
     let mut listed = Vec::new(alloc);
-    let fault = ended(fill_parts(parts, &mut items, &mut listed))?;
+    let fault = early_end(fill_subsections(subsections, &mut items, &mut listed))?;
     let sources = first_sources(alloc, &listed)?;
     Ok(Inlinees {
         list: Reading { items, fault },
@@ -64,13 +66,13 @@ fn first_sources(
     Ok(sources)
 }
 
-fn fill_parts(
-    parts: &[&[u8]],
+fn fill_subsections(
+    subsections: &[&[u8]],
     list: &mut Vec<Inlinee>,
     listed: &mut Vec<ListedInlinee>,
 ) -> Result<(), Fault> {
-    for part in parts {
-        fill_inlinees(part, list, listed)?;
+    for subsection in subsections {
+        fill_inlinees(subsection, list, listed)?;
     }
     Ok(())
 }

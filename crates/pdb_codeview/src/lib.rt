@@ -23,5 +23,5 @@ pub use files::{Files, read_files};
 pub use inline_sites::{CodeRecords, site_rows};
 pub use inlinees::{Inlinees, read_inlinees};
 pub use line_entries::program_entries;
-pub use lines::{LinePart, read_lines};
+pub use lines::{LineSubsection, read_lines};
 pub use procedure_spans::{ProcedureSpan, symbol_spans};

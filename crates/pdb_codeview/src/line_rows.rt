@@ -1,3 +1,5 @@
+//! The line rows that reach over bytes, and those of a procedure among them.
+
 ghost use Rattle.std.specs.Prelude.{◌≡◌, ◌++◌, nat_lt, IfOk, OnOk};
 ghost use Rattle.pdb_codeview.specs.Places.{front};
 ghost use Rattle.pdb_codeview.specs.LineRows.{rows_with_bytes, begun_at};

@@ -1,12 +1,14 @@
+//! The subsection of lines: rows of offset, file and line over bytes of a section.
+
 use crate::files::Files;
-use pdb_msf::faults::{BAD_LENGTH, Fault, ended};
+use pdb_msf::faults::{BAD_LENGTH, Fault, early_end};
 use pdb_msf::{Bytes, u16_at, u32_at};
 use pdb_records::{FileIndex, LineInfo, PdbInternalSectionOffset, Reading};
 use std::alloc::Global;
 
-/// A part of lines: rows over bytes of a section, in the order in which they are read.
+/// A subsection of lines: rows over bytes of a section, in the order in which they are read.
 #[derive(Drop)]
-pub struct LinePart {
+pub struct LineSubsection {
     pub offset: PdbInternalSectionOffset,
     /// How many bytes it is of.
     pub size: u32,
@@ -30,8 +32,8 @@ pub fn file_at(files: &Files, start: u32) -> FileIndex {
     files.position(start).unwrap_or(NO_FILE)
 }
 
-/// The rows of one part.
-pub fn read_lines(alloc: Global, bytes: &[u8], files: &Files) -> Result<LinePart, Fault> {
+/// The rows of one subsection.
+pub fn read_lines(alloc: Global, bytes: &[u8], files: &Files) -> Result<LineSubsection, Fault> {
     let mut rest = Bytes::new(bytes);
     let front = rest.take(12)?;
     let offset = PdbInternalSectionOffset {
@@ -39,8 +41,8 @@ pub fn read_lines(alloc: Global, bytes: &[u8], files: &Files) -> Result<LinePart
         offset: u32_at(front, 0),
     };
     let mut items = Vec::new(alloc);
-    let fault = ended(fill_lines(rest.rest(), files, offset.offset, &mut items))?;
-    Ok(LinePart {
+    let fault = early_end(fill_lines(rest.rest(), files, offset.offset, &mut items))?;
+    Ok(LineSubsection {
         offset,
         size: u32_at(front, 8),
         rows: Reading { items, fault },

@@ -1,3 +1,5 @@
+//! Section offsets as numbers, and lists that are sorted and gone through by them.
+
 ghost use Rattle.std.specs.Prelude.{◌≡◌, ◌≤◌, ◌<◌, ◌^◌, ℕ, None, IfOk, OnOk};
 ghost use Rattle.pdb_ranges.specs.InOrder.{in_order};
 ghost use Rattle.pdb_codeview.specs.Places.{place, stands_before, firsts_after, first_of_each_place, from_last};
@@ -15,7 +17,7 @@ pub(crate) trait HasPlace {
 
 /// A section offset as a number: sections stand one behind the other, each 4 GiB behind the one before.
 pub(crate) fn place(section_offset: PdbInternalSectionOffset) -> u64
-    ensures value { result ≡ place section_offset }
+    ensures answer { result ≡ place section_offset }
     ensures small { result < 2 ^ 48 }
 {
     u64::from(section_offset.section) * 0x1_0000_0000 + u64::from(section_offset.offset)
@@ -23,7 +25,7 @@ pub(crate) fn place(section_offset: PdbInternalSectionOffset) -> u64
 
 /// Puts a list in order of its places. What has one place stays in the order that it had.
 pub(crate) fn sort_by_place<T: HasPlace>(items: &mut Vec<T>) -> Result<(), AllocError>
-    ensures ok { OnOk result (items.new.items ≡ in_order (stands_before T.place_of) items.old.items) }
+    ensures state { OnOk result (items.new.items ≡ in_order (stands_before T.place_of) items.old.items) }
 {
     items.sort_by_key(|item| item.place())
 }
@@ -78,7 +80,7 @@ pub(crate) fn walked_to<'a, T: HasPlace>(
     x: u64,
 ) -> &'a [T]
     requires { (y : ℕ) → asked ≤ y → from_last T.place_of y rest.now ≡ from_last T.place_of y items.now }
-    ensures found { result.now ≡ from_last T.place_of x items.now }
+    ensures answer { result.now ≡ from_last T.place_of x items.now }
     ensures onward { (y : ℕ) → x ≤ y → from_last T.place_of y result.now ≡ from_last T.place_of y items.now }
 {
     if x < asked {

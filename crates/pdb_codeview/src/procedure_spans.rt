@@ -1,3 +1,5 @@
+//! The bytes of procedures, and how far the line rows of each may reach.
+
 ghost use Rattle.std.specs.Prelude.{◌≡◌, ◌<◌, ◌^◌, IfOk};
 ghost use Rattle.pdb_codeview.specs.Places.{place};
 ghost use Rattle.pdb_codeview.specs.ProcedureSpans.{span, span_of, symbol_spans, end_of, end_before, place_behind};

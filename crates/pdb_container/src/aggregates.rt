@@ -1,3 +1,5 @@
+//! Type records of classes, structs, interfaces, unions and enumerations, in both layouts.
+
 use crate::numbers::{take_size, take_variant};
 use pdb_msf::faults::Fault;
 use pdb_msf::{Bytes, copy_name, u16_at, u32_at};
@@ -16,7 +18,7 @@ const UNIQUE_NAME: u16 = 0x200;
 pub fn class(alloc: Global, class_kind: ClassKind, bytes: &[u8]) -> Result<TypeData, Fault> {
     let mut rest = Bytes::new(bytes);
     let front = rest.take(16)?;
-    class_behind(alloc, class_kind, u16_at(front, 2), &mut rest)
+    class_of_properties(alloc, class_kind, u16_at(front, 2), &mut rest)
 }
 
 /// A class, a struct or an interface of the newer layout: the properties in four bytes, three indices, and how many
@@ -24,11 +26,11 @@ pub fn class(alloc: Global, class_kind: ClassKind, bytes: &[u8]) -> Result<TypeD
 pub fn newer_class(alloc: Global, class_kind: ClassKind, bytes: &[u8]) -> Result<TypeData, Fault> {
     let mut rest = Bytes::new(bytes);
     let front = rest.take(18)?;
-    class_behind(alloc, class_kind, u16_at(front, 0), &mut rest)
+    class_of_properties(alloc, class_kind, u16_at(front, 0), &mut rest)
 }
 
-// What stands behind the fixed part of a class: its size and its names.
-fn class_behind(
+// A class of these properties, by what stands behind its indices: its size and its names.
+fn class_of_properties(
     alloc: Global,
     class_kind: ClassKind,
     properties: u16,
@@ -50,18 +52,22 @@ fn class_behind(
 pub fn union(alloc: Global, bytes: &[u8]) -> Result<TypeData, Fault> {
     let mut rest = Bytes::new(bytes);
     let front = rest.take(8)?;
-    union_behind(alloc, u16_at(front, 2), &mut rest)
+    union_of_properties(alloc, u16_at(front, 2), &mut rest)
 }
 
 /// A union of the newer layout: the properties in four bytes, an index, and how many members it has.
 pub fn newer_union(alloc: Global, bytes: &[u8]) -> Result<TypeData, Fault> {
     let mut rest = Bytes::new(bytes);
     let front = rest.take(10)?;
-    union_behind(alloc, u16_at(front, 0), &mut rest)
+    union_of_properties(alloc, u16_at(front, 0), &mut rest)
 }
 
-// What stands behind the fixed part of a union: its size and its names.
-fn union_behind(alloc: Global, properties: u16, rest: &mut Bytes<'_>) -> Result<TypeData, Fault> {
+// A union of these properties, by what stands behind its indices: its size and its names.
+fn union_of_properties(
+    alloc: Global,
+    properties: u16,
+    rest: &mut Bytes<'_>,
+) -> Result<TypeData, Fault> {
     let size = take_size(rest)?;
     let name = copy_name(alloc, rest.text()?)?;
     let unique_name = unique_name(alloc, properties, rest)?;

@@ -1,6 +1,9 @@
+//! The stream of debug information: its header, modules, section contributions, and the numbers of optional streams.
+
 ghost use Rattle.std.specs.Prelude.{◌≡◌, length};
 
-use pdb_msf::faults::{CUT, Fault, UNKNOWN_VERSION, ended};
+use crate::substreams::{Substream, take_substream};
+use pdb_msf::faults::{Fault, UNKNOWN_VERSION, early_end};
 use pdb_msf::{Bytes, copy_name, u16_at, u32_at};
 use pdb_records::{
     MachineType, Module, PdbInternalSectionOffset, Reading, SectionContribution, StreamError,
@@ -19,23 +22,16 @@ const SHORT_CONTRIBUTIONS: u32 = 0xf12e_ba2d;
 /// The version of a list of contributions with 32 bytes each.
 const LONG_CONTRIBUTIONS: u32 = 0xf131_51e4;
 
-/// A part of a stream: its bytes as far as the stream has them, and why they end early, if they do.
-#[derive(Clone, Copy)]
-pub struct Part<'a> {
-    pub bytes: &'a [u8],
-    pub fault: Option<StreamError>,
-}
-
 /// What the stream of debug information says of the whole program.
 #[derive(Drop)]
 pub struct DebugHeader<'a> {
     /// The stream of the global symbols.
     pub global_symbols: u16,
     pub machine_type: MachineType,
-    pub modules: Part<'a>,
-    pub section_contributions: Part<'a>,
+    pub modules: Substream<'a>,
+    pub section_contributions: Substream<'a>,
     /// The numbers of streams that not every file has.
-    pub more_streams: Part<'a>,
+    pub optional_streams: Substream<'a>,
 }
 
 /// Where a module's own records stand.
@@ -58,34 +54,20 @@ pub fn read_header(stream: &[u8]) -> Result<DebugHeader<'_>, StreamError> {
     if u32_at(front, 0) != SIGNATURE {
         return Err(UNKNOWN_VERSION);
     }
-    let modules = take_part(&mut bytes, u32_at(front, 24));
-    let section_contributions = take_part(&mut bytes, u32_at(front, 28));
-    take_part(&mut bytes, u32_at(front, 32));
-    take_part(&mut bytes, u32_at(front, 36));
-    take_part(&mut bytes, u32_at(front, 40));
-    take_part(&mut bytes, u32_at(front, 52));
-    let more_streams = take_part(&mut bytes, u32_at(front, 48));
+    let modules = take_substream(&mut bytes, u32_at(front, 24));
+    let section_contributions = take_substream(&mut bytes, u32_at(front, 28));
+    take_substream(&mut bytes, u32_at(front, 32));
+    take_substream(&mut bytes, u32_at(front, 36));
+    take_substream(&mut bytes, u32_at(front, 40));
+    take_substream(&mut bytes, u32_at(front, 52));
+    let optional_streams = take_substream(&mut bytes, u32_at(front, 48));
     Ok(DebugHeader {
         global_symbols: u16_at(front, 20),
         machine_type: machine_type(u16_at(front, 58)),
         modules,
         section_contributions,
-        more_streams,
+        optional_streams,
     })
-}
-
-/// The next bytes, as far as they are there.
-pub fn take_part<'a>(bytes: &mut Bytes<'a>, length: u32) -> Part<'a> {
-    let wanted = length as usize;
-    let there = bytes.len().min(wanted);
-    let fault = if there < wanted { Some(CUT) } else { None };
-    match bytes.take(there) {
-        Ok(bytes) => Part { bytes, fault },
-        Err(error) => Part {
-            bytes: &[],
-            fault: Some(error),
-        },
-    }
 }
 
 fn machine_type(number: u16) -> MachineType {
@@ -101,7 +83,7 @@ fn machine_type(number: u16) -> MachineType {
 }
 
 /// The number at this position of the streams that not every file has.
-pub fn more_stream(numbers: &[u8], position: usize) -> Option<u16> {
+pub fn optional_stream(numbers: &[u8], position: usize) -> Option<u16> {
     let start = position.saturating_mul(2);
     if numbers.len() < start {
         return None;
@@ -116,14 +98,14 @@ pub fn more_stream(numbers: &[u8], position: usize) -> Option<u16> {
 /// The modules in their order, and beside each where its records stand.
 pub fn read_modules(
     alloc: Global,
-    part: Part<'_>,
+    substream: Substream<'_>,
     streams: &mut Vec<ModuleStream>,
 ) -> Result<Reading<Module>, Fault> {
     let mut items = Vec::new(alloc);
-    let fault = ended(fill_modules(alloc, part.bytes, &mut items, streams))?;
+    let fault = early_end(fill_modules(alloc, substream.bytes, &mut items, streams))?;
     Ok(Reading {
         items,
-        fault: fault.or(part.fault),
+        fault: fault.or(substream.fault),
     })
 }
 
@@ -165,13 +147,13 @@ fn module_stream(front: &[u8]) -> ModuleStream
 /// Which bytes of the sections came from which module.
 pub fn read_contributions(
     alloc: Global,
-    part: Part<'_>,
+    substream: Substream<'_>,
 ) -> Result<Reading<SectionContribution>, Fault> {
     let mut items = Vec::new(alloc);
-    let fault = ended(fill_contributions(part.bytes, &mut items))?;
+    let fault = early_end(fill_contributions(substream.bytes, &mut items))?;
     Ok(Reading {
         items,
-        fault: fault.or(part.fault),
+        fault: fault.or(substream.fault),
     })
 }
 

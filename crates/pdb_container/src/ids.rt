@@ -1,4 +1,6 @@
-use crate::type_records::{ItemFault, TypeRecord, content_of, list_types};
+//! The stream of ids (IPI): functions, methods and strings that symbols name by an id.
+
+use crate::type_records::{ItemFault, TypeRecord, content_of, split_type_records};
 use crate::types::take_indices;
 use pdb_msf::faults::Fault;
 use pdb_msf::{Bytes, copy_name, u32_at};
@@ -16,7 +18,7 @@ pub fn read_ids(alloc: Global, stream: &[u8]) -> Result<IdInformation, Fault> {
             items: Reading { items, fault: None },
         });
     }
-    let list = list_types(alloc, stream)?;
+    let list = split_type_records(alloc, stream)?;
     let mut index = list.first;
     for record in &list.records {
         let content = content_of(id_data(alloc, *record))?;

@@ -1,4 +1,6 @@
-use pdb_msf::faults::{Fault, NO_STREAM, apart};
+//! The info stream: the version, the named streams, and what the file lists that it has.
+
+use pdb_msf::faults::{Fault, NO_STREAM, part_or_fault};
 use pdb_msf::{Bytes, Container, StreamBytes};
 use pdb_records::StreamError;
 use std::alloc::Global;
@@ -44,7 +46,7 @@ impl<'a> InfoStream<'a> {
     /// The info stream of a file.
     pub fn read(alloc: Global, container: &mut Container<'a>) -> Result<Self, Fault> {
         Ok(InfoStream {
-            bytes: apart(container.stream(alloc, INFO))?,
+            bytes: part_or_fault(container.stream(alloc, INFO))?,
         })
     }
 
@@ -67,7 +69,7 @@ impl<'a> InfoStream<'a> {
     /// What the file lists that it has. A stream that can't be read, or ends before the list, lists nothing.
     pub fn features(&self) -> Features {
         match &self.bytes {
-            Ok(bytes) => listed_features(bytes.as_slice()),
+            Ok(bytes) => features_in(bytes.as_slice()),
             Err(_) => NO_FEATURES,
         }
     }
@@ -86,7 +88,7 @@ fn number_of_name(info: &[u8], name: &[u8]) -> Result<u32, StreamError> {
     Err(NO_STREAM)
 }
 
-fn listed_features(info: &[u8]) -> Features {
+fn features_in(info: &[u8]) -> Features {
     let mut bytes = Bytes::new(info);
     match pass_table(&mut bytes) {
         Ok(()) => take_features(bytes),

@@ -6,7 +6,6 @@
 #![tactic(auto)]
 
 mod aggregates;
-mod code_apart;
 mod dbi;
 mod ids;
 mod info;
@@ -17,9 +16,11 @@ mod records;
 mod refusals;
 mod sections;
 mod strings;
+mod substreams;
 mod symbols;
 mod type_records;
 mod types;
+mod unnamed_code;
 
 pub use pdb_msf::{ContainerFault, faults, other_file};
 pub use records::{PdbFile, read_pdb, read_pdb_file};

@@ -1,11 +1,14 @@
-use crate::dbi::{ModuleStream, Part, take_part};
-use crate::symbols::{list_symbols, read_symbols};
+//! A module's stream: its symbols, and the subsections of lines, files, inlinees, imports and exports.
+
+use crate::dbi::ModuleStream;
+use crate::substreams::{Substream, take_substream};
+use crate::symbols::{read_symbols, split_symbol_records};
 use pdb_codeview::{
     CodeRecords, Files, ProcedureSpan, program_entries, read_exports, read_files, read_imports,
     read_inlinees, read_lines, symbol_spans,
 };
 use pdb_msf::Bytes;
-use pdb_msf::faults::{Fault, UNKNOWN_VERSION, apart, ended};
+use pdb_msf::faults::{Fault, UNKNOWN_VERSION, early_end, part_or_fault};
 use pdb_records::{
     CrossModuleExports, CrossModuleImports, LineProgram, ModuleInfo, Reading, StreamError, Symbol,
 };
@@ -24,14 +27,14 @@ const IMPORTS: u32 = 0xf7;
 
 const EXPORTS: u32 = 0xf8;
 
-/// A part of what is known of a module's code.
+/// A subsection of what is known of a module's code: lines, files, inlinees, imports or exports.
 #[derive(Clone, Copy)]
 struct Subsection<'a> {
     kind: u32,
     bytes: &'a [u8],
 }
 
-/// The parts of what is known of a module's code, and why they end early, if they do.
+/// The subsections of a module, and why they end early, if they do.
 #[derive(Drop)]
 struct Subsections<'a> {
     list: Vec<Subsection<'a>>,
@@ -39,7 +42,7 @@ struct Subsections<'a> {
 }
 
 impl<'a> Subsections<'a> {
-    /// The bytes of the first part of this kind.
+    /// The bytes of the first subsection of this kind.
     fn first(&self, kind: u32) -> Option<&'a [u8]> {
         for subsection in &self.list {
             if subsection.kind == kind {
@@ -49,19 +52,19 @@ impl<'a> Subsections<'a> {
         None
     }
 
-    /// The bytes of all parts of this kind.
+    /// The bytes of all subsections of this kind.
     fn all(&self, alloc: Global, kind: u32) -> Result<Vec<&'a [u8]>, AllocError> {
-        let mut parts = Vec::new(alloc);
+        let mut all = Vec::new(alloc);
         for subsection in &self.list {
             if subsection.kind == kind {
-                parts.push(subsection.bytes)?;
+                all.push(subsection.bytes)?;
             }
         }
-        Ok(parts)
+        Ok(all)
     }
 
-    /// The bytes of the first part of this kind, none where there is no such part and all were read.
-    fn wanted(&self, kind: u32) -> Result<&'a [u8], StreamError> {
+    /// The bytes of the first subsection of this kind, none where there is no such one and all were read.
+    fn first_or_empty(&self, kind: u32) -> Result<&'a [u8], StreamError> {
         match (self.first(kind), self.fault) {
             (Some(bytes), _) => Ok(bytes),
             (None, None) => Ok(&[]),
@@ -77,17 +80,17 @@ pub fn read_module(
     stream: &[u8],
 ) -> Result<ModuleInfo, Fault> {
     let mut bytes = Bytes::new(stream);
-    let symbols = take_part(&mut bytes, module.symbols);
-    take_part(&mut bytes, module.old_lines);
-    let lines = take_part(&mut bytes, module.lines);
+    let symbols = take_substream(&mut bytes, module.symbols);
+    take_substream(&mut bytes, module.old_lines);
+    let lines = take_substream(&mut bytes, module.lines);
     let subsections = read_subsections(alloc, lines)?;
     let code = read_code(alloc, &subsections)?;
     let symbols = module_symbols(alloc, symbols, &code)?;
     let procedures = symbol_spans(alloc, &symbols.items)?;
     let program = read_line_program(alloc, &subsections, &code.files, procedures);
-    let line_program = apart(program)?;
-    let imports = apart(module_imports(alloc, &subsections))?;
-    let exports = apart(module_exports(alloc, &subsections))?;
+    let line_program = part_or_fault(program)?;
+    let imports = part_or_fault(module_imports(alloc, &subsections))?;
+    let exports = part_or_fault(module_exports(alloc, &subsections))?;
     let CodeRecords { files: _, inlinees } = code;
     Ok(ModuleInfo {
         symbols,
@@ -98,12 +101,12 @@ pub fn read_module(
     })
 }
 
-fn read_subsections<'a>(alloc: Global, part: Part<'a>) -> Result<Subsections<'a>, Fault> {
+fn read_subsections<'a>(alloc: Global, substream: Substream<'a>) -> Result<Subsections<'a>, Fault> {
     let mut list = Vec::new(alloc);
-    let fault = ended(fill_subsections(part.bytes, &mut list))?;
+    let fault = early_end(fill_subsections(substream.bytes, &mut list))?;
     Ok(Subsections {
         list,
-        fault: fault.or(part.fault),
+        fault: fault.or(substream.fault),
     })
 }
 
@@ -115,9 +118,12 @@ fn fill_subsections<'a>(bytes: &'a [u8], list: &mut Vec<Subsection<'a>>) -> Resu
         }
         let kind = rest.u32()?;
         let length = rest.u32()?;
-        let part = rest.take(length as usize)?;
+        let content = rest.take(length as usize)?;
         rest.align(bytes.len());
-        list.push(Subsection { kind, bytes: part })?;
+        list.push(Subsection {
+            kind,
+            bytes: content,
+        })?;
     }
     Ok(())
 }
@@ -132,21 +138,21 @@ fn read_code(alloc: Global, subsections: &Subsections<'_>) -> Result<CodeRecords
 // The symbols behind the number of their form. They end early where the stream does.
 fn module_symbols(
     alloc: Global,
-    part: Part<'_>,
+    substream: Substream<'_>,
     code: &CodeRecords,
 ) -> Result<Reading<Symbol>, Fault> {
-    let mut rest = Bytes::new(part.bytes);
+    let mut rest = Bytes::new(substream.bytes);
     if rest.is_empty() {
         return Ok(Reading {
             items: Vec::new(alloc),
-            fault: part.fault,
+            fault: substream.fault,
         });
     }
     match rest.u32() {
         Ok(SYMBOLS_FORM) => {
-            let list = list_symbols(alloc, rest.rest(), 4)?;
+            let list = split_symbol_records(alloc, rest.rest(), 4)?;
             let mut symbols = read_symbols(alloc, &list, code)?;
-            symbols.fault = symbols.fault.or(part.fault);
+            symbols.fault = symbols.fault.or(substream.fault);
             Ok(symbols)
         }
         Ok(_) => Ok(Reading {
@@ -160,7 +166,7 @@ fn module_symbols(
     }
 }
 
-// The rows of all functions, and the files. A broken list of parts or of files fails them all.
+// The rows of all functions, and the files. A broken list of subsections or of files fails them all.
 fn read_line_program(
     alloc: Global,
     subsections: &Subsections<'_>,
@@ -170,13 +176,13 @@ fn read_line_program(
     if let Some(error) = subsections.fault.or(files.fault) {
         return Err(Fault::Broken(error));
     }
-    let mut parts = Vec::new(alloc);
+    let mut lines = Vec::new(alloc);
     for subsection in &subsections.list {
         if subsection.kind == LINES {
-            parts.push(read_lines(alloc, subsection.bytes, files)?)?;
+            lines.push(read_lines(alloc, subsection.bytes, files)?)?;
         }
     }
-    let entries = program_entries(alloc, parts, procedures)?;
+    let entries = program_entries(alloc, lines, procedures)?;
     let files = Vec::from_slice(alloc, &files.files)?;
     Ok(LineProgram { entries, files })
 }
@@ -185,12 +191,12 @@ fn module_imports(
     alloc: Global,
     subsections: &Subsections<'_>,
 ) -> Result<CrossModuleImports, Fault> {
-    read_imports(alloc, subsections.wanted(IMPORTS)?)
+    read_imports(alloc, subsections.first_or_empty(IMPORTS)?)
 }
 
 fn module_exports(
     alloc: Global,
     subsections: &Subsections<'_>,
 ) -> Result<CrossModuleExports, Fault> {
-    read_exports(alloc, subsections.wanted(EXPORTS)?)
+    read_exports(alloc, subsections.first_or_empty(EXPORTS)?)
 }

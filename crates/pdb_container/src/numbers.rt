@@ -1,3 +1,5 @@
+//! Numeric leaves: numbers in as many bytes as their kind says.
+
 use pdb_msf::Bytes;
 use pdb_msf::faults::BAD_NUMBER;
 use pdb_records::{StreamError, Variant};

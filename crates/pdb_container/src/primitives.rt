@@ -1,3 +1,5 @@
+//! The types that every program has without a record, with their kinds of pointers.
+
 use pdb_msf::faults::Fault;
 use pdb_records::{Item, PrimitiveKind, PrimitiveType, TypeData, TypeIndex};
 

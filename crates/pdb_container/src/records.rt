@@ -1,6 +1,7 @@
-use crate::code_apart::{ReadModule, name_code_apart};
+//! All records of a PDB file: which streams are read, in which order, and which failed.
+
 use crate::dbi::{
-    DebugHeader, ModuleStream, more_stream, read_contributions, read_header, read_modules,
+    DebugHeader, ModuleStream, optional_stream, read_contributions, read_header, read_modules,
 };
 use crate::ids::read_ids;
 use crate::info::InfoStream;
@@ -10,7 +11,8 @@ use crate::sections::{map_addresses, read_sections};
 use crate::strings::read_strings;
 use crate::symbols::read_global_symbols;
 use crate::types::read_types;
-use pdb_msf::faults::{Fault, NO_STREAM, REARRANGED, apart};
+use crate::unnamed_code::{ModuleInfoResult, name_unnamed_code};
+use pdb_msf::faults::{Fault, NO_STREAM, REARRANGED, part_or_fault};
 use pdb_msf::{Container, ContainerFault};
 use pdb_records::{
     AddressMap, DebugInformation, IdInformation, ImageSectionHeader, ModuleInfo, PDB, StreamError,
@@ -46,7 +48,7 @@ struct DebugRecords {
     sections: Result<Option<Vec<ImageSectionHeader>>, StreamError>,
     address_map: Result<AddressMap, StreamError>,
     global_symbols: Result<SymbolTable, StreamError>,
-    module_infos: Vec<ReadModule>,
+    module_infos: Vec<ModuleInfoResult>,
 }
 
 /// What a PDB file has.
@@ -86,9 +88,9 @@ fn read_records(
     container: &mut Container<'_>,
     info: &InfoStream<'_>,
 ) -> Result<PDB, Fault> {
-    let string_table = apart(read_texts(alloc, container, info))?;
-    let type_information = apart(type_information(alloc, container))?;
-    let id_information = apart(id_information(alloc, container, info))?;
+    let string_table = part_or_fault(read_texts(alloc, container, info))?;
+    let type_information = part_or_fault(type_information(alloc, container))?;
+    let id_information = part_or_fault(id_information(alloc, container, info))?;
     let debug = debug_records(alloc, container)?;
     Ok(PDB {
         sections: debug.sections,
@@ -129,7 +131,7 @@ fn id_information(
     if !info.features().ids {
         return read_ids(alloc, &[]);
     }
-    match apart(container.stream(alloc, IDS))? {
+    match part_or_fault(container.stream(alloc, IDS))? {
         Ok(stream) => read_ids(alloc, stream.as_slice()),
         Err(NO_STREAM) => read_ids(alloc, &[]),
         Err(error) => Err(Fault::Broken(error)),
@@ -138,20 +140,20 @@ fn id_information(
 
 fn debug_records(alloc: Global, container: &mut Container<'_>) -> Result<DebugRecords, Fault> {
     if container.is_empty_stream(DEBUG) {
-        return Ok(failed(alloc, NO_STREAM));
+        return Ok(without_debug_stream(alloc, NO_STREAM));
     }
-    let stream = match apart(container.stream(alloc, DEBUG))? {
+    let stream = match part_or_fault(container.stream(alloc, DEBUG))? {
         Ok(stream) => stream,
-        Err(error) => return Ok(failed(alloc, error)),
+        Err(error) => return Ok(without_debug_stream(alloc, error)),
     };
     match read_header(stream.as_slice()) {
-        Ok(header) => headed_records(alloc, container, &header),
-        Err(error) => Ok(failed(alloc, error)),
+        Ok(header) => records_of_header(alloc, container, &header),
+        Err(error) => Ok(without_debug_stream(alloc, error)),
     }
 }
 
 // All that the stream of debug information leads to fails with it.
-fn failed(alloc: Global, error: StreamError) -> DebugRecords {
+fn without_debug_stream(alloc: Global, error: StreamError) -> DebugRecords {
     DebugRecords {
         debug_information: Err(error),
         sections: Err(error),
@@ -161,18 +163,18 @@ fn failed(alloc: Global, error: StreamError) -> DebugRecords {
     }
 }
 
-fn headed_records(
+fn records_of_header(
     alloc: Global,
     container: &mut Container<'_>,
     header: &DebugHeader<'_>,
 ) -> Result<DebugRecords, Fault> {
     let mut streams = Vec::new(alloc);
     let debug_information = debug_information(alloc, header, &mut streams)?;
-    let sections = apart(section_headers(alloc, container, header))?;
-    let address_map = apart(address_map(alloc, container, header, &sections))?;
-    let global_symbols = apart(global_symbols(alloc, container, header.global_symbols))?;
+    let sections = part_or_fault(section_headers(alloc, container, header))?;
+    let address_map = part_or_fault(address_map(alloc, container, header, &sections))?;
+    let global_symbols = part_or_fault(global_symbols(alloc, container, header.global_symbols))?;
     let mut module_infos = module_infos(alloc, container, &streams)?;
-    name_code_apart(
+    name_unnamed_code(
         alloc,
         &mut module_infos,
         &global_symbols,
@@ -206,7 +208,7 @@ fn section_headers(
     container: &mut Container<'_>,
     header: &DebugHeader<'_>,
 ) -> Result<Option<Vec<ImageSectionHeader>>, Fault> {
-    let Some(number) = more_stream(header.more_streams.bytes, SECTIONS) else {
+    let Some(number) = optional_stream(header.optional_streams.bytes, SECTIONS) else {
         return Ok(None);
     };
     let stream = container.stream(alloc, u32::from(number))?;
@@ -220,9 +222,9 @@ fn address_map(
     header: &DebugHeader<'_>,
     sections: &Result<Option<Vec<ImageSectionHeader>>, StreamError>,
 ) -> Result<AddressMap, Fault> {
-    let numbers = header.more_streams.bytes;
-    if is_rearranged(container, more_stream(numbers, REARRANGED_TO))
-        || is_rearranged(container, more_stream(numbers, REARRANGED_FROM))
+    let numbers = header.optional_streams.bytes;
+    if is_rearranged(container, optional_stream(numbers, REARRANGED_TO))
+        || is_rearranged(container, optional_stream(numbers, REARRANGED_FROM))
     {
         return Err(Fault::Broken(REARRANGED));
     }
@@ -257,10 +259,10 @@ fn module_infos(
     alloc: Global,
     container: &mut Container<'_>,
     streams: &[ModuleStream],
-) -> Result<Vec<ReadModule>, Fault> {
+) -> Result<Vec<ModuleInfoResult>, Fault> {
     let mut infos = Vec::with_capacity(alloc, streams.len())?;
     for module in streams {
-        infos.push(apart(module_info(alloc, container, *module))?)?;
+        infos.push(part_or_fault(module_info(alloc, container, *module))?)?;
     }
     Ok(infos)
 }

@@ -1,3 +1,5 @@
+//! Why nothing can be answered over the records of a PDB file, in words.
+
 use pdb_msf::faults::{NO_STREAM, REARRANGED, UNKNOWN_VERSION, fault_text};
 use pdb_records::{PDB, StreamError};
 use thiserror::Error;

@@ -1,3 +1,5 @@
+//! The headers of the sections, and where they are loaded.
+
 use pdb_msf::faults::Fault;
 use pdb_msf::{Bytes, u32_at};
 use pdb_records::{AddressMap, AddressRange, ImageSectionHeader};

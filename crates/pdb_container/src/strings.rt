@@ -1,3 +1,5 @@
+//! The stream of names: texts by their offsets.
+
 use pdb_msf::faults::{Fault, UNKNOWN_VERSION};
 use pdb_msf::{Bytes, copy_name, offset_of};
 use pdb_records::{RawString, StringRef, StringTable};

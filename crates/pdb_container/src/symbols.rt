@@ -1,6 +1,8 @@
-use crate::code_apart::S_TRAMPOLINE;
+//! Symbol records: procedures, public symbols, thunks, separated code, trampolines, inline sites.
+
+use crate::unnamed_code::S_TRAMPOLINE;
 use pdb_codeview::{CodeRecords, site_rows};
-use pdb_msf::faults::{BAD_LENGTH, Fault, apart, ended};
+use pdb_msf::faults::{BAD_LENGTH, Fault, early_end, part_or_fault};
 use pdb_msf::{Bytes, copy_name, offset_of, u16_at, u32_at};
 use pdb_records::{
     IdIndex, InlineSiteSymbol, PdbInternalSectionOffset, ProcedureSymbol, PublicSymbol, RawString,
@@ -47,14 +49,14 @@ impl SymbolRecords<'_> {
 
 /// Splits a list into its symbols. Records that only fill a place are passed over. `front` bytes stand
 /// before the list in its stream.
-pub fn list_symbols<'a>(
+pub fn split_symbol_records<'a>(
     alloc: Global,
     bytes: &'a [u8],
     front: u32,
 ) -> Result<SymbolRecords<'a>, Fault> {
     let mut records = Vec::new(alloc);
     let mut starts = Vec::new(alloc);
-    let fault = ended(fill_records(bytes, front, &mut records, &mut starts))?;
+    let fault = early_end(fill_symbol_records(bytes, front, &mut records, &mut starts))?;
     Ok(SymbolRecords {
         records,
         starts,
@@ -62,7 +64,7 @@ pub fn list_symbols<'a>(
     })
 }
 
-fn fill_records<'a>(
+fn fill_symbol_records<'a>(
     bytes: &'a [u8],
     front: u32,
     records: &mut Vec<SymbolRecord<'a>>,
@@ -74,7 +76,7 @@ fn fill_records<'a>(
             break;
         }
         let start = offset_of(bytes.len(), rest.len()).saturating_add(front);
-        let record = next_record(&mut rest)?;
+        let record = next_symbol_record(&mut rest)?;
         if record.raw_kind != S_ALIGN && record.raw_kind != S_SKIP {
             records.push(record)?;
             starts.push(start)?;
@@ -83,7 +85,7 @@ fn fill_records<'a>(
     Ok(())
 }
 
-fn next_record<'a>(rest: &mut Bytes<'a>) -> Result<SymbolRecord<'a>, StreamError> {
+fn next_symbol_record<'a>(rest: &mut Bytes<'a>) -> Result<SymbolRecord<'a>, StreamError> {
     let length = rest.u16()?;
     let mut record = Bytes::new(rest.take(usize::from(length))?);
     match record.u16() {
@@ -97,10 +99,10 @@ fn next_record<'a>(rest: &mut Bytes<'a>) -> Result<SymbolRecord<'a>, StreamError
 
 /// The symbols of the whole program. Only public ones are looked into.
 pub fn read_global_symbols(alloc: Global, stream: &[u8]) -> Result<SymbolTable, Fault> {
-    let list = list_symbols(alloc, stream, 0)?;
+    let list = split_symbol_records(alloc, stream, 0)?;
     let mut items = Vec::with_capacity(alloc, list.records.len())?;
     for record in &list.records {
-        let content = match apart(global_content(alloc, *record))? {
+        let content = match part_or_fault(global_content(alloc, *record))? {
             Ok(content) => Some(content),
             Err(_) => None,
         };
@@ -133,7 +135,7 @@ pub fn read_symbols(
     let mut items = Vec::with_capacity(alloc, list.records.len())?;
     let mut start = 0;
     for record in &list.records {
-        let content = match apart(module_content(alloc, *record, list, code, start))? {
+        let content = match part_or_fault(module_content(alloc, *record, list, code, start))? {
             Ok(content) => Some(content),
             Err(_) => None,
         };

@@ -1,4 +1,7 @@
-use pdb_msf::faults::{BAD_LENGTH, Fault, POINTS_NOWHERE, UNKNOWN_VERSION, ended};
+//! The type records of a stream, split by their lengths, and why one has no content.
+
+use crate::substreams::take_substream;
+use pdb_msf::faults::{BAD_LENGTH, Fault, POINTS_NOWHERE, UNKNOWN_VERSION, early_end};
 use pdb_msf::{Bytes, u32_at};
 use pdb_records::{Error, StreamError};
 use std::alloc::Global;
@@ -58,7 +61,7 @@ pub struct TypeRecords<'a> {
 }
 
 /// Splits a stream into its types or ids.
-pub fn list_types(alloc: Global, stream: &[u8]) -> Result<TypeRecords<'_>, Fault> {
+pub fn split_type_records(alloc: Global, stream: &[u8]) -> Result<TypeRecords<'_>, Fault> {
     let front = Bytes::new(stream).take(HEADER)?;
     if u32_at(front, 0) != VERSION {
         return Err(Fault::Broken(UNKNOWN_VERSION));
@@ -67,28 +70,28 @@ pub fn list_types(alloc: Global, stream: &[u8]) -> Result<TypeRecords<'_>, Fault
     let Ok(_) = bytes.take(u32_at(front, 4) as usize) else {
         return Err(Fault::Broken(POINTS_NOWHERE));
     };
-    let part = crate::dbi::take_part(&mut bytes, u32_at(front, 16));
+    let substream = take_substream(&mut bytes, u32_at(front, 16));
     let mut records = Vec::new(alloc);
-    let fault = ended(fill_types(part.bytes, &mut records))?;
+    let fault = early_end(fill_type_records(substream.bytes, &mut records))?;
     Ok(TypeRecords {
         first: u32_at(front, 8),
         records,
-        fault: fault.or(part.fault),
+        fault: fault.or(substream.fault),
     })
 }
 
-fn fill_types<'a>(bytes: &'a [u8], records: &mut Vec<TypeRecord<'a>>) -> Result<(), Fault> {
+fn fill_type_records<'a>(bytes: &'a [u8], records: &mut Vec<TypeRecord<'a>>) -> Result<(), Fault> {
     let mut rest = Bytes::new(bytes);
     for _ in 0..bytes.len() {
         if rest.is_empty() {
             break;
         }
-        records.push(next_type(&mut rest)?)?;
+        records.push(next_type_record(&mut rest)?)?;
     }
     Ok(())
 }
 
-fn next_type<'a>(rest: &mut Bytes<'a>) -> Result<TypeRecord<'a>, StreamError> {
+fn next_type_record<'a>(rest: &mut Bytes<'a>) -> Result<TypeRecord<'a>, StreamError> {
     let length = rest.u16()?;
     let mut record = Bytes::new(rest.take(usize::from(length))?);
     match record.u16() {

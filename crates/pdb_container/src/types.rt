@@ -1,7 +1,9 @@
+//! The stream of types (TPI): pointers, modifiers, procedures, methods, arrays, lists of arguments.
+
 use crate::aggregates::{class, enumerate, enumeration, newer_class, newer_union, union};
 use crate::numbers::take_size;
 use crate::primitives::put_primitives;
-use crate::type_records::{ItemFault, TypeRecord, content_of, list_types};
+use crate::type_records::{ItemFault, TypeRecord, content_of, split_type_records};
 use pdb_msf::faults::{BAD_NUMBER, Fault};
 use pdb_msf::{Bytes, u16_at, u32_at};
 use pdb_records::{
@@ -16,7 +18,7 @@ const CONSTRUCTOR: u8 = 2;
 
 /// The types of a stream, with the primitives in front of them.
 pub fn read_types(alloc: Global, stream: &[u8]) -> Result<TypeInformation, Fault> {
-    let list = list_types(alloc, stream)?;
+    let list = split_type_records(alloc, stream)?;
     let mut items = Vec::new(alloc);
     put_primitives(&mut items)?;
     let mut index = list.first;

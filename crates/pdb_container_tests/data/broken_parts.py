@@ -25,7 +25,7 @@ class Modules:
         self.names.append({"name": shown(name)})
         self.wanted.append({"symbols": [], "line_program": {"entries": [], "files": []}, "inlinees": [],
                             "imports": [], "exports": [], **wanted})
-        self.broken += [f"{part} {{ module: {number}, fault: StreamError({fault}) }}" for part, fault in broken]
+        self.broken += [f"{part} {{ module_index: {number}, fault: StreamError({fault}) }}" for part, fault in broken]
 
 
 def one_procedure():
@@ -116,7 +116,7 @@ def broken_parts():
         module_infos=modules.wanted)
     broken = [f"GlobalSymbols(StreamError({BAD_LENGTH}))", f"Modules(StreamError({CUT}))",
               f"Contributions(StreamError({CUT}))"]
-    broken += [f"ModuleContributions {{ module: {module} }}" for module in (1, 3, 4, 6)]
+    broken += [f"ModuleContributions {{ module_index: {module} }}" for module in (1, 3, 4, 6)]
     return container(streams), [wanted, *broken, *modules.broken]
 
 

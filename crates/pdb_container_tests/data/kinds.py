@@ -572,6 +572,6 @@ def whole():
         type_information=primitives() + item_list(TYPES),
         id_information=item_list(IDS),
         module_infos=[{"symbols": symbols.wanted, **info}, None, other_info, {"error": 2}, {"error": 2}])
-    broken = ["GlobalSymbols(StreamError(1))", "Lines { module: 0, fault: StreamError(1) }",
-              "Module { module: 3, fault: StreamError(2) }", "Module { module: 4, fault: StreamError(2) }"]
+    broken = ["GlobalSymbols(StreamError(1))", "Lines { module_index: 0, fault: StreamError(1) }",
+              "Module { module_index: 3, fault: StreamError(2) }", "Module { module_index: 4, fault: StreamError(2) }"]
     return container(streams), [wanted, *broken]

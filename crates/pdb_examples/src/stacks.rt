@@ -2,21 +2,22 @@
 
 use anyhow::Result;
 use pdb_addr2line::{Context, ContextPdbData, Frame, ModuleProvider};
-use pdb_json::read_records;
 
-/// Prints the stack of each address over the records in a text.
-pub fn print_stacks<R: Print + AllocGlobal>(rt: &R, text: &[u8], addresses: &[u32]) -> Result<()> {
-    let records = read_records(rt.alloc(), text)?;
-    let data = ContextPdbData::try_from_pdb(rt.alloc(), records)?;
+/// Prints the stack of each address. They are relative to where the program is loaded.
+pub fn print_stacks<R: Print>(
+    rt: &R,
+    data: &ContextPdbData<'_>,
+    addresses: &[String],
+) -> Result<()> {
     let mut context = data.make_context()?;
     for address in addresses {
-        print_stack(rt, &mut context, *address)?;
+        print_stack(rt, &mut context, u32::from_str_radix(address.as_str(), 16)?)?;
     }
     Ok(())
 }
 
 /// Prints the stack of an address.
-pub fn print_stack<R: Print, P: ModuleProvider>(
+fn print_stack<R: Print, P: ModuleProvider>(
     rt: &R,
     context: &mut Context<'_, P>,
     address: u32,

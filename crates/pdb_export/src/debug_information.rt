@@ -1,3 +1,5 @@
+//! Writes modules, contributions and the machine type as JSON.
+
 use crate::faults::ExportFault;
 use crate::members::{ToJson, member};
 use crate::sections::section_offset;

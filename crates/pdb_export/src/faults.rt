@@ -1,3 +1,5 @@
+//! Why records could not be written: no memory, a writer that refused, no place in the format.
+
 use std::alloc::AllocError;
 use thiserror::Error;
 

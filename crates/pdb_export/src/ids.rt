@@ -1,3 +1,5 @@
+//! Writes ids of functions, methods and strings as JSON.
+
 use crate::faults::ExportFault;
 use crate::items::ToMembers;
 use crate::members::{member, optional};

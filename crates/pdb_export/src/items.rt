@@ -1,3 +1,5 @@
+//! Writes the list of types or of ids as JSON, each with its index, or with its error.
+
 use crate::faults::ExportFault;
 use crate::members::{ToJson, member};
 use json::Writer;

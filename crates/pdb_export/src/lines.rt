@@ -1,3 +1,5 @@
+//! Writes line programs, their entries and rows as JSON.
+
 use crate::faults::ExportFault;
 use crate::members::{ToJson, member};
 use crate::sections::section_offset;

@@ -1,3 +1,5 @@
+//! Members of JSON objects, lists, readings with their faults, and streams that failed.
+
 use crate::faults::ExportFault;
 use json::Writer;
 use pdb_records::{Reading, StreamError};

@@ -1,3 +1,5 @@
+//! Writes what is known of a module as JSON: symbols, lines, inlinees, imports, exports.
+
 use crate::faults::ExportFault;
 use crate::members::{ToJson, member};
 use json::Writer;

@@ -1,3 +1,5 @@
+//! Writes names as JSON texts, or as their bytes where they are no UTF-8.
+
 use crate::faults::ExportFault;
 use crate::members::ToJson;
 use json::Writer;

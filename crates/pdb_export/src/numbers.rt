@@ -1,3 +1,5 @@
+//! Writes numbers, indices and truth values as JSON.
+
 use crate::faults::ExportFault;
 use crate::members::ToJson;
 use json::Writer;

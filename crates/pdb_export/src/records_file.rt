@@ -1,3 +1,5 @@
+//! Writes a records file, and a file for each module: which members they have, in their order.
+
 use crate::faults::ExportFault;
 use crate::members::{ToJson, member};
 use json::Writer;

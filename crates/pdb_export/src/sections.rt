@@ -1,3 +1,5 @@
+//! Writes sections, address ranges and section offsets as JSON.
+
 use crate::faults::ExportFault;
 use crate::members::{ToJson, member};
 use json::Writer;

@@ -1,3 +1,5 @@
+//! Writes the texts of the string table as JSON.
+
 use crate::faults::ExportFault;
 use crate::members::{ToJson, member};
 use json::Writer;

@@ -1,3 +1,5 @@
+//! Writes symbols as JSON: public ones, procedures, thunks, separated code, inline sites with their rows.
+
 use crate::faults::ExportFault;
 use crate::members::{ToJson, member, optional};
 use crate::sections::section_offset;

@@ -1,3 +1,5 @@
+//! Writes types as JSON, each kind with its members.
+
 use crate::faults::ExportFault;
 use crate::items::ToMembers;
 use crate::members::{ToJson, member, optional};

@@ -1,4 +1,4 @@
-//! Answers to records files.
+//! What reading a records file answers, as text: records, or a fault with its path.
 
 use crate::changes::around;
 use pdb_export::write_records;

@@ -1,4 +1,4 @@
-//! Changes of texts.
+//! Records files with a change made to their text, and the fault that is wanted.
 
 use crate::answers::is_wanted;
 use pdb_json::read_records;

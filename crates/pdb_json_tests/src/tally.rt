@@ -1,3 +1,5 @@
+//! Counts the cases, and the answers that are other than wanted.
+
 /// How many cases there were, and how many answers are other ones than are wanted.
 #[derive(Clone, Copy)]
 pub(crate) struct Tally {

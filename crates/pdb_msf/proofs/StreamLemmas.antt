@@ -1,4 +1,4 @@
--- Parts of a list that follow one another.
+-- Stretches of a list that follow one another.
 use Rattle.std.proofs.Common.{◌≡◌, ◌∙◌, ℕ, zero, suc, ◌+◌, ◌-◌, ◌≤◌, List, [], ◌∷◌, ◌++◌, take, drop, sym, ap}
 use Rattle.std.proofs.Common.{append_assoc, arith}
 use Rattle.std.proofs.lemmas.List.{drop-drop}
@@ -14,7 +14,7 @@ take_split (suc a) b (x ∷ xs) =
     let more : suc a + b ≡ suc (a + b) = omega arith in
     rw more (ap (λ rest. x ∷ rest) same)
 
--- a part of a file, and the block behind it, are the part with the block
+-- bytes of a file that follow one another, and the block behind them, are these bytes with the block
 pub grown : (from to size : ℕ) (file rest : List ℕ) → from ≤ to
     → take (to - from) (drop from file) ++ (take size (drop to file) ++ rest) ≡ take (to + size - from)
     (drop from file) ++ rest
@@ -25,9 +25,9 @@ grown from to size file rest below =
     = ap (λ n. drop n file) at ∙ sym (drop-drop (to - from) from file) in
     let joined : take ((to - from) + size) (drop from file) ≡ take (to - from) (drop from file) ++ take size
     (drop to file)
-    = take_split (to - from) size (drop from file) ∙ ap (λ part. take (to - from) (drop from file) ++ take size part)
+    = take_split (to - from) size (drop from file) ∙ ap (λ left. take (to - from) (drop from file) ++ take size left)
     (sym position) in
     let whole : take (to + size - from) (drop from file) ≡ take (to - from) (drop from file) ++ take size (drop to file)
     = ap (λ n. take n (drop from file)) more ∙ joined in
-    sym (ap (λ part. part ++ rest) whole ∙ append_assoc (take (to - from) (drop from file))
+    sym (ap (λ bytes. bytes ++ rest) whole ∙ append_assoc (take (to - from) (drop from file))
     (take size (drop to file)) rest)

@@ -1,3 +1,5 @@
+//! What is left of bytes that are read from the front: numbers of one to eight bytes, and texts.
+
 ghost use Rattle.std.specs.Prelude.{◌≡◌, ◌≤◌, ◌<◌, ◌+◌, length, take, drop, IfOk, OnOk, OnErr};
 ghost use Rattle.byteorder.specs.Endian.{little_number};
 
@@ -6,7 +8,7 @@ use byteorder::{ByteOrder, LittleEndian};
 use pdb_records::StreamError;
 use std::marker::Model;
 
-/// What is still to be read of a run of bytes. Each call takes what it answers off the front, and
+/// What is still to be read of a list of bytes. Each call takes what it answers off the front, and
 /// answers [`CUT`] where too little is left.
 #[derive(Drop)]
 pub struct Bytes<'a> {
@@ -50,10 +52,10 @@ impl<'a> Bytes<'a> {
 
     /// The next bytes, so many.
     pub fn take(&mut self, count: usize) -> Result<&'a [u8], StreamError>
-        ensures taken { IfOk result (λ taken. taken.now ≡ take count self.old) }
-        ensures size { IfOk result (λ taken. length taken.now ≡ count) }
-        ensures left { OnOk result (self.new ≡ drop count self.old) }
-        ensures short { OnErr result (length self.old < count) }
+        ensures answer { IfOk result (λ taken. taken.now ≡ take count self.old) }
+        ensures count { IfOk result (λ taken. length taken.now ≡ count) }
+        ensures state { OnOk result (self.new ≡ drop count self.old) }
+        ensures refused { OnErr result (length self.old < count) }
     {
         if self.rest.len() < count {
             return Err(CUT);
@@ -82,8 +84,8 @@ impl<'a> Bytes<'a> {
 
     /// The next number of two bytes.
     pub fn u16(&mut self) -> Result<u16, StreamError>
-        ensures value { IfOk result (λ number. number ≡ little_number 2 (take 2 self.old)) }
-        ensures left { OnOk result (self.new ≡ drop 2 self.old) }
+        ensures answer { IfOk result (λ number. number ≡ little_number 2 (take 2 self.old)) }
+        ensures state { OnOk result (self.new ≡ drop 2 self.old) }
     {
         let taken = self.take(2)?;
         Ok(LittleEndian::read_u16(taken))
@@ -91,8 +93,8 @@ impl<'a> Bytes<'a> {
 
     /// The next number of four bytes.
     pub fn u32(&mut self) -> Result<u32, StreamError>
-        ensures value { IfOk result (λ number. number ≡ little_number 4 (take 4 self.old)) }
-        ensures left { OnOk result (self.new ≡ drop 4 self.old) }
+        ensures answer { IfOk result (λ number. number ≡ little_number 4 (take 4 self.old)) }
+        ensures state { OnOk result (self.new ≡ drop 4 self.old) }
     {
         let taken = self.take(4)?;
         Ok(LittleEndian::read_u32(taken))

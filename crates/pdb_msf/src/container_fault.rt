@@ -1,3 +1,5 @@
+//! Why a file can't be read at all: no PDB file, a program, a compressed file, an older version, cut short.
+
 use crate::faults::Fault;
 use thiserror::Error;
 

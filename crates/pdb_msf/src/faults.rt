@@ -23,7 +23,7 @@ pub const REARRANGED: StreamError = StreamError(8);
 
 /// A number or a kind is none that can stand there.
 pub const BAD_NUMBER: StreamError = StreamError(9);
-/// Code of an inlined body stands apart from its function's, in a place that isn't shown.
+/// Code of an inlined body stands part_or_fault from its function's, in a place that isn't shown.
 pub const APART: StreamError = StreamError(10);
 
 /// What a number says in words.
@@ -86,7 +86,7 @@ impl<T: Drop> From<AllocFailed<T>> for Fault {
 }
 
 /// The part, or why it alone is broken.
-pub fn apart<T>(outcome: Result<T, Fault>) -> Result<Result<T, StreamError>, Fault> {
+pub fn part_or_fault<T>(outcome: Result<T, Fault>) -> Result<Result<T, StreamError>, Fault> {
     match outcome {
         Ok(part) => Ok(Ok(part)),
         Err(Fault::Broken(error)) => Ok(Err(error)),
@@ -95,7 +95,7 @@ pub fn apart<T>(outcome: Result<T, Fault>) -> Result<Result<T, StreamError>, Fau
 }
 
 /// Why the reading of a list ended early, if it did.
-pub fn ended(outcome: Result<(), Fault>) -> Result<Option<StreamError>, Fault> {
+pub fn early_end(outcome: Result<(), Fault>) -> Result<Option<StreamError>, Fault> {
     match outcome {
         Ok(()) => Ok(None),
         Err(Fault::Broken(error)) => Ok(Some(error)),

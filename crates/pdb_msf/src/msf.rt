@@ -1,3 +1,5 @@
+//! The container of a PDB file (MSF 7.00): its superblock, its directory, and the blocks of each stream.
+
 use crate::bytes::{Bytes, u32_at};
 use crate::container_fault::{ContainerFault, other_file};
 use crate::faults::{CUT, Fault, NO_STREAM, TOO_LONG};

@@ -1,3 +1,5 @@
+//! Copies of names, and offsets in what is read.
+
 use crate::faults::Fault;
 use pdb_records::RawString;
 use std::alloc::Global;

@@ -1,3 +1,5 @@
+//! Lists of numbers of four bytes, such as those of a stream's blocks.
+
 ghost use Rattle.std.specs.Prelude.{◌≡◌, IfOk};
 ghost use Rattle.pdb_msf.specs.NumberLists.{numbers};
 

@@ -1,3 +1,5 @@
+//! The bytes of a stream by the list of its blocks: in the file itself where they follow one another, else copied.
+
 ghost use Rattle.std.specs.Prelude.{◌≡◌, ◌≤◌, ◌*◌, length, take, IfOk, IfSome};
 ghost use Rattle.pdb_msf.specs.Streams.{block, stream, bytes_of};
 

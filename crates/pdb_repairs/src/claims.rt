@@ -1,3 +1,5 @@
+//! Contributions of which two modules claim one byte: the smaller ones are left out.
+
 use crate::repairs::Repair;
 use pdb_ranges::{Probes, Segment, Segments};
 use pdb_records::{DebugInformation, ImageSectionHeader, SectionContribution};
@@ -12,21 +14,21 @@ struct Claim {
     start: u64,
     /// The number past the last.
     end: u64,
-    module: usize,
+    module_index: usize,
 }
 
-/// Neighbouring bytes that count for one module, or for none.
+/// Bytes that follow one another and count for one module, or for none.
 #[derive(Clone, Copy)]
-struct Run {
+struct Interval {
     start: u64,
     /// The number past the last.
     end: u64,
-    module: Option<usize>,
+    module_index: Option<usize>,
 }
 
-/// Leaves out each contribution that has a byte which counts for another module. Of each byte the greatest claim over it
-/// counts, of equal ones the first. Left out is also what ends past the offsets of a section. So no byte is claimed by
-/// two modules.
+/// Leaves out each contribution that has a byte which counts for another module. Of each byte the greatest claim over
+/// it counts, of equal ones the first. Left out is also what ends past the offsets of a section. So no byte is claimed
+/// by two modules.
 pub fn retain_claims(
     alloc: Global,
     sections: &[ImageSectionHeader],
@@ -35,14 +37,14 @@ pub fn retain_claims(
 ) -> Result<(), AllocError> {
     let contributions = debug.section_contributions.items.as_slice();
     let claims = claims(alloc, sections, contributions)?;
-    if !has_opposed(alloc, sections, contributions, &claims)? {
+    if !any_is_left_out(alloc, sections, contributions, &claims)? {
         return Ok(());
     }
-    let runs = runs(alloc, &claims)?;
+    let intervals = intervals(alloc, &claims)?;
     let mut retained = Vec::new(alloc);
     let mut left_out = Vec::new(alloc);
     for contribution in contributions {
-        if counts(sections, contribution) && is_opposed(contribution, &runs) {
+        if counts(sections, contribution) && is_left_out(contribution, &intervals) {
             left_out.push(contribution.module)?;
         } else {
             retained.push(*contribution)?;
@@ -57,8 +59,8 @@ pub fn retain_claims(
 fn push_modules(modules: &mut Vec<usize>, repairs: &mut Vec<Repair>) -> Result<(), AllocError> {
     modules.sort_unstable();
     modules.dedup();
-    for &module in modules.iter() {
-        repairs.push(Repair::ModuleContributions { module })?;
+    for &module_index in modules.iter() {
+        repairs.push(Repair::ModuleContributions { module_index })?;
     }
     Ok(())
 }
@@ -72,8 +74,8 @@ fn counts(sections: &[ImageSectionHeader], contribution: &SectionContribution) -
     }
 }
 
-// Whether any contribution is left out. Most programs have none, which costs no table of all bytes.
-fn has_opposed(
+// Whether any contribution is to be left out. In most programs none is, which costs no table of all bytes.
+fn any_is_left_out(
     alloc: Global,
     sections: &[ImageSectionHeader],
     contributions: &[SectionContribution],
@@ -91,14 +93,14 @@ fn has_opposed(
 // Whether a claim begins before one ends that stands in front of it and is another module's.
 fn has_overlap(claims: &[Claim]) -> bool {
     let mut reach = 0;
-    let mut module = 0;
+    let mut module_index = 0;
     for claim in claims {
-        if claim.start < reach && claim.module != module {
+        if claim.start < reach && claim.module_index != module_index {
             return true;
         }
         if claim.end > reach {
             reach = claim.end;
-            module = claim.module;
+            module_index = claim.module_index;
         }
     }
     false
@@ -111,7 +113,7 @@ fn claim_of(contribution: &SectionContribution) -> Option<Claim> {
     Some(Claim {
         start: section + u64::from(contribution.offset.offset),
         end: section + u64::from(end),
-        module: contribution.module,
+        module_index: contribution.module,
     })
 }
 
@@ -132,59 +134,68 @@ fn claims(
 }
 
 // The claims, the greatest last, and of equal ones the first.
-fn painted(alloc: Global, claims: &[Claim]) -> Result<Vec<Segment<usize>>, AllocError> {
+fn segments_of(alloc: Global, claims: &[Claim]) -> Result<Vec<Segment<usize>>, AllocError> {
     let mut segments = Vec::new(alloc);
     for claim in claims.iter().rev() {
         segments.push(Segment {
             start: claim.start,
             end: claim.end,
-            value: claim.module,
+            value: claim.module_index,
         })?;
     }
     segments.sort_by_key(|segment: &Segment<usize>| segment.end.saturating_sub(segment.start))?;
     Ok(segments)
 }
 
-// The runs of bytes that count for one module, ascending. Where they change a claim begins or ends.
-fn runs(alloc: Global, claims: &[Claim]) -> Result<Vec<Run>, AllocError> {
-    let owners = Segments::of_painted(alloc, &painted(alloc, claims)?)?;
+// The intervals of bytes that count for one module, ascending. Where they change a claim begins or ends.
+fn intervals(alloc: Global, claims: &[Claim]) -> Result<Vec<Interval>, AllocError> {
+    let owners = Segments::of_painted(alloc, &segments_of(alloc, claims)?)?;
     let mut ends: Vec<u64> = Vec::new(alloc);
     for claim in claims {
         ends.push(claim.start)?;
         ends.push(claim.end)?;
     }
     ends.sort_unstable();
-    let mut runs = Vec::new(alloc);
+    let mut intervals = Vec::new(alloc);
     for &number in &ends {
-        begin_run(&mut runs, number, owners.find(number, &mut Probes::new()))?;
+        begin_interval(
+            &mut intervals,
+            number,
+            owners.find(number, &mut Probes::new()),
+        )?;
     }
-    Ok(runs)
+    Ok(intervals)
 }
 
-// Begins a run, where the last one is of another module.
-fn begin_run(runs: &mut Vec<Run>, start: u64, module: Option<usize>) -> Result<(), AllocError> {
-    if let Some(last) = runs.last_mut() {
-        if last.module == module {
+// Begins an interval, where the last one is of another module.
+fn begin_interval(
+    intervals: &mut Vec<Interval>,
+    start: u64,
+    module_index: Option<usize>,
+) -> Result<(), AllocError> {
+    if let Some(last) = intervals.last_mut() {
+        if last.module_index == module_index {
             return Ok(());
         }
         last.end = start;
     }
-    runs.push(Run {
+    intervals.push(Interval {
         start,
         end: u64::MAX,
-        module,
+        module_index,
     })?;
     Ok(())
 }
 
 // Whether a byte of a contribution counts for another module, or its end fits no offset.
-fn is_opposed(contribution: &SectionContribution, runs: &[Run]) -> bool {
+fn is_left_out(contribution: &SectionContribution, intervals: &[Interval]) -> bool {
     let Some(claim) = claim_of(contribution) else {
         return true;
     };
-    let behind = runs.partition_point(|run| run.start <= claim.start);
-    match runs.get(behind.wrapping_sub(1)) {
-        Some(run) => run.module != Some(claim.module) || run.end < claim.end,
+    let behind = intervals.partition_point(|interval| interval.start <= claim.start);
+    match intervals.get(behind.wrapping_sub(1)) {
+        Some(interval) => interval.module_index != Some(claim.module_index)
+            || interval.end < claim.end,
         None => false,
     }
 }

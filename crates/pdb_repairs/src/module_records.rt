@@ -1,22 +1,33 @@
-use crate::repairs::{Repair, end_as_read};
+//! What is broken among the records of one module.
+
+use crate::repairs::{Repair, take_fault};
 use pdb_records::{LineProgram, ModuleInfo, StreamError};
 use std::alloc::{AllocError, Global};
 
 /// Takes out of the records of a module what is broken.
 pub fn repair_module(
     alloc: Global,
-    module: usize,
+    module_index: usize,
     info: &mut ModuleInfo,
     repairs: &mut Vec<Repair>,
 ) -> Result<(), AllocError> {
-    if let Some(fault) = end_as_read(&mut info.symbols) {
-        repairs.push(Repair::Symbols { module, fault })?;
+    if let Some(fault) = take_fault(&mut info.symbols) {
+        repairs.push(Repair::Symbols {
+            module_index,
+            fault,
+        })?;
     }
     if let Some(fault) = repair_lines(alloc, &mut info.line_program) {
-        repairs.push(Repair::Lines { module, fault })?;
+        repairs.push(Repair::Lines {
+            module_index,
+            fault,
+        })?;
     }
-    if let Some(fault) = end_as_read(&mut info.inlinees) {
-        repairs.push(Repair::Inlinees { module, fault })?;
+    if let Some(fault) = take_fault(&mut info.inlinees) {
+        repairs.push(Repair::Inlinees {
+            module_index,
+            fault,
+        })?;
     }
     Ok(())
 }
@@ -43,7 +54,7 @@ fn repair_lines(
 fn repair_entries(program: &mut LineProgram) -> Option<StreamError> {
     let mut first = None;
     for entry in program.entries.iter_mut() {
-        if let Some(fault) = end_as_read(&mut entry.lines) {
+        if let Some(fault) = take_fault(&mut entry.lines) {
             entry.lines.items.clear();
             first = first.or(Some(fault));
         }

@@ -1,3 +1,5 @@
+//! What is taken out of the records of a program, each with its fault.
+
 use crate::claims::retain_claims;
 use crate::module_records::repair_module;
 use pdb_records::{DebugInformation, ModuleInfo, PDB, Reading, StreamError, SymbolTable};
@@ -14,15 +16,29 @@ pub enum Repair {
     Contributions(StreamError),
     /// Contributions of a module were left out: another module has one that is as great or greater and has a byte of
     /// theirs, or their end doesn't fit 32 bits.
-    ModuleContributions { module: usize },
+    ModuleContributions {
+        module_index: usize,
+    },
     /// Nothing is known of a module: its records can't be read.
-    Module { module: usize, fault: StreamError },
+    Module {
+        module_index: usize,
+        fault: StreamError,
+    },
     /// The symbols of a module end early. The procedures before are answered.
-    Symbols { module: usize, fault: StreamError },
+    Symbols {
+        module_index: usize,
+        fault: StreamError,
+    },
     /// The lines of a module, or those of some of its functions, can't be read. The functions are answered without.
-    Lines { module: usize, fault: StreamError },
+    Lines {
+        module_index: usize,
+        fault: StreamError,
+    },
     /// The list of a module's inlined functions ends early. Those before are answered.
-    Inlinees { module: usize, fault: StreamError },
+    Inlinees {
+        module_index: usize,
+        fault: StreamError,
+    },
 }
 
 /// Takes out of the records what is broken, and answers what that was, at most once for each module and kind.
@@ -37,8 +53,8 @@ pub fn repair_records(alloc: Global, records: &mut PDB) -> Result<Vec<Repair>, A
             retain_claims(alloc, sections, debug, &mut repairs)?;
         }
     }
-    for (module, read) in records.module_infos.iter_mut().enumerate() {
-        repair_read_module(alloc, module, read, &mut repairs)?;
+    for (module_index, info) in records.module_infos.iter_mut().enumerate() {
+        repair_read_module(alloc, module_index, info, &mut repairs)?;
     }
     Ok(repairs)
 }
@@ -47,17 +63,17 @@ fn repair_global_symbols(
     table: &mut SymbolTable,
     repairs: &mut Vec<Repair>,
 ) -> Result<(), AllocError> {
-    if let Some(fault) = end_as_read(&mut table.symbols) {
+    if let Some(fault) = take_fault(&mut table.symbols) {
         repairs.push(Repair::GlobalSymbols(fault))?;
     }
     Ok(())
 }
 
 fn repair_debug(debug: &mut DebugInformation, repairs: &mut Vec<Repair>) -> Result<(), AllocError> {
-    if let Some(fault) = end_as_read(&mut debug.modules) {
+    if let Some(fault) = take_fault(&mut debug.modules) {
         repairs.push(Repair::Modules(fault))?;
     }
-    if let Some(fault) = end_as_read(&mut debug.section_contributions) {
+    if let Some(fault) = take_fault(&mut debug.section_contributions) {
         repairs.push(Repair::Contributions(fault))?;
     }
     Ok(())
@@ -65,22 +81,25 @@ fn repair_debug(debug: &mut DebugInformation, repairs: &mut Vec<Repair>) -> Resu
 
 fn repair_read_module(
     alloc: Global,
-    module: usize,
-    read: &mut Result<Option<ModuleInfo>, StreamError>,
+    module_index: usize,
+    info: &mut Result<Option<ModuleInfo>, StreamError>,
     repairs: &mut Vec<Repair>,
 ) -> Result<(), AllocError> {
-    match read {
-        Ok(Some(info)) => repair_module(alloc, module, info, repairs),
+    match info {
+        Ok(Some(info)) => repair_module(alloc, module_index, info, repairs),
         Ok(None) => Ok(()),
         Err(fault) => {
             let fault = *fault;
-            repairs.push(Repair::Module { module, fault })?;
+            repairs.push(Repair::Module {
+                module_index,
+                fault,
+            })?;
             Ok(())
         }
     }
 }
 
 /// Has a reading end behind what was read, and answers why it ended there, if it was for a fault.
-pub fn end_as_read<T>(reading: &mut Reading<T>) -> Option<StreamError> {
+pub fn take_fault<T>(reading: &mut Reading<T>) -> Option<StreamError> {
     reading.fault.take()
 }

@@ -1,3 +1,5 @@
+//! The lines of `runs.txt`: a command line, what it writes, and its status.
+
 /// One run of the program.
 #[derive(Clone, Copy)]
 pub(crate) struct Run<'t> {

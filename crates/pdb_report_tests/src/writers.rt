@@ -1,4 +1,4 @@
-//! Runs into writers that refuse.
+//! Writers that refuse: with too little room, or what they took isn't handed on.
 
 use crate::runs::Run;
 use crate::words_of;

@@ -1,3 +1,5 @@
+//! Counts checks, and names the first that failed.
+
 /// How many checks were made, and which of them failed.
 #[derive(Clone, Copy)]
 pub(crate) struct Checks {

@@ -1,3 +1,5 @@
+//! Checks of merged contributions, their table, and global functions.
+
 use crate::checks::Checks;
 use pdb_functions::{
     ContributionTable, GlobalFunctionTable, ModuleSectionContribution, compute_global_functions,

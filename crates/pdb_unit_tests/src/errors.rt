@@ -1,3 +1,5 @@
+//! Checks of the texts of errors.
+
 use crate::checks::Checks;
 use pdb_types::Error;
 use std::alloc::Global;

@@ -1,3 +1,5 @@
+//! Checks of sets of failed parts.
+
 use crate::checks::Checks;
 use pdb_records::StreamError;
 use pdb_types::{Error, FailedParts, Part};

@@ -1,3 +1,5 @@
+//! Checks of the formatter's flags.
+
 use crate::checks::Checks;
 use bitflags::Flags;
 use pdb_types::TypeFormatterFlags;

@@ -1,3 +1,5 @@
+//! Checks of the inline ranges of a procedure.
+
 use crate::checks::Checks;
 use crate::modules::{is_fault, module_of};
 use crate::symbols::{Content, Row, Shown, symbols_of};

@@ -1,3 +1,5 @@
+//! Checks of stacks of inline ranges, and of their table.
+
 use crate::checks::Checks;
 use pdb_inline::{InlineRange, ProcedureStacks, StackTable, inline_stack};
 use pdb_ranges::Probes;

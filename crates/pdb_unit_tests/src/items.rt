@@ -1,3 +1,5 @@
+//! Checks of types by their index, and of sizes of forward references.
+
 use crate::checks::Checks;
 use pdb_records::{
     ClassKind, ClassType, IdData, IdIndex, IdInformation, Item, ItemInformation, RawString,

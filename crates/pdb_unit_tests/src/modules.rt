@@ -1,3 +1,5 @@
+//! Modules to check with: with symbols, and nothing else.
+
 use pdb_records::{ModuleInfo, Reading, StreamError, Symbol};
 use pdb_types::Error;
 use std::alloc::Global;

@@ -1,3 +1,5 @@
+//! Checks of the procedures of a module.
+
 use crate::checks::Checks;
 use crate::modules::{is_fault, module_of};
 use pdb_functions::{

@@ -1,3 +1,5 @@
+//! Checks of sets of numbers.
+
 use crate::checks::Checks;
 use pdb_ranges::RangeSet;
 use std::alloc::{AllocError, Global};

@@ -1,3 +1,5 @@
+//! Checks of records: addresses, lines, texts, imports and exports.
+
 use crate::checks::Checks;
 use pdb_records::{
     AddressMap, AddressRange, CrossModuleExports, CrossModuleImports, Error, FileIndex, FileInfo,

@@ -1,3 +1,5 @@
+//! Checks of sets of open indices.
+
 use crate::checks::Checks;
 use crate::errors::says;
 use pdb_documents::seen::{Seen, SeenError};

@@ -1,3 +1,5 @@
+//! Checks of tables of segments.
+
 use crate::checks::Checks;
 use pdb_ranges::{Probes, Segment, Segments};
 use std::alloc::{AllocError, Global};

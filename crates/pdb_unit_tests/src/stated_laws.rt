@@ -1,4 +1,4 @@
-//! The laws of the parts.
+//! The laws of the crates below, each called once.
 
 use pdb_functions::laws as functions;
 use pdb_inline::laws as inline;

@@ -1,3 +1,5 @@
+//! Symbols to check with: procedures and sites with rows.
+
 use pdb_records::{
     FileIndex, IdIndex, InlineRow, InlineSiteSymbol, PdbInternalSectionOffset, ProcedureSymbol,
     RawString, Reading, StreamError, Symbol, SymbolData, SymbolIndex, TypeIndex,

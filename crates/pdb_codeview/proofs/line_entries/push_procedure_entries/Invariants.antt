@@ -9,8 +9,8 @@ use Rattle.pdb_codeview.proofs.line_entries.push_procedure_entries.Given as goal
 abbrev pub invariant-loop-bounds : goal.invariant-loop-bounds
 invariant-loop-bounds l = record {
   entries : l.initial.entries.items
-      ++ map (procedure_entry l.part l.rows) (front (starts_in l.part l.next) l.procedures)
-      ≡ l.entries.items ++ map (procedure_entry l.part l.rows) (front (starts_in l.part l.next)
+      ++ map (procedure_entry l.subsection l.rows) (front (starts_in l.subsection l.next) l.procedures)
+      ≡ l.entries.items ++ map (procedure_entry l.subsection l.rows) (front (starts_in l.subsection l.next)
       (drop l.bounds-index l.procedures));
   onward : (y : ℕ) → l.asked ≤ y
       → from_last (λ row. row.offset) y l.over ≡ from_last (λ row. row.offset) y l.rows;

@@ -1,0 +1,137 @@
+#!/usr/bin/env python3
+"""Runs the built pdb_symbolizer on mutated copies of a PDB file, and reports every run that misbehaves.
+
+Usage: pdb_files.py PROGRAM COUNT [SEED] [PDB..]
+
+With no PDB file the one of crates/pdb_symbolizer/data is taken. A copy has bits flipped, numbers made
+huge or small, blocks exchanged or named twice, numbers in the directory changed, or is cut. A run
+misbehaves where it ends by a signal, takes more than ten seconds, takes more memory than 64 MiB and 100
+bytes for each byte of the file, or has a status other than 0, 1 and 2, or other than one line on
+standard error for the statuses 1 and 2.
+"""
+import collections
+import pathlib
+import random
+import resource
+import struct
+import subprocess
+import sys
+import tempfile
+
+DATA = pathlib.Path(__file__).resolve().parents[2] / "crates" / "pdb_symbolizer" / "data"
+ADDRESSES = ["0", "1000", "1020", "10b0", "1180", "11c0", "1230", "1280", "2000", "7fffffff", "ffffffff"]
+NUMBERS = [0, 1, 2, 3, 4, 7, 0x7f, 0x80, 0xff, 0x1000, 0x7fff, 0x8000, 0xffff, 0x7fffffff, 0x80000000, 0xfffffffe, 0xffffffff]
+
+
+def blocks_of(pdb):
+    """The block size, and the position of the directory's numbers in the file."""
+    size = struct.unpack_from("<I", pdb, 32)[0]
+    length, where = struct.unpack_from("<I", pdb, 44)[0], struct.unpack_from("<I", pdb, 52)[0]
+    first = struct.unpack_from("<I", pdb, where * size)[0]
+    return size, first * size, min(length, size)
+
+
+def flipped(pdb, chance):
+    """Some bits turned."""
+    out = bytearray(pdb)
+    for _ in range(chance.choice([1, 1, 2, 8, 64])):
+        out[chance.randrange(len(out))] ^= 1 << chance.randrange(8)
+    return out
+
+
+def numbered(pdb, chance):
+    """A number of one, two or four bytes in the place of another, some of them at multiples of four."""
+    out = bytearray(pdb)
+    for _ in range(chance.choice([1, 1, 2, 4])):
+        width = chance.choice([1, 2, 4])
+        at = chance.randrange(len(out) - 4)
+        at -= at % chance.choice([1, 4])
+        out[at:at + width] = struct.pack("<I", chance.choice(NUMBERS))[:width]
+    return out
+
+
+def redirected(pdb, chance):
+    """A number of the directory or of the superblock changed: a length, a block, a count."""
+    out = bytearray(pdb)
+    size, start, length = blocks_of(pdb)
+    for _ in range(chance.choice([1, 1, 2, 8])):
+        at = chance.choice([32, 36, 40, 44, 48, 52] + [start + 4 * k for k in range(length // 4)] * 4)
+        number = chance.choice(NUMBERS + [chance.randrange(len(pdb) // size + 2)] * 12)
+        struct.pack_into("<I", out, at, number)
+    return out
+
+
+def exchanged(pdb, chance):
+    """A block's bytes in another's place."""
+    out = bytearray(pdb)
+    size = blocks_of(pdb)[0]
+    count = len(pdb) // size
+    a, b = chance.randrange(1, count), chance.randrange(1, count)
+    out[a * size:(a + 1) * size] = pdb[b * size:(b + 1) * size]
+    return out
+
+
+def cut(pdb, chance):
+    """The front of the file."""
+    return bytearray(pdb[:chance.randrange(len(pdb))])
+
+
+def filled(pdb, chance):
+    """A run of one byte."""
+    out = bytearray(pdb)
+    at, length = chance.randrange(len(out)), chance.choice([2, 4, 16, 256, 4096])
+    out[at:at + length] = bytes([chance.choice([0, 0xff, 0x80, 0xf1])]) * len(out[at:at + length])
+    return out
+
+
+KINDS = [flipped, numbered, redirected, exchanged, cut, filled]
+
+
+def misbehaviour(program, path, length):
+    """What is wrong with a run on this file, if anything is."""
+    most = 64 * 2**20 + 100 * length
+    try:
+        run = subprocess.run(
+            [program, path] + ADDRESSES, capture_output=True, timeout=10,
+            preexec_fn=lambda: resource.setrlimit(resource.RLIMIT_DATA, (most, most)))
+    except subprocess.TimeoutExpired:
+        return "more than ten seconds", None
+    if run.returncode not in (0, 1, 2):
+        return f"status {run.returncode}", run.returncode
+    if b"memory" in run.stderr:
+        return "more memory than it may have", run.returncode
+    if run.returncode != 0 and run.stderr.count(b"\n") != 1:
+        return f"status {run.returncode} with {run.stderr.count(10)} lines on standard error", run.returncode
+    return None, run.returncode
+
+
+def main():
+    program, count = sys.argv[1], int(sys.argv[2])
+    chance = random.Random(int(sys.argv[3]) if len(sys.argv) > 3 else 1)
+    pdbs = [pathlib.Path(p).read_bytes() for p in sys.argv[4:] or sorted(DATA.glob("*.pdb"))]
+    found = 0
+    statuses = collections.Counter()
+    with tempfile.TemporaryDirectory() as folder:
+        path = pathlib.Path(folder) / "mutated.pdb"
+        for number in range(count):
+            pdb = chance.choice(pdbs)
+            for _ in range(chance.choice([1, 1, 1, 2, 3])):
+                if len(pdb) > 64:
+                    kind = chance.choice(KINDS)
+                    try:
+                        pdb = kind(pdb, chance)
+                    except (struct.error, ArithmeticError, ValueError, IndexError):
+                        pdb = flipped(pdb, chance)
+            path.write_bytes(pdb)
+            wrong, status = misbehaviour(program, path, len(pdb))
+            statuses[status] += 1
+            if wrong:
+                found += 1
+                kept = pathlib.Path(tempfile.gettempdir()) / f"misbehaves-{number}.pdb"
+                kept.write_bytes(pdb)
+                print(f"{kept}: {wrong}")
+    print(f"{count} runs, {found} misbehave, statuses", dict(sorted(statuses.items(), key=str)))
+    sys.exit(1 if found else 0)
+
+
+main()

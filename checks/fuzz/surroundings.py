@@ -1,0 +1,285 @@
+#!/usr/bin/env python3
+"""Runs the built program where what surrounds it is broken, and reports every run that ends otherwise than docs/REPORT.md says.
+
+Usage: program.py PROGRAM
+
+That is: a standard output that is closed, full, or read by nobody; a records file that is a folder, empty, can't be
+read, or comes in pieces; words that aren't UTF-8; texts that are cut off anywhere or nested too deep; and module files
+of all these kinds. Standard error, the status and, where it can be read, standard output are compared.
+"""
+import os
+import pathlib
+import subprocess
+import sys
+import tempfile
+import threading
+import time
+from collections import namedtuple
+
+CRATES = pathlib.Path(__file__).resolve().parents[2] / "crates"
+DATA = CRATES / "pdb_report_tests" / "data"
+EXAMPLE = CRATES / "pdb_report" / "data" / "a.json"
+SECONDS = 10
+USAGE = "usage: pdb_report RECORDS (frames|names ADDRESS...|list)"
+NO_JSON = "not a JSON text"
+DEEPEST = 127
+# A file whose bytes can't be read, though it can be opened.
+UNREADABLE = "/proc/self/mem"
+LINE = b"0x1020 - ?f 0x1010..0x1100\n"
+MODULE_LINE = b"0x1050 - g 0x1050..0x1090\n"
+
+# `out` is what stands for standard output, None where it is read.
+Check = namedtuple("Check", "what words line status stdout out", defaults=(b"", None))
+
+
+def refused(what, words, line, out=None):
+    """A check of a run that ends with status 2 and this line on standard error."""
+    return Check(what, words, line, 2, b"", out)
+
+
+def records(what, name, fault):
+    """A check of a records file that is refused with this fault."""
+    return refused(what, [name, "names", "1020"], f"pdb_report: {name}: {fault}")
+
+
+# ------------------------------------------------------- standard output
+
+
+def closed():
+    """Nothing stands for standard output."""
+    return "closed"
+
+
+def full():
+    """A device that is full."""
+    return os.open("/dev/full", os.O_WRONLY)
+
+
+def unread():
+    """A pipe that nobody reads."""
+    reading, writing = os.pipe()
+    os.close(reading)
+    return writing
+
+
+def outputs():
+    """Lines that can't be written, few and many, and behind an error too; and nothing to be written."""
+    for out in (closed, full, unread):
+        what = f"standard output: {out.__doc__}"
+        for words in ([EXAMPLE, "names", "1020"], [EXAMPLE, "frames", "1020", "1050"], [EXAMPLE, "list"],
+                      [DATA / "small_x64.json", "list"],
+                      [DATA / "small_x64.json", "frames"] + ["1544"] * 2000,
+                      [DATA / "failing_parts.json", "frames", "10c4", "1024"]):
+            yield refused(what, words, "pdb_report: cannot write", out)
+        yield Check(f"{what} Nothing is written.", [EXAMPLE, "names"], "", 0, b"", out)
+        yield Check(f"{what} An error stands before all lines.", [DATA / "failing_lines.json", "frames", "1012"],
+                    "pdb_report: PDB error: stream error 7", 1, b"", out)
+        yield refused(f"{what} Usage.", [], USAGE, out)
+
+
+# ------------------------------------------------------------ the words
+
+
+def words():
+    """Words that ask for nothing known."""
+    name = bytes(EXAMPLE)
+    wrong = [[], [name], [name, b"name"], [name, b"names", b"g"], [name, b"list", b"1020"], [name, b"names", b""],
+             [b"\xff", b"names", b"1020"], [name, b"\xff", b"1020"], [name, b"names", b"\xff"],
+             [name, b"names", b"1020", b"10\xe9"], [name + b"\xc3\x28", b"list"], [b"\xed\xa0\x80", b"list"],
+             [name, b"list", b"\xf4\x90\x80\x80"]]
+    for given in wrong:
+        yield refused(f"words {given}", given, USAGE)
+
+
+# ------------------------------------------------------ the records file
+
+
+def unreadable_files(folder):
+    """Paths that can't be read."""
+    (folder / "folder").mkdir()
+    (folder / "circle").symlink_to("circle")
+    (folder / "dangling").symlink_to("absent")
+    (folder / "inside.json").write_bytes(EXAMPLE.read_bytes())
+    names = ["folder", ".", "absent", "circle", "dangling", "inside.json/a", "n" * 300, "n/" * 3000, "", UNREADABLE]
+    locked = folder / "locked"
+    locked.touch()
+    locked.chmod(0)
+    if not os.access(locked, os.R_OK):
+        names.append("locked")
+    for name in names:
+        yield refused("a path that can't be read", [name, "names", "1020"], f"pdb_report: cannot read {name}")
+        yield refused("a path that can't be read", [name, "list"], f"pdb_report: cannot read {name}")
+
+
+def beginnings(text):
+    """The proper beginnings of a text up to its last brace, the empty one too."""
+    return [text[:length] for length in range(text.rindex(b"}") + 1)]
+
+
+def nested(depth):
+    """So many arrays, each in the one before."""
+    return b"[" * depth + b"]" * depth
+
+
+def files(folder):
+    """Records files that hold no records."""
+    yield from unreadable_files(folder)
+    for text in beginnings(EXAMPLE.read_bytes()) + [EXAMPLE.read_bytes() + b"}", b"\xff", b"\xef\xbb\xbf{}", b"\0"]:
+        name = written(folder, text)
+        yield records(f"the text {text[-20:]}", name, NO_JSON)
+    for depth in (1, DEEPEST - 1, DEEPEST):
+        yield records(f"{depth} nested arrays", written(folder, nested(depth)), ": wanted object")
+    for depth in (DEEPEST + 1, DEEPEST + 2, 1_000_000):
+        yield records(f"{depth} nested arrays", written(folder, nested(depth)), NO_JSON)
+    for depth in (1, 1_000_000):
+        yield records(f"{depth} open arrays", written(folder, b"[" * depth), NO_JSON)
+    yield Check("a file with more members", [written(folder, deep_member(DEEPEST - 1)), "names", "1020"], "", 0, LINE)
+    yield records("a member that is nested too deep", written(folder, deep_member(DEEPEST)), NO_JSON)
+
+
+def deep_member(depth):
+    """The example with one more member, of so many nested arrays."""
+    return EXAMPLE.read_bytes().replace(b"{", b'{"more":' + nested(depth) + b",", 1)
+
+
+def written(folder, text, name=None):
+    """The name of a file with this text, in this folder."""
+    name = name or f"{sum(1 for _ in folder.iterdir())}.json"
+    (folder / name).write_bytes(text)
+    return name
+
+
+# ------------------------------------------------------- the module files
+
+
+def module_files(folder):
+    """Module files that can't be read or hold no records of a module."""
+    text = (DATA / "modules" / "two.json").read_bytes()
+    first, second = ((DATA / "modules" / name).read_bytes() for name in ("a.module.json", "b.module.json"))
+    written(folder, first, "a.module.json")
+    number = 0
+
+    def two(second):
+        """The name of a records file whose second module file has this text."""
+        nonlocal number
+        number += 1
+        name = f"{number}.module.json"
+        if second is not None:
+            written(folder, second, name)
+        return written(folder, text.replace(b"b.module.json", name.encode()), f"two{number}.json"), name
+
+    yield Check("two module files", [two(second)[0], "names", "1050"], "", 0, MODULE_LINE)
+    path = "/module_infos/1/file"
+    for begun in beginnings(second) + [second + b"]", b"\xff"]:
+        yield records(f"the module file {begun[-20:]}", two(begun)[0], f"{path}: {NO_JSON}")
+    for depth in (1, DEEPEST):
+        yield records(f"a module file of {depth} nested arrays", two(nested(depth))[0], f"{path}: wanted object")
+    for depth in (DEEPEST + 1, 1_000_000):
+        yield records(f"a module file of {depth} nested arrays", two(nested(depth))[0], f"{path}: {NO_JSON}")
+    name, module = two(None)
+    yield refused("an absent module file", [name, "names", "1050"], f"pdb_report: cannot read {module}")
+    name, module = two(None)
+    (folder / module).mkdir()
+    yield refused("a module file that is a folder", [name, "list"], f"pdb_report: cannot read {module}")
+    name = written(folder, text.replace(b"b.module.json", UNREADABLE.encode()), "unreadable.json")
+    yield refused("a module file that can't be read", [name, "names"], f"pdb_report: cannot read {UNREADABLE}")
+    for begun in beginnings(text):
+        yield records(f"the text {begun[-20:]}", written(folder, begun, "cut.json"), NO_JSON)
+
+
+# -------------------------------------------------------------- in pieces
+
+
+def feed(path, pieces):
+    """Writes pieces to a pipe, with pauses between them."""
+    with open(path, "wb", buffering=0) as pipe:
+        for piece in pieces:
+            pipe.write(piece)
+            time.sleep(0.2)
+
+
+def in_pieces(folder):
+    """Checks of a records file, and a module file, that comes in pieces, with the pieces and the path."""
+    text = EXAMPLE.read_bytes()
+    half = len(text) // 2
+    pipe = folder / "pipe"
+    os.mkfifo(pipe)
+    yield Check("a file in two pieces", ["pipe", "names", "1020"], "", 0, LINE), pipe, [text[:half], text[half:]]
+    yield records("a file of which half comes", "pipe", NO_JSON), pipe, [text[:half]]
+    yield records("a file that goes on behind its end", "pipe", NO_JSON), pipe, [text, b"}"]
+    module = (DATA / "modules" / "b.module.json").read_bytes()
+    two = (DATA / "modules" / "two.json").read_bytes().replace(b"b.module.json", b"pipe")
+    name = written(folder, two, "of_a_pipe.json")
+    yield Check("a module file in two pieces", [name, "names", "1050"], "", 0, MODULE_LINE), pipe, \
+        [module[:half], module[half:]]
+
+
+# -------------------------------------------------------------- all checks
+
+
+def output(check):
+    """What stands for standard output, and what a new process does about it."""
+    made = check.out() if check.out else None
+    if made == "closed":
+        return None, lambda: os.close(1)
+    return made, None
+
+
+def fault(program, check, folder):
+    """What is wrong with a run, if anything is."""
+    out, begin = output(check)
+    try:
+        done = subprocess.run([program, *check.words], cwd=folder, stdin=subprocess.DEVNULL, stderr=subprocess.PIPE,
+                              stdout=out if check.out else subprocess.PIPE, preexec_fn=begin, timeout=SECONDS)
+    except subprocess.TimeoutExpired:
+        return f"no end after {SECONDS} s"
+    finally:
+        if out is not None:
+            os.close(out)
+    line = check.line.encode() + b"\n" if check.line else b""
+    wanted = check.status, line, check.stdout
+    got = done.returncode, done.stderr, done.stdout or b""
+    return None if got == wanted else f"wanted {wanted}\n  got {got}"
+
+
+def all_checks(folder):
+    """All checks, each with the pieces that are fed to a pipe meanwhile, if there are any."""
+    for make in (outputs, words):
+        for check in make():
+            yield check, None
+    for make in (files, module_files):
+        for check in make(folder):
+            yield check, None
+    for check, pipe, pieces in in_pieces(folder):
+        yield check, (pipe, pieces)
+
+
+def shown(words):
+    """Words as they are printed: a few, cut short."""
+    return " ".join(str(word)[:60] for word in words[:6])
+
+
+def main(program):
+    program = os.path.abspath(program)
+    count = wrong = 0
+    with tempfile.TemporaryDirectory() as folder:
+        folder = pathlib.Path(folder)
+        for check, fed in all_checks(folder):
+            feeder = threading.Thread(target=feed, args=fed, daemon=True) if fed else None
+            if feeder:
+                feeder.start()
+            found = fault(program, check, folder)
+            if feeder:
+                feeder.join(SECONDS)
+            count += 1
+            if found:
+                wrong += 1
+                print(f"{check.what}: pdb_report {shown(check.words)}\n  {found}", flush=True)
+    print(f"{count} runs, {wrong} wrong")
+    return 1 if wrong else 0
+
+
+if __name__ == "__main__":
+    if len(sys.argv) != 2:
+        sys.exit(__doc__)
+    sys.exit(main(sys.argv[1]))

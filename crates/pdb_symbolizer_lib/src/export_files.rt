@@ -1,0 +1,132 @@
+//! The records file, and the files of modules, that `--export` writes.
+
+use crate::input_files::{beside, ran_out_of_memory};
+use crate::options::Export;
+use crate::progress::{Progress, Watched};
+use crate::stops::Stop;
+use pdb_addr2line::Error;
+use pdb_addr2line::pdb::{ModuleInfo, PDB};
+use pdb_export::{ExportFault, write_module, write_records};
+use std::alloc::Global;
+use std::rt::Files;
+use std::time::Clock;
+use std::{fs, io};
+
+/// Writes the records to the files that were asked for, those of modules first.
+pub fn write_files<'w, R: Files + Eprint + Clock + AllocGlobal>(
+    rt: &R,
+    progress: &mut Progress,
+    export: Export<'w>,
+    records: &PDB,
+) -> Result<(), Stop<'w>> {
+    let names = match export.modules {
+        Some(folder) => write_modules(rt, progress, export.records, folder, records)?,
+        None => Vec::new(rt.alloc()),
+    };
+    let outcome = write_records_file(rt, progress, export.records, records, &names);
+    written_to(rt.alloc(), export.records, outcome)
+}
+
+fn write_records_file<R: Files + Eprint + Clock + AllocGlobal>(
+    rt: &R,
+    progress: &mut Progress,
+    path: &str,
+    records: &PDB,
+    names: &[String],
+) -> Result<(), ExportFault> {
+    let mut file = create(rt, progress, path)?;
+    write_records(rt.alloc(), &mut file, records, names)
+}
+
+/// Writes a file for each module of which anything is known. Gives the names of the files of all modules, as the
+/// records file at this path has them.
+fn write_modules<'w, R: Files + Eprint + Clock + AllocGlobal>(
+    rt: &R,
+    progress: &mut Progress,
+    path: &str,
+    folder: &str,
+    records: &PDB,
+) -> Result<Vec<String>, Stop<'w>> {
+    make_folder(rt, path, folder)?;
+    let mut names = Vec::new(rt.alloc());
+    for (position, info) in records.module_infos.iter().enumerate() {
+        let name = format!(in rt.alloc(); "{folder}/{position}.json")?;
+        if let Ok(Some(info)) = info {
+            write_beside(rt, progress, path, name.as_str(), info)?;
+        }
+        names.push(name)?;
+    }
+    Ok(names)
+}
+
+fn make_folder<'w, R: Files + AllocGlobal>(
+    rt: &R,
+    path: &str,
+    folder: &str,
+) -> Result<(), Stop<'w>> {
+    let folder = beside(rt.alloc(), path, folder)?;
+    let outcome = match fs::create_dir_all(rt, folder.as_str()) {
+        Ok(()) => Ok(()),
+        Err(error) => Err(fault_of(&error)),
+    };
+    written_to(rt.alloc(), folder.as_str(), outcome)
+}
+
+fn write_beside<'w, R: Files + Eprint + Clock + AllocGlobal>(
+    rt: &R,
+    progress: &mut Progress,
+    path: &str,
+    name: &str,
+    info: &ModuleInfo,
+) -> Result<(), Stop<'w>> {
+    let path = beside(rt.alloc(), path, name)?;
+    let outcome = write_module_file(rt, progress, path.as_str(), info);
+    written_to(rt.alloc(), path.as_str(), outcome)
+}
+
+fn write_module_file<R: Files + Eprint + Clock + AllocGlobal>(
+    rt: &R,
+    progress: &mut Progress,
+    path: &str,
+    info: &ModuleInfo,
+) -> Result<(), ExportFault> {
+    let mut file = create(rt, progress, path)?;
+    write_module(rt.alloc(), &mut file, info)
+}
+
+/// A new file at this path, empty where there was one.
+fn create<'p, R: Files>(
+    rt: &'p R,
+    progress: &'p mut Progress,
+    path: &str,
+) -> Result<Watched<'p, R, R::File>, ExportFault> {
+    match fs::create(rt, path) {
+        Ok(writer) => Ok(Watched {
+            rt,
+            progress,
+            writer,
+        }),
+        Err(error) => Err(fault_of(&error)),
+    }
+}
+
+fn fault_of(error: &io::Error) -> ExportFault {
+    if ran_out_of_memory(error) {
+        ExportFault::OutOfMemory
+    } else {
+        ExportFault::CannotWrite
+    }
+}
+
+/// What the outcome of writing to this path means for the run.
+fn written_to<'w>(
+    alloc: Global,
+    path: &str,
+    outcome: Result<(), ExportFault>,
+) -> Result<(), Stop<'w>> {
+    match outcome {
+        Ok(()) => Ok(()),
+        Err(ExportFault::OutOfMemory) => Err(Stop::Refused(Error::OutOfMemory)),
+        Err(fault) => Err(Stop::Export(String::from_str(alloc, path)?, fault)),
+    }
+}

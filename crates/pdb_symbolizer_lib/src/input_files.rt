@@ -1,0 +1,150 @@
+//! The file that the words name: its bytes, and the records of a PDB file or of a records file with its module files.
+
+use crate::progress::Progress;
+use crate::stops::Stop;
+use pdb_addr2line::Error;
+use pdb_addr2line::pdb::PDB;
+use pdb_container::{ContainerFault, PdbFile, Refusal, other_file, read_pdb_file};
+use pdb_json::RecordsFile;
+use std::alloc::{AllocError, Global};
+use std::rt::Files;
+use std::{fs, io};
+
+/// What a PDB file begins with, of every version.
+const PDB_FILE: [u8; 14] = *b"Microsoft C/C+";
+
+/// The records of a file, and what a reader of them wants to be told.
+#[derive(Drop)]
+pub struct InputFile {
+    pub records: PDB,
+    /// Why nothing can be answered over the records, where the file is a PDB file that shows why.
+    pub refusal: Option<Refusal>,
+    /// Whether the file is a PDB file that has names alone.
+    pub names_only: bool,
+}
+
+/// The records of a file: a PDB file, or else a records file with its module files.
+pub fn read_input_file<'w, R: Files + Eprint + AllocGlobal>(
+    rt: &R,
+    progress: &Progress,
+    path: &'w str,
+) -> Result<InputFile, Stop<'w>> {
+    let bytes = read_file(rt, path)?;
+    progress.print_size(rt, path, bytes.len());
+    match other_file(&bytes) {
+        ContainerFault::NotAPdbFile if !bytes.starts_with(&PDB_FILE) => {
+            read_records_file(rt, path, bytes)
+        }
+        _ => read_container(rt.alloc(), path, &bytes),
+    }
+}
+
+fn read_container<'w>(alloc: Global, path: &'w str, bytes: &[u8]) -> Result<InputFile, Stop<'w>> {
+    match read_pdb_file(alloc, bytes) {
+        Ok(file) => Ok(of_pdb_file(file)),
+        Err(ContainerFault::OutOfMemory) => Err(Stop::Refused(Error::OutOfMemory)),
+        Err(fault) => Err(Stop::Container(path, fault)),
+    }
+}
+
+fn of_pdb_file(file: PdbFile) -> InputFile {
+    let PdbFile {
+        records,
+        refusal,
+        names_only,
+    } = file;
+    InputFile {
+        records,
+        refusal,
+        names_only,
+    }
+}
+
+/// The records of a records file and of its module files.
+fn read_records_file<'w, R: Files + AllocGlobal>(
+    rt: &R,
+    path: &'w str,
+    bytes: Vec<u8>,
+) -> Result<InputFile, Stop<'w>> {
+    let value = RecordsFile::from_slice(rt.alloc(), &bytes);
+    drop(bytes);
+    match value {
+        Ok(file) => read_module_records(rt, path, file),
+        Err(fault) => Err(Stop::Records(path, fault)),
+    }
+}
+
+fn read_module_records<'w, R: Files + AllocGlobal>(
+    rt: &R,
+    path: &'w str,
+    file: RecordsFile,
+) -> Result<InputFile, Stop<'w>> {
+    let files = read_module_files(rt, path, &file)?;
+    match file.read_records(&files) {
+        Ok(records) => Ok(InputFile {
+            records,
+            refusal: None,
+            names_only: false,
+        }),
+        Err(fault) => Err(Stop::Records(path, fault)),
+    }
+}
+
+fn read_file<'w, R: Files + AllocGlobal>(rt: &R, path: &'w str) -> Result<Vec<u8>, Stop<'w>> {
+    match fs::read(rt, path) {
+        Ok(bytes) => Ok(bytes),
+        Err(error) if ran_out_of_memory(&error) => Err(Stop::Refused(Error::OutOfMemory)),
+        Err(_) => Err(Stop::CannotRead(path)),
+    }
+}
+
+/// The bytes of the module files that a records file names, in order.
+fn read_module_files<'w, R: Files + AllocGlobal>(
+    rt: &R,
+    path: &'w str,
+    file: &RecordsFile,
+) -> Result<Vec<Vec<u8>>, Stop<'w>> {
+    let names = match file.module_files() {
+        Ok(names) => names,
+        Err(fault) => return Err(Stop::Records(path, fault)),
+    };
+    read_named_files(rt, path, &names)
+}
+
+fn read_named_files<'w, R: Files + AllocGlobal>(
+    rt: &R,
+    path: &str,
+    names: &[String],
+) -> Result<Vec<Vec<u8>>, Stop<'w>> {
+    let mut files = Vec::new(rt.alloc());
+    for name in names {
+        files.push(read_module_file(rt, path, name.as_str())?)?;
+    }
+    Ok(files)
+}
+
+fn read_module_file<'w, R: Files + AllocGlobal>(
+    rt: &R,
+    records: &str,
+    name: &str,
+) -> Result<Vec<u8>, Stop<'w>> {
+    let path = beside(rt.alloc(), records, name)?;
+    match fs::read(rt, path.as_str()) {
+        Ok(bytes) => Ok(bytes),
+        Err(error) if ran_out_of_memory(&error) => Err(Stop::Refused(Error::OutOfMemory)),
+        Err(_) => Err(Stop::CannotReadModule(path)),
+    }
+}
+
+/// The path of a name beside a file: the name itself where it begins with a slash.
+pub fn beside(alloc: Global, path: &str, name: &str) -> Result<String, AllocError> {
+    match (name.starts_with('/'), path.rsplit_once('/')) {
+        (false, Some((folder, _))) => format!(in alloc; "{folder}/{name}"),
+        _ => String::from_str(alloc, name),
+    }
+}
+
+/// Whether the error is that there was no memory.
+pub fn ran_out_of_memory(error: &io::Error) -> bool {
+    matches!(error.kind(), io::ErrorKind::OutOfMemory)
+}

@@ -1,0 +1,23 @@
+//! What `pdb_symbolizer` does: functions, files and lines of a Windows program's addresses, by its PDB file.
+//!
+//! [`run_words`] takes the words of a command line, reads the file that they name, and prints an answer for each
+//! address in the styles of `llvm-symbolizer`; or it writes the records of the file as a records file. The program
+//! hands in the words, and standard input and output by its runtime.
+#![tactic(auto)]
+
+mod addresses;
+mod answers;
+mod command_line;
+mod export_files;
+mod input_files;
+mod json_text;
+mod options;
+mod progress;
+mod repairs;
+mod runs;
+mod stops;
+mod symbol_names;
+
+pub use progress::Progress;
+pub use runs::run_words;
+pub use stops::Stop;

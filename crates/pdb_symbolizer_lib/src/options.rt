@@ -1,0 +1,80 @@
+//! What a command line asks for: styles, names, bases of addresses, files to write.
+
+use bitflags::Flags;
+use pdb_addr2line::TypeFormatterFlags;
+
+/// What is printed of a function's name.
+#[derive(Clone, Copy, PartialEq, Eq)]
+pub enum NameStyle {
+    /// Nothing.
+    None,
+    /// The name alone.
+    Short,
+    /// The name with the types of the arguments.
+    Signature,
+}
+
+/// The form of the answers.
+#[derive(Clone, Copy, PartialEq, Eq)]
+pub enum Style {
+    /// Name, place, and an empty line behind them.
+    Llvm,
+    /// Name and place, with no column.
+    Gnu,
+    /// A JSON object on one line.
+    Json,
+}
+
+/// The files that the records are written to.
+#[derive(Clone, Copy)]
+pub struct Export<'w> {
+    /// The records file.
+    pub records: &'w str,
+    /// The folder of a file for each module, where they are to have one.
+    pub modules: Option<&'w str>,
+}
+
+/// What the words of a command line ask for.
+#[derive(Drop)]
+pub struct Options<'w> {
+    /// The file with the records.
+    pub file: &'w str,
+    /// The addresses, as they were given. Where there are none they come from standard input.
+    pub addresses: Vec<&'w str>,
+    pub names: NameStyle,
+    /// Whether the functions are printed that were inlined.
+    pub inlines: bool,
+    /// Whether the address is printed before its answer.
+    pub address_shown: bool,
+    /// Whether what belongs to one frame stands on one line.
+    pub pretty: bool,
+    /// Whether folders are left out of the names of files.
+    pub basenames: bool,
+    pub style: Style,
+    /// Where the program is loaded that the addresses are of.
+    pub base: u64,
+    /// What else is taken from the addresses.
+    pub adjust: u64,
+    /// Where the records are written to, in place of answers.
+    pub export: Option<Export<'w>>,
+}
+
+impl Options<'_> {
+    /// The address relative to where the program is loaded, where it can lie in the program.
+    pub fn relative(&self, given: u64) -> Option<u32> {
+        let address = given.wrapping_sub(self.base).wrapping_sub(self.adjust);
+        match u32::try_from(address) {
+            Ok(address) => Some(address),
+            Err(_) => None,
+        }
+    }
+
+    /// How names are printed.
+    pub fn flags(&self) -> TypeFormatterFlags {
+        let flags = TypeFormatterFlags::default();
+        match self.names {
+            NameStyle::Short => flags.union(TypeFormatterFlags::NO_ARGUMENTS),
+            _ => flags,
+        }
+    }
+}

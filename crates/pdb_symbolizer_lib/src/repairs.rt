@@ -1,0 +1,113 @@
+//! The lines on standard error that say what of a PDB file is broken and was left out.
+
+use crate::stops::Stop;
+use pdb_addr2line::pdb::{Module, PDB, RawString};
+use pdb_container::faults::fault_text;
+use pdb_repairs::{Repair, repair_records};
+use std::alloc::{AllocError, Global};
+
+/// Takes out of the records of a file what is broken, and prints a line of each on standard error.
+pub fn print_repairs<'w, R: Eprint + AllocGlobal>(
+    rt: &R,
+    file: &str,
+    records: &mut PDB,
+) -> Result<(), Stop<'w>> {
+    let repairs = repair_records(rt.alloc(), records)?;
+    for &repair in &repairs {
+        let text = repair_text(rt.alloc(), records, repair)?;
+        let _ = eprintln!(rt; "pdb_symbolizer: {file}: {text}");
+    }
+    Ok(())
+}
+
+fn repair_text(alloc: Global, records: &PDB, repair: Repair) -> Result<String, AllocError> {
+    match repair {
+        Repair::GlobalSymbols(fault) => {
+            format!(in alloc; "public symbols end early: {}", fault_text(fault))
+        }
+        Repair::Modules(fault) => {
+            format!(in alloc; "the list of modules ends early: {}", fault_text(fault))
+        }
+        Repair::Contributions(fault) => {
+            format!(in alloc;
+                "the list of contributions ends early: {}",
+                fault_text(fault)
+            )
+        }
+        Repair::ModuleContributions { module_index } => {
+            let name = module_name(alloc, records, module_index)?;
+            format!(in alloc; "module {name}: code that another module claims too is left out")
+        }
+        Repair::Module {
+            module_index,
+            fault,
+        } => module_text(alloc, records, module_index, "not read", fault_text(fault)),
+        Repair::Symbols {
+            module_index,
+            fault,
+        } => {
+            module_text(
+                alloc,
+                records,
+                module_index,
+                "symbols end early",
+                fault_text(fault),
+            )
+        }
+        Repair::Lines {
+            module_index,
+            fault,
+        } => {
+            module_text(
+                alloc,
+                records,
+                module_index,
+                "lines are left out",
+                fault_text(fault),
+            )
+        }
+        Repair::Inlinees {
+            module_index,
+            fault,
+        } => {
+            module_text(
+                alloc,
+                records,
+                module_index,
+                "inlined functions end early",
+                fault_text(fault),
+            )
+        }
+    }
+}
+
+fn module_text(
+    alloc: Global,
+    records: &PDB,
+    module_index: usize,
+    what: &str,
+    fault: &str,
+) -> Result<String, AllocError> {
+    let name = module_name(alloc, records, module_index)?;
+    format!(in alloc; "module {name}: {what}: {fault}")
+}
+
+// The name of a module, or its position in the list where that is too short.
+fn module_name(alloc: Global, records: &PDB, module_index: usize) -> Result<String, AllocError> {
+    match module_at(records, module_index) {
+        Some(module) => text_of(alloc, &module.name),
+        None => format!(in alloc; "{module_index}"),
+    }
+}
+
+fn module_at(records: &PDB, module_index: usize) -> Option<&Module> {
+    match &records.debug_information {
+        Ok(debug) => debug.modules.items.get(module_index),
+        Err(_) => None,
+    }
+}
+
+/// A name as text.
+pub fn text_of(alloc: Global, name: &RawString) -> Result<String, AllocError> {
+    name.to_string_lossy(alloc)?.into_owned(alloc)
+}

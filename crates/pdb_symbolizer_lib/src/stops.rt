@@ -1,0 +1,101 @@
+//! Why a run ended early, in words, and the exit status that goes with it.
+
+use pdb_addr2line::Error;
+use pdb_container::{ContainerFault, Refusal};
+use pdb_export::ExportFault;
+use pdb_json::RecordFault;
+use std::alloc::{AllocError, AllocFailed};
+
+/// Why a run of the program ended early. Its text is the line that the program prints.
+#[derive(Debug, Drop, thiserror::Error)]
+pub enum Stop<'w> {
+    /// The words ask for help or for the version, or for nothing that is known.
+    #[error("{0}")]
+    Words(clap::Error),
+    /// The words of the command line are no text.
+    #[error("pdb_symbolizer: the command line is no text")]
+    NoText,
+    /// The value of an option is none that it takes.
+    #[error("pdb_symbolizer: --{0} can't be {1}")]
+    NoSuchValue(&'static str, &'w str),
+    /// The file could not be read.
+    #[error("pdb_symbolizer: cannot read {0}")]
+    CannotRead(&'w str),
+    /// The module file at this path could not be read.
+    #[error("pdb_symbolizer: cannot read {0}")]
+    CannotReadModule(String),
+    /// The file is a PDB file that can't be read.
+    #[error("pdb_symbolizer: {0}: {1}")]
+    Container(&'w str, ContainerFault),
+    /// The file is a PDB file over which nothing can be answered.
+    #[error("pdb_symbolizer: {0}: {1}")]
+    PdbFile(&'w str, Refusal),
+    /// The file is a records file that holds no records.
+    #[error("pdb_symbolizer: {0}: {1}")]
+    Records(&'w str, RecordFault),
+    /// The file at this path could not be written.
+    #[error("pdb_symbolizer: {0}: {1}")]
+    Export(String, ExportFault),
+    /// The records were refused, or there was no memory.
+    #[error("pdb_symbolizer: {0}")]
+    Refused(Error),
+    /// Standard input could not be read.
+    #[error("pdb_symbolizer: cannot read standard input")]
+    CannotReadInput,
+    /// An answer could not be written.
+    #[error("pdb_symbolizer: cannot write")]
+    CannotWrite,
+    /// Nobody reads the answers any more.
+    #[error("pdb_symbolizer: nobody reads")]
+    ClosedPipe,
+}
+
+impl Stop<'_> {
+    /// Prints why the run ended, which is on standard error but for the help and the version, and answers its status.
+    pub fn print<R: Print + Eprint>(&self, rt: &R) -> u8 {
+        match self {
+            Stop::Words(error) => {
+                let _ = error.print(rt);
+            }
+            Stop::ClosedPipe => {}
+            _ => {
+                let _ = eprintln!(rt; "{self}");
+            }
+        }
+        self.status()
+    }
+
+    /// The exit status that goes with it.
+    fn status(&self) -> u8 {
+        match self {
+            Stop::Words(error) if !error.use_stderr() => 0,
+            Stop::ClosedPipe => 0,
+            Stop::Refused(_) | Stop::PdbFile(_, _) => 1,
+            _ => 2,
+        }
+    }
+}
+
+impl<'w> From<clap::Error> for Stop<'w> {
+    fn from(error: clap::Error) -> Stop<'w> {
+        Stop::Words(error)
+    }
+}
+
+impl<'w> From<Error> for Stop<'w> {
+    fn from(error: Error) -> Stop<'w> {
+        Stop::Refused(error)
+    }
+}
+
+impl<'w> From<AllocError> for Stop<'w> {
+    fn from(_error: AllocError) -> Stop<'w> {
+        Stop::Refused(Error::OutOfMemory)
+    }
+}
+
+impl<'w, T: Drop> From<AllocFailed<T>> for Stop<'w> {
+    fn from(_error: AllocFailed<T>) -> Stop<'w> {
+        Stop::Refused(Error::OutOfMemory)
+    }
+}

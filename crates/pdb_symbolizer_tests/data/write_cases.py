@@ -1,0 +1,183 @@
+#!/usr/bin/env python3
+"""Writes cases.txt, and what is wanted of its cases into ../stdout.
+
+Usage: write_cases.py EXE     EXE is the program of shapes.pdb, with its PDB file beside it, as
+                              crates/pdb_symbolizer/data/program/build.sh builds it
+
+Where `llvm-symbolizer` has an answer of the same form, that is what is wanted, with the PDB file's name in place of the
+program's. All else is written here by hand, from docs/CONTAINER.md: what its tables of differences name, what LLVM's
+program doesn't have, and files that are broken.
+"""
+import itertools
+import json
+import pathlib
+import subprocess
+import sys
+
+HERE = pathlib.Path(__file__).resolve().parent
+# Three inlined bodies in one another; a function's start; a function of another file; the last byte of one
+ADDRESSES = ["0x1136", "0x1000", "0x10b0", "0x119f"]
+STYLES = ["LLVM", "GNU", "JSON"]
+OPTIONS = ["-a", "-p", "--no-inlines", "--inlines"]
+
+
+def sets_of_options():
+    """All sets of the options, in each of the three styles."""
+    for style, count in itertools.product(STYLES, range(len(OPTIONS))):
+        for options in itertools.combinations(OPTIONS, count):
+            if not {"--no-inlines", "--inlines"} <= set(options):
+                yield [f"--output-style={style}", *options]
+
+
+def of_llvm(exe, options, addresses, lines):
+    """What llvm-symbolizer prints of the addresses, as words or as lines."""
+    words = ["llvm-symbolizer", f"--obj={exe}", "--relative-address", *options]
+    text = "\n".join(addresses) + "\n" if lines else None
+    printed = subprocess.run(words + ([] if lines else addresses), input=text, capture_output=True, text=True, check=True)
+    return printed.stdout.replace(f'"ModuleName":"{exe}"', '"ModuleName":"shapes.pdb"')
+
+
+def llvm_cases(exe):
+    """Cases whose wanted text is LLVM's."""
+    for options in sets_of_options():
+        for lines in (False, True):
+            asked = ["--functions=short", *options]
+            # `-p` in JSON by LLVM is another layout of the same
+            if "--output-style=JSON" in options and "-p" in options:
+                continue
+            words = " ".join(["pdb_symbolizer", *asked, "shapes.pdb"])
+            given = " < " + "|".join(ADDRESSES) if lines else " " + " ".join(ADDRESSES)
+            yield words + given, of_llvm(exe, asked, ADDRESSES, lines) + "status 0\n"
+    for style in ("LLVM", "GNU"):
+        asked = ["--functions=none", f"--output-style={style}"]
+        yield " ".join(["pdb_symbolizer", *asked, "shapes.pdb", *ADDRESSES]), of_llvm(exe, asked, ADDRESSES, False) + \
+            "status 0\n"
+
+
+INNER = r"shapes::Point::length() const at C:\shapes\shapes.h:10:0"
+MIDDLE = r" (inlined by) Picture::draw(int) at C:\shapes\main.cpp:29:0"
+OUTER = r" (inlined by) Framed::draw(int) at C:\shapes\main.cpp:36:0"
+STACK = "\n".join([INNER, MIDDLE, OUTER, "", "status 0", ""])
+NO_NAME = "??\n??:0:0\n\n"
+ENDED = "status 0\n"
+
+
+def json_frame(name, file, line):
+    """A frame in JSON."""
+    return (f'{{"Column":0,"Discriminator":0,"FileName":"{file}","FunctionName":"{name}","Line":{line},'
+            '"StartAddress":"","StartFileName":"","StartLine":0}')
+
+
+def json_answer(address, file, frames):
+    """The answer of an address in JSON."""
+    return f'{{"Address":"{address}","ModuleName":"{file}","Symbol":[{",".join(frames)}]}}'
+
+
+def error(text):
+    """A line on standard error."""
+    return f"standard error: pdb_symbolizer: {text}\n"
+
+
+def name_cases():
+    """Names with signatures, which LLVM takes from decorated names, and folders that are left out."""
+    for words in ("", "-f ", "--functions ", "--functions=signature ", "--functions=linkage ", "-i ", "--relative-address "):
+        yield f"pdb_symbolizer -p {words}shapes.pdb 0x1136", STACK
+    yield "pdb_symbolizer -p -s shapes.pdb 0x1136", STACK.replace("C:\\shapes\\", "")
+    yield "pdb_symbolizer --basenames -p names.json 1010", 'typed at c.h:7:0\n\n' + ENDED
+    frames = [json_frame("", r"C:\\shapes\\shapes.h", 10), json_frame("", r"C:\\shapes\\main.cpp", 29),
+              json_frame("", r"C:\\shapes\\main.cpp", 36)]
+    yield "pdb_symbolizer --output-style=JSON --functions=none shapes.pdb 0x1136", \
+        f"[{json_answer('0x1136', 'shapes.pdb', frames)}]\n" + ENDED
+
+
+def address_cases():
+    """Addresses with a base and an offset, in no function, and words that are none."""
+    for words, address in (("--base 0x140000000", "0x140001136"), ("--base 140000000", "140001136"), ("--adjust 1", "1137"),
+                           ("--adjust-vma 1", "1137"), ("--adjust 0x100 --adjust-vma 0x30", "0x1266"),
+                           ("--base 400000 --adjust 1", "0x401137"), ("--base 0xffffffffffff0000", "0xffffffffffff1136")):
+        yield f"pdb_symbolizer -p {words} shapes.pdb {address}", STACK
+    yield "pdb_symbolizer -a --base 0x140000000 shapes.pdb 0x140000010", "0x140000010\n" + NO_NAME + ENDED
+    yield "pdb_symbolizer --base 0x140000000 shapes.pdb 0x1136 0x240001136", 2 * NO_NAME + ENDED
+    yield "pdb_symbolizer shapes.pdb 0x10 ffffffff 0xffffffffffffffff", 3 * NO_NAME + ENDED
+    yield "pdb_symbolizer -p shapes.pdb 0x10", "?? at ??:0:0\n\n" + ENDED
+    yield "pdb_symbolizer --functions=none shapes.pdb 0x10", "??:0:0\n\n" + ENDED
+    yield "pdb_symbolizer --output-style=GNU shapes.pdb 0x10", "??\n??:0\n" + ENDED
+    yield "pdb_symbolizer --output-style=JSON shapes.pdb 0x10", \
+        f"[{json_answer('0x10', 'shapes.pdb', [json_frame('', '', 0)])}]\n" + ENDED
+    for style, text in (("LLVM", "\n"), ("GNU", "??\n??:0\n")):
+        yield f"pdb_symbolizer --output-style={style} shapes.pdb zz", error("zz is no address") + text + ENDED
+    yield "pdb_symbolizer --output-style=JSON shapes.pdb z\"\\z", \
+        "[" + error("z\"\\z is no address") + '{"Error":{"Message":"no address"},"Input":"z\\"\\\\z","ModuleName":"shapes.pdb"}]\n' \
+        + ENDED
+    words = ["0X1136", "+1136", "0x", "0x0x1", "1_0", "10000000000000000", "-1", "CODE 0x1136", "0x1136 0x1000"]
+    yield "pdb_symbolizer shapes.pdb < " + "|".join(words), \
+        "".join(error(f"{word} is no address") + "\n" for word in words) + ENDED
+    yield "pdb_symbolizer -p shapes.pdb <  0x1136 ", STACK
+    yield "pdb_symbolizer --output-style=GNU -p shapes.pdb < |1000000000000136", \
+        error(" is no address") + "?? at ??:0\n?? at ??:0\n" + ENDED
+
+
+def broken_cases():
+    """Files that can't be read, of which nothing is answered, or in which something is broken."""
+    yield "pdb_symbolizer nowhere.pdb 0x1136", error("cannot read nowhere.pdb") + "status 2\n"
+    yield "pdb_symbolizer program.exe 0x1136", error("program.exe: a program (EXE or DLL), not its PDB file") + "status 2\n"
+    yield "pdb_symbolizer stripped.pdb 0x1136", error("stripped.pdb: no section headers (stripped)") + "status 1\n"
+    yield "pdb_symbolizer cases.txt 0x1136", error("cases.txt: not a JSON text") + "status 2\n"
+    yield "pdb_symbolizer --output-style=XML shapes.pdb 0x1136", error("--output-style can't be XML") + "status 2\n"
+    yield "pdb_symbolizer --functions=long shapes.pdb 0x1136", error("--functions can't be long") + "status 2\n"
+    yield "pdb_symbolizer --base zz shapes.pdb 0x1136", error("--base can't be zz") + "status 2\n"
+    yield "pdb_symbolizer --adjust=-1 shapes.pdb 0x1136", error("--adjust can't be -1") + "status 2\n"
+    cut, length = "the bytes end before what is said to stand there", "a length that can't stand there"
+    claimed = "code that another module claims too is left out"
+    rows = ["public symbols end early: " + length, "the list of modules ends early: " + cut,
+            "the list of contributions ends early: " + cut,
+            f"module a symbol that ends too late: {claimed}", f"module an older form: {claimed}", f"module whole: {claimed}",
+            f"module a part that ends too late: {claimed}",
+            "module more symbols than there are: symbols end early: " + cut,
+            "module a symbol that ends too late: symbols end early: " + cut,
+            "module a symbol too short for its kind: symbols end early: " + length,
+            "module an older form: symbols end early: a signature or a version that isn't known",
+            "module more parts than there are: lines are left out: " + cut,
+            "module more parts than there are: inlined functions end early: " + cut,
+            "module a part that ends too late: lines are left out: " + cut,
+            "module a part that ends too late: inlined functions end early: " + cut,
+            "module a file that ends too late: lines are left out: " + cut,
+            "module rows that say less than their own front: lines are left out: " + length,
+            "module an inlinee that ends too late: inlined functions end early: " + cut,
+            "module inlinees of another form: inlined functions end early: a signature or a version that isn't known"]
+    yield "pdb_symbolizer -p broken_parts.pdb 0x1020 0x1050", \
+        "".join(error(f"broken_parts.pdb: {row}") for row in rows) + 2 * "?f@@YAXXZ at ??:0:0\n\n" + ENDED
+
+
+def records_cases():
+    """Names that JSON escapes, that symbols have and that nobody has, in a records file; and records files that are
+    written."""
+    typed, quoted = "typed at C:\\b/c.h:7:0\n\n", 'q"u\\o\tt\x01 at ??:0:0\n\n'
+    yield "pdb_symbolizer -p names.json 1010 1020 1030", typed + quoted + "?? at ??:0:0\n\n" + ENDED
+    frames = [json_frame("typed", "C:\\\\b/c.h", 7), json_frame('q\\"u\\\\o\\tt\\u0001', "", 0), json_frame("", "", 0)]
+    yield "pdb_symbolizer --output-style=JSON names.json < 1010|1020|1030", "".join(
+        json_answer(address, "names.json", [frame]) + "\n"
+        for address, frame in zip(("0x1010", "0x1020", "0x1030"), frames)) + ENDED
+    yield "pdb_symbolizer --export written.json --modules modules names.json", ENDED
+    yield "pdb_symbolizer -p written.json 1010 1030", typed + "?? at ??:0:0\n\n" + ENDED
+    records = json.loads((HERE / "names.json").read_text(encoding="utf-8"))
+    known, nothing = records["module_infos"]
+    yield "cat modules/0.json", json.dumps(known, separators=(",", ":")) + "\n"
+    records = {"version": 2, **records, "module_infos": [{"file": "modules/0.json"}, nothing]}
+    yield "cat written.json", json.dumps(records, separators=(",", ":")) + "\n"
+    yield "pdb_symbolizer --export written.json shapes.pdb", ENDED
+    yield "pdb_symbolizer -p written.json 0x1136", STACK
+    yield "pdb_symbolizer --export nowhere/written.json shapes.pdb", \
+        error("nowhere/written.json: cannot write") + "status 2\n"
+
+
+def main(words):
+    made = [*llvm_cases(words[0]), *name_cases(), *address_cases(), *broken_cases(), *records_cases()]
+    (HERE / "cases.txt").write_text("".join(f"{line}\n" for line, _ in made), encoding="utf-8")
+    (HERE.parent / "stdout").write_text("".join(f"$ {line}\n{text}" for line, text in made), encoding="utf-8")
+    print(f"{len(made)} cases")
+    return 0
+
+
+if __name__ == "__main__":
+    sys.exit(main(sys.argv[1:]))

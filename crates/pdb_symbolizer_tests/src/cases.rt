@@ -1,0 +1,33 @@
+//! A case: the words of a command line, and the text of standard input.
+
+use std::alloc::{AllocError, Global};
+
+/// What a run is made with.
+#[derive(Drop)]
+pub(crate) struct Case {
+    pub words: Vec<String>,
+    pub input: String,
+}
+
+/// What stands between the words and the input of a case.
+const INPUT: &str = " < ";
+
+/// What stands between two lines of the input.
+const LINE_END: &str = "|";
+
+/// The case of a line.
+pub(crate) fn case_of(alloc: Global, line: &str) -> Result<Case, AllocError> {
+    let (words, input) = line.split_once(INPUT).unwrap_or((line, ""));
+    Ok(Case {
+        words: words_of(alloc, words)?,
+        input: input.replace(alloc, LINE_END, "\n")?,
+    })
+}
+
+fn words_of(alloc: Global, text: &str) -> Result<Vec<String>, AllocError> {
+    let mut words = Vec::new(alloc);
+    for word in text.split_whitespace() {
+        words.push(String::from_str(alloc, word)?)?;
+    }
+    Ok(words)
+}
