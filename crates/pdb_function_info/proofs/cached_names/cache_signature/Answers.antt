@@ -14,4 +14,4 @@ returns-clause-is_cache g c f is_cache printed =
     (λ added. signatures_more info records f entry old new added
     (λ name named. rw c.in_ok-text.ensures (printed name named)) is_cache)
     (λ refused. signatures_same info records f old new refused is_cache)
-    c.put.ensures.cached c.put.ensures.refused
+    c.put.ensures.state c.put.ensures.unchanged_if_refused
