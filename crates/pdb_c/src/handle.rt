@@ -1,4 +1,4 @@
-//! The handle of an opening. It lies in memory of the caller's, and owns the records that it holds.
+//! The handle of an opening, which lies in memory of the caller's and owns the records that it holds.
 ghost use Rattle.std.specs.Prelude.{◌≡◌, Option, None, Some, option_map};
 ghost use Rattle.pdb_records.specs.Records.{Records};
 
