@@ -17,7 +17,7 @@ ghost use Rattle.pdb_function_info.specs.Frames.{info_of_frames, failed_by_frame
 use crate::context::Tables;
 use pdb_frames::{CodeCache, CodePart, FunctionFrames, function_module};
 use pdb_function_info::{FunctionNames, frames_info};
-use pdb_functions::{BasicModuleInfoCache, PublicOrProcedureSymbol};
+use pdb_functions::{BasicModuleInfoCache, FoundFunction};
 use pdb_records::{AddressMap, Module, ModuleInfo};
 use pdb_types::{ModuleProvider, Result};
 use std::alloc::{AllocError, Global};
@@ -56,7 +56,7 @@ pub(crate) fn frames_info_by<'a, P: ModuleProvider>(
     tables: &Tables<'a>,
     names: &mut FunctionNames<'a, P>,
     module_info: Option<&'a ModuleInfo>,
-    function: PublicOrProcedureSymbol<'a>,
+    function: FoundFunction<'a>,
     offset: u32,
 ) -> Result<Option<FunctionFrames<'a>>>
     ghost records: { Records }
@@ -97,7 +97,7 @@ pub(crate) fn frames_info_by<'a, P: ModuleProvider>(
 pub(crate) fn part_blamed_by<'a, P: ModuleProvider>(
     caches: &mut Caches<'a, P>,
     modules: &[Module],
-    function: PublicOrProcedureSymbol<'_>,
+    function: FoundFunction<'_>,
 ) -> Result<Option<CodePart>, AllocError>
     ghost records: { Records }
     requires records { records ≡ readable_info (P.info caches.old.infos.provider) modules.now }

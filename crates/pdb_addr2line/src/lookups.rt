@@ -27,7 +27,7 @@ use pdb_frames::{CodePart, FunctionFrames, function_module};
 use pdb_function_info::{Function, function_info};
 use pdb_functions::{
     ContributionTable, GlobalFunctionTable, ModuleSectionContribution, ProcedureSymbolFunction,
-    PublicOrProcedureSymbol, global_function_in,
+    FoundFunction, global_function_in,
 };
 use pdb_records::{ModuleInfo, PdbInternalSectionOffset, Rva};
 use pdb_types::{Error, ModuleProvider, Result};
@@ -101,7 +101,7 @@ impl<'a, P: ModuleProvider> Context<'a, P> {
     // refuses them is remembered.
     fn frames_answer(
         &mut self,
-        found: PublicOrProcedureSymbol<'a>,
+        found: FoundFunction<'a>,
         offset: u32,
     ) -> Result<Option<FunctionFrames<'a>>>
         requires named { GoesBySymbol (P.info self.old.inputs.provider) self.old.inputs.type_inputs.modules
@@ -130,7 +130,7 @@ impl<'a, P: ModuleProvider> Context<'a, P> {
 
     // The part that is to blame where the frames of a function that was found are refused, by the records of its
     // module.
-    fn part_blamed(&mut self, found: PublicOrProcedureSymbol<'a>) -> Result<Option<CodePart>>
+    fn part_blamed(&mut self, found: FoundFunction<'a>) -> Result<Option<CodePart>>
         ensures answer { MatchResult result
             (λ part. part ≡ blamed_for P.info self.old.inputs (found_function found.entry))
             (λ e. e ≡ OutOfMemory) }
@@ -163,7 +163,7 @@ impl<'a, P: ModuleProvider> Context<'a, P> {
     // The frames info of a function that was found, at an offset, by the records of its module.
     fn frames_info(
         &mut self,
-        found: PublicOrProcedureSymbol<'a>,
+        found: FoundFunction<'a>,
         module_info: Option<&'a ModuleInfo>,
         offset: u32,
     ) -> Result<Option<FunctionFrames<'a>>>
@@ -192,7 +192,7 @@ impl<'a, P: ModuleProvider> Context<'a, P> {
     }
 
     // The function info of a function that lies over a section offset.
-    fn function_info(&mut self, found: PublicOrProcedureSymbol<'a>) -> Result<Option<Function>>
+    fn function_info(&mut self, found: FoundFunction<'a>) -> Result<Option<Function>>
         requires named { GoesBySymbol (P.info self.old.inputs.provider) self.old.inputs.type_inputs.modules
             (found_function found) }
         ensures answer { MatchResult result
@@ -237,7 +237,7 @@ impl<'a, P: ModuleProvider> Context<'a, P> {
     }
 
     // What lies over an address.
-    fn found(&mut self, address: u32) -> Result<Option<PublicOrProcedureSymbol<'a>>>
+    fn found(&mut self, address: u32) -> Result<Option<FoundFunction<'a>>>
         ensures answer { MatchResult result
             (λ found. option_map found_function found ≡ found_at P.info self.old.inputs address)
             (λ e. e ≡ OutOfMemory) }
@@ -254,7 +254,7 @@ impl<'a, P: ModuleProvider> Context<'a, P> {
     fn found_over(
         &mut self,
         section_offset: PdbInternalSectionOffset,
-    ) -> Result<Option<PublicOrProcedureSymbol<'a>>>
+    ) -> Result<Option<FoundFunction<'a>>>
         ensures answer { MatchResult result
             (λ found. option_map found_function found
             ≡ function_over (P.info self.old.inputs.provider) self.old.inputs.type_inputs.modules
@@ -275,7 +275,7 @@ impl<'a, P: ModuleProvider> Context<'a, P> {
         &mut self,
         section_offset: PdbInternalSectionOffset,
         contribution: ModuleSectionContribution,
-    ) -> Result<Option<PublicOrProcedureSymbol<'a>>>
+    ) -> Result<Option<FoundFunction<'a>>>
         ensures answer { MatchResult result
             (λ found. option_map found_function found
             ≡ function_in_contribution (P.info self.old.inputs.provider) self.old.inputs.type_inputs.modules
@@ -285,7 +285,7 @@ impl<'a, P: ModuleProvider> Context<'a, P> {
     {
         let module_index = contribution.module_index;
         if let Some(procedure) = self.procedure_in(section_offset, module_index)? {
-            return Ok(Some(PublicOrProcedureSymbol::Procedure(module_index, procedure)));
+            return Ok(Some(FoundFunction::Procedure(module_index, procedure)));
         }
         let function = self.global_functions().function_over(section_offset);
         Ok(global_function_in(contribution, function))

@@ -9,7 +9,7 @@ ghost use Rattle.pdb_addr2line.specs.Functions.{procedures_of_modules, with_star
 
 use crate::context::Context;
 use pdb_functions::{
-    BasicModuleInfoCache, ProcedureSymbolFunction, PublicSymbolFunctionOrPlaceholder,
+    BasicModuleInfoCache, ProcedureSymbolFunction, GlobalFunction,
 };
 use pdb_records::{AddressMap, Module, PdbInternalSectionOffset};
 use pdb_types::{ModuleProvider, Result};
@@ -34,7 +34,7 @@ fn add_start(
 fn add_global_starts(
     starts: &mut BTreeSet<u32>,
     address_map: &AddressMap,
-    functions: &[PublicSymbolFunctionOrPlaceholder<'_>],
+    functions: &[GlobalFunction<'_>],
 ) -> Result<(), AllocError>
     ensures { OnOk result (starts.new.keys
         ≡ with_starts address_map.now starts.old.keys (map (λ f. f.start) (map global_function functions.now))) }

@@ -13,7 +13,7 @@ use crate::extended_infos::ExtendedInfos;
 use crate::function_lines::FunctionLines;
 use crate::origins::{Origin, function_module, function_start};
 use crate::procedure_ranges::ProcedureRanges;
-use pdb_functions::PublicOrProcedureSymbol;
+use pdb_functions::FoundFunction;
 use pdb_inline::InlineRange;
 use pdb_records::{LineInfo, LineProgram, ModuleInfo, PdbInternalSectionOffset};
 use pdb_types::{Error, Result};
@@ -64,7 +64,7 @@ impl<'a> CodeCache<'a> {
     pub fn origin(
         &mut self,
         module_info: &'a ModuleInfo,
-        function: PublicOrProcedureSymbol<'_>,
+        function: FoundFunction<'_>,
         offset: u32,
     ) -> Result<Origin<'a>>
         ghost records: { Records }
@@ -94,7 +94,7 @@ impl<'a> CodeCache<'a> {
     pub fn part_to_blame(
         &mut self,
         module_info: &'a ModuleInfo,
-        function: PublicOrProcedureSymbol<'_>,
+        function: FoundFunction<'_>,
     ) -> Result<CodePart, AllocError>
         ghost records: { Records }
         requires is_cache { IsCodeCache records self.old }
@@ -170,7 +170,7 @@ impl<'a> CodeCache<'a> {
     fn stack(
         &mut self,
         module_info: &ModuleInfo,
-        function: PublicOrProcedureSymbol<'_>,
+        function: FoundFunction<'_>,
         offset: u32,
     ) -> Result<Vec<InlineRange>>
         ghost records: { Records }
@@ -181,8 +181,8 @@ impl<'a> CodeCache<'a> {
         ensures is_cache { IsCodeCache records self.new }
     {
         match function {
-            PublicOrProcedureSymbol::Public(_, _) => Ok(Vec::new(self.alloc)),
-            PublicOrProcedureSymbol::Procedure(module_index, procedure) => {
+            FoundFunction::Global(_, _) => Ok(Vec::new(self.alloc)),
+            FoundFunction::Procedure(module_index, procedure) => {
                 self.ranges
                     .stack(&self.infos, module_index, module_info, &procedure, offset)
             }

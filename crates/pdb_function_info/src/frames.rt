@@ -23,7 +23,7 @@ use crate::function_names::FunctionNames;
 use pdb_frames::{
     CodeCache, FileNames, Frame, FunctionFrames, Origin, function_module, function_start,
 };
-use pdb_functions::{GlobalFunctionTable, PublicOrProcedureSymbol};
+use pdb_functions::{GlobalFunctionTable, FoundFunction};
 use pdb_inline::InlineRange;
 use pdb_records::{AddressMap, LineInfo, LineProgram, ModuleInfo};
 use pdb_types::{ModuleProvider, Result};
@@ -162,7 +162,7 @@ fn frames_of_function<'a, P: ModuleProvider>(
     code: &mut CodeCache<'a>,
     name: Option<String>,
     module_info: Option<&'a ModuleInfo>,
-    function: PublicOrProcedureSymbol<'_>,
+    function: FoundFunction<'_>,
     offset: u32,
 ) -> Result<Vec<Frame<'a>>>
     ghost records: { Records }
@@ -197,13 +197,13 @@ fn frames_of_function<'a, P: ModuleProvider>(
 // section.
 fn function_size(
     functions: &GlobalFunctionTable<'_>,
-    function: PublicOrProcedureSymbol<'_>,
+    function: FoundFunction<'_>,
 ) -> Option<u32>
     ensures { result ≡ function_size functions.now (found_function function.entry) }
 {
     match function {
-        PublicOrProcedureSymbol::Procedure(_, procedure) => Some(procedure.len),
-        PublicOrProcedureSymbol::Public(_, function) => {
+        FoundFunction::Procedure(_, procedure) => Some(procedure.len),
+        FoundFunction::Global(_, function) => {
             let next = functions.next_function(function.start_offset)?;
             Some(
                 next.start_offset
@@ -225,7 +225,7 @@ struct FunctionAddresses {
 fn addresses_of(
     address_map: &AddressMap,
     functions: &GlobalFunctionTable<'_>,
-    function: PublicOrProcedureSymbol<'_>,
+    function: FoundFunction<'_>,
 ) -> Option<FunctionAddresses>
     ensures { let found = found_function function.entry in
         let size = function_size functions.now found in
@@ -254,7 +254,7 @@ pub fn frames_info<'a, P: ModuleProvider>(
     names: &mut FunctionNames<'a, P>,
     code: &mut CodeCache<'a>,
     module_info: Option<&'a ModuleInfo>,
-    function: PublicOrProcedureSymbol<'a>,
+    function: FoundFunction<'a>,
     offset: u32,
 ) -> Result<Option<FunctionFrames<'a>>>
     ghost records: { Records }

@@ -17,8 +17,8 @@ use crate::function_names::FunctionNames;
 use crate::names::text_of_name;
 use pdb_frames::copy_of_name;
 use pdb_functions::{
-    GlobalFunctionTable, ProcedureSymbolFunction, PublicOrProcedureSymbol,
-    PublicSymbolFunctionOrPlaceholder,
+    GlobalFunctionTable, ProcedureSymbolFunction, FoundFunction,
+    GlobalFunction,
 };
 use pdb_records::AddressMap;
 use pdb_types::{ModuleProvider, Result};
@@ -89,7 +89,7 @@ fn procedure_info<'a, P: ModuleProvider>(
 // address.
 fn end_of_global(
     address_map: &AddressMap,
-    next: Option<PublicSymbolFunctionOrPlaceholder<'_>>,
+    next: Option<GlobalFunction<'_>>,
 ) -> Option<Option<u32>>
     ensures { result ≡ global_end address_map.now (option_map global_function next.entry) }
 {
@@ -107,7 +107,7 @@ fn global_function_info(
     alloc: Global,
     address_map: &AddressMap,
     functions: &GlobalFunctionTable<'_>,
-    function: PublicSymbolFunctionOrPlaceholder<'_>,
+    function: GlobalFunction<'_>,
 ) -> Result<Option<Function>, AllocError>
     ensures { IfOk result (λ f. option_map function_view f
         ≡ info_of_global address_map.now functions.now (global_function function.entry)) }
@@ -133,7 +133,7 @@ pub fn function_info<'a, P: ModuleProvider>(
     address_map: &AddressMap,
     functions: &GlobalFunctionTable<'_>,
     names: &mut FunctionNames<'a, P>,
-    found: PublicOrProcedureSymbol<'a>,
+    found: FoundFunction<'a>,
 ) -> Result<Option<Function>>
     requires named { GoesBySymbol (P.info names.old.provider) names.old.type_inputs.modules (found_function found) }
     ensures answer { MatchResult result
@@ -147,11 +147,11 @@ pub fn function_info<'a, P: ModuleProvider>(
     ensures broken { GainsBroken P.info names.old.type_inputs names.old.failed names.new.failed }
 {
     match found {
-        PublicOrProcedureSymbol::Public(_, function) => {
+        FoundFunction::Global(_, function) => {
             let function = global_function_info(alloc, address_map, functions, function)?;
             Ok(function)
         }
-        PublicOrProcedureSymbol::Procedure(module_index, procedure) => procedure_info(
+        FoundFunction::Procedure(module_index, procedure) => procedure_info(
             address_map,
             functions,
             names,

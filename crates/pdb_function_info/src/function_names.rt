@@ -21,7 +21,7 @@ use crate::cached_signatures::CachedSignatures;
 use crate::cached_texts::CachedTexts;
 use crate::name_keys::IdKey;
 use crate::names::{decorated_name_instead, text_of, text_of_name};
-use pdb_functions::{GlobalFunctionTable, ProcedureSymbolFunction, PublicOrProcedureSymbol};
+use pdb_functions::{GlobalFunctionTable, ProcedureSymbolFunction, FoundFunction};
 use pdb_records::{IdIndex, Module, TypeIndex};
 use pdb_signatures::TypeFormatter;
 use pdb_types::{ModuleProvider, Result};
@@ -228,7 +228,7 @@ impl<'a, P: ModuleProvider> FunctionNames<'a, P> {
     pub(crate) fn name_of_function(
         &mut self,
         functions: &GlobalFunctionTable<'_>,
-        function: PublicOrProcedureSymbol<'_>,
+        function: FoundFunction<'_>,
     ) -> Result<Option<String>>
         requires named { GoesBySymbol (P.info self.old.provider) self.old.type_inputs.modules
             (found_function function) }
@@ -245,11 +245,11 @@ impl<'a, P: ModuleProvider> FunctionNames<'a, P> {
             self.old.failed self.new.failed }
     {
         match function {
-            PublicOrProcedureSymbol::Public(_, function) => {
+            FoundFunction::Global(_, function) => {
                 let name = text_of_name(self.alloc, function.name)?;
                 Ok(name)
             }
-            PublicOrProcedureSymbol::Procedure(module_index, procedure) => {
+            FoundFunction::Procedure(module_index, procedure) => {
                 self.name_of_procedure(functions, module_index, procedure)
             }
         }
