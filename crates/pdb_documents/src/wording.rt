@@ -9,8 +9,8 @@ ghost use Rattle.pdb_documents.specs.Wording.{function_name, static_text, comma,
 
 use crate::attributes::{Attribute, Predecessor, write_attributes};
 use crate::dimensions::write_dimensions;
-use crate::namespaces::namespace_name;
 use crate::flags::{with_names_alone, with_space_after_comma, without_static};
+use crate::namespaces::namespace_name;
 use crate::primitives::write_primitive;
 use pdb_records::{ClassKind, PrimitiveType, RawString, TypeIndex};
 use pdb_types::TypeFormatterFlags;

@@ -36,18 +36,18 @@ returns-in_err-text-2-clause-is_cache g c =
 pub returns-in_err-cache_signature-clause-is_cache : goal.returns-in_err-cache_signature-clause-is_cache
 returns-in_err-cache_signature-clause-is_cache g c =
     let info = g.P.ModuleProvider.info in
-    let records = info c.args.cached.now.provider.now in
+    let infos = info c.args.cached.now.provider.now in
     let more = more_broken _ _ _ c.signature_of.ensures.broken in
-    let before : IsSignatureCache info records c.args.formatter.now c.text.new.self.entries.items =
+    let before : IsSignatureCache info infos c.args.formatter.now c.text.new.self.entries.items =
     rw c.text.ensures.unchanged c.requires.is_cache in
-    let later = signatures_later info records c.args.formatter.now c.signature_of.new.formatter
+    let later = signatures_later info infos c.args.formatter.now c.signature_of.new.formatter
     c.text.new.self.entries.items c.signature_of.ensures.type_inputs more before in
     let w = formatter_inputs info c.args.formatter.now.type_inputs c.args.module_index in
     let d = document_of w (signature w c.as_str.result.now c.args.procedure.type_index.0) in
     let printed = printed_now d c.args.formatter.now.failed c.signature_of.new.formatter.failed _
     c.in_ok-text-2.ensures.answer c.in_ok-text-2.ensures.failed in
     let name = c.as_str.ensures.value ∙ c.in_ok-name.ensures in
-    let by_symbol = printed_by_symbol info records c.signature_of.new.formatter c.signature_key-key.result
+    let by_symbol = printed_by_symbol info infos c.signature_of.new.formatter c.signature_key-key.result
     c.args.procedure.name.now _ (rw (c.signature_key-key.ensures, c.signature_of.ensures.type_inputs)
     c.requires.named) (rw (c.signature_key-key.ensures, ← name, c.signature_of.ensures.type_inputs) printed) in
     c.cache_signature.ensures.is_cache c.signature_of.new.formatter later by_symbol
@@ -55,18 +55,18 @@ returns-in_err-cache_signature-clause-is_cache g c =
 pub returns-clause-is_cache : goal.returns-clause-is_cache
 returns-clause-is_cache g c =
     let info = g.P.ModuleProvider.info in
-    let records = info c.args.cached.now.provider.now in
+    let infos = info c.args.cached.now.provider.now in
     let more = more_broken _ _ _ c.signature_of.ensures.broken in
-    let before : IsSignatureCache info records c.args.formatter.now c.text.new.self.entries.items =
+    let before : IsSignatureCache info infos c.args.formatter.now c.text.new.self.entries.items =
     rw c.text.ensures.unchanged c.requires.is_cache in
-    let later = signatures_later info records c.args.formatter.now c.signature_of.new.formatter
+    let later = signatures_later info infos c.args.formatter.now c.signature_of.new.formatter
     c.text.new.self.entries.items c.signature_of.ensures.type_inputs more before in
     let w = formatter_inputs info c.args.formatter.now.type_inputs c.args.module_index in
     let d = document_of w (signature w c.as_str.result.now c.args.procedure.type_index.0) in
     let printed = printed_now d c.args.formatter.now.failed c.signature_of.new.formatter.failed _
     c.in_ok-text-2.ensures.answer c.in_ok-text-2.ensures.failed in
     let name = c.as_str.ensures.value ∙ c.in_ok-name.ensures in
-    let by_symbol = printed_by_symbol info records c.signature_of.new.formatter c.signature_key-key.result
+    let by_symbol = printed_by_symbol info infos c.signature_of.new.formatter c.signature_key-key.result
     c.args.procedure.name.now _ (rw (c.signature_key-key.ensures, c.signature_of.ensures.type_inputs)
     c.requires.named) (rw (c.signature_key-key.ensures, ← name, c.signature_of.ensures.type_inputs) printed) in
     c.cache_signature.ensures.is_cache c.signature_of.new.formatter later by_symbol
