@@ -104,10 +104,7 @@ impl<'a> GlobalFunctionTable<'a> {
     }
 
     /// The function that starts at a section offset. It is found by a binary search.
-    pub fn function_at(
-        &self,
-        start: PdbInternalSectionOffset,
-    ) -> Option<GlobalFunction<'a>>
+    pub fn function_at(&self, start: PdbInternalSectionOffset) -> Option<GlobalFunction<'a>>
         ensures { option_map global_function result ≡ global_at start self.now }
     {
         match self.last_up_to(start, &mut Probes::new()) {
