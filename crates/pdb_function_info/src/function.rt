@@ -1,3 +1,5 @@
+//! Function info: where a function starts and ends, and its name.
+
 ghost use Rattle.std.specs.Prelude.{◌≡◌, Some, option_map, string_bytes, IfOk, OnOk, MatchResult};
 ghost use Rattle.std.specs.Option.{option_copied, option_map_or};
 ghost use Rattle.pdb_records.specs.Addresses.{rva};
@@ -45,7 +47,7 @@ impl Function {
     }
 }
 
-/// The function info of a procedure of a module.
+// The function info of a procedure of a module.
 fn procedure_info<'a, P: ModuleProvider>(
     address_map: &AddressMap,
     functions: &GlobalFunctionTable<'_>,
@@ -56,7 +58,7 @@ fn procedure_info<'a, P: ModuleProvider>(
     requires named { name_by_symbol procedure.symbol_index.0
         (procedures_of_module (P.info names.old.provider) names.old.type_inputs.modules module_index)
         ≡ Some procedure.name.now }
-    ensures shown { MatchResult result
+    ensures answer { MatchResult result
         (λ f. option_map function_view f ≡ info_of_procedure address_map.now (module_procedure procedure.entry)
         (procedure_name P.info names.old.type_inputs functions.now
         module_index (module_procedure procedure.entry)))
@@ -80,8 +82,8 @@ fn procedure_info<'a, P: ModuleProvider>(
     }))
 }
 
-/// Where a global function ends, if the next one of its section shows it. `None` where that one has no
-/// address.
+// Where a global function ends, if the next one of its section shows it. `None` where that one has no
+// address.
 fn end_of_global(address_map: &AddressMap, next: Option<GlobalFunction<'_>>) -> Option<Option<u32>>
     ensures { result ≡ global_end address_map.now (option_map global_function next.entry) }
 {
@@ -94,7 +96,7 @@ fn end_of_global(address_map: &AddressMap, next: Option<GlobalFunction<'_>>) -> 
     }
 }
 
-/// The function info of a global function.
+// The function info of a global function.
 fn global_function_info(
     alloc: Global,
     address_map: &AddressMap,
@@ -128,7 +130,7 @@ pub fn function_info<'a, P: ModuleProvider>(
     found: FoundFunction<'a>,
 ) -> Result<Option<Function>>
     requires named { GoesBySymbol (P.info names.old.provider) names.old.type_inputs.modules (found_function found) }
-    ensures shown { MatchResult result
+    ensures answer { MatchResult result
         (λ f. option_map function_view f ≡ info_of P.info names.old.type_inputs address_map.now
         functions.now (found_function found.entry))
         (λ e. e ≡ OutOfMemory) }

@@ -1,3 +1,5 @@
+//! `run`, which does what a command line asks for: it reads the files and writes the report.
+
 ghost use Rattle.std.specs.Prelude.{◌≡◌, IfErr, map, string_bytes};
 ghost use Rattle.std.specs.IoError.{error_kind};
 ghost use Rattle.serde_json.specs.View.{view};
@@ -50,7 +52,7 @@ pub fn run<'w, R: Files + AllocGlobal, W: io::Write>(
     }
 }
 
-/// The bytes of the file at a path.
+// The bytes of the file at a path.
 fn read_file<'w, R: Files + AllocGlobal>(rt: &R, path: &'w str) -> Result<Vec<u8>, Stop<'w>>
     ensures { IfErr result (IsReadStop path.now) }
 {
@@ -61,7 +63,7 @@ fn read_file<'w, R: Files + AllocGlobal>(rt: &R, path: &'w str) -> Result<Vec<u8
     }
 }
 
-/// The bytes of the module files that a records file names, in order.
+// The bytes of the module files that a records file names, in order.
 fn read_module_files<'w, R: Files + AllocGlobal>(
     rt: &R,
     records: &'w str,
@@ -83,7 +85,7 @@ fn read_module_files<'w, R: Files + AllocGlobal>(
     Ok(files)
 }
 
-/// The bytes of the module file of this name.
+// The bytes of the module file of this name.
 fn read_module_file<'w, R: Files + AllocGlobal>(
     rt: &R,
     records: &str,

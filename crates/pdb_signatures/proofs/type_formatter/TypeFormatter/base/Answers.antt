@@ -27,5 +27,5 @@ returns-clause-advances g c = rw (← c.self.view_is) (on_ok_weaker c.first-2.re
     let row = stands_fewer 0 (omega arith) (stands_before w _ _ _ _ _ _ last put) in
     let remembered = rw c.in-Ok.ensures.cached.failed at c.in_ok-remember.ensures.remembered in
     rw (← c.in-Ok.ensures.size)
-    (advances_met w _ _ c.args.progress.now _ c.self.inside.cache.failed _ c.requires.well remembered row))
+    (advances_met w _ _ c.args.progress.now _ c.self.inside.cache.failed _ c.requires.no_failure remembered row))
     c.first-2.ensures)
