@@ -26,8 +26,8 @@ use crate::context::Context;
 use pdb_frames::{CodePart, FunctionFrames, function_module};
 use pdb_function_info::{Function, function_info};
 use pdb_functions::{
-    ContributionTable, GlobalFunctionTable, ModuleSectionContribution, ProcedureSymbolFunction,
-    FoundFunction, global_function_in,
+    ContributionTable, FoundFunction, GlobalFunctionTable, ModuleSectionContribution,
+    ProcedureSymbolFunction, global_function_in,
 };
 use pdb_records::{ModuleInfo, PdbInternalSectionOffset, Rva};
 use pdb_types::{Error, ModuleProvider, Result};

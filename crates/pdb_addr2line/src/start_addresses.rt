@@ -8,9 +8,7 @@ ghost use Rattle.pdb_functions.specs.Procedures.{module_procedure};
 ghost use Rattle.pdb_addr2line.specs.Functions.{procedures_of_modules, with_start, with_starts, start_addresses};
 
 use crate::context::Context;
-use pdb_functions::{
-    BasicModuleInfoCache, ProcedureSymbolFunction, GlobalFunction,
-};
+use pdb_functions::{BasicModuleInfoCache, GlobalFunction, ProcedureSymbolFunction};
 use pdb_records::{AddressMap, Module, PdbInternalSectionOffset};
 use pdb_types::{ModuleProvider, Result};
 use std::alloc::{AllocError, Global};

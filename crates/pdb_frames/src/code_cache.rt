@@ -1,3 +1,5 @@
+//! The cache of modules' code: where code at an offset of a function comes from, and what is to blame.
+
 ghost use Rattle.std.specs.Prelude.{◌≡◌, Some, Ok, IfOk};
 ghost use Rattle.pdb_types.specs.Outcomes.{Gives, and_then};
 ghost use Rattle.pdb_functions.specs.Lookup.{found_function};
@@ -111,7 +113,7 @@ impl<'a> CodeCache<'a> {
         }
     }
 
-    /// The same, once it is known what is known of the module's code.
+    // The same, once it is known what is known of the module's code.
     fn blame_behind(
         &mut self,
         module_index: usize,
@@ -131,7 +133,7 @@ impl<'a> CodeCache<'a> {
         }
     }
 
-    /// The line program of the module at a module index, once all is known of its code that can be.
+    // The line program of the module at a module index, once all is known of its code that can be.
     fn line_program(
         &mut self,
         module_index: usize,
@@ -147,8 +149,8 @@ impl<'a> CodeCache<'a> {
         self.infos.line_program(module_index, module_info)
     }
 
-    /// The line row over an offset in the function that starts at a section offset, by the line program of the
-    /// module at a module index.
+    // The line row over an offset in the function that starts at a section offset, by the line program of the
+    // module at a module index.
     fn row(
         &mut self,
         module_index: usize,
@@ -165,8 +167,8 @@ impl<'a> CodeCache<'a> {
         self.lines.row(module_index, line_program, start, offset)
     }
 
-    /// The inlined bodies over an offset of a function, the outermost first, by the records of its module. A
-    /// global function has none.
+    // The inlined bodies over an offset of a function, the outermost first, by the records of its module. A
+    // global function has none.
     fn stack(
         &mut self,
         module_info: &ModuleInfo,

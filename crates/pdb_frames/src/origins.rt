@@ -1,3 +1,5 @@
+//! Where code comes from, by line row and inlined bodies; the module and the start of a found function.
+
 ghost use Rattle.std.specs.Prelude.{◌≡◌};
 ghost use Rattle.pdb_functions.specs.Lookup.{found_function};
 ghost use Rattle.pdb_frames.specs.Origins.{function_module, function_start};

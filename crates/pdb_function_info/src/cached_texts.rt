@@ -108,7 +108,8 @@ impl<K: TextKey> CachedTexts<K> {
             ≡ self.old.entries.items ++ record { key = key; text = text } ∷ []) }
         ensures unchanged_if_refused { OnErr result (self.new.entries.items ≡ self.old.entries.items) }
     {
-        self.positions.push(key, key.hint_key(), self.entries.len())?;
+        self.positions
+            .push(key, key.hint_key(), self.entries.len())?;
         self.entries.push(CachedText { key, text })?;
         Ok(())
     }

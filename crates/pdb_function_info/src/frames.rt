@@ -23,7 +23,7 @@ use crate::function_names::FunctionNames;
 use pdb_frames::{
     CodeCache, FileNames, Frame, FunctionFrames, Origin, function_module, function_start,
 };
-use pdb_functions::{GlobalFunctionTable, FoundFunction};
+use pdb_functions::{FoundFunction, GlobalFunctionTable};
 use pdb_inline::InlineRange;
 use pdb_records::{AddressMap, LineInfo, LineProgram, ModuleInfo};
 use pdb_types::{ModuleProvider, Result};
@@ -195,10 +195,7 @@ fn frames_of_function<'a, P: ModuleProvider>(
 
 // The size of a function in bytes, if it is known. A global function reaches to the next one of its
 // section.
-fn function_size(
-    functions: &GlobalFunctionTable<'_>,
-    function: FoundFunction<'_>,
-) -> Option<u32>
+fn function_size(functions: &GlobalFunctionTable<'_>, function: FoundFunction<'_>) -> Option<u32>
     ensures { result ≡ function_size functions.now (found_function function.entry) }
 {
     match function {

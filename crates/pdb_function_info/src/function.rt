@@ -16,10 +16,7 @@ ghost use Rattle.pdb_function_info.specs.Function.{info_of_procedure, info_of, f
 use crate::function_names::FunctionNames;
 use crate::names::text_of_name;
 use pdb_frames::copy_of_name;
-use pdb_functions::{
-    GlobalFunctionTable, ProcedureSymbolFunction, FoundFunction,
-    GlobalFunction,
-};
+use pdb_functions::{FoundFunction, GlobalFunction, GlobalFunctionTable, ProcedureSymbolFunction};
 use pdb_records::AddressMap;
 use pdb_types::{ModuleProvider, Result};
 use std::alloc::{AllocError, Global};
@@ -87,10 +84,7 @@ fn procedure_info<'a, P: ModuleProvider>(
 
 // Where a global function ends, if the next one of its section shows it. `None` where that one has no
 // address.
-fn end_of_global(
-    address_map: &AddressMap,
-    next: Option<GlobalFunction<'_>>,
-) -> Option<Option<u32>>
+fn end_of_global(address_map: &AddressMap, next: Option<GlobalFunction<'_>>) -> Option<Option<u32>>
     ensures { result ≡ global_end address_map.now (option_map global_function next.entry) }
 {
     match next {

@@ -21,7 +21,7 @@ use crate::cached_signatures::CachedSignatures;
 use crate::cached_texts::CachedTexts;
 use crate::name_keys::IdKey;
 use crate::names::{decorated_name_instead, text_of, text_of_name};
-use pdb_functions::{GlobalFunctionTable, ProcedureSymbolFunction, FoundFunction};
+use pdb_functions::{FoundFunction, GlobalFunctionTable, ProcedureSymbolFunction};
 use pdb_records::{IdIndex, Module, TypeIndex};
 use pdb_signatures::TypeFormatter;
 use pdb_types::{ModuleProvider, Result};

@@ -62,7 +62,12 @@ impl<K: Ord + Drop> PositionTable<K> {
     }
 
     // Has a key lead to the position at the end of a list. A hint leads there from now on.
-    pub(crate) fn push(&mut self, key: K, hint_key: HintKey, position: usize) -> Result<(), AllocError> {
+    pub(crate) fn push(
+        &mut self,
+        key: K,
+        hint_key: HintKey,
+        position: usize,
+    ) -> Result<(), AllocError> {
         self.make_room(hint_key.module_index)?;
         self.hint(hint_key, position);
         match self.positions.insert(key, position) {

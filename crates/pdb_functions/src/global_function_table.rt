@@ -1,3 +1,5 @@
+//! A table of global functions by start: the one over a section offset, the one at it, and the next.
+
 ghost use Rattle.std.specs.Prelude.{◌≡◌, ◌+◌, ◌≤◌, None, not, map, option_map, find, length};
 ghost use Rattle.pdb_ranges.specs.Pick.{pick};
 ghost use Rattle.pdb_ranges.specs.Probes.{digits};
@@ -33,7 +35,7 @@ impl<'a> Model for GlobalFunctionTable<'a> {
 }
 
 impl<'a> GlobalFunctionTable<'a> {
-    /// The table of functions that stand by section and start, each start once.
+    // The table of functions that stand by section and start, each start once.
     pub(crate) fn new(functions: Vec<GlobalFunction<'a>>) -> Self
         requires { StartsAscend (λ f. f.start_offset) functions.items }
         ensures { result ≡ map global_function functions.entry.items }
@@ -55,7 +57,7 @@ impl<'a> GlobalFunctionTable<'a> {
         self.functions.len()
     }
 
-    /// The last function that starts at a section offset or ahead of it. Each entry that is looked at counts.
+    // The last function that starts at a section offset or ahead of it. Each entry that is looked at counts.
     fn last_up_to(
         &self,
         section_offset: PdbInternalSectionOffset,
@@ -73,7 +75,7 @@ impl<'a> GlobalFunctionTable<'a> {
         Some(self.functions[behind - 1])
     }
 
-    /// The first function that starts behind a section offset. Each entry that is looked at counts.
+    // The first function that starts behind a section offset. Each entry that is looked at counts.
     fn first_behind(
         &self,
         section_offset: PdbInternalSectionOffset,
@@ -104,10 +106,7 @@ impl<'a> GlobalFunctionTable<'a> {
     }
 
     /// The function that starts at a section offset. It is found by a binary search.
-    pub fn function_at(
-        &self,
-        start: PdbInternalSectionOffset,
-    ) -> Option<GlobalFunction<'a>>
+    pub fn function_at(&self, start: PdbInternalSectionOffset) -> Option<GlobalFunction<'a>>
         ensures { option_map global_function result ≡ global_at start self.now }
     {
         match self.last_up_to(start, &mut Probes::new()) {

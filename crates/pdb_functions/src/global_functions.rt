@@ -1,3 +1,5 @@
+//! Global functions: what starts at public symbols, at contributions and at the ends of sections.
+
 ghost use Rattle.std.specs.Prelude.{◌≡◌, ◌++◌, map, option_map, IfOk, OnOk};
 ghost use Rattle.std.specs.List.{filter_map};
 ghost use Rattle.pdb_functions.specs.GlobalFunctions.{global_function, public_function, placeholder};
@@ -29,7 +31,7 @@ impl HasStart for GlobalFunction<'_> {
     }
 }
 
-/// The function that a symbol shows, where it is a public one in a section that holds code.
+// The function that a symbol shows, where it is a public one in a section that holds code.
 fn public_symbol_function<'a>(
     sections: &[ImageSectionHeader],
     symbol: &'a Symbol,
@@ -51,7 +53,7 @@ fn public_symbol_function<'a>(
     }
 }
 
-/// The functions that public symbols show, in reading order.
+// The functions that public symbols show, in reading order.
 fn public_symbol_functions<'a>(
     alloc: Global,
     sections: &[ImageSectionHeader],
@@ -68,7 +70,7 @@ fn public_symbol_functions<'a>(
     Ok(functions)
 }
 
-/// Adds a start with no name for each section offset.
+// Adds a start with no name for each section offset.
 fn add_placeholders(
     functions: &mut Vec<GlobalFunction<'_>>,
     starts: &[PdbInternalSectionOffset],

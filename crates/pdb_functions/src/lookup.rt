@@ -1,3 +1,5 @@
+//! What is found over a section offset: a procedure of a module, or else a global function.
+
 ghost use Rattle.std.specs.Prelude.{◌≡◌, option_map};
 ghost use Rattle.pdb_functions.specs.GlobalFunctions.{global_function};
 ghost use Rattle.pdb_functions.specs.Lookup.{found_function, global_in};

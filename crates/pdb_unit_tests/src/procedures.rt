@@ -1,8 +1,8 @@
 use crate::checks::Checks;
 use crate::modules::{is_fault, module_of};
 use pdb_functions::{
-    BasicModuleInfo, ModuleSectionContribution, ProcedureSymbolFunction, FoundFunction,
-    GlobalFunction, global_function_in,
+    BasicModuleInfo, FoundFunction, GlobalFunction, ModuleSectionContribution,
+    ProcedureSymbolFunction, global_function_in,
 };
 use pdb_records::{
     ModuleInfo, PdbInternalSectionOffset, ProcedureSymbol, RawString, S_GPROC32, S_LPROC32,
@@ -215,10 +215,7 @@ fn finds_thousands(alloc: Global) -> bool {
 
 /// Whether the global function of a contribution that starts at an offset is one of module 5.
 fn is_found_from(offset: u32) -> bool {
-    matches!(
-        found_from(offset),
-        Some(FoundFunction::Global(5, _))
-    )
+    matches!(found_from(offset), Some(FoundFunction::Global(5, _)))
 }
 
 /// The checks of procedures, and of the global function of a contribution.
