@@ -18,7 +18,7 @@ use Rattle.pdb_function_info.specs.Function.{FunctionInfo, info_of, global_end, 
 use Rattle.pdb_addr2line.specs.Lookups.{found_at, function_at, frames_at}
 use Rattle.pdb_function_info.specs.Names.{function_name}
 use Rattle.pdb_addr2line.specs.ContextInputs.{ContextInputs, global_functions_of}
-use Rattle.pdb_addr2line.proofs.FrameLawLemmas.{shown_somewhere, ended_in_name}
+use Rattle.pdb_addr2line.proofs.FrameLawLemmas.{frames_info_somewhere, ended_in_name}
 
 -- what is found passes the test
 found_passes : {T : Type 0} (p : T → Bool) (xs : List T) (y : T) → find p xs ≡ Some y → p y ≡ true
@@ -80,20 +80,20 @@ global_ends sections globals f start end starts ends = by_next (next_global f.st
       → rva sections next.start ≡ address → option_map (λ a. Some a.0) address ≡ Some end
       → sum_in_32_bits start.0 (next.start.offset - f.start.offset) ≡ end
   by_address next is None at_none none = absurd cc
-  by_address next is (Some b) at_b shown =
+  by_address next is (Some b) at_b is_end =
       let passes = found_passes (λ g. (g.start.section == f.start.section) && nat_lt f.start.offset g.start.offset)
       globals next is in
-      let parts = and_parts (next.start.section == f.start.section) (nat_lt f.start.offset next.start.offset) passes in
-      let section : next.start.section ≡ f.start.section = eqb-true next.start.section f.start.section parts.0 in
-      let less : f.start.offset < next.start.offset = ltb-true f.start.offset next.start.offset parts.1 in
+      let both = and_parts (next.start.section == f.start.section) (nat_lt f.start.offset next.start.offset) passes in
+      let section : next.start.section ≡ f.start.section = eqb-true next.start.section f.start.section both.0 in
+      let less : f.start.offset < next.start.offset = ltb-true f.start.offset next.start.offset both.1 in
       let same : Some b.0 ≡ end = cc in
       address_between sections f.start.section f.start.offset next.start.offset start b less starts
       (rw section at at_b) ∙ same
 
   by_next : (next : Option GlobalFunction) → next_global f.start globals ≡ next → global_end sections next ≡ Some end
       → option_and_then (sum_in_32_bits start.0) (option_map (λ g. g.start.offset - f.start.offset) next) ≡ end
-  by_next None is shown = cc
-  by_next (Some next) is shown = by_address next is (rva sections next.start) refl shown
+  by_next None is is_end = cc
+  by_next (Some next) is is_end = by_address next is (rva sections next.start) refl is_end
 
 -- the function info of a function by where it starts and ends and by its name
 pub record IsInfoOf {P : Type 0} (info : P → ProviderInfos) (s : ContextInputs P) (found : FoundFunction)
@@ -106,7 +106,7 @@ pub record IsInfoOf {P : Type 0} (info : P → ProviderInfos) (s : ContextInputs
 abbrev info_with : ℕ → Option ℕ → Option (List ℕ) → FunctionInfo
 info_with start end name = record { start_rva = start; end_rva = end; name = name }
 
--- the parts of function info, if there is any
+-- where a function starts and ends and its name, if there is function info
 abbrev start_in : Option FunctionInfo → ℕ
 start_in None = 0
 start_in (Some f) = f.start_rva
@@ -124,11 +124,11 @@ is_info_of : {P : Type 0} (info : P → ProviderInfos) (s : ContextInputs P) (fo
     (f : FunctionInfo)
     → rva s.address_map (function_start found) ≡ Some start
     → info_of info s.type_inputs s.address_map (global_functions_of s) found ≡ Some f → IsInfoOf info s found start f
-is_info_of info s (found_procedure m p) start f starts shown =
-    let here = rw starts at shown in
+is_info_of info s (found_procedure m p) start f starts is_info =
+    let here = rw starts at is_info in
     record { start_rva = ap start_in here; end_rva = ap end_in here; name = ap name_in here }
-is_info_of info s (found_global m g) start f starts shown =
-    by_end (global_end s.address_map (next_global g.start (global_functions_of s))) refl (rw starts at shown)
+is_info_of info s (found_global m g) start f starts is_info =
+    by_end (global_end s.address_map (next_global g.start (global_functions_of s))) refl (rw starts at is_info)
   where
     by_end : (end : Option (Option ℕ)) → global_end s.address_map (next_global g.start (global_functions_of s)) ≡ end
         → option_map (λ e. info_with start.0 e (option_map lossy g.name)) end ≡ Some f
@@ -142,18 +142,18 @@ is_info_of info s (found_global m g) start f starts shown =
 
 -- the function info of the function over an address and its frames info there agree
 pub agreed : {P : Type 0} (info : P → ProviderInfos) (s : ContextInputs P) (address : ℕ) (f : FunctionInfo)
-    (shown : FramesInfo)
-    → function_at info s address ≡ Some f → frames_at info s address ≡ Ok (Some shown) → Agree f shown
-agreed {P = P} info s address f shown is answered = by_found (found_at info s address) refl is where
+    (frames_info : FramesInfo)
+    → function_at info s address ≡ Some f → frames_at info s address ≡ Ok (Some frames_info) → Agree f frames_info
+agreed {P = P} info s address f frames_info is answered = by_found (found_at info s address) refl is where
   by_found : (found : Option FoundFunction) → found_at info s address ≡ found
       → option_and_then (info_of info s.type_inputs s.address_map (global_functions_of s)) found ≡ Some f
-      → Agree f shown
+      → Agree f frames_info
   by_found None over none = absurd cc
   by_found (Some found) over here =
-      let somewhere = shown_somewhere info s address found shown over answered in
+      let somewhere = frames_info_somewhere info s address found frames_info over answered in
       let there = somewhere.1 in
       let info_here = is_info_of info s found there.start f there.starts here in
-      let ended = ended_in_name info s address found shown over answered in
+      let ended = ended_in_name info s address found frames_info over answered in
       record {
         start_rva = there.start_rva ∙ info_here.start_rva;
         end_rva = there.end_rva ∙ info_here.end_rva;

@@ -25,10 +25,10 @@ use Rattle.pdb_addr2line.specs.ContextInputs.{ContextState}
 use Rattle.pdb_function_info.proofs.NameLemmas.{same-text}
 
 -- a refusal is a refusal, whatever is answered for it
-answer_of_view : {A : Type 0} (failed : CodeParts) (part : Option CodePart) (answer : Result A Error)
+ok_of_answered : {A : Type 0} (failed : CodeParts) (part : Option CodePart) (answer : Result A Error)
     → result_ok (answered_refusal failed part answer) ≡ result_ok answer
-answer_of_view failed part (Ok answer) = refl
-answer_of_view failed part (Err e) = refl
+ok_of_answered failed part (Ok answer) = refl
+ok_of_answered failed part (Err e) = refl
 
 -- a text that was printed is the text of the run
 text_of_printed : (fault : Option Failure) (text : List ℕ) → result_ok (text_unless fault text) ≡ faultless fault text
@@ -57,9 +57,9 @@ same_frames : {P : Type 0} (info : P → ProviderInfos) (c c' : ContextState P) 
     (FramesView (frames_answered info c' address))
 same_frames info c c' address same =
     ap frames_view_of (
-    answer_of_view c.code_failed (blamed_at info c.inputs address) (frames_at info c.inputs address)
+    ok_of_answered c.code_failed (blamed_at info c.inputs address) (frames_at info c.inputs address)
     ∙ ap (λ s. result_ok (frames_at info s address)) same
-    ∙ sym (answer_of_view c'.code_failed (blamed_at info c'.inputs address) (frames_at info c'.inputs address)))
+    ∙ sym (ok_of_answered c'.code_failed (blamed_at info c'.inputs address) (frames_at info c'.inputs address)))
 
 -- a successful answer is the same, and an error is one, whatever failed before
 pub same_success : {P : Type 0} (info : P → ProviderInfos) (c c' : ContextState P) (call : Call) → c.inputs ≡ c'.inputs

@@ -23,15 +23,15 @@ use Rattle.pdb_function_info.specs.Names.{function_name, id_name}
 use Rattle.pdb_addr2line.specs.ContextInputs.{ContextInputs, global_functions_of}
 
 -- the frames of a function that was found
-abbrev pub frames_answered : {P : Type 0} → (P → ProviderInfos) → ContextInputs P → ℕ → FoundFunction
+abbrev pub found_frames : {P : Type 0} → (P → ProviderInfos) → ContextInputs P → ℕ → FoundFunction
     → Result (List FrameInfo) Error
-frames_answered info s x found =
+found_frames info s x found =
     function_frames s.strings (id_name info s.type_inputs (function_module found))
     (function_name info s.type_inputs (global_functions_of s) found) (records_of info s found) found x
 
 -- the frames info with these frames of a function that starts here
-abbrev pub shown_with : List GlobalFunction → FoundFunction → Rva → List FrameInfo → FramesInfo
-shown_with globals found start frames = record {
+abbrev pub frames_info_with : List GlobalFunction → FoundFunction → Rva → List FrameInfo → FramesInfo
+frames_info_with globals found start frames = record {
   start_rva = start.0;
   end_rva = option_and_then (sum_in_32_bits start.0) (function_size globals found);
   frames = frames;
@@ -39,27 +39,29 @@ shown_with globals found start frames = record {
 
 -- the frames info of a function, by where it starts and by its frames
 pub record AreFramesOf {P : Type 0} (info : P → ProviderInfos) (s : ContextInputs P) (x : ℕ) (found : FoundFunction)
-    (shown : FramesInfo) : Type 0 where
+    (frames_info : FramesInfo) : Type 0 where
   pub start : Rva
   pub starts : rva s.address_map (function_start found) ≡ Some start
-  pub frames : frames_answered info s x found ≡ Ok shown.frames
-  pub start_rva : shown.start_rva ≡ start.0
-  pub end_rva : shown.end_rva ≡ option_and_then (sum_in_32_bits start.0) (function_size (global_functions_of s) found)
+  pub frames : found_frames info s x found ≡ Ok frames_info.frames
+  pub start_rva : frames_info.start_rva ≡ start.0
+  pub end_rva : frames_info.end_rva ≡ option_and_then (sum_in_32_bits start.0)
+      (function_size (global_functions_of s) found)
 
 -- the frames info of a function has a start and frames
 are_frames_of : {P : Type 0} (info : P → ProviderInfos) (s : ContextInputs P) (x : ℕ) (found : FoundFunction)
-    (shown : FramesInfo)
-    → frames_of info s x found ≡ Ok (Some shown) → AreFramesOf info s x found shown
-are_frames_of {P = P} info s x found shown answered =
+    (frames_info : FramesInfo)
+    → frames_of info s x found ≡ Ok (Some frames_info) → AreFramesOf info s x found frames_info
+are_frames_of {P = P} info s x found frames_info answered =
     by_start (rva s.address_map (function_start found)) refl answered where
       by_frames : (start : Rva) → rva s.address_map (function_start found) ≡ Some start
-          → (frames : Result (List FrameInfo) Error) → frames_answered info s x found ≡ frames
-          → and_then frames (λ list. Ok (Some (shown_with (global_functions_of s) found start list))) ≡ Ok (Some shown)
-          → AreFramesOf info s x found shown
+          → (frames : Result (List FrameInfo) Error) → found_frames info s x found ≡ frames
+          → and_then frames (λ list. Ok (Some (frames_info_with (global_functions_of s) found start list)))
+          ≡ Ok (Some frames_info)
+          → AreFramesOf info s x found frames_info
       by_frames start starts (Err e) are refused = absurd cc
       by_frames start starts (Ok list) are answer =
-          let same : shown_with (global_functions_of s) found start list ≡ shown = cc in
-          let lists : list ≡ shown.frames = ap (λ (t : FramesInfo). t.frames) same in
+          let same : frames_info_with (global_functions_of s) found start list ≡ frames_info = cc in
+          let lists : list ≡ frames_info.frames = ap (λ (t : FramesInfo). t.frames) same in
           record {
             start = start;
             starts = starts;
@@ -69,22 +71,23 @@ are_frames_of {P = P} info s x found shown answered =
           }
 
       by_start : (start : Option Rva) → rva s.address_map (function_start found) ≡ start
-          → option_map_or (λ here. and_then (frames_answered info s x found)
-          (λ list. Ok (Some (shown_with (global_functions_of s) found here list)))) start (Ok None) ≡ Ok (Some shown)
-          → AreFramesOf info s x found shown
+          → option_map_or (λ here. and_then (found_frames info s x found)
+          (λ list. Ok (Some (frames_info_with (global_functions_of s) found here list)))) start (Ok None)
+          ≡ Ok (Some frames_info)
+          → AreFramesOf info s x found frames_info
       by_start None starts none = absurd cc
-      by_start (Some start) starts answer = by_frames start starts (frames_answered info s x found) refl answer
+      by_start (Some start) starts answer = by_frames start starts (found_frames info s x found) refl answer
 
 -- the frames info over an address is that of the function over it, at the address's offset
-pub shown_at : {P : Type 0} (info : P → ProviderInfos) (s : ContextInputs P) (address : ℕ)
+pub frames_info_at : {P : Type 0} (info : P → ProviderInfos) (s : ContextInputs P) (address : ℕ)
     (section_offset : PdbInternalSectionOffset)
-    (found : FoundFunction) (shown : FramesInfo)
+    (found : FoundFunction) (frames_info : FramesInfo)
     → internal_offset s.address_map (record { 0 = address }) ≡ Some section_offset
     → found_at info s address ≡ Some found
-    → frames_at info s address ≡ Ok (Some shown) → AreFramesOf info s section_offset.offset found shown
-shown_at info s address section_offset found shown lies over answered =
+    → frames_at info s address ≡ Ok (Some frames_info) → AreFramesOf info s section_offset.offset found frames_info
+frames_info_at info s address section_offset found frames_info lies over answered =
     let there = rw lies at over in
-    are_frames_of info s section_offset.offset found shown (rw (lies, there) at answered)
+    are_frames_of info s section_offset.offset found frames_info (rw (lies, there) at answered)
 
 -- the frames of a function end in the one that has its name
 pub end_in_own : (strings : Strings) (name_of : IdIndex → Option (List ℕ)) (name : Option (List ℕ))
@@ -105,26 +108,26 @@ end_in_own strings name_of name (Some info) found x frames are = by_origin (orig
   }
 
 -- the frames info over an address is that at some offset
-pub shown_somewhere : {P : Type 0} (info : P → ProviderInfos) (s : ContextInputs P) (address : ℕ)
-    (found : FoundFunction) (shown : FramesInfo) → found_at info s address ≡ Some found
-    → frames_at info s address ≡ Ok (Some shown) → (x : ℕ) × AreFramesOf info s x found shown
-shown_somewhere {P = P} info s address found shown over answered =
+pub frames_info_somewhere : {P : Type 0} (info : P → ProviderInfos) (s : ContextInputs P) (address : ℕ)
+    (found : FoundFunction) (frames_info : FramesInfo) → found_at info s address ≡ Some found
+    → frames_at info s address ≡ Ok (Some frames_info) → (x : ℕ) × AreFramesOf info s x found frames_info
+frames_info_somewhere {P = P} info s address found frames_info over answered =
     by_section_offset (internal_offset s.address_map (record { 0 = address })) refl
   where
     by_section_offset : (section_offset : Option PdbInternalSectionOffset)
         → internal_offset s.address_map (record { 0 = address }) ≡ section_offset
-        → (x : ℕ) × AreFramesOf info s x found shown
+        → (x : ℕ) × AreFramesOf info s x found frames_info
     by_section_offset None lies = let none = rw lies at answered in absurd cc
     by_section_offset (Some section_offset) lies =
-        (section_offset.offset, shown_at info s address section_offset found shown lies over answered)
+        (section_offset.offset, frames_info_at info s address section_offset found frames_info lies over answered)
 
 -- the frames over an address end in the one that has the name of the function over it
 pub ended_in_name : {P : Type 0} (info : P → ProviderInfos) (s : ContextInputs P) (address : ℕ)
-    (found : FoundFunction) (shown : FramesInfo) → found_at info s address ≡ Some found
-    → frames_at info s address ≡ Ok (Some shown)
-    → EndIn shown.frames (function_name info s.type_inputs (global_functions_of s) found)
-ended_in_name info s address found shown over answered =
-    let somewhere = shown_somewhere info s address found shown over answered in
+    (found : FoundFunction) (frames_info : FramesInfo) → found_at info s address ≡ Some found
+    → frames_at info s address ≡ Ok (Some frames_info)
+    → EndIn frames_info.frames (function_name info s.type_inputs (global_functions_of s) found)
+ended_in_name info s address found frames_info over answered =
+    let somewhere = frames_info_somewhere info s address found frames_info over answered in
     end_in_own s.strings (id_name info s.type_inputs (function_module found))
     (function_name info s.type_inputs (global_functions_of s) found) (records_of info s found) found somewhere.0
-    shown.frames somewhere.1.frames
+    frames_info.frames somewhere.1.frames

@@ -31,7 +31,7 @@ use Rattle.pdb_function_info.specs.Frames.{Strings, own_frame, inlined_frames, f
 use Rattle.pdb_addr2line.specs.Lookups.{found_at, frames_at, records_of}
 use Rattle.pdb_function_info.specs.Names.{function_name, id_name}
 use Rattle.pdb_addr2line.specs.ContextInputs.{ContextInputs, global_functions_of}
-use Rattle.pdb_addr2line.proofs.FrameLawLemmas.{shown_at}
+use Rattle.pdb_addr2line.proofs.FrameLawLemmas.{frames_info_at}
 
 -- where what follows an answer succeeds, the answer did
 pub and_then-ok : {A B E : Type 0} (r : Result A E) (next : A → Result B E) (b : B) → and_then r next ≡ Ok b
@@ -59,17 +59,17 @@ known_inlinees info known is = by_program (streamed info.line_program) is where
 
   by_fault : (program : Lines) (fault : Option StreamError)
       → and_then (unless (option_map (λ f. PdbError (Stream f)) fault) (Ok info.inlinees.items))
-      (λ items. Ok (known_with program items)) ≡ Ok known
+      (λ inlinees. Ok (known_with program inlinees)) ≡ Ok known
       → known.inlinees ≡ inlinee_ids info.inlinees.items
-  by_fault program None shown = sym (ap ids_in shown)
-  by_fault program (Some fault) shown = absurd cc
+  by_fault program None is_known = sym (ap ids_in is_known)
+  by_fault program (Some fault) is_known = absurd cc
 
   by_program : (program : Result Lines Error)
-      → and_then program (λ lines. and_then (read_whole info.inlinees) (λ items. Ok (known_with lines items)))
+      → and_then program (λ lines. and_then (read_whole info.inlinees) (λ inlinees. Ok (known_with lines inlinees)))
       ≡ Ok known
       → known.inlinees ≡ inlinee_ids info.inlinees.items
-  by_program (Ok program) shown = by_fault program info.inlinees.fault shown
-  by_program (Err e) shown = absurd cc
+  by_program (Ok program) is_known = by_fault program info.inlinees.fault is_known
+  by_program (Err e) is_known = absurd cc
 
 -- of the ranges of a function there is a stack with an entry for each level
 stack_levels : (info : ModuleInfo) (found : FoundFunction) (x : ℕ) (ids : List IdIndex) (ranges : List InlineRange)
@@ -115,13 +115,13 @@ level_frames strings name_of name (Some info) found x frames is =
 -- over an address there is a frame for each level, and that of the function
 pub frames_by_level : {P : Type 0} (info : P → ProviderInfos) (s : ContextInputs P) (address : ℕ)
     (section_offset : PdbInternalSectionOffset)
-    (found : FoundFunction) (shown : FramesInfo)
+    (found : FoundFunction) (frames_info : FramesInfo)
     → internal_offset s.address_map (record { 0 = address }) ≡ Some section_offset
     → found_at info s address ≡ Some found
-    → frames_at info s address ≡ Ok (Some shown)
-    → length shown.frames ≡ levels_over (records_of info s found) found section_offset.offset + 1
-frames_by_level info s address section_offset found shown lies over answered =
-    let is = shown_at info s address section_offset found shown lies over answered in
+    → frames_at info s address ≡ Ok (Some frames_info)
+    → length frames_info.frames ≡ levels_over (records_of info s found) found section_offset.offset + 1
+frames_by_level info s address section_offset found frames_info lies over answered =
+    let is = frames_info_at info s address section_offset found frames_info lies over answered in
     level_frames s.strings (id_name info s.type_inputs (function_module found))
     (function_name info s.type_inputs (global_functions_of s) found)
-    (records_of info s found) found section_offset.offset shown.frames is.frames
+    (records_of info s found) found section_offset.offset frames_info.frames is.frames

@@ -33,7 +33,7 @@ use Rattle.pdb_addr2line.specs.ContextInputs.{ContextInputs, global_functions_of
 use Rattle.pdb_addr2line.proofs.FrameLawLemmas.{shown_at}
 use Rattle.pdb_addr2line.proofs.FrameLevelLemmas.{and_then-ok, unless-ok, known_inlinees, known_with}
 
--- the parts of where code comes from, where that is known
+-- the stack and the line program of where code comes from, where that is known
 abbrev stack_in : Result Origin Error → List InlineRange
 stack_in (Ok here) = here.stack
 stack_in (Err e) = []
@@ -52,21 +52,21 @@ known_program : (info : ModuleInfo) (known : ExtendedInfo) → extended_info inf
 known_program info known is = by_stream info.line_program refl is where
   by_stream : (program : Result Lines StreamError) → info.line_program ≡ program
       → and_then (streamed program)
-      (λ lines. and_then (read_whole info.inlinees) (λ items. Ok (known_with lines items))) ≡ Ok known
+      (λ lines. and_then (read_whole info.inlinees) (λ inlinees. Ok (known_with lines inlinees))) ≡ Ok known
       → info.line_program ≡ Ok known.line_program
-  by_stream (Err fault) here shown = absurd cc
-  by_stream (Ok program) here shown =
-      let items = and_then-ok (read_whole info.inlinees) (λ list. Ok (known_with program list)) known shown in
-      let same : program ≡ known.line_program = ap known_in items.2 in
+  by_stream (Err fault) here is_known = absurd cc
+  by_stream (Ok program) here is_known =
+      let inlinees = and_then-ok (read_whole info.inlinees) (λ list. Ok (known_with program list)) known is_known in
+      let same : program ≡ known.line_program = ap known_in inlinees.2 in
       rw same at here
 
 -- where the code of a procedure comes from: its line program is the module's, and its stack that of the procedure's
 -- ranges
-origin_parts : (info : ModuleInfo) (m : ℕ) (p : ModuleProcedure) (x : ℕ) (o : Origin)
+origin_of_procedure : (info : ModuleInfo) (m : ℕ) (p : ModuleProcedure) (x : ℕ) (o : Origin)
     → origin info (found_procedure m p) x ≡ Ok o
     → (info.line_program ≡ Ok o.line_program) ×
     (o.stack ≡ inline_stack (inline_ranges (inlinee_ids info.inlinees.items) (sites_of info p)) x)
-origin_parts info m p x o is =
+origin_of_procedure info m p x o is =
     let known = and_then-ok (extended_info info) _ o is in
     let row = and_then-ok (function_row known.0.line_program p.offset x) _ o known.2 in
     let ranges = and_then-ok (function_ranges known.0.inlinees info (found_procedure m p)) _ o row.2 in
@@ -99,15 +99,15 @@ frame_of_entry f own stack frames level frame is got =
 
 -- neighbours among the frames of a procedure are of sites that lie directly inside one another
 nested_frames : (strings : Strings) (name_of : IdIndex → Option (List ℕ)) (name : Option (List ℕ)) (info : ModuleInfo)
-    (m : ℕ) (p : ModuleProcedure) (x : ℕ) (frames : List FrameInfo) (level : ℕ) (frame under : FrameInfo)
+    (m : ℕ) (p : ModuleProcedure) (x : ℕ) (frames : List FrameInfo) (level : ℕ) (frame inner_frame : FrameInfo)
     → function_frames strings name_of name (Some info) (found_procedure m p) x ≡ Ok frames
     → IsSoleOver (inlinee_ids info.inlinees.items) (sites_of info p) x
-    → slice_get (reverse frames) (level + 1) ≡ Some frame → slice_get (reverse frames) (level + 2) ≡ Some under
-    → AreNestedFrames strings name_of info p x level frame under
-nested_frames strings name_of name info m p x frames level frame under is sole first second =
+    → slice_get (reverse frames) (level + 1) ≡ Some frame → slice_get (reverse frames) (level + 2) ≡ Some inner_frame
+    → AreNestedFrames strings name_of info p x level frame inner_frame
+nested_frames strings name_of name info m p x frames level frame inner_frame is sole first second =
     let here = and_then-ok (origin info (found_procedure m p) x) _ frames is in
     let o = here.0 in
-    let parts = origin_parts info m p x o here.1 in
+    let origin_is = origin_of_procedure info m p x o here.1 in
     let ids = inlinee_ids info.inlinees.items in
     let sites = sites_of info p in
     let f : InlineRange → FrameInfo = λ range. inlined_frame strings o.line_program (name_of range.inlinee) range in
@@ -115,11 +115,11 @@ nested_frames strings name_of name info m p x frames level frame under is sole f
     let all : reverse (map f o.stack) ++ own ∷ [] ≡ frames = cc in
     let next : level + 2 ≡ (level + 1) + 1 = omega arith in
     let one = frame_of_entry f own o.stack frames level frame (sym all) first in
-    let two = frame_of_entry f own o.stack frames (level + 1) under (sym all) (rw next at second) in
-    let range_in = sym (ap (λ (list : List InlineRange). slice_get list level) parts.1) ∙ one.1 in
-    let under_in = sym (ap (λ (list : List InlineRange). slice_get list (level + 1)) parts.1) ∙ two.1 in
+    let two = frame_of_entry f own o.stack frames (level + 1) inner_frame (sym all) (rw next at second) in
+    let range_in = sym (ap (λ (list : List InlineRange). slice_get list level) origin_is.1) ∙ one.1 in
+    let inner_range_in = sym (ap (λ (list : List InlineRange). slice_get list (level + 1)) origin_is.1) ∙ two.1 in
     let outer = entry_of_site ids sites x level one.0 range_in in
-    let inner = entry_of_site ids sites x (level + 1) two.0 under_in in
+    let inner = entry_of_site ids sites x (level + 1) two.0 inner_range_in in
     let nested = procedure_nested info.symbols.items info.symbols.fault p.symbol_index.0 p.end_symbol_index.0 in
     record {
       outer = outer.0;
@@ -133,7 +133,7 @@ nested_frames strings name_of name info m p x frames level frame under is sole f
         of_site = outer.2;
         over = rw outer.3 outer.4;
         program = o.line_program;
-        read = parts.0;
+        read = origin_is.0;
         shown = one.2;
       };
       of_inner = record {
@@ -141,27 +141,29 @@ nested_frames strings name_of name info m p x frames level frame under is sole f
         of_site = inner.2;
         over = rw inner.3 inner.4;
         program = o.line_program;
-        read = parts.0;
+        read = origin_is.0;
         shown = two.2;
       };
       directly = stack_directly_inside ids sites x level outer.0 inner.0 one.0 two.0 nested sole outer.1 inner.1
-          range_in under_in outer.2 inner.2;
+          range_in inner_range_in outer.2 inner.2;
     }
 
 -- the same for the frames over an address
 pub frames_nested : {P : Type 0} (infos : P → ProviderInfos) (s : ContextInputs P) (address : ℕ)
     (section_offset : PdbInternalSectionOffset)
-    (m : ℕ) (p : ModuleProcedure) (info : ModuleInfo) (shown : FramesInfo) (level : ℕ) (frame under : FrameInfo)
+    (m : ℕ) (p : ModuleProcedure) (info : ModuleInfo) (frames_info : FramesInfo) (level : ℕ)
+    (frame inner_frame : FrameInfo)
     → internal_offset s.address_map (record { 0 = address }) ≡ Some section_offset
     → found_at infos s address ≡ Some (found_procedure m p)
-    → records_of infos s (found_procedure m p) ≡ Some info → frames_at infos s address ≡ Ok (Some shown)
+    → records_of infos s (found_procedure m p) ≡ Some info → frames_at infos s address ≡ Ok (Some frames_info)
     → IsSoleOver (inlinee_ids info.inlinees.items) (sites_of info p) section_offset.offset
-    → slice_get (reverse shown.frames) (level + 1) ≡ Some frame
-    → slice_get (reverse shown.frames) (level + 2) ≡ Some under
-    → AreNestedFrames s.strings (id_name infos s.type_inputs m) info p section_offset.offset level frame under
-frames_nested infos s address section_offset m p info shown level frame under lies over records answered sole first
-    second =
-    let is = shown_at infos s address section_offset (found_procedure m p) shown lies over answered in
+    → slice_get (reverse frames_info.frames) (level + 1) ≡ Some frame
+    → slice_get (reverse frames_info.frames) (level + 2) ≡ Some inner_frame
+    → AreNestedFrames s.strings (id_name infos s.type_inputs m) info p section_offset.offset level frame inner_frame
+frames_nested infos s address section_offset m p info frames_info level frame inner_frame lies over records answered
+    sole first second =
+    let is = frames_info_at infos s address section_offset (found_procedure m p) frames_info lies over answered in
     nested_frames s.strings (id_name infos s.type_inputs m)
     (function_name infos s.type_inputs (global_functions_of s) (found_procedure m p))
-    info m p section_offset.offset shown.frames level frame under (rw records at is.frames) sole first second
+    info m p section_offset.offset frames_info.frames level frame inner_frame (rw records at is.frames) sole first
+    second

@@ -37,7 +37,7 @@ functions_one_more info s addresses i below =
     ap (functions_at info s) (take_more addresses i 0 below)
     ∙ filter_map-append (function_at info s) (take i addresses) (get_or addresses i 0 ∷ [])
 
--- nothing is the first part of nothing
+-- nothing is the beginning of nothing
 take_nil : (n : ℕ) → take {A = ℕ} n [] ≡ []
 take_nil zero = refl
 take_nil (suc n) = refl
@@ -59,9 +59,9 @@ cut_short_later {P = P} info c between after addresses i below first cut = by_do
       let all : take n [] ≡ [] = take_nil n in
       let one : OnlyGainsBroken info (after_function info between address) after =
       subst (λ xs. OnlyGainsBroken info (after_functions info between (address ∷ xs)) after) all interrupted in
-      let shown : after_function info between address ≡ after_functions info c (take (i + 1) addresses) =
+      let state : after_function info between address ≡ after_functions info c (take (i + 1) addresses) =
       after_one_more info c between (after_function info between address) addresses i below first refl in
-      record { done = i + 1; interrupted = subst (λ b. OnlyGainsBroken info b after) shown one }
+      record { done = i + 1; interrupted = subst (λ b. OnlyGainsBroken info b after) state one }
 
 -- what holds anyway holds on an error
 pub on_error : {A E : Type 0} (r : Result A E) {fact : Type 0} → fact → OnErr r fact

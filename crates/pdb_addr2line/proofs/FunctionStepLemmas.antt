@@ -21,7 +21,7 @@ use Rattle.pdb_addr2line.proofs.FunctionLemmas.{inputs_stay}
 passing_stays : {P : Type 0} {info : P → ProviderInfos} {before after : ContextState P} {all passed left : List ℕ}
     → Passes info before after all passed left → after.inputs ≡ before.inputs
 passing_stays {info = info} {before = before} {passed = passed} passes =
-    ap (λ c. c.inputs) passes.shown ∙ inputs_stay info before passed
+    ap (λ c. c.inputs) passes.state ∙ inputs_stay info before passed
 
 -- the first address that is left
 first_left : {P : Type 0} {info : P → ProviderInfos} {before between : ContextState P} {all passed rest left : List ℕ}
@@ -37,13 +37,13 @@ passes_more : {P : Type 0} {info : P → ProviderInfos} {before between after : 
     → function_at info before.inputs address ≡ None → after ≡ after_function info between address
     → Passes info before after all (passed ++ address ∷ []) left
 passes_more {info = info} {before = before} {between = between} {passed = passed} {left = left}
-    {address = address} passes nothing shown =
+    {address = address} passes nothing state =
     let alone : functions_at info before.inputs (address ∷ []) ≡ [] = rw nothing refl in
     record {
-      parts = passes.parts ∙ sym (append_assoc passed (address ∷ []) left);
+      split = passes.split ∙ sym (append_assoc passed (address ∷ []) left);
       none = filter_map-append (function_at info before.inputs) passed (address ∷ []) ∙
           (ap (λ xs. xs ++ functions_at info before.inputs (address ∷ [])) passes.none ∙ alone);
-      shown = shown ∙ (ap (λ c. after_function info c address) passes.shown ∙ sym
+      state = state ∙ (ap (λ c. after_function info c address) passes.state ∙ sym
           (fold-append (after_function info) before passed (address ∷ [])));
     }
 
@@ -57,17 +57,17 @@ pub passed_here : {P : Type 0} (info : P → ProviderInfos) (before between afte
     → OnOk found (after ≡ after_function info between address)
     → is_some (result_transpose found) ≡ false
     → Passes info before after all (passed ++ address ∷ []) left
-passed_here info before between after all passed rest left address (Ok None) passes first answer shown nothing =
+passed_here info before between after all passed rest left address (Ok None) passes first answer state nothing =
     let none : function_at info before.inputs address ≡ None =
     ap (λ s. function_at info s address) (sym (passing_stays passes)) ∙ sym answer in
-    passes_more (first_left passes first) none shown
-passed_here info before between after all passed rest left address (Ok (Some f)) passes first answer shown nothing =
+    passes_more (first_left passes first) none state
+passed_here info before between after all passed rest left address (Ok (Some f)) passes first answer state nothing =
     absurd (cc)
-passed_here info before between after all passed rest left address (Err e) passes first answer shown nothing =
+passed_here info before between after all passed rest left address (Err e) passes first answer state nothing =
     absurd (cc)
 
 -- what is answered for an address is answered next
-pub shown_here : {P : Type 0} (info : P → ProviderInfos) (before between after : ContextState P)
+pub answered_here : {P : Type 0} (info : P → ProviderInfos) (before between after : ContextState P)
     (all passed rest left : List ℕ) (address : ℕ)
     (found : Result (Option Function) Error)
     → Passes info before between all passed rest → rest ≡ address ∷ left
@@ -77,20 +77,20 @@ pub shown_here : {P : Type 0} (info : P → ProviderInfos) (before between after
     → OnErr found (OnlyGainsBroken info between after)
     → is_some (result_transpose found) ≡ true
     → Continues info before after all left (result_transpose found)
-shown_here info before between after all passed rest left address
-    (Ok None) passes first answer shown interrupted something = absurd (cc)
-shown_here info before between after all passed rest left address
-    (Ok (Some f)) passes first answer shown interrupted something =
+answered_here info before between after all passed rest left address
+    (Ok None) passes first answer state interrupted something = absurd (cc)
+answered_here info before between after all passed rest left address
+    (Ok (Some f)) passes first answer state interrupted something =
     record {
       passed = passed;
       address = address;
       between = between;
       passes = first_left passes first;
       function = ap (λ s. function_at info s address) (sym (passing_stays passes)) ∙ sym answer;
-      shown = shown;
+      state = state;
     }
-shown_here info before between after all passed rest left address
-    (Err e) passes first answer shown interrupted something =
+answered_here info before between after all passed rest left address
+    (Err e) passes first answer state interrupted something =
     record {
       passed = passed;
       address = address;

@@ -42,14 +42,14 @@ ascend_put k (x ∷ xs) up = by_order (nat_cmp k x) refl (ascend_put k xs up.1) 
 
 -- an element of a list with one in front
 pub in_front : {X : Type 0} (x y : X) (xs : List X) → Contains (x ∷ xs) y → (x ≡ y) ⊎ Contains xs y
-in_front x y xs held = by_part (Contains-append_cases (x ∷ []) xs y held) where
+in_front x y xs held = by_side (Contains-append_cases (x ∷ []) xs y held) where
   by_one : Contains [] y ⊎ (x ≡ y) → (x ≡ y) ⊎ Contains xs y
   by_one (inl none) = let below = none.1 in absurd (omega (arith, below))
   by_one (inr same) = inl same
 
-  by_part : Contains (x ∷ []) y ⊎ Contains xs y → (x ≡ y) ⊎ Contains xs y
-  by_part (inl one) = by_one (Contains-push_cases [] x y one)
-  by_part (inr rest) = inr rest
+  by_side : Contains (x ∷ []) y ⊎ Contains xs y → (x ≡ y) ⊎ Contains xs y
+  by_side (inl one) = by_one (Contains-push_cases [] x y one)
+  by_side (inr rest) = inr rest
 
 -- the one in front is an element
 pub front : {X : Type 0} (x : X) (xs : List X) → Contains (x ∷ xs) x

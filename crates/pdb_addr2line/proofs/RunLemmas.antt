@@ -11,7 +11,7 @@ use Rattle.pdb_addr2line.specs.declared.calls.Call.TheVariants.{FindFunction}
 use Rattle.pdb_addr2line.specs.Functions.{OnlyGainsBroken}
 use Rattle.pdb_addr2line.specs.ContextInputs.{ContextState}
 
--- calls that are made one behind the other are made together
+-- calls that are made one after the other are made together
 after_both : {P : Type 0} (info : P → ProviderInfos) (c : ContextState P) (calls more : List Call)
     → after_calls info c (calls ++ more) ≡ after_calls info (after_calls info c calls) more
 after_both info c [] more = refl
@@ -31,8 +31,8 @@ appends_more before between after first second one two = record {
   appended = one.appended ++ two.appended;
   is = two.is ∙ ap (λ answers. answers ++ two.appended) one.is ∙ append_assoc before one.appended two.appended;
   shown = map-append answer_view one.appended two.appended ∙ ap
-      (λ shown. shown ++ map answer_view two.appended) one.shown
-      ∙ ap (λ shown. first ++ shown) two.shown;
+      (λ views. views ++ map answer_view two.appended) one.shown
+      ∙ ap (λ views. first ++ views) two.shown;
 }
 
 -- a context once one call more is made
@@ -64,7 +64,7 @@ answers_one_more info c between calls i before answers after below so_far first 
     (call ∷ []) in
     rw all both
 
--- the calls so far, the next one, and those behind it are all
+-- the calls so far, the next one, and those after it are all
 split_at : (calls : List Call) (i : ℕ) → i < length calls
     → calls ≡ take i calls ++ get_or calls i (FindFunction 0) ∷ drop (i + 1) calls
 split_at calls i below =

@@ -204,16 +204,16 @@ listed_from : (infos : ProviderInfos) (at : ℕ) (ms : List Module) (p : ModuleP
     → Contains (procedures_of_modules infos at ms) p → IsListed infos at ms p
 listed_from infos at [] p held = let below = held.1 in absurd (omega (arith, below))
 listed_from infos at (m ∷ ms) p held =
-    by_part (Contains-append_cases (provided_procedures (infos at m))
+    by_side (Contains-append_cases (provided_procedures (infos at m))
     (procedures_of_modules infos (at + 1) ms) p held) (listed_from infos (at + 1) ms p)
   where
-    by_part : Contains (provided_procedures (infos at m)) p ⊎ Contains (procedures_of_modules infos (at + 1) ms) p
+    by_side : Contains (provided_procedures (infos at m)) p ⊎ Contains (procedures_of_modules infos (at + 1) ms) p
         → (Contains (procedures_of_modules infos (at + 1) ms) p → IsListed infos (at + 1) ms p)
         → IsListed infos at (m ∷ ms) p
-    by_part (inl first) next =
+    by_side (inl first) next =
         let same : at + 0 ≡ at = omega arith in
         record { index = 0; m = m; is = refl; listed = rw same first }
-    by_part (inr rest) next =
+    by_side (inr rest) next =
         let of = next rest in
         let same : at + suc of.index ≡ (at + 1) + of.index = omega arith in
         record { index = suc of.index; m = of.m; is = of.is; listed = rw same of.listed }
@@ -242,7 +242,7 @@ starts_ascend info s = ascend_starts s.address_map [] (start_section_offsets inf
 -- an address is among them exactly where a function starts there
 pub starts_are : {P : Type 0} (info : P → ProviderInfos) (s : ContextInputs P) (address : ℕ)
     → Contains (start_addresses info s) address ↔ IsStart info s address
-starts_are {P = P} info s address = (shown, held) where
+starts_are {P = P} info s address = (is_start, held) where
   infos : ProviderInfos
   infos = info s.provider
 
@@ -259,13 +259,13 @@ starts_are {P = P} info s address = (shown, held) where
       let held : Contains (provided_procedures (infos of.index of.m)) p = rw same at of.listed in
       record { module_index = of.index; procedure = p; listed = rw of.is held; at = at }
 
-  by_part : (found : HasSectionOffset s.address_map (start_section_offsets info s) address)
+  by_side : (found : HasSectionOffset s.address_map (start_section_offsets info s) address)
       → Contains (map (λ f. f.start) globals) found.section_offset ⊎ Contains
       (map (λ p. p.offset) procedures) found.section_offset → IsStart info s address
-  by_part found (inl first) =
+  by_side found (inl first) =
       let of = image (λ (f : GlobalFunction). f.start) globals found.section_offset first in
       inl (record { function = of.0; listed = of.1; at = rw of.2 found.at })
-  by_part found (inr second) =
+  by_side found (inr second) =
       let of = image (λ (p : ModuleProcedure). p.offset) procedures found.section_offset second in
       inr (listed_as of.0 (listed_from infos 0 s.type_inputs.modules of.0 of.1) (rw of.2 found.at))
 
@@ -273,11 +273,11 @@ starts_are {P = P} info s address = (shown, held) where
       → IsStart info s address
   by_section_offset (inl none) = let below = none.1 in absurd (omega (arith, below))
   by_section_offset (inr found) =
-      by_part found (Contains-append_cases (map (λ f. f.start) globals)
+      by_side found (Contains-append_cases (map (λ f. f.start) globals)
       (map (λ p. p.offset) procedures) found.section_offset found.listed)
 
-  shown : Contains (start_addresses info s) address → IsStart info s address
-  shown h = by_section_offset (starts_cases s.address_map [] (start_section_offsets info s) address h)
+  is_start : Contains (start_addresses info s) address → IsStart info s address
+  is_start h = by_section_offset (starts_cases s.address_map [] (start_section_offsets info s) address h)
 
   in_module : (module_index : ℕ) (p : ModuleProcedure) (found : Option Module)
       → slice_get s.type_inputs.modules module_index ≡ found

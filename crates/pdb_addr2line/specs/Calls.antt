@@ -111,7 +111,7 @@ pub record Appends (before after : List Answer) (wanted : List AnswerView) : Typ
   pub is : after ≡ before ++ appended
   pub shown : map answer_view appended ≡ wanted
 
--- a context and a list of answers where memory ran out: some first calls are answered, and the one behind them counts
+-- a context and a list of answers where memory ran out: some first calls are answered, and the one after them counts
 -- as not made
 pub record StopsEarly {P : Type 0} (info : P → ProviderInfos) (before : ContextState P) (calls : List Call)
     (answers answers' : List Answer) (after : ContextState P) : Type 0 where

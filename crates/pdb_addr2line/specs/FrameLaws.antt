@@ -33,10 +33,10 @@ pub record EndIn (frames : List FrameInfo) (name : Option (List ℕ)) : Type 0 w
   pub named : own.function ≡ name
 
 -- the function info and the frames info of a function agree: where it starts and ends, and the name of the last frame
-pub record Agree (function : FunctionInfo) (shown : FramesInfo) : Type 0 where
-  pub start_rva : shown.start_rva ≡ function.start_rva
-  pub end_rva : shown.end_rva ≡ function.end_rva
-  pub name : EndIn shown.frames function.name
+pub record Agree (function : FunctionInfo) (frames_info : FramesInfo) : Type 0 where
+  pub start_rva : frames_info.start_rva ≡ function.start_rva
+  pub end_rva : frames_info.end_rva ≡ function.end_rva
+  pub name : EndIn frames_info.frames function.name
 
 -- a frame is of an inline site of a procedure: it shows a range of the site that lies over an offset, with the files
 -- of the module's line program, and with the name of the site's id
@@ -52,7 +52,7 @@ pub record IsFrameOf (strings : Strings) (name_of : IdIndex → Option (List ℕ
 -- two frames are of two sites of a procedure, the first of a site of this level, and the second of one a level deeper,
 -- which lies directly inside that of the first
 pub record AreNestedFrames (strings : Strings) (name_of : IdIndex → Option (List ℕ)) (info : ModuleInfo)
-    (p : ModuleProcedure) (x level : ℕ) (frame under : FrameInfo) : Type 0 where
+    (p : ModuleProcedure) (x level : ℕ) (frame inner_frame : FrameInfo) : Type 0 where
   pub outer : Site
   pub inner : Site
   pub outer_level : depth outer ≡ level
@@ -60,5 +60,5 @@ pub record AreNestedFrames (strings : Strings) (name_of : IdIndex → Option (Li
   pub has_outer : Contains (sites_of info p) outer
   pub has_inner : Contains (sites_of info p) inner
   pub of_outer : IsFrameOf strings name_of info p x outer frame
-  pub of_inner : IsFrameOf strings name_of info p x inner under
+  pub of_inner : IsFrameOf strings name_of info p x inner inner_frame
   pub directly : IsDirectlyInside outer inner

@@ -22,9 +22,9 @@ lender it = it.context.now
 -- addresses are passed that no function lies over, and others are left; the context answered that there is none
 pub record Passes {P : Type 0} (info : P → ProviderInfos) (before after : ContextState P) (all passed left : List ℕ)
     : Type 0 where
-  pub parts : all ≡ passed ++ left
+  pub split : all ≡ passed ++ left
   pub none : functions_at info before.inputs passed ≡ []
-  pub shown : after ≡ after_functions info before passed
+  pub state : after ≡ after_functions info before passed
 
 -- after addresses that are passed, a function lies over one, and the context answered it
 pub record Finds {P : Type 0} (info : P → ProviderInfos) (before after : ContextState P) (all left : List ℕ)
@@ -34,7 +34,7 @@ pub record Finds {P : Type 0} (info : P → ProviderInfos) (before after : Conte
   pub between : ContextState P
   pub passes : Passes info before between all passed (address ∷ left)
   pub function : function_at info before.inputs address ≡ Some found
-  pub shown : after ≡ after_function info between address
+  pub state : after ≡ after_function info between address
 
 -- after addresses that are passed, the context had no memory to answer one
 pub record Fails {P : Type 0} (info : P → ProviderInfos) (before after : ContextState P) (all left : List ℕ)
@@ -57,7 +57,7 @@ Continues info before after all left None = (left ≡ []) × Passes info before 
 
 -- what an iterator answers next, and that it goes on with the context that it asked
 pub record ContinuesNext {P : Type 0} (info : P → ProviderInfos) (before : FunctionIter P)
-    (shown : Option (Result Function Error))
+    (answer : Option (Result Function Error))
     (after : FunctionIter P) : Type 0 where
   pub same_reference : after.context.ghost_name ≡ before.context.ghost_name
-  pub matches : Continues info (lender before) (lender after) (untried before) (untried after) shown
+  pub matches : Continues info (lender before) (lender after) (untried before) (untried after) answer

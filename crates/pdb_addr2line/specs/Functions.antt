@@ -17,8 +17,9 @@ use Rattle.pdb_addr2line.specs.ContextInputs.{ContextInputs, ContextState, globa
 
 -- the procedures of modules whose module indices are counted from here on, module by module
 abbrev pub procedures_of_modules : ProviderInfos → ℕ → List Module → List ModuleProcedure
-procedures_of_modules infos at [] = []
-procedures_of_modules infos at (m ∷ ms) = provided_procedures (infos at m) ++ procedures_of_modules infos (at + 1) ms
+procedures_of_modules infos module_index [] = []
+procedures_of_modules infos module_index (m ∷ ms) =
+    provided_procedures (infos module_index m) ++ procedures_of_modules infos (module_index + 1) ms
 
 -- the section offsets where functions start: of the global functions, and then of the procedures of all modules
 abbrev pub start_section_offsets : {P : Type 0} → (P → ProviderInfos) → ContextInputs P → List PdbInternalSectionOffset

@@ -40,9 +40,9 @@ function_at info s address =
 -- the parts that failed once that is answered, from those that failed before
 abbrev pub failed_after : {P : Type 0} → (P → ProviderInfos) → ContextInputs P → ℕ → Parts → Parts
 failed_after info s address failed =
-    let view = λ (found : FoundFunction).
+    let failed_by = λ (found : FoundFunction).
     failed_after_info info s.type_inputs s.address_map (global_functions_of s) found failed in
-    option_map_or view (found_at info s address) failed
+    option_map_or failed_by (found_at info s address) failed
 
 -- the records of the module that a function was found in, if there are any that can be read
 abbrev pub records_of : {P : Type 0} → (P → ProviderInfos) → ContextInputs P → FoundFunction → Option ModuleInfo

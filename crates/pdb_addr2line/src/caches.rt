@@ -1,3 +1,5 @@
+//! What a context read of the records so far, so that it is read once, and the calls that go by it.
+
 ghost use Rattle.std.specs.Prelude.{◌≡◌, Some, None, option_map, IfOk, IfSome};
 ghost use Rattle.std.specs.Option.{option_copied};
 ghost use Rattle.pdb_functions.specs.ModuleInfos.{readable_info};
@@ -15,27 +17,27 @@ ghost use Rattle.pdb_function_info.specs.Frames.{info_of_frames, failed_by_frame
 use crate::context::Tables;
 use pdb_frames::{CodeCache, CodePart, FunctionFrames, function_module};
 use pdb_function_info::{FunctionNames, frames_info};
-use pdb_functions::{BasicModuleInfoCache, PublicOrProcedureSymbol};
+use pdb_functions::{BasicModuleInfoCache, FoundFunction};
 use pdb_records::{AddressMap, Module, ModuleInfo};
 use pdb_types::{ModuleProvider, Result};
 use std::alloc::{AllocError, Global};
 
-/// What a context read so far, so that it is read once. The names that it printed stand with its formatter.
+// What a context read so far, so that it is read once. The names that it printed stand with its formatter.
 #[derive(Drop)]
 pub(crate) struct Caches<'a, P: ModuleProvider> {
-    /// The procedures of modules.
+    // The procedures of modules.
     pub(crate) infos: BasicModuleInfoCache<'a, P>,
-    /// Line programs, rows and inline ranges.
+    // Line programs, rows and inline ranges.
     pub(crate) code: CodeCache<'a>,
-    /// Where functions start, once that was asked.
+    // Where functions start, once that was asked.
     pub(crate) starts: Option<Vec<u32>>,
 }
 
 impl<'a, P: ModuleProvider> Caches<'a, P> {
-    /// Nothing yet. It takes no memory.
+    // Nothing yet. It takes no memory.
     pub(crate) fn new(alloc: Global, provider: &'a P) -> Self
         ensures infos { result.infos.provider ≡ provider.now }
-        ensures code { (records : Records) → IsCodeCache records result.code }
+        ensures is_cache { (records : Records) → IsCodeCache records result.code }
         ensures starts { result.starts ≡ None }
     {
         Caches {
@@ -46,7 +48,7 @@ impl<'a, P: ModuleProvider> Caches<'a, P> {
     }
 }
 
-/// The frames info of a function that was found, at an offset, by the records of its module.
+// The frames info of a function that was found, at an offset, by the records of its module.
 pub(crate) fn frames_info_by<'a, P: ModuleProvider>(
     caches: &mut Caches<'a, P>,
     alloc: Global,
@@ -54,15 +56,15 @@ pub(crate) fn frames_info_by<'a, P: ModuleProvider>(
     tables: &Tables<'a>,
     names: &mut FunctionNames<'a, P>,
     module_info: Option<&'a ModuleInfo>,
-    function: PublicOrProcedureSymbol<'a>,
+    function: FoundFunction<'a>,
     offset: u32,
 ) -> Result<Option<FunctionFrames<'a>>>
     ghost records: { Records }
     requires named { GoesBySymbol (P.info names.old.provider) names.old.type_inputs.modules (found_function function) }
-    requires code { IsCodeCache records caches.old.code }
+    requires is_cache { IsCodeCache records caches.old.code }
     requires module_info { IfSome module_info
         (λ info. records (function_module (found_function function)) ≡ Some info.now) }
-    ensures shown { Gives (λ f. f) result (info_of_frames P.info names.old.type_inputs tables.now.file_names
+    ensures answer { Gives (λ f. f) result (info_of_frames P.info names.old.type_inputs tables.now.file_names
         address_map.now tables.now.global_functions (option_copied module_info.entry)
         (found_function function.entry) offset) }
     ensures type_inputs { names.new.type_inputs ≡ names.old.type_inputs }
@@ -73,7 +75,7 @@ pub(crate) fn frames_info_by<'a, P: ModuleProvider>(
     ensures broken { AddsBroken
         (formatter_inputs P.info names.old.type_inputs (function_module (found_function function.entry)))
         names.old.failed names.new.failed }
-    ensures code { IsCodeCache records caches.new.code }
+    ensures is_cache { IsCodeCache records caches.new.code }
     ensures infos { caches.new.infos.provider ≡ caches.old.infos.provider }
     ensures starts { caches.new.starts ≡ caches.old.starts }
 {
@@ -90,20 +92,20 @@ pub(crate) fn frames_info_by<'a, P: ModuleProvider>(
     )
 }
 
-/// The part that is to blame where the frames of a function that was found are refused, by the records of its
-/// module.
+// The part that is to blame where the frames of a function that was found are refused, by the records of its
+// module.
 pub(crate) fn part_blamed_by<'a, P: ModuleProvider>(
     caches: &mut Caches<'a, P>,
     modules: &[Module],
-    function: PublicOrProcedureSymbol<'_>,
+    function: FoundFunction<'_>,
 ) -> Result<Option<CodePart>, AllocError>
     ghost records: { Records }
     requires records { records ≡ readable_info (P.info caches.old.infos.provider) modules.now }
-    requires code { IsCodeCache records caches.old.code }
-    ensures blamed { let found = found_function function.entry in
+    requires is_cache { IsCodeCache records caches.old.code }
+    ensures answer { let found = found_function function.entry in
         IfOk result (λ part. part
         ≡ option_map (λ info. part_to_blame info found) (records (function_module found))) }
-    ensures code { IsCodeCache records caches.new.code }
+    ensures is_cache { IsCodeCache records caches.new.code }
     ensures infos { caches.new.infos.provider ≡ caches.old.infos.provider }
     ensures starts { caches.new.starts ≡ caches.old.starts }
 {

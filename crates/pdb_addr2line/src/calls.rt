@@ -1,3 +1,5 @@
+//! Questions to a context as values, and the answers to them.
+
 use pdb_frames::FunctionFrames;
 use pdb_function_info::Function;
 use pdb_records::{IdIndex, TypeIndex};

@@ -1,3 +1,5 @@
+//! `Context`, which answers questions about the functions of a program, and the tables that it searches.
+
 ghost use Rattle.std.specs.Prelude.{◌≡◌, [], Ok, length, IfOk};
 ghost use Rattle.std.specs.Option.{option_copied};
 ghost use Rattle.pdb_types.specs.Outcomes.{Gives};
@@ -18,18 +20,18 @@ use pdb_types::{Error, ModuleProvider, Result};
 use std::alloc::Global;
 use std::marker::Model;
 
-/// What look-ups search.
+// What look-ups search.
 #[derive(Drop)]
 pub(crate) struct Tables<'a> {
     pub(crate) sections: Vec<ImageSectionHeader>,
     pub(crate) contributions: ContributionTable,
     pub(crate) global_functions: GlobalFunctionTable<'a>,
     pub(crate) file_names: FileNames<'a>,
-    /// The sections of addresses.
-    pub(crate) section_offsets: SectionTable<'a>,
+    // The sections of addresses.
+    pub(crate) section_table: SectionTable<'a>,
 }
 
-/// The tables of these records.
+// The tables of these records.
 fn tables_of<'a>(
     alloc: Global,
     sections: &[ImageSectionHeader],
@@ -38,15 +40,15 @@ fn tables_of<'a>(
     string_table: Option<&'a StringTable>,
     debug_information: &DebugInformation,
 ) -> Result<Tables<'a>>
-    ensures searched { Gives (λ t. t.contributions) result
+    ensures answer { Gives (λ t. t.contributions) result
         (searched_contributions sections.now global_symbols.now debug_information.now) }
     ensures sections { IfOk result (λ t. t.sections.items ≡ sections.now) }
     ensures merged { IfOk result (λ t.
         merged_contributions sections.now debug_information.now ≡ Ok t.contributions) }
-    ensures shown { IfOk result (λ t. t.global_functions
+    ensures global_functions { IfOk result (λ t. t.global_functions
         ≡ functions_listed sections.now global_symbols.now.symbols.items debug_information.now) }
     ensures strings { IfOk result (λ t. t.file_names ≡ option_copied string_table.entry) }
-    ensures section_offsets { IfOk result (λ t. t.section_offsets ≡ address_map.now) }
+    ensures section_table { IfOk result (λ t. t.section_table ≡ address_map.now) }
 {
     if let Some(fault) = global_symbols.symbols.fault {
         return Err(Error::from(fault));
@@ -59,7 +61,7 @@ fn tables_of<'a>(
         contributions: ContributionTable::new(alloc, merged)?,
         global_functions,
         file_names: FileNames::new(alloc, string_table)?,
-        section_offsets: SectionTable::new(alloc, address_map)?,
+        section_table: SectionTable::new(alloc, address_map)?,
     })
 }
 
@@ -126,12 +128,12 @@ impl<'a, P: ModuleProvider> Model for Context<'a, P> {
 
     ghost invariant = { λ c. record {
       merged : merged_contributions c.tables.sections.items c.debug_information.now ≡ Ok c.tables.contributions;
-      shown : c.tables.global_functions ≡ functions_listed
+      global_functions : c.tables.global_functions ≡ functions_listed
           c.tables.sections.items c.global_symbols.now.symbols.items c.debug_information.now;
-      section_offsets : c.tables.section_offsets ≡ c.address_map.now;
+      section_table : c.tables.section_table ≡ c.address_map.now;
       infos : c.caches.infos.provider ≡ c.provider.now;
       named : c.names.provider ≡ c.provider.now;
-      code : IsCodeCache (readable_info (P.info c.provider.now) c.names.type_inputs.modules) c.caches.code;
+      is_cache : IsCodeCache (readable_info (P.info c.provider.now) c.names.type_inputs.modules) c.caches.code;
       starts : IfSome c.caches.starts (λ v. v.items ≡ start_addresses P.info (record {
         provider = c.provider.now;
         sections = c.tables.sections.items;
@@ -163,7 +165,7 @@ impl<'a, P: ModuleProvider> Context<'a, P> {
         debug_information: &'a DebugInformation,
         formatter: TypeFormatter<'a, P>,
     ) -> Result<Self>
-        ensures inputs { Gives (λ c. c.inputs) result (accepted (record {
+        ensures answer { Gives (λ c. c.inputs) result (accepted (record {
           provider = provider.now;
           sections = sections.now;
           address_map = address_map.now;

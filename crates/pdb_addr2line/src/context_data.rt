@@ -1,3 +1,5 @@
+//! `ContextPdbData`, which holds the records of a program and makes contexts and formatters over them.
+
 ghost use Rattle.std.specs.Prelude.{◌≡◌, [], None, Some, IfOk};
 ghost use Rattle.pdb_types.specs.Provided.{provided};
 ghost use Rattle.pdb_types.specs.Outcomes.{Gives, Refuses};
@@ -14,7 +16,7 @@ use pdb_types::{Error, ModuleProvider, Result, TypeFormatterFlags};
 use std::alloc::{AllocError, Global};
 use std::marker::Model;
 
-/// The records, owned or lent.
+// The records, owned or lent.
 #[derive(Drop)]
 enum MaybeOwned<'p> {
     Owned(PDB),
@@ -52,15 +54,15 @@ impl<'p> Model for ContextPdbData<'p> {
     ghost invariant = { λ d. records_refusal (records d.maybe_owned) ≡ None };
 }
 
-/// The records that are lent, from now on only to be read: they end as they were.
+// The records that are lent, from now on only to be read: they end as they were.
 fn shared<'p>(pdb: &'p mut PDB) -> &'p PDB
-    ensures is { result.now ≡ pdb.old }
+    ensures answer { result.now ≡ pdb.old }
     ensures* unchanged { sem 𝓛 (Rests the_row pdb.entry (λ last. last ≡ pdb.old)) }
 {
     pdb
 }
 
-/// Refuses records of which a stream failed that a context can't do without.
+// Refuses records of which a stream failed that a context can't do without.
 fn check_streams(pdb: &PDB) -> Result<()>
     ensures { Refuses result (records_refusal pdb.now) }
 {
@@ -86,7 +88,7 @@ impl<'p> ContextPdbData<'p> {
     /// [`Error::PdbError`] of the first stream that failed, in the order global symbols, debug
     /// information, types, ids, address map. A failed string table counts as absent.
     pub fn try_from_pdb(alloc: Global, pdb: PDB) -> Result<Self>
-        ensures same_records { IfOk result (λ d. d ≡ pdb) }
+        ensures answer { IfOk result (λ d. d ≡ pdb) }
         ensures refused { Refuses result (records_refusal pdb) }
     {
         check_streams(&pdb)?;
@@ -99,15 +101,15 @@ impl<'p> ContextPdbData<'p> {
     /// Holds a reference to these records, under the conditions of [`ContextPdbData::try_from_pdb`]. They
     /// are only read, and stay as they are, also where they are refused.
     pub fn try_from_pdb_ref(alloc: Global, pdb: &'p mut PDB) -> Result<Self>
-        ensures same_records { IfOk result (λ d. d ≡ pdb.old) }
+        ensures answer { IfOk result (λ d. d ≡ pdb.old) }
         ensures refused { Refuses result (records_refusal pdb.old) }
     {
         ContextPdbData::over(alloc, shared(pdb))
     }
 
-    /// Holds a reference to records that are only read.
+    // Holds a reference to records that are only read.
     fn over(alloc: Global, pdb: &'p PDB) -> Result<Self>
-        ensures same_records { IfOk result (λ d. d ≡ pdb.now) }
+        ensures answer { IfOk result (λ d. d ≡ pdb.now) }
         ensures refused { Refuses result (records_refusal pdb.now) }
     {
         check_streams(pdb)?;
@@ -123,8 +125,8 @@ impl<'p> ContextPdbData<'p> {
     ///
     /// As [`ContextPdbData::make_context_with_formatter_flags`].
     pub fn make_context(&self) -> Result<Context<'_, Self>>
-        ensures inputs { Gives (λ c. c.inputs) result (context_of default_flags self.now) }
-        ensures none_failed { IfOk result (λ c. (c.failed ≡ []) × (c.code_failed ≡ [])) }
+        ensures answer { Gives (λ c. c.inputs) result (context_of default_flags self.now) }
+        ensures failed { IfOk result (λ c. (c.failed ≡ []) × (c.code_failed ≡ [])) }
     {
         self.make_context_with_formatter_flags(TypeFormatterFlags::default())
     }
@@ -141,16 +143,16 @@ impl<'p> ContextPdbData<'p> {
         &self,
         flags: TypeFormatterFlags,
     ) -> Result<Context<'_, Self>>
-        ensures inputs { Gives (λ c. c.inputs) result (context_of flags self.now) }
-        ensures none_failed { IfOk result (λ c. (c.failed ≡ []) × (c.code_failed ≡ [])) }
+        ensures answer { Gives (λ c. c.inputs) result (context_of flags self.now) }
+        ensures failed { IfOk result (λ c. (c.failed ≡ []) × (c.code_failed ≡ [])) }
     {
         let formatter = self.make_type_formatter_with_flags(flags)?;
         self.context_with(formatter)
     }
 
-    /// A context over these records, whose names this formatter prints.
+    // A context over these records, whose names this formatter prints.
     fn context_with<'c>(&'c self, formatter: TypeFormatter<'c, Self>) -> Result<Context<'c, Self>>
-        ensures inputs { Gives (λ c. c.inputs) result (context_over self.now formatter.entry.type_inputs) }
+        ensures answer { Gives (λ c. c.inputs) result (context_over self.now formatter.entry.type_inputs) }
         ensures failed { IfOk result (λ c. c.failed ≡ formatter.entry.failed) }
         ensures code_failed { IfOk result (λ c. c.code_failed ≡ []) }
     {
@@ -183,7 +185,7 @@ impl<'p> ContextPdbData<'p> {
     /// As [`ContextPdbData::make_type_formatter_with_flags`].
     pub fn make_type_formatter(&self) -> Result<TypeFormatter<'_, Self>>
         ensures answer { Gives (λ f. f.type_inputs) result (formatter_of default_flags self.now) }
-        ensures none_failed { IfOk result (λ f. f.failed ≡ []) }
+        ensures failed { IfOk result (λ f. f.failed ≡ []) }
     {
         self.make_type_formatter_with_flags(TypeFormatterFlags::default())
     }
@@ -199,7 +201,7 @@ impl<'p> ContextPdbData<'p> {
         flags: TypeFormatterFlags,
     ) -> Result<TypeFormatter<'_, Self>>
         ensures answer { Gives (λ f. f.type_inputs) result (formatter_of flags self.now) }
-        ensures none_failed { IfOk result (λ f. f.failed ≡ []) }
+        ensures failed { IfOk result (λ f. f.failed ≡ []) }
     {
         let pdb = self.pdb();
         let (Ok(debug_information), Ok(types), Ok(ids)) = (
@@ -224,10 +226,10 @@ impl<'p> ContextPdbData<'p> {
         )
     }
 
-    /// The records.
+    // The records.
     fn pdb(&self) -> &PDB
-        ensures is { result.now ≡ self.now }
-        ensures read { records_refusal self.now ≡ None }
+        ensures answer { result.now ≡ self.now }
+        ensures accepted { records_refusal self.now ≡ None }
     {
         match &self.maybe_owned {
             MaybeOwned::Owned(pdb) => pdb,
@@ -236,7 +238,7 @@ impl<'p> ContextPdbData<'p> {
     }
 }
 
-/// Refuses a list of modules with a fault, and then a machine type that could not be read.
+// Refuses a list of modules with a fault, and then a machine type that could not be read.
 fn check_machine(debug: &DebugInformation) -> Result<()>
     ensures { Refuses result (formatter_refusal debug.now) }
 {
@@ -249,7 +251,7 @@ fn check_machine(debug: &DebugInformation) -> Result<()>
     }
 }
 
-/// The headers of the sections. Records without any have an empty list.
+// The headers of the sections. Records without any have an empty list.
 fn sections_of(pdb: &PDB) -> Result<&[ImageSectionHeader]>
     ensures { Gives (λ s. s.now) result (sections_read pdb.now) }
 {
@@ -260,14 +262,14 @@ fn sections_of(pdb: &PDB) -> Result<&[ImageSectionHeader]>
     }
 }
 
-/// A copy of a module.
+// A copy of a module.
 fn copy_of(module: &Module) -> Result<Module, AllocError>
     ensures { IfOk result (λ m. m ≡ «module».now) }
 {
     module.clone()
 }
 
-/// A copy of the list of modules.
+// A copy of the list of modules.
 fn copies_of(alloc: Global, modules: &[Module]) -> Result<Vec<Module>, AllocError>
     ensures { IfOk result (λ v. v.items ≡ modules.now) }
 {

@@ -1,3 +1,5 @@
+//! The functions of a program, one by one or all at once, by where they start.
+
 ghost use Rattle.std.specs.Prelude.{◌≡◌, [], ◌∷◌, ◌++◌, length, map, option_map, IfOk, OnOk, OnErr, MatchResult};
 ghost use Rattle.pdb_types.specs.declared.error.Error.TheVariants.{OutOfMemory};
 ghost use Rattle.pdb_function_info.specs.Function.{function_view};
@@ -14,8 +16,8 @@ use std::vec::IntoIter;
 /// The functions of a program one by one, by where they start, as [`Context::functions`] gives them.
 ///
 /// It asks its context about one start address after the other, and passes over those that no function lies
-/// over. An item is an error only where memory runs out. Its address isn't tried again: the next item is of a
-/// later one.
+/// over. Answers `OutOfMemory` where memory runs out. That address isn't tried again: what comes next is of a later
+/// one.
 #[derive(Drop)]
 pub struct FunctionIter<'c, 'a, P: ModuleProvider> {
     context: &'c mut Context<'a, P>,
@@ -23,7 +25,7 @@ pub struct FunctionIter<'c, 'a, P: ModuleProvider> {
 }
 
 impl<'c, 'a, P: ModuleProvider> FunctionIter<'c, 'a, P> {
-    /// How many start addresses weren't tried yet. So many items may come at most.
+    /// How many start addresses weren't tried yet. So many functions may come at most.
     pub fn remaining(&self) -> usize
         ensures { result ≡ length (untried self.now) }
     {
@@ -43,9 +45,9 @@ impl<'c, 'a, P: ModuleProvider> Iterator for FunctionIter<'c, 'a, P> {
 
     fn next(&mut self) -> Option<Result<Function>> {
         while let Some(address) = self.untried.next() {
-            let shown = self.context.next_function(address).transpose();
-            if shown.is_some() {
-                return shown;
+            let answered = self.context.next_function(address).transpose();
+            if answered.is_some() {
+                return answered;
             }
         }
         None
@@ -58,12 +60,12 @@ impl<'a, P: ModuleProvider> Context<'a, P> {
     ///
     /// # Errors
     ///
-    /// [`Error::OutOfMemory`](crate::Error::OutOfMemory) alone.
+    /// Answers `OutOfMemory` where memory runs out.
     pub fn functions(&mut self) -> Result<FunctionIter<'_, 'a, P>>
-        ensures starts { MatchResult result
+        ensures answer { MatchResult result
             (λ it. untried it ≡ start_addresses P.info self.old.inputs)
             (λ e. e ≡ OutOfMemory) }
-        ensures same { IfOk result (λ it. lender it ≡ self.old) }
+        ensures unchanged { IfOk result (λ it. lender it ≡ self.old) }
         ensures same_reference { IfOk result (λ it. it.context.ghost_name ≡ self.entry.ghost_name) }
     {
         let untried = self.start_addresses()?.into_iter();
@@ -73,18 +75,18 @@ impl<'a, P: ModuleProvider> Context<'a, P> {
         })
     }
 
-    /// The functions of the program, all at once.
-    ///
-    /// # Errors
-    ///
-    /// [`Error::OutOfMemory`](crate::Error::OutOfMemory) alone.
+    // The functions of the program, all at once.
+    //
+    // # Errors
+    //
+    // Answers `OutOfMemory` where memory runs out.
     pub(crate) fn all_functions(&mut self) -> Result<Vec<Function>>
-        ensures functions { MatchResult result
+        ensures answer { MatchResult result
             (λ v. map function_view v.items ≡ functions_of P.info self.old.inputs)
             (λ e. e ≡ OutOfMemory) }
-        ensures shown { OnOk result (self.new
+        ensures state { OnOk result (self.new
             ≡ after_functions P.info self.old (start_addresses P.info self.old.inputs)) }
-        ensures cut_short { OnErr result
+        ensures early { OnErr result
             (IsCutShort P.info self.old self.new (start_addresses P.info self.old.inputs)) }
         ensures gains { OnErr result (OnlyGainsBroken P.info self.old self.new) }
     {
@@ -96,14 +98,14 @@ impl<'a, P: ModuleProvider> Context<'a, P> {
         Ok(functions)
     }
 
-    /// Adds the function over an address, where there is one.
+    // Adds the function over an address, where there is one.
     fn add_function(&mut self, functions: &mut Vec<Function>, address: u32) -> Result<()>
         ensures added { MatchResult result
             (λ _. map function_view functions.new.items ≡ map function_view functions.old.items
             ++ functions_at P.info self.old.inputs (address ∷ []))
             (λ e. e ≡ OutOfMemory) }
-        ensures shown { OnOk result (self.new ≡ after_function P.info self.old address) }
-        ensures cut_short { OnErr result (IsCutShort P.info self.old self.new (address ∷ [])) }
+        ensures state { OnOk result (self.new ≡ after_function P.info self.old address) }
+        ensures early { OnErr result (IsCutShort P.info self.old self.new (address ∷ [])) }
         ensures gains { OnlyGainsBroken P.info self.old self.new }
     {
         if let Some(function) = self.next_function(address)? {
@@ -112,12 +114,12 @@ impl<'a, P: ModuleProvider> Context<'a, P> {
         Ok(())
     }
 
-    /// The function over an address, by [`Context::find_function`].
+    // The function over an address, by [`Context::find_function`].
     pub(crate) fn next_function(&mut self, address: u32) -> Result<Option<Function>>
         ensures answer { MatchResult result
             (λ found. option_map function_view found ≡ function_at P.info self.old.inputs address)
             (λ e. e ≡ OutOfMemory) }
-        ensures shown { OnOk result (self.new ≡ after_function P.info self.old address) }
+        ensures state { OnOk result (self.new ≡ after_function P.info self.old address) }
         ensures gains { OnlyGainsBroken P.info self.old self.new }
     {
         self.find_function(address)

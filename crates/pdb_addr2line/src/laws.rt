@@ -62,30 +62,30 @@ pub use pdb_types::laws::{
 
 /// Where frames are answered, there is at least one, and the last is that of the function over the address.
 pub fn frames_end_in_the_function<P: ModuleProvider>()
-    ensures { (s : ContextInputs P) (address : ℕ) (found : FoundFunction) (shown : FramesInfo)
+    ensures { (s : ContextInputs P) (address : ℕ) (found : FoundFunction) (frames_info : FramesInfo)
         → found_at P.info s address ≡ Some found
-        → frames_at P.info s address ≡ Ok (Some shown)
-        → EndIn shown.frames (function_name P.info s.type_inputs (global_functions_of s) found) }
+        → frames_at P.info s address ≡ Ok (Some frames_info)
+        → EndIn frames_info.frames (function_name P.info s.type_inputs (global_functions_of s) found) }
 {}
 
 /// Where frames are answered, there is one for each depth at which the rows of inline sites of the function cover
 /// the address, and one more, that of the function itself. So no inlined body is left out.
 pub fn frames_have_all_levels<P: ModuleProvider>()
     ensures { (s : ContextInputs P) (address : ℕ) (section_offset : PdbInternalSectionOffset) (found : FoundFunction)
-        (shown : FramesInfo)
+        (frames_info : FramesInfo)
         → internal_offset s.address_map (record { 0 = address }) ≡ Some section_offset
         → found_at P.info s address ≡ Some found
-        → frames_at P.info s address ≡ Ok (Some shown)
-        → length shown.frames ≡ levels_over (records_of P.info s found) found section_offset.offset + 1 }
+        → frames_at P.info s address ≡ Ok (Some frames_info)
+        → length frames_info.frames ≡ levels_over (records_of P.info s found) found section_offset.offset + 1 }
 {}
 
 /// Where both a function and its frames are answered for an address, they start and end alike, and the last frame
 /// has the name of the function.
 pub fn functions_and_frames_agree<P: ModuleProvider>()
-    ensures { (s : ContextInputs P) (address : ℕ) (function : FunctionInfo) (shown : FramesInfo)
+    ensures { (s : ContextInputs P) (address : ℕ) (function : FunctionInfo) (frames_info : FramesInfo)
         → function_at P.info s address ≡ Some function
-        → frames_at P.info s address ≡ Ok (Some shown)
-        → Agree function shown }
+        → frames_at P.info s address ≡ Ok (Some frames_info)
+        → Agree function frames_info }
 {}
 
 /// Where for each depth one inline site of a procedure alone has ranges over an address, the site of each
@@ -94,16 +94,16 @@ pub fn functions_and_frames_agree<P: ModuleProvider>()
 pub fn frames_lie_directly_inside<P: ModuleProvider>()
     ensures { (s : ContextInputs P) (address : ℕ) (section_offset : PdbInternalSectionOffset) (module_index : ℕ)
         (p : ModuleProcedure)
-        (info : ModuleInfo) (shown : FramesInfo) (level : ℕ) (frame under : FrameInfo)
+        (info : ModuleInfo) (frames_info : FramesInfo) (level : ℕ) (frame inner : FrameInfo)
         → internal_offset s.address_map (record { 0 = address }) ≡ Some section_offset
         → found_at P.info s address ≡ Some (found_procedure module_index p)
         → records_of P.info s (found_procedure module_index p) ≡ Some info
-        → frames_at P.info s address ≡ Ok (Some shown)
+        → frames_at P.info s address ≡ Ok (Some frames_info)
         → IsSoleOver (inlinee_ids info.inlinees.items) (sites_of info p) section_offset.offset
-        → slice_get (reverse shown.frames) (level + 1) ≡ Some frame
-        → slice_get (reverse shown.frames) (level + 2) ≡ Some under
+        → slice_get (reverse frames_info.frames) (level + 1) ≡ Some frame
+        → slice_get (reverse frames_info.frames) (level + 2) ≡ Some inner
         → AreNestedFrames s.strings
-        (id_name P.info s.type_inputs module_index) info p section_offset.offset level frame under }
+        (id_name P.info s.type_inputs module_index) info p section_offset.offset level frame inner }
 {}
 
 /// Which parts of the records failed before changes no answer but an error: in any list of calls, an answer is

@@ -1,8 +1,7 @@
-//! Turns addresses of a Windows program into functions, files, lines and stacks of inlined calls, over the
-//! records of its program database.
+//! Turns addresses of a Windows program into functions, files, lines and stacks of inlined calls.
 //!
-//! Records come from a reader as a [`pdb::PDB`]. [`ContextPdbData`] holds them, and makes a [`Context`]
-//! that answers questions:
+//! It does so over the records of a program database, which come from a reader as a [`pdb::PDB`].
+//! [`ContextPdbData`] holds them, and makes a [`Context`] that answers questions:
 //!
 //! ```
 //! let data = ContextPdbData::try_from_pdb(alloc, records)?;

@@ -1,3 +1,5 @@
+//! Look-ups of an address: the function over it, and the frames of the calls that were inlined there.
+
 ghost use Rattle.std.specs.Prelude.{◌≡◌, ◌≢◌, Ok, None, find, option_map, IfOk, OnOk, IfErr, MatchResult};
 ghost use Rattle.std.specs.Option.{option_copied};
 ghost use Rattle.pdb_types.specs.Outcomes.{Gives};
@@ -24,8 +26,8 @@ use crate::context::Context;
 use pdb_frames::{CodePart, FunctionFrames, function_module};
 use pdb_function_info::{Function, function_info};
 use pdb_functions::{
-    ContributionTable, GlobalFunctionTable, ModuleSectionContribution, ProcedureSymbolFunction,
-    PublicOrProcedureSymbol, global_function_in,
+    ContributionTable, FoundFunction, GlobalFunctionTable, ModuleSectionContribution,
+    ProcedureSymbolFunction, global_function_in,
 };
 use pdb_records::{ModuleInfo, PdbInternalSectionOffset, Rva};
 use pdb_types::{Error, ModuleProvider, Result};
@@ -39,7 +41,7 @@ impl<'a, P: ModuleProvider> Context<'a, P> {
     ///
     /// # Errors
     ///
-    /// [`Error::OutOfMemory`] alone.
+    /// Answers `OutOfMemory` where memory runs out.
     pub fn find_function(&mut self, address: u32) -> Result<Option<Function>>
         ensures answer { MatchResult result
             (λ found. option_map function_view found ≡ function_at P.info self.old.inputs address)
@@ -80,7 +82,7 @@ impl<'a, P: ModuleProvider> Context<'a, P> {
             (self.new.failed ≡ failed_after_frames P.info self.old.inputs address self.old.failed) }
         ensures code_failed { ButForMemory result
             (self.new.code_failed ≡ code_failed_after P.info self.old address) }
-        ensures code_unchanged { IfErr result (λ e. e ≡ OutOfMemory → self.new.code_failed ≡ self.old.code_failed) }
+        ensures unchanged { IfErr result (λ e. e ≡ OutOfMemory → self.new.code_failed ≡ self.old.code_failed) }
         ensures broken { GainsBroken P.info self.old.inputs.type_inputs self.old.failed self.new.failed }
         // Outside every section and every contribution no memory is needed.
         ensures outside { contribution_at self.old.inputs address ≡ None
@@ -95,16 +97,16 @@ impl<'a, P: ModuleProvider> Context<'a, P> {
         }
     }
 
-    /// The frames info of a function that was found, at an offset: a part of the records of code that
-    /// refuses them is remembered.
+    // The frames info of a function that was found, at an offset: a part of the records of code that
+    // refuses them is remembered.
     fn frames_answer(
         &mut self,
-        found: PublicOrProcedureSymbol<'a>,
+        found: FoundFunction<'a>,
         offset: u32,
     ) -> Result<Option<FunctionFrames<'a>>>
         requires named { GoesBySymbol (P.info self.old.inputs.provider) self.old.inputs.type_inputs.modules
             (found_function found) }
-        ensures shown { let blamed = blamed_for P.info self.old.inputs (found_function found.entry) in
+        ensures answer { let blamed = blamed_for P.info self.old.inputs (found_function found.entry) in
             Gives (λ f. f) result (answered_refusal self.old.code_failed blamed
             (frames_of P.info self.old.inputs offset (found_function found.entry))) }
         ensures inputs { self.new.inputs ≡ self.old.inputs }
@@ -113,7 +115,7 @@ impl<'a, P: ModuleProvider> Context<'a, P> {
         ensures code_failed { let blamed = blamed_for P.info self.old.inputs (found_function found.entry) in
             ButForMemory result (self.new.code_failed ≡ failed_by_refusal self.old.code_failed blamed
             (frames_of P.info self.old.inputs offset (found_function found.entry))) }
-        ensures code_unchanged { IfErr result (λ e. e ≡ OutOfMemory → self.new.code_failed ≡ self.old.code_failed) }
+        ensures unchanged { IfErr result (λ e. e ≡ OutOfMemory → self.new.code_failed ≡ self.old.code_failed) }
         ensures broken { GainsBroken P.info self.old.inputs.type_inputs self.old.failed self.new.failed }
     {
         let module_info = self.readable_info(function_module(found))?;
@@ -126,10 +128,10 @@ impl<'a, P: ModuleProvider> Context<'a, P> {
         }
     }
 
-    /// The part that is to blame where the frames of a function that was found are refused, by the records of its
-    /// module.
-    fn part_blamed(&mut self, found: PublicOrProcedureSymbol<'a>) -> Result<Option<CodePart>>
-        ensures blamed { MatchResult result
+    // The part that is to blame where the frames of a function that was found are refused, by the records of its
+    // module.
+    fn part_blamed(&mut self, found: FoundFunction<'a>) -> Result<Option<CodePart>>
+        ensures answer { MatchResult result
             (λ part. part ≡ blamed_for P.info self.old.inputs (found_function found.entry))
             (λ e. e ≡ OutOfMemory) }
         ensures unchanged { self.new ≡ self.old }
@@ -139,11 +141,12 @@ impl<'a, P: ModuleProvider> Context<'a, P> {
         Ok(blamed)
     }
 
-    /// The error that is answered where a part is to blame, which is remembered. Out of memory is no part's.
+    // The error that is answered where a part is to blame, which is remembered. Answers `OutOfMemory` where memory
+    // runs out, which no part is to blame for.
     fn error_to_answer(&mut self, blamed: Option<CodePart>, error: Error) -> Result<Error>
-        ensures known { IfOk result (λ e. error ≢ OutOfMemory) }
-        ensures shown { IfOk result (λ e. e ≡ answered_error self.old.code_failed blamed error) }
-        ensures added { OnOk result (self.new
+        ensures no_want_of_memory { IfOk result (λ e. error ≢ OutOfMemory) }
+        ensures answer { IfOk result (λ e. e ≡ answered_error self.old.code_failed blamed error) }
+        ensures state { OnOk result (self.new
             ≡ record self.old { code_failed = with_blamed self.old.code_failed blamed }) }
         ensures refused { IfErr result (λ e. (e ≡ OutOfMemory) × (self.new ≡ self.old)) }
     {
@@ -157,10 +160,10 @@ impl<'a, P: ModuleProvider> Context<'a, P> {
         }
     }
 
-    /// The frames info of a function that was found, at an offset, by the records of its module.
+    // The frames info of a function that was found, at an offset, by the records of its module.
     fn frames_info(
         &mut self,
-        found: PublicOrProcedureSymbol<'a>,
+        found: FoundFunction<'a>,
         module_info: Option<&'a ModuleInfo>,
         offset: u32,
     ) -> Result<Option<FunctionFrames<'a>>>
@@ -168,7 +171,7 @@ impl<'a, P: ModuleProvider> Context<'a, P> {
             (found_function found) }
         requires records { option_copied module_info
             ≡ records_of P.info self.old.inputs (found_function found) }
-        ensures shown { Gives (λ f. f) result
+        ensures answer { Gives (λ f. f) result
             (frames_of P.info self.old.inputs offset (found_function found.entry)) }
         ensures inputs { self.new.inputs ≡ self.old.inputs }
         ensures failed { ButForMemory result (self.new.failed
@@ -188,11 +191,11 @@ impl<'a, P: ModuleProvider> Context<'a, P> {
         )
     }
 
-    /// The function info of a function that lies over a section offset.
-    fn function_info(&mut self, found: PublicOrProcedureSymbol<'a>) -> Result<Option<Function>>
+    // The function info of a function that lies over a section offset.
+    fn function_info(&mut self, found: FoundFunction<'a>) -> Result<Option<Function>>
         requires named { GoesBySymbol (P.info self.old.inputs.provider) self.old.inputs.type_inputs.modules
             (found_function found) }
-        ensures shown { MatchResult result
+        ensures answer { MatchResult result
             (λ f. option_map function_view f ≡ info_of P.info self.old.inputs.type_inputs self.old.inputs.address_map
             (global_functions_of self.old.inputs) (found_function found.entry))
             (λ e. e ≡ OutOfMemory) }
@@ -212,27 +215,29 @@ impl<'a, P: ModuleProvider> Context<'a, P> {
         )
     }
 
-    /// The section offset of an address.
+    // The section offset of an address.
     fn section_offset_of(&self, address: u32) -> Option<PdbInternalSectionOffset>
         ensures { result ≡ internal_offset self.now.inputs.address_map (record { 0 = address }) }
     {
-        self.tables.section_offsets.section_offset_of(Rva(address))
+        self.tables.section_table.section_offset_of(Rva(address))
     }
 
+    // The merged contributions.
     fn contributions(&self) -> &ContributionTable
         ensures { result.now ≡ contributions_of self.now.inputs }
     {
         &self.tables.contributions
     }
 
+    // The global functions.
     fn global_functions(&self) -> &GlobalFunctionTable<'a>
         ensures { result.now ≡ global_functions_of self.now.inputs }
     {
         &self.tables.global_functions
     }
 
-    /// What lies over an address.
-    fn found(&mut self, address: u32) -> Result<Option<PublicOrProcedureSymbol<'a>>>
+    // What lies over an address.
+    fn found(&mut self, address: u32) -> Result<Option<FoundFunction<'a>>>
         ensures answer { MatchResult result
             (λ found. option_map found_function found ≡ found_at P.info self.old.inputs address)
             (λ e. e ≡ OutOfMemory) }
@@ -245,11 +250,11 @@ impl<'a, P: ModuleProvider> Context<'a, P> {
         }
     }
 
-    /// What lies over a section offset.
+    // What lies over a section offset.
     fn found_over(
         &mut self,
         section_offset: PdbInternalSectionOffset,
-    ) -> Result<Option<PublicOrProcedureSymbol<'a>>>
+    ) -> Result<Option<FoundFunction<'a>>>
         ensures answer { MatchResult result
             (λ found. option_map found_function found
             ≡ function_over (P.info self.old.inputs.provider) self.old.inputs.type_inputs.modules
@@ -265,12 +270,12 @@ impl<'a, P: ModuleProvider> Context<'a, P> {
         }
     }
 
-    /// What lies over a section offset in a contribution.
+    // What lies over a section offset in a contribution.
     fn function_in(
         &mut self,
         section_offset: PdbInternalSectionOffset,
         contribution: ModuleSectionContribution,
-    ) -> Result<Option<PublicOrProcedureSymbol<'a>>>
+    ) -> Result<Option<FoundFunction<'a>>>
         ensures answer { MatchResult result
             (λ found. option_map found_function found
             ≡ function_in_contribution (P.info self.old.inputs.provider) self.old.inputs.type_inputs.modules
@@ -280,13 +285,13 @@ impl<'a, P: ModuleProvider> Context<'a, P> {
     {
         let module_index = contribution.module_index;
         if let Some(procedure) = self.procedure_in(section_offset, module_index)? {
-            return Ok(Some(PublicOrProcedureSymbol::Procedure(module_index, procedure)));
+            return Ok(Some(FoundFunction::Procedure(module_index, procedure)));
         }
         let function = self.global_functions().function_over(section_offset);
         Ok(global_function_in(contribution, function))
     }
 
-    /// The procedure of a module over a section offset.
+    // The procedure of a module over a section offset.
     fn procedure_in(
         &mut self,
         section_offset: PdbInternalSectionOffset,
@@ -307,7 +312,7 @@ impl<'a, P: ModuleProvider> Context<'a, P> {
         }
     }
 
-    /// The records of the module at a module index, where there are any and its symbols have no fault.
+    // The records of the module at a module index, where there are any and its symbols have no fault.
     fn readable_info(&mut self, module_index: usize) -> Result<Option<&'a ModuleInfo>>
         ensures answer { MatchResult result
             (λ info. option_copied info

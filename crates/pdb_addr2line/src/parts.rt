@@ -1,4 +1,4 @@
-//! The parts that a [`Context`](crate::Context) is made of, for callers who need one of them alone.
+//! What a [`Context`](crate::Context) is made of, for callers who need one of its tables alone.
 
 pub use pdb_frames::compute_procedure_inline_ranges;
 pub use pdb_functions::{

@@ -1,3 +1,5 @@
+//! Answers a list of calls, one after the other.
+
 ghost use Rattle.std.specs.Prelude.{◌≡◌, ◌≢◌, ◌∷◌, [], IfOk, OnOk, IfErr, OnErr, MatchResult};
 ghost use Rattle.pdb_types.specs.FailedParts.{with_met};
 ghost use Rattle.pdb_types.specs.TypeSizes.{size_of};
@@ -15,10 +17,10 @@ use crate::context::Context;
 use pdb_records::{IdIndex, TypeIndex};
 use pdb_types::{Error, ModuleProvider, Result};
 
-/// An error that stands in the place of an answer. Out of memory doesn't.
-fn answered_error(error: Error) -> Result<Error>
+// An error that stands in the place of an answer. Answers `OutOfMemory` where memory runs out.
+fn unless_out_of_memory(error: Error) -> Result<Error>
     ensures { MatchResult result
-        (λ shown. (shown ≡ error) × (error ≢ OutOfMemory))
+        (λ answered. (answered ≡ error) × (error ≢ OutOfMemory))
         (λ e. (e ≡ OutOfMemory) × (error ≡ OutOfMemory)) }
 {
     match error {
@@ -35,7 +37,7 @@ impl<'a, P: ModuleProvider> Context<'a, P> {
     ///
     /// # Errors
     ///
-    /// [`Error::OutOfMemory`] alone. The list then ends with the answers of the calls before the one for
+    /// Answers `OutOfMemory` where memory runs out. The list then ends with the answers of the calls before the one for
     /// which there was no memory, and that one can be asked again.
     pub fn run_calls(&mut self, calls: &[Call<'_>], answers: &mut Vec<Answer<'a>>) -> Result<()>
         // Every call in any list answers as a plain scan of the records, save that a part that failed before
@@ -44,7 +46,7 @@ impl<'a, P: ModuleProvider> Context<'a, P> {
             (Appends answers.old.items answers.new.items (answers_to P.info self.old calls.now)) }
         ensures state { OnOk result (self.new ≡ after_calls P.info self.old calls.now) }
         ensures memory { IfErr result (λ e. e ≡ OutOfMemory) }
-        ensures stopped { OnErr result
+        ensures early { OnErr result
             (StopsEarly P.info self.old calls.now answers.old.items answers.new.items self.new) }
     {
         for call in calls {
@@ -53,14 +55,14 @@ impl<'a, P: ModuleProvider> Context<'a, P> {
         Ok(())
     }
 
-    /// Answers a call, and appends the answer.
+    // Answers a call, and appends the answer.
     fn append_answer(&mut self, call: Call<'_>, answers: &mut Vec<Answer<'a>>) -> Result<()>
-        ensures answered { OnOk result
+        ensures answers { OnOk result
             (Appends answers.old.items answers.new.items (answer_to P.info self.old call.entry ∷ [])) }
         ensures state { OnOk result (self.new ≡ after_call P.info self.old call.entry) }
         ensures memory { IfErr result (λ e. e ≡ OutOfMemory) }
-        ensures unchanged { OnErr result (answers.new.items ≡ answers.old.items) }
-        ensures not_made { OnErr result (OnlyGainsBroken P.info self.old self.new) }
+        ensures unchanged_if_refused { OnErr result (answers.new.items ≡ answers.old.items) }
+        ensures gains { OnErr result (OnlyGainsBroken P.info self.old self.new) }
     {
         answers.reserve(1)?;
         let answer = self.answer(call)?;
@@ -70,12 +72,12 @@ impl<'a, P: ModuleProvider> Context<'a, P> {
         }
     }
 
-    /// The answer to a call.
+    // The answer to a call.
     fn answer(&mut self, call: Call<'_>) -> Result<Answer<'a>>
         ensures answer { IfOk result (λ a. answer_view a ≡ answer_to P.info self.old call.entry) }
         ensures state { OnOk result (self.new ≡ after_call P.info self.old call.entry) }
         ensures memory { IfErr result (λ e. e ≡ OutOfMemory) }
-        ensures not_made { OnErr result (OnlyGainsBroken P.info self.old self.new) }
+        ensures gains { OnErr result (OnlyGainsBroken P.info self.old self.new) }
     {
         match call {
             Call::FindFunction(address) => self.answer_function(address),
@@ -90,57 +92,57 @@ impl<'a, P: ModuleProvider> Context<'a, P> {
         }
     }
 
-    /// The function over an address.
+    // The function over an address.
     fn answer_function(&mut self, address: u32) -> Result<Answer<'a>>
         ensures answer { IfOk result (λ a. answer_view a
             ≡ FunctionView (function_at P.info self.old.inputs address)) }
         ensures state { OnOk result (self.new ≡ after_function P.info self.old address) }
         ensures memory { IfErr result (λ e. e ≡ OutOfMemory) }
-        ensures not_made { OnErr result (OnlyGainsBroken P.info self.old self.new) }
+        ensures gains { OnErr result (OnlyGainsBroken P.info self.old self.new) }
     {
         let function = self.next_function(address)?;
         Ok(Answer::Function(function))
     }
 
-    /// The frames over an address, or the error in their place.
+    // The frames over an address, or the error in their place.
     fn answer_frames(&mut self, address: u32) -> Result<Answer<'a>>
         ensures answer { IfOk result (λ a. answer_view a ≡ FramesView (frames_answered P.info self.old address)) }
         ensures state { OnOk result (self.new ≡ after_frames P.info self.old address) }
         ensures memory { IfErr result (λ e. e ≡ OutOfMemory) }
-        ensures not_made { OnErr result (OnlyGainsBroken P.info self.old self.new) }
+        ensures gains { OnErr result (OnlyGainsBroken P.info self.old self.new) }
     {
         match self.find_frames(address) {
             Ok(frames) => Ok(Answer::Frames(Ok(frames))),
-            Err(error) => Ok(Answer::Frames(Err(answered_error(error)?))),
+            Err(error) => Ok(Answer::Frames(Err(unless_out_of_memory(error)?))),
         }
     }
 
-    /// All functions.
+    // All functions.
     fn answer_functions(&mut self) -> Result<Answer<'a>>
         ensures answer { IfOk result (λ a. answer_view a ≡ FunctionsView (functions_of P.info self.old.inputs)) }
         ensures state { OnOk result (self.new
             ≡ after_functions P.info self.old (start_addresses P.info self.old.inputs)) }
         ensures memory { IfErr result (λ e. e ≡ OutOfMemory) }
-        ensures not_made { OnErr result (OnlyGainsBroken P.info self.old self.new) }
+        ensures gains { OnErr result (OnlyGainsBroken P.info self.old self.new) }
     {
         let functions = self.all_functions()?;
         Ok(Answer::Functions(functions))
     }
 
-    /// The size of a type.
+    // The size of a type.
     fn answer_size(&mut self, module_index: usize, index: TypeIndex) -> Result<Answer<'a>>
         ensures answer { IfOk result (λ a. answer_view a
             ≡ SizeView (size_of P.info self.old.inputs.type_inputs module_index index.0).size) }
         ensures state { OnOk result (self.new ≡ with_failed self.old
             (with_met self.old.failed (size_of P.info self.old.inputs.type_inputs module_index index.0).met)) }
         ensures memory { IfErr result (λ e. e ≡ OutOfMemory) }
-        ensures unchanged { OnErr result (self.new ≡ self.old) }
+        ensures unchanged_if_refused { OnErr result (self.new ≡ self.old) }
     {
         let size = self.names.get_type_size(module_index, index)?;
         Ok(Answer::Size(size))
     }
 
-    /// The signature of a function, or the error in its place.
+    // The signature of a function, or the error in its place.
     fn answer_signature(
         &mut self,
         name: &str,
@@ -154,15 +156,15 @@ impl<'a, P: ModuleProvider> Context<'a, P> {
             let run = signature_run P.info type_inputs module_index name.now index.0 self.old.failed in
             OnOk result (self.new ≡ with_failed self.old run.failed) }
         ensures memory { IfErr result (λ e. e ≡ OutOfMemory) }
-        ensures not_made { OnErr result (OnlyGainsBroken P.info self.old self.new) }
+        ensures gains { OnErr result (OnlyGainsBroken P.info self.old self.new) }
     {
         match self.names.format_function(name, module_index, index) {
             Ok(text) => Ok(Answer::Text(Ok(text))),
-            Err(error) => Ok(Answer::Text(Err(answered_error(error)?))),
+            Err(error) => Ok(Answer::Text(Err(unless_out_of_memory(error)?))),
         }
     }
 
-    /// The text of an id, or the error in its place.
+    // The text of an id, or the error in its place.
     fn answer_id(&mut self, module_index: usize, index: IdIndex) -> Result<Answer<'a>>
         ensures answer { let type_inputs = self.old.inputs.type_inputs in
             let run = id_run P.info type_inputs module_index index.0 self.old.failed in
@@ -171,11 +173,11 @@ impl<'a, P: ModuleProvider> Context<'a, P> {
             let run = id_run P.info type_inputs module_index index.0 self.old.failed in
             OnOk result (self.new ≡ with_failed self.old run.failed) }
         ensures memory { IfErr result (λ e. e ≡ OutOfMemory) }
-        ensures not_made { OnErr result (OnlyGainsBroken P.info self.old self.new) }
+        ensures gains { OnErr result (OnlyGainsBroken P.info self.old self.new) }
     {
         match self.names.format_id(module_index, index) {
             Ok(text) => Ok(Answer::Text(Ok(text))),
-            Err(error) => Ok(Answer::Text(Err(answered_error(error)?))),
+            Err(error) => Ok(Answer::Text(Err(unless_out_of_memory(error)?))),
         }
     }
 }

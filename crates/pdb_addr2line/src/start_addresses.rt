@@ -1,3 +1,5 @@
+//! The addresses at which functions start, by the global functions and the procedures of all modules.
+
 ghost use Rattle.std.specs.Prelude.{◌≡◌, map, OnOk, MatchResult};
 ghost use Rattle.pdb_types.specs.declared.error.Error.TheVariants.{OutOfMemory};
 ghost use Rattle.pdb_functions.specs.GlobalFunctions.{global_function};
@@ -6,15 +8,13 @@ ghost use Rattle.pdb_functions.specs.Procedures.{module_procedure};
 ghost use Rattle.pdb_addr2line.specs.Functions.{procedures_of_modules, with_start, with_starts, start_addresses};
 
 use crate::context::Context;
-use pdb_functions::{
-    BasicModuleInfoCache, ProcedureSymbolFunction, PublicSymbolFunctionOrPlaceholder,
-};
+use pdb_functions::{BasicModuleInfoCache, GlobalFunction, ProcedureSymbolFunction};
 use pdb_records::{AddressMap, Module, PdbInternalSectionOffset};
 use pdb_types::{ModuleProvider, Result};
 use std::alloc::{AllocError, Global};
 use std::collections::BTreeSet;
 
-/// Adds the address of a section offset, where it has one.
+// Adds the address of a section offset, where it has one.
 fn add_start(
     starts: &mut BTreeSet<u32>,
     address_map: &AddressMap,
@@ -28,11 +28,11 @@ fn add_start(
     Ok(())
 }
 
-/// Adds where global functions start.
+// Adds where global functions start.
 fn add_global_starts(
     starts: &mut BTreeSet<u32>,
     address_map: &AddressMap,
-    functions: &[PublicSymbolFunctionOrPlaceholder<'_>],
+    functions: &[GlobalFunction<'_>],
 ) -> Result<(), AllocError>
     ensures { OnOk result (starts.new.keys
         ≡ with_starts address_map.now starts.old.keys (map (λ f. f.start) (map global_function functions.now))) }
@@ -43,7 +43,7 @@ fn add_global_starts(
     Ok(())
 }
 
-/// Adds where procedures start.
+// Adds where procedures start.
 fn add_procedure_starts(
     starts: &mut BTreeSet<u32>,
     address_map: &AddressMap,
@@ -58,7 +58,7 @@ fn add_procedure_starts(
     Ok(())
 }
 
-/// Adds where the procedures of the module at a module index start.
+// Adds where the procedures of the module at a module index start.
 fn add_starts_of_module<P: ModuleProvider>(
     starts: &mut BTreeSet<u32>,
     address_map: &AddressMap,
@@ -66,7 +66,7 @@ fn add_starts_of_module<P: ModuleProvider>(
     modules: &[Module],
     module_index: usize,
 ) -> Result<(), AllocError>
-    ensures added { OnOk result (starts.new.keys ≡ with_starts address_map.now starts.old.keys
+    ensures state { OnOk result (starts.new.keys ≡ with_starts address_map.now starts.old.keys
         (map (λ p. p.offset) (procedures_of_module (P.info infos.old.provider) modules.now module_index))) }
     ensures provider { infos.new.provider ≡ infos.old.provider }
 {
@@ -76,7 +76,7 @@ fn add_starts_of_module<P: ModuleProvider>(
     }
 }
 
-/// Adds where the procedures of all modules start.
+// Adds where the procedures of all modules start.
 #[tactic(auto, using(crate::proofs::StartLemmas::with_starts_of_next))]
 fn add_module_starts<P: ModuleProvider>(
     starts: &mut BTreeSet<u32>,
@@ -84,7 +84,7 @@ fn add_module_starts<P: ModuleProvider>(
     infos: &mut BasicModuleInfoCache<'_, P>,
     modules: &[Module],
 ) -> Result<(), AllocError>
-    ensures added { OnOk result (starts.new.keys ≡ with_starts address_map.now starts.old.keys
+    ensures state { OnOk result (starts.new.keys ≡ with_starts address_map.now starts.old.keys
         (map (λ p. p.offset) (procedures_of_modules (P.info infos.old.provider) 0 modules.now))) }
     ensures provider { infos.new.provider ≡ infos.old.provider }
 {
@@ -100,9 +100,9 @@ impl<'a, P: ModuleProvider> Context<'a, P> {
     ///
     /// # Errors
     ///
-    /// [`Error::OutOfMemory`](crate::Error::OutOfMemory) alone.
+    /// Answers `OutOfMemory` where memory runs out.
     pub fn start_addresses(&mut self) -> Result<Vec<u32>>
-        ensures addresses { MatchResult result
+        ensures answer { MatchResult result
             (λ v. v.items ≡ start_addresses P.info self.old.inputs)
             (λ e. e ≡ OutOfMemory) }
         ensures unchanged { self.new ≡ self.old }
@@ -116,10 +116,10 @@ impl<'a, P: ModuleProvider> Context<'a, P> {
         Ok(starts)
     }
 
-    /// The same, by the records.
+    // The same, by the records.
     #[tactic(auto, using(crate::proofs::StartLemmas::with_starts_append))]
     fn find_start_addresses(&mut self) -> Result<Vec<u32>>
-        ensures addresses { MatchResult result
+        ensures answer { MatchResult result
             (λ v. v.items ≡ start_addresses P.info self.old.inputs)
             (λ e. e ≡ OutOfMemory) }
         ensures unchanged { self.new ≡ self.old }

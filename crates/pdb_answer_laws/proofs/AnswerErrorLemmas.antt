@@ -151,11 +151,11 @@ either_error true e e' one two = one
 either_error false e e' one two = two
 
 -- what is answered for a refusal
-refused_as_shown : {A : Type 0} (failed : CodeParts) (p : Option CodePart) (answer : Result A Error)
+refused_as_answered : {A : Type 0} (failed : CodeParts) (p : Option CodePart) (answer : Result A Error)
     → IsRefusedByCode answer → IsRefusedByCode (answered_refusal failed p answer)
-refused_as_shown failed p (Ok answer) refused = tt
-refused_as_shown failed None (Err e) refused = refused
-refused_as_shown failed (Some p) (Err e) refused =
+refused_as_answered failed p (Ok answer) refused = tt
+refused_as_answered failed None (Err e) refused = refused
+refused_as_answered failed (Some p) (Err e) refused =
     either_error (has_code_failed failed p) (unsuccessful_code p) e (refused_part p) refused
 
 -- a text that was printed, or the error in its place
@@ -170,7 +170,7 @@ printed_or_refused r refused = by_fault r.fault refl where
 holds_one : {P : Type 0} (info : P → ProviderInfos) (c : ContextState P) (call : Call)
     → HoldsErrorOfRecords (answer_to info c call)
 holds_one info c (FindFunction address) = tt
-holds_one info c (FindFrames address) = refused_as_shown c.code_failed _ (frames_at info c.inputs address)
+holds_one info c (FindFrames address) = refused_as_answered c.code_failed _ (frames_at info c.inputs address)
     (refused_at info c.inputs address)
 holds_one info c Functions = tt
 holds_one info c FunctionCount = tt

@@ -1,5 +1,6 @@
-//! What an answer may hold in place of frames or of a text, and nothing else: out of memory and a writer's
-//! refusal are the calls' own.
+//! What an answer may hold in place of frames or of a text, and nothing else.
+//!
+//! Out of memory and a writer's refusal are the calls' own.
 
 ghost use Rattle.std.specs.Prelude.{List};
 ghost use Rattle.std.specs.List.{AllByRecursion};

@@ -1,4 +1,4 @@
-//! Laws on the answers of a context: what follows from the definitions of the crates below, in words of their own.
+//! Laws on the answers of a context, which follow from the definitions of the crates below.
 //!
 //! Each function here does nothing. Its contract is a law, for all records, and the check proves it.
 #![tactic(auto)]

@@ -27,14 +27,14 @@ use Rattle.pdb_c.specs.Refusals.{refusal_of_report}
 use Rattle.std.specs.Result.{IsErrAnd}
 use Rattle.pdb_c.specs.Texts.{with_refusal, text_over, Agrees}
 
--- two texts in a row, of which the second has an error wherever a part of it is a text
-joined_refused : (first part rest : Result (List ℕ) Error) (error : Error) (texts : List ℕ)
-    → and_then first (λ a. and_then part (λ b. Ok (a ++ b))) ≡ Ok texts
-    → ((b : List ℕ) → part ≡ Ok b → rest ≡ Err error)
+-- two texts in a row, of which the second has an error wherever its start is a text
+joined_refused : (first front rest : Result (List ℕ) Error) (error : Error) (texts : List ℕ)
+    → and_then first (λ a. and_then front (λ b. Ok (a ++ b))) ≡ Ok texts
+    → ((b : List ℕ) → front ≡ Ok b → rest ≡ Err error)
     → and_then first (λ a. and_then rest (λ b. Ok (a ++ b))) ≡ Err error
 joined_refused (Ok a) (Ok b) rest error texts joined refused = rw (refused b refl) refl
 joined_refused (Ok a) (Err e) rest error texts joined refused = absurd cc
-joined_refused (Err e) part rest error texts joined refused = absurd cc
+joined_refused (Err e) front rest error texts joined refused = absurd cc
 
 -- a text that has an error, and whatever follows it
 first_refused : (first : Result (List ℕ) Error) (error : Error) (next : List ℕ → Result (List ℕ) Error)

@@ -1,9 +1,11 @@
+//! Writes a text into the caller's buffer, or answers the number of the refusal.
+
 ghost use Rattle.std.specs.Prelude.{Ok};
 ghost use Rattle.pdb_c.specs.Answers.{Answers, gathered};
 
 use crate::refusals::Refusal;
 
-/// Writes a text to the start of the caller's buffer where it fits there, says its length, and answers it.
+// Writes a text to the start of the caller's buffer where it fits there, says its length, and answers it.
 fn write_text(text: &[u8], buffer: &mut [u8], wanted: &mut usize) -> i64
     ensures { Answers (Ok text.now) buffer.old buffer.new wanted.new result }
 {
@@ -16,7 +18,7 @@ fn write_text(text: &[u8], buffer: &mut [u8], wanted: &mut usize) -> i64
     length as i64
 }
 
-/// Writes what a call found to the caller's buffer, and answers the text's length, or the refusal's number.
+// Writes what a call found to the caller's buffer, and answers the text's length, or the refusal's number.
 pub(crate) fn answer(found: Result<Vec<u8>, Refusal>, buffer: &mut [u8], wanted: &mut usize) -> i64
     ensures { Answers (gathered found) buffer.old buffer.new wanted.new result }
 {

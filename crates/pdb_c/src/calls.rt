@@ -1,3 +1,5 @@
+//! The calls for C over the bytes of a records file.
+
 ghost use Rattle.pdb_report_lib.specs.declared.reports.Command.TheVariants.{Names, Frames};
 ghost use Rattle.pdb_c.specs.Answers.{Ends};
 ghost use Rattle.pdb_c.specs.Texts.{asked_text};

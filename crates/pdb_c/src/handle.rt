@@ -1,4 +1,4 @@
-//! The handle of an opening. It lies in memory of the caller's, and owns the records that it holds.
+//! The handle of an opening, which lies in memory of the caller's and owns the records that it holds.
 ghost use Rattle.std.specs.Prelude.{◌≡◌, Option, None, Some, option_map};
 ghost use Rattle.pdb_records.specs.Records.{Records};
 
@@ -28,7 +28,7 @@ impl Model for Handle {
 }
 
 impl Handle {
-    /// A handle that holds no records.
+    // A handle that holds no records.
     fn closed(alloc: Global) -> Handle
         ensures { result.held ≡ None }
     {
@@ -38,7 +38,7 @@ impl Handle {
         }
     }
 
-    /// A handle that holds these records.
+    // A handle that holds these records.
     fn holding(records: Loose<ContextPdbData<'static>, Global>) -> Handle
         ensures { result.held ≡ Some records.entry.value }
     {
@@ -49,7 +49,7 @@ impl Handle {
         }
     }
 
-    /// The records that the handle held, if it held any.
+    // The records that the handle held, if it held any.
     fn into_loose(self) -> Option<Loose<ContextPdbData<'static>, Global>>
         ensures { option_map (λ records. records.value) result ≡ self.held }
     {
@@ -64,10 +64,10 @@ impl Handle {
         }
     }
 
-    /// Holds from now on what another handle holds, and hands out what it held before.
+    // Holds from now on what another handle holds, and hands out what it held before.
     fn exchange(&mut self, next: Handle) -> Option<Box<ContextPdbData<'static>>>
-        ensures taken { option_map (λ records. records.value) result ≡ self.old.held }
-        ensures held { self.new.held ≡ next.held }
+        ensures answer { option_map (λ records. records.value) result ≡ self.old.held }
+        ensures state { self.new.held ≡ next.held }
     {
         match replace(self, next).into_loose() {
             Some(records) => Some(records.into_box()),
@@ -75,22 +75,22 @@ impl Handle {
         }
     }
 
-    /// Hands out the records that are held, if there are any. The handle is closed from now on.
+    // Hands out the records that are held, if there are any. The handle is closed from now on.
     pub(crate) fn take(&mut self, alloc: Global) -> Option<Box<ContextPdbData<'static>>>
-        ensures taken { option_map (λ records. records.value) result ≡ self.old.held }
-        ensures closed { self.new.held ≡ None }
+        ensures answer { option_map (λ records. records.value) result ≡ self.old.held }
+        ensures state { self.new.held ≡ None }
     {
         self.exchange(Handle::closed(alloc))
     }
 
-    /// Holds these records from now on, and gives those back that were held before.
+    // Holds these records from now on, and gives those back that were held before.
     pub(crate) fn put(&mut self, records: Box<ContextPdbData<'static>>)
         ensures { self.new.held ≡ Some records.entry.value }
     {
         drop(self.exchange(Handle::holding(Loose::of(records))));
     }
 
-    /// Gives the records back that are held, if there are any.
+    // Gives the records back that are held, if there are any.
     pub(crate) fn close(&mut self, alloc: Global)
         ensures { self.new.held ≡ None }
     {

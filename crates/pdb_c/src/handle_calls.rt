@@ -1,3 +1,5 @@
+//! The calls for C that open records, ask about those that are open, and close them.
+
 ghost use Rattle.std.specs.Prelude.{◌≡◌, None};
 ghost use Rattle.pdb_report_lib.specs.declared.reports.Command.TheVariants.{Names, Frames};
 ghost use Rattle.pdb_c.specs.Answers.{Ends};
@@ -41,8 +43,9 @@ pub extern "C" fn limberlime_frames_of_unchecked(
     buffer: &mut [u8],
     wanted: &mut usize,
 ) -> i64
-    ensures text { Ends (text_of_handle Frames handle.old.held addresses.now) buffer.old buffer.new wanted.new result }
-    ensures held { handle.new.held ≡ handle.old.held }
+    ensures answer { Ends (text_of_handle Frames handle.old.held addresses.now)
+        buffer.old buffer.new wanted.new result }
+    ensures unchanged { handle.new.held ≡ handle.old.held }
 {
     let found = text_of_handle(alloc, Command::Frames, handle, addresses);
     answer(found, buffer, wanted)
@@ -58,8 +61,9 @@ pub extern "C" fn limberlime_names_of_unchecked(
     buffer: &mut [u8],
     wanted: &mut usize,
 ) -> i64
-    ensures text { Ends (text_of_handle Names handle.old.held addresses.now) buffer.old buffer.new wanted.new result }
-    ensures held { handle.new.held ≡ handle.old.held }
+    ensures answer { Ends (text_of_handle Names handle.old.held addresses.now)
+        buffer.old buffer.new wanted.new result }
+    ensures unchanged { handle.new.held ≡ handle.old.held }
 {
     let found = text_of_handle(alloc, Command::Names, handle, addresses);
     answer(found, buffer, wanted)

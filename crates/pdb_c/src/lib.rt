@@ -1,7 +1,7 @@
-//! The library for C, and for whatever calls C: reports over the bytes of a records file, as the program
-//! `pdb_report` prints them, written into a buffer of the caller's.
+//! The library for C: reports over the bytes of a records file, written into a buffer of the caller's.
 //!
-//! `include/limberlime.h` declares the calls, sees that no pointer is null, and names the numbers that they answer.
+//! Whatever calls C may call it, and a report is as the program `pdb_report` prints it. `include/limberlime.h`
+//! declares the calls, sees that no pointer is null, and names the numbers that they answer.
 #![tactic(auto)]
 
 mod answers;

@@ -12,7 +12,7 @@ use pdb_addr2line::pdb::PDB;
 use pdb_report_lib::Command;
 use std::alloc::Global;
 
-/// Refuses records that have no context.
+// Refuses records that have no context.
 fn check_context(context_data: &ContextPdbData<'_>) -> Result<(), Refusal>
     ensures { Agrees (λ _. context_data.now) result
         (if_made (context_of default_flags context_data.now) context_data.now) }
@@ -21,7 +21,7 @@ fn check_context(context_data: &ContextPdbData<'_>) -> Result<(), Refusal>
     Ok(())
 }
 
-/// These records, where they have a context.
+// These records, where they have a context.
 fn with_context(alloc: Global, records: PDB) -> Result<ContextPdbData<'static>, Refusal>
     ensures { Agrees (λ records. records) result (with_context records) }
 {
@@ -30,7 +30,7 @@ fn with_context(alloc: Global, records: PDB) -> Result<ContextPdbData<'static>, 
     Ok(context_data)
 }
 
-/// The records in the bytes of a records file, in memory of their own.
+// The records in the bytes of a records file, in memory of their own.
 pub(crate) fn records_to_open(
     alloc: Global,
     bytes: &[u8],
@@ -45,7 +45,7 @@ pub(crate) fn records_to_open(
     }
 }
 
-/// The text of a report over opened records, which has to be of at least one address.
+// The text of a report over opened records, which has to be of at least one address.
 fn text_of_opened(
     alloc: Global,
     command: Command,
@@ -60,15 +60,15 @@ fn text_of_opened(
     text_over(alloc, command, records, addresses)
 }
 
-/// The text of a report over the records that a handle holds, which it holds afterwards too.
+// The text of a report over the records that a handle holds, which it holds afterwards too.
 pub(crate) fn text_of_handle(
     alloc: Global,
     command: Command,
     handle: &mut Handle,
     addresses: &[u32],
 ) -> Result<Vec<u8>, Refusal>
-    ensures text { Agrees (λ text. text.items) result (text_of_handle command handle.old.held addresses.now) }
-    ensures held { handle.new.held ≡ handle.old.held }
+    ensures answer { Agrees (λ text. text.items) result (text_of_handle command handle.old.held addresses.now) }
+    ensures unchanged { handle.new.held ≡ handle.old.held }
 {
     let Some(records) = handle.take(alloc) else {
         return Err(Refusal::Closed);

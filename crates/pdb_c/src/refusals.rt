@@ -1,3 +1,5 @@
+//! Why a call wrote no text, and the numbers that stand for it.
+
 ghost use Rattle.std.specs.Prelude.{◌≡◌};
 ghost use Rattle.pdb_c.specs.Refusals.{code, refusal_of_fault, refusal_of_records, refusal_of_report};
 
@@ -29,7 +31,7 @@ pub enum Refusal {
 }
 
 impl Refusal {
-    /// The number that a call answers for it. The header has -1 for null pointers, which no call here is given.
+    // The number that a call answers for it. The header has -1 for null pointers, which no call here is given.
     pub(crate) fn code(self) -> i64
         ensures { result ≡ code self }
     {

@@ -1,3 +1,5 @@
+//! The text of a report, gathered in memory over the bytes of a records file or over records.
+
 ghost use Rattle.pdb_addr2line.specs.ContextData.{default_flags, context_of};
 ghost use Rattle.pdb_report_lib.specs.FileReports.{opened};
 ghost use Rattle.pdb_c.specs.Texts.{Agrees, records_in, text_over, text_in, asked_text};
@@ -9,7 +11,7 @@ use pdb_json::read_records;
 use pdb_report_lib::{Command, Out, report};
 use std::alloc::Global;
 
-/// The text of a report over records whose streams were read.
+// The text of a report over records whose streams were read.
 pub(crate) fn text_over(
     alloc: Global,
     command: Command,
@@ -25,7 +27,7 @@ pub(crate) fn text_over(
     Ok(out.into_inner())
 }
 
-/// The text of a report over records.
+// The text of a report over records.
 fn text_of_records(
     alloc: Global,
     command: Command,
@@ -38,7 +40,7 @@ fn text_of_records(
     text_over(alloc, command, &context_data, addresses)
 }
 
-/// The records in the bytes of a records file.
+// The records in the bytes of a records file.
 pub(crate) fn records_in(alloc: Global, bytes: &[u8]) -> Result<PDB, Refusal>
     ensures { Agrees (λ records. records) result (records_in bytes.now) }
 {
@@ -46,7 +48,7 @@ pub(crate) fn records_in(alloc: Global, bytes: &[u8]) -> Result<PDB, Refusal>
     Ok(records)
 }
 
-/// The text of a report over the bytes of a records file.
+// The text of a report over the bytes of a records file.
 fn text_in(
     alloc: Global,
     command: Command,
@@ -59,7 +61,7 @@ fn text_in(
     text_of_records(alloc, command, records, addresses)
 }
 
-/// The text that is asked for, which has to be of at least one address.
+// The text that is asked for, which has to be of at least one address.
 pub(crate) fn asked_text(
     alloc: Global,
     command: Command,

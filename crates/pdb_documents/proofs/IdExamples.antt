@@ -65,8 +65,8 @@ types struct_name =
 
 -- a program with these types and ids, printed with these flags
 abbrev pub program : ℕ → List ℕ → List (Item IdIndex IdData) → PrintInputs
-program chosen struct_name items = print_inputs_of link_inputs (record { items = types struct_name; fault = None })
-    (record { items = items; fault = None }) 8 (record { 0 = chosen }) 0
+program flags struct_name items = print_inputs_of link_inputs (record { items = types struct_name; fault = None })
+    (record { items = items; fault = None }) 8 (record { 0 = flags }) 0
 
 -- printing the id of this number does this
 pub record PrintingDoes (w : PrintInputs) (number : ℕ) (r : Run) : Type 0 where

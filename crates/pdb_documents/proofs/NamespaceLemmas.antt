@@ -18,8 +18,8 @@ digits-tested radix (byte ∷ bytes) digits = and_from _ _ (lt-ltb _ _ digits.0)
 tested-digits : (radix : ℕ) (bytes : List ℕ) → list_all (λ digit. is_digit digit radix) bytes ≡ true
     → AllDigits radix bytes
 tested-digits radix [] tested = tt
-tested-digits radix (byte ∷ bytes) tested = let parts =
-    and_parts _ _ tested in (ltb-true _ _ parts.0, tested-digits radix bytes parts.1)
+tested-digits radix (byte ∷ bytes) tested = let both =
+    and_parts _ _ tested in (ltb-true _ _ both.0, tested-digits radix bytes both.1)
 
 -- a text is a hash where it can be read as a number of 32 bits
 pub hash-parsed : {E : Type 0} (text : List ℕ) (parsed : Result ℕ E) → ParsesUnsigned 32 16 text parsed

@@ -1,4 +1,4 @@
--- What each rule leaves to be printed comes earlier: either less indices are free to open, or as many and the task
+-- What each rule leaves to be printed comes earlier: either fewer indices are free to open, or as many and the task
 -- ranks lower.
 use Rattle.std.proofs.Common.{◌≡◌, ℕ, ◌+◌, ◌<◌, ◌≤◌, ◌⊎◌, true, false, cond, List, [], ◌∷◌, refl}
 use Rattle.std.specs.Prelude.{Option, Some, None, Result, Ok, Err}
@@ -57,14 +57,14 @@ Before n inside task inside' task' = (room n inside' task' < room n inside task)
     ((room n inside' task' ≤ room n inside task) × (rank n task' < rank n task))
 
 -- what follows what is needed
-pub on_read-each : {A : Type 0} → (P : List ℕ → Task → Type 0) (entry : Result A ReadErrorView) (next : A → Plan)
-    → ((answer : A) → entry ≡ Ok answer → EachTask P (next answer)) → EachTask P (on_read entry next)
+pub on_read-each : {A : Type 0} → (P : List ℕ → Task → Type 0) (read : Result A ReadErrorView) (next : A → Plan)
+    → ((answer : A) → read ≡ Ok answer → EachTask P (next answer)) → EachTask P (on_read read next)
 on_read-each P (Ok answer) next each = each answer refl
 on_read-each P (Err read_error_view) next each = tt
 
 -- what follows what is printed where it stands
-pub on_printed-each : {A : Type 0} → (P : List ℕ → Task → Type 0) (entry : Result A ReadErrorView) (next : A → Plan)
-    → ((answer : A) → entry ≡ Ok answer → EachTask P (next answer)) → EachTask P (on_printed entry next)
+pub on_printed-each : {A : Type 0} → (P : List ℕ → Task → Type 0) (read : Result A ReadErrorView) (next : A → Plan)
+    → ((answer : A) → read ≡ Ok answer → EachTask P (next answer)) → EachTask P (on_printed read next)
 on_printed-each P (Ok answer) next each = each answer refl
 on_printed-each P (Err read_error_view) next each = tt
 
@@ -75,7 +75,7 @@ opened-each P inside i plan each =
     (elim (is_among i inside) as (λ b. is_among i inside ≡ b
     → EachTask P (cond b (circular i) plan)) [ true ↦ λ e. tt | false ↦ λ e. each e ]) refl
 
--- an index that opens and is read: less is free behind it
+-- an index that opens and is read: less is free after it
 pub opening-each : (n : ℕ) (w : PrintInputs) → IsBelow n w
     → (P : List ℕ → Task → Type 0) (inside : List ℕ) (i : ℕ) (next : List ℕ → TypeData → Plan)
     → ((type : TypeData) → free n (i ∷ inside) < free n inside → EachTask P (next (i ∷ inside) type))
@@ -111,7 +111,7 @@ pub on_list-each : (P : List ℕ → Task → Type 0) (w : PrintInputs) (m : Mem
     → EachTask P (on_list w m form inside type)
 on_list-each P w m form inside (ArgumentList list) each =
     on_read-each P (this_of w m.class_type m.this_pointer_type) (method_list w inside form list)
-    (λ this error_view. (
+    (λ this found. (
       tt,
       (
         types_between-each P (comma w.flags) inside (arguments_behind this.argument list) each,

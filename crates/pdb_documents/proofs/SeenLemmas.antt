@@ -51,13 +51,13 @@ base-added old new inserted more index pushed absent updates q =
     by_test false is there false was = refl
 
 -- what stands without the rest stays where the next of the rest is taken out
-pub base-removed : (old new : BTreeSet TypeIndex) (items : List TypeIndex) (i : ℕ) (index other : TypeIndex)
-    → i < length items → index ≡ get_or items i other → Updates (λ a b. nat_cmp a.0 b.0) old new index false → (q : ℕ)
-    → base new (drop (i + 1) items) q ≡ base old (drop i items) q
-base-removed old new items i index other within is updates q =
-    ap (λ there. there && not (holds (drop (i + 1) items) q)) (has-updated old new index false updates q)
-    ∙ (by_test (eqb q index.0) (has old q) (holds (drop (i + 1) items) q)
-    ∙ ap (λ list. base old list q) (ap (λ x. x ∷ drop (i + 1) items) is ∙ sym (drop_more items i other within)))
+pub base-removed : (old new : BTreeSet TypeIndex) (indices : List TypeIndex) (i : ℕ) (index other : TypeIndex)
+    → i < length indices → index ≡ get_or indices i other → Updates (λ a b. nat_cmp a.0 b.0) old new index false
+    → (q : ℕ) → base new (drop (i + 1) indices) q ≡ base old (drop i indices) q
+base-removed old new indices i index other within is updates q =
+    ap (λ there. there && not (holds (drop (i + 1) indices) q)) (has-updated old new index false updates q)
+    ∙ (by_test (eqb q index.0) (has old q) (holds (drop (i + 1) indices) q)
+    ∙ ap (λ list. base old list q) (ap (λ x. x ∷ drop (i + 1) indices) is ∙ sym (drop_more indices i other within)))
   where
     by_test : (same there held : Bool) → (cond same false there && not held) ≡ (there && not (same || held))
     by_test true true held = refl

@@ -112,8 +112,8 @@ link_inputs = record {
 
 -- a program with these types, printed with these flags
 abbrev pub program : ℕ → List (Item TypeIndex TypeData) → PrintInputs
-program chosen items = print_inputs_of link_inputs (record { items = items; fault = None })
-    (record { items = []; fault = None }) 8 (record { 0 = chosen }) 0
+program flags items = print_inputs_of link_inputs (record { items = items; fault = None })
+    (record { items = []; fault = None }) 8 (record { 0 = flags }) 0
 
 -- printing the signature of a function with this name and type does this
 pub record PrintingDoes (w : PrintInputs) (name : List ℕ) (index : ℕ) (failed : Parts) (r : Run) : Type 0 where

@@ -121,9 +121,9 @@ id_at-below link_inputs ids module_index i id found = reading-below (λ index. i
 
 -- only indices of 32 bits lead to types and to ids
 pub print_inputs-below : (link_inputs : LinkInputs) (types : Read (Item TypeIndex TypeData))
-    (ids : Read (Item IdIndex IdData)) (pointer : ℕ) (chosen : TypeFormatterFlags) (module_index : ℕ)
-    → IsBelow (2 ^ 32) (print_inputs_of link_inputs types ids pointer chosen module_index)
-print_inputs-below link_inputs types ids pointer chosen module_index =
+    (ids : Read (Item IdIndex IdData)) (pointer : ℕ) (flags : TypeFormatterFlags) (module_index : ℕ)
+    → IsBelow (2 ^ 32) (print_inputs_of link_inputs types ids pointer flags module_index)
+print_inputs-below link_inputs types ids pointer flags module_index =
     record { types = type_at-below link_inputs types module_index; ids = id_at-below link_inputs ids module_index }
 
 -- the same, for the print inputs of a formatter
@@ -134,11 +134,11 @@ formatter-below info s module_index =
 
 -- every plan unfolds to one document, whatever the records say
 pub every_plan : (link_inputs : LinkInputs) (types : Read (Item TypeIndex TypeData))
-    (ids : Read (Item IdIndex IdData)) (pointer : ℕ) (chosen : TypeFormatterFlags) (module_index : ℕ) (p : Plan)
-    → HasOneUnfolding (print_inputs_of link_inputs types ids pointer chosen module_index) p
-every_plan link_inputs types ids pointer chosen module_index p =
-    plan-one (2 ^ 32) (print_inputs_of link_inputs types ids pointer chosen module_index)
-    (print_inputs-below link_inputs types ids pointer chosen module_index) p
+    (ids : Read (Item IdIndex IdData)) (pointer : ℕ) (flags : TypeFormatterFlags) (module_index : ℕ) (p : Plan)
+    → HasOneUnfolding (print_inputs_of link_inputs types ids pointer flags module_index) p
+every_plan link_inputs types ids pointer flags module_index p =
+    plan-one (2 ^ 32) (print_inputs_of link_inputs types ids pointer flags module_index)
+    (print_inputs-below link_inputs types ids pointer flags module_index) p
 
 -- an index that is printed while it is open has the document of that error
 pub inside-circular : (w : PrintInputs) (inside : List ℕ) (index : ℕ) (type : TypeData) → w.read index ≡ Ok type

@@ -29,15 +29,15 @@ sigil pointer.RValueReference = codes "&&"
 
 -- the space before a sign, where one is wanted
 abbrev pub space_before_sigil : TypeFormatterFlags → List ℕ
-space_before_sigil chosen = if with_space_before_pointer chosen then codes " " else []
+space_before_sigil flags = if with_space_before_pointer flags then codes " " else []
 
 -- before a sign: `const` where the target is constant, and the space that is wanted, unless the opening or a sign is
 -- just before it
 abbrev pub before_sigil : TypeFormatterFlags → Predecessor → Bool → List ℕ
-before_sigil chosen Opening true = codes "const" ++ space_before_sigil chosen
-before_sigil chosen other true = codes " const" ++ space_before_sigil chosen
-before_sigil chosen Text false = space_before_sigil chosen
-before_sigil chosen other false = []
+before_sigil flags Opening true = codes "const" ++ space_before_sigil flags
+before_sigil flags other true = codes " const" ++ space_before_sigil flags
+before_sigil flags Text false = space_before_sigil flags
+before_sigil flags other false = []
 
 -- what a pointer ends in: its sign, or `const`
 abbrev pub end_of : Attribute → Predecessor
@@ -45,12 +45,12 @@ end_of a = if a.constant_pointer then Text else Sigil
 
 -- one pointer: what stands before its sign, the sign, and `const` where it is constant itself
 abbrev pub attribute_text : TypeFormatterFlags → Predecessor → Attribute → List ℕ
-attribute_text chosen predecessor a =
-    before_sigil chosen predecessor a.constant_target ++ sigil a.points
+attribute_text flags predecessor a =
+    before_sigil flags predecessor a.constant_target ++ sigil a.points
     ++ (if a.constant_pointer then codes " const" else [])
 
 -- the pointers of a chain, the last first, behind what stands just before them
 abbrev pub attributes_text : TypeFormatterFlags → Predecessor → List Attribute → List ℕ
-attributes_text chosen predecessor [] = []
-attributes_text chosen predecessor (a ∷ earlier) =
-    attribute_text chosen predecessor a ++ attributes_text chosen (end_of a) earlier
+attributes_text flags predecessor [] = []
+attributes_text flags predecessor (a ∷ earlier) =
+    attribute_text flags predecessor a ++ attributes_text flags (end_of a) earlier

@@ -1,5 +1,5 @@
--- The rules by which ids are printed, each of them one step deep. The list `inside` has the indices of types that are
--- open.
+-- The rules by which ids are printed, each of them one step deep.
+-- The list `inside` has the indices of types that are open.
 use Rattle.std.specs.Prelude.{ℕ, List, [], ◌∷◌, Option, Some, None, codes}
 use Rattle.pdb_records.specs.Names.{lossy}
 use Rattle.pdb_records.specs.declared.ids.FunctionId.{FunctionId}

@@ -60,9 +60,9 @@ primitive_name HRESULT = codes "HRESULT"
 
 -- a pointer to a named type, where the named type is constant or not
 abbrev pub pointer_to : TypeFormatterFlags → List ℕ → Bool → List ℕ
-pointer_to chosen named constant =
+pointer_to flags named constant =
     named ++ (if constant then codes " const" else [])
-    ++ (if with_space_before_pointer chosen then codes " *" else codes "*")
+    ++ (if with_space_before_pointer flags then codes " *" else codes "*")
 
 -- a named type, constant or not
 abbrev pub constant_or_not : List ℕ → Bool → List ℕ
@@ -70,6 +70,6 @@ constant_or_not named constant = (if constant then codes "const " else []) ++ na
 
 -- a type that the compiler brings, constant or not; where it is a pointer, it is the value that is constant
 abbrev pub primitive_text : TypeFormatterFlags → PrimitiveType → Bool → List ℕ
-primitive_text chosen p constant =
-    if p.indirection then pointer_to chosen (primitive_name p.kind) constant
+primitive_text flags p constant =
+    if p.indirection then pointer_to flags (primitive_name p.kind) constant
     else constant_or_not (primitive_name p.kind) constant

@@ -34,11 +34,11 @@ id_at w ids module_index index = and_then (reading (λ i. i.0) w ids module_inde
 abbrev pub print_inputs_of : LinkInputs → Read (Item TypeIndex TypeData) → Read (Item IdIndex IdData) → ℕ
     → TypeFormatterFlags
     → ℕ → PrintInputs
-print_inputs_of w types ids pointer chosen module_index = record {
+print_inputs_of w types ids pointer flags module_index = record {
   read = type_at w types module_index;
   size = type_size w types pointer module_index;
   read_id = id_at w ids module_index;
-  flags = chosen;
+  flags = flags;
 }
 
 -- the print inputs of a formatter, where the module at a module index asks

@@ -153,14 +153,14 @@ OpensAlone index old new = (outer : BTreeSet ℕ) × (new ≡ with_step (EndId o
 -- what the end of something does to a run: what is printed no longer is, where printing failed; an index that closes
 -- and an id that ends do nothing to the run
 abbrev pub ended_run : TypeFormatterFlags → Pending → Run → Run
-ended_run chosen (Print task) r = r
-ended_run chosen (Close index) r = r
-ended_run chosen (EndId outer index) r = r
-ended_run chosen EndCatch r = caught_by r.fault r
-ended_run chosen (EndBuffer mark attributes) r =
+ended_run flags (Print task) r = r
+ended_run flags (Close index) r = r
+ended_run flags (EndId outer index) r = r
+ended_run flags EndCatch r = caught_by r.fault r
+ended_run flags (EndBuffer mark attributes) r =
     released_by r.fault r mark
-    (attributes_text chosen Sigil (reverse attributes.items))
-    (attributes_text chosen Text (reverse attributes.items))
+    (attributes_text flags Sigil (reverse attributes.items))
+    (attributes_text flags Text (reverse attributes.items))
 
 -- something is to be printed in a stage only where printing failed
 abbrev pub IsPassedOver : Pending → Stage → Type 0
@@ -171,14 +171,14 @@ IsPassedOver EndCatch s = Unit {0}
 IsPassedOver (EndBuffer mark attributes) s = Unit {0}
 
 -- the next step of a stage was taken: it is this one, and it has ended or was passed over
-pub record Ended (chosen : TypeFormatterFlags) (old new : Stage) : Type 0 where
+pub record Ended (flags : TypeFormatterFlags) (old new : Stage) : Type 0 where
   pub step : Pending
   pub taken : old.steps ≡ step ∷ new.steps
   pub passed_over : IsPassedOver step old
-  pub run : (failed : Parts) → stage_run new failed ≡ ended_run chosen step (stage_run old failed)
+  pub run : (failed : Parts) → stage_run new failed ≡ ended_run flags step (stage_run old failed)
 
 -- what is next: something that is to be printed, or something ended, or nothing is left
 abbrev pub Takes : TypeFormatterFlags → Stage → Next → Stage → Type 0
-Takes chosen old (next.Print task) new = (old ≡ with_step (Print task) new) × (new.failure ≡ None)
-Takes chosen old next.Ended new = Ended chosen old new
-Takes chosen old next.Finished new = (old.steps ≡ []) × (new ≡ old)
+Takes flags old (next.Print task) new = (old ≡ with_step (Print task) new) × (new.failure ≡ None)
+Takes flags old next.Ended new = Ended flags old new
+Takes flags old next.Finished new = (old.steps ≡ []) × (new ≡ old)

@@ -1,5 +1,5 @@
--- The rules by which types and ids are printed, each of them one step deep. The list `inside` has the indices of types
--- that are open.
+-- The rules by which types and ids are printed, each of them one step deep.
+-- The list `inside` has the indices of types that are open.
 use Rattle.std.specs.Prelude.{ℕ, ◌++◌, Bool, false, List, [], ◌∷◌, Some, codes, if◌then◌else◌}
 use Rattle.std.specs.BTreeSet.{insert_key}
 use Rattle.std.specs.Ordering.{nat_cmp}

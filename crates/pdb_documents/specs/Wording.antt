@@ -46,7 +46,7 @@ class_word class.Struct = codes "struct "
 
 -- a name as text, with the word that it was declared with before it, unless names stand alone
 abbrev pub declared_text : TypeFormatterFlags → List ℕ → List ℕ → List ℕ
-declared_text chosen word bytes = if with_names_alone chosen then lossy bytes else word ++ lossy bytes
+declared_text flags word bytes = if with_names_alone flags then lossy bytes else word ++ lossy bytes
 
 -- the name of a function, or a note where it is empty
 abbrev pub function_name : List ℕ → List ℕ
@@ -55,12 +55,12 @@ function_name (first ∷ rest) = first ∷ rest
 
 -- what stands before a method: `static` where it has no `this`, unless that word is left out
 abbrev pub static_text : TypeFormatterFlags → Option TypeIndex → List ℕ
-static_text chosen None = if without_static chosen then [] else codes "static "
-static_text chosen (Some this) = []
+static_text flags None = if without_static flags then [] else codes "static "
+static_text flags (Some this) = []
 
 -- what stands between two arguments
 abbrev pub comma : TypeFormatterFlags → List ℕ
-comma chosen = if with_space_after_comma chosen then codes ", " else codes ","
+comma flags = if with_space_after_comma flags then codes ", " else codes ","
 
 -- the size of what an array of several levels has at the next level, or its base has
 abbrev pub next_size : List ℕ → ℕ → ℕ
@@ -78,14 +78,14 @@ dimensions_text (level ∷ inner) base = dimension_text level (next_size inner b
 
 -- a piece of a signature that is known as it stands
 abbrev pub wording_text : TypeFormatterFlags → Wording → List ℕ
-wording_text chosen (Text known) = known.now
-wording_text chosen (MissingType index) = missing_text index
-wording_text chosen (UnimplementedKind kind) = unimplemented_text kind
-wording_text chosen (UnhandledKind kind) = unhandled_text kind.now
-wording_text chosen (UnhandledScope kind) = unhandled_scope_text kind.now
-wording_text chosen (Declared word name) = declared_text chosen word.now name.now
-wording_text chosen (FunctionName name) = function_name (lossy name.now)
-wording_text chosen (Namespace name) = namespace_text (lossy name.now)
-wording_text chosen (Primitive primitive constant) = primitive_text chosen primitive constant
-wording_text chosen (Pointers attributes) = attributes_text chosen Opening (reverse attributes.items)
-wording_text chosen (Dimensions levels base) = dimensions_text levels.items base
+wording_text flags (Text known) = known.now
+wording_text flags (MissingType index) = missing_text index
+wording_text flags (UnimplementedKind kind) = unimplemented_text kind
+wording_text flags (UnhandledKind kind) = unhandled_text kind.now
+wording_text flags (UnhandledScope kind) = unhandled_scope_text kind.now
+wording_text flags (Declared word name) = declared_text flags word.now name.now
+wording_text flags (FunctionName name) = function_name (lossy name.now)
+wording_text flags (Namespace name) = namespace_text (lossy name.now)
+wording_text flags (Primitive primitive constant) = primitive_text flags primitive constant
+wording_text flags (Pointers attributes) = attributes_text flags Opening (reverse attributes.items)
+wording_text flags (Dimensions levels base) = dimensions_text levels.items base

@@ -1,3 +1,5 @@
+//! What a call that prints answers: the printed text, or the error before which it ends.
+
 ghost use Rattle.std.specs.Prelude.{◌≡◌, ◌≢◌, false, string_bytes};
 ghost use Rattle.pdb_types.specs.declared.error.Error.TheVariants.{OutOfMemory};
 ghost use Rattle.pdb_types.specs.FailedParts.{Parts};
@@ -16,7 +18,7 @@ pub struct Printed {
     pub failure: Option<Failure>,
 }
 
-/// Whether there was no memory for an answer.
+// Whether an error says that memory ran out.
 fn ran_out_of_memory(error: &Error) -> bool
     ensures { result ≡ ran_out_of_memory error.now }
 {
@@ -26,10 +28,10 @@ fn ran_out_of_memory(error: &Error) -> bool
     }
 }
 
-/// Writes the text that was printed before an error, except where memory runs out, and answers that error, or that
-/// the writer refused.
+// Writes the text that was printed before an error, except where memory runs out, and answers that error, or that
+// the writer refused.
 fn write_before<W: fmt::Write>(writer: &mut W, text: &str, error: Error) -> Error
-    ensures same { is_format_error result ≡ false → result ≡ error }
+    ensures answer { is_format_error result ≡ false → result ≡ error }
     ensures written { result ≢ OutOfMemory → is_format_error result ≡ false
         → W.write_str_gives writer.old text.now writer.new }
     ensures unwritten { result ≡ OutOfMemory → writer.new ≡ writer.old }

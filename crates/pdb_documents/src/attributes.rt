@@ -1,8 +1,10 @@
+//! The stars, ampersands and `const` of a chain of pointers, as they are printed.
+
 ghost use Rattle.std.specs.Prelude.{◌≡◌, ◌++◌, OnOk, reverse, string_bytes};
 ghost use Rattle.pdb_documents.specs.Attributes.{attribute_of, with_target, sigil, space_before_sigil};
 ghost use Rattle.pdb_documents.specs.Attributes.{end_of, before_sigil, attribute_text, attributes_text};
 
-use crate::options::with_space_before_pointer;
+use crate::flags::with_space_before_pointer;
 use pdb_records::{PointerMode, PointerType};
 use pdb_types::TypeFormatterFlags;
 use std::alloc::AllocError;
@@ -51,10 +53,7 @@ pub fn point_to(attributes: &mut Vec<Attribute>, constant: bool)
 }
 
 /// Appends the pointers of a chain, the last collected first, behind what stands just before them.
-///
-/// # Errors
-///
-/// Out of memory alone.
+/// Answers `AllocError` where memory runs out.
 pub fn write_attributes(
     text: &mut String,
     flags: TypeFormatterFlags,
@@ -73,7 +72,7 @@ pub fn write_attributes(
     Ok(())
 }
 
-/// What a pointer ends in: its sign, or `const`.
+// What a pointer ends in: its sign, or `const`.
 fn end_of(attribute: &Attribute) -> Predecessor
     ensures { result ≡ end_of attribute.now }
 {
@@ -84,7 +83,7 @@ fn end_of(attribute: &Attribute) -> Predecessor
     }
 }
 
-/// Appends one pointer: what stands before its sign, the sign, and `const` where it is constant.
+// Appends one pointer: what stands before its sign, the sign, and `const` where it is constant.
 fn write_attribute(
     text: &mut String,
     flags: TypeFormatterFlags,
@@ -102,8 +101,8 @@ fn write_attribute(
     Ok(())
 }
 
-/// Appends what stands before a sign: `const` where the target is constant, and the space that is
-/// wanted, unless the opening or a sign is just before it.
+// Appends what stands before a sign: `const` where the target is constant, and the space that is
+// wanted, unless the opening or a sign is just before it.
 fn write_before_sigil(
     text: &mut String,
     flags: TypeFormatterFlags,
@@ -122,7 +121,7 @@ fn write_before_sigil(
     text.push_str(space_before_sigil(flags))
 }
 
-/// The space before a sign, where one is wanted.
+// The space before a sign, where one is wanted.
 fn space_before_sigil(flags: TypeFormatterFlags) -> &'static str
     ensures { result.now ≡ space_before_sigil flags }
 {
@@ -133,7 +132,7 @@ fn space_before_sigil(flags: TypeFormatterFlags) -> &'static str
     }
 }
 
-/// The sign of a pointer or a reference.
+// The sign of a pointer or a reference.
 fn sigil(mode: PointerMode) -> &'static str
     ensures { result.now ≡ sigil mode }
 {

@@ -1,3 +1,5 @@
+//! Why printing fails: a type that is missing, for which a note may stand, or another error.
+
 ghost use Rattle.std.specs.Prelude.{◌≡◌};
 
 use pdb_types::Error;

@@ -1,5 +1,4 @@
-//! What types, functions and ids are printed as: the definitions with their laws, the pieces of text, and how
-//! far printing has come.
+//! What types, functions and ids are printed as: definitions, laws, pieces of text, and steps of printing.
 //!
 //! A document says what is to be printed. The specs define the document of each type, signature and id, and
 //! [`laws`] says what follows. The functions write the pieces of text that documents are made of, and
@@ -10,9 +9,9 @@ pub mod answers;
 pub mod attributes;
 mod dimensions;
 pub mod failures;
+pub mod flags;
 pub mod laws;
 mod namespaces;
-pub mod options;
 mod primitives;
 pub mod progress;
 pub mod seen;

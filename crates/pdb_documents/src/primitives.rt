@@ -1,12 +1,14 @@
+//! The names of the types that the compiler brings, and pointers to them.
+
 ghost use Rattle.std.specs.Prelude.{◌≡◌, ◌++◌, OnOk, string_bytes};
 ghost use Rattle.pdb_documents.specs.Primitives.{primitive_name, primitive_text, pointer_to, constant_or_not};
 
-use crate::options::with_space_before_pointer;
+use crate::flags::with_space_before_pointer;
 use pdb_records::{PrimitiveKind, PrimitiveType};
 use pdb_types::TypeFormatterFlags;
 use std::alloc::AllocError;
 
-/// The name of a type that the compiler brings.
+// The name of a type that the compiler brings.
 pub fn primitive_name(kind: PrimitiveKind) -> &'static str
     ensures { result.now ≡ primitive_name kind }
 {
@@ -57,12 +59,9 @@ pub fn primitive_name(kind: PrimitiveKind) -> &'static str
     }
 }
 
-/// Appends a type that the compiler brings, constant or not; where it is a pointer, it is the value
-/// that is constant.
-///
-/// # Errors
-///
-/// Out of memory alone.
+// Appends a type that the compiler brings, constant or not; where it is a pointer, it is the value
+// that is constant.
+// Answers `AllocError` where memory runs out.
 pub fn write_primitive(
     text: &mut String,
     flags: TypeFormatterFlags,
@@ -80,7 +79,7 @@ pub fn write_primitive(
     }
 }
 
-/// Appends a pointer to a named type, where the named type is constant or not.
+// Appends a pointer to a named type, where the named type is constant or not.
 fn write_pointer_to(
     text: &mut String,
     flags: TypeFormatterFlags,
@@ -100,7 +99,7 @@ fn write_pointer_to(
     })
 }
 
-/// Appends a named type, constant or not.
+// Appends a named type, constant or not.
 fn write_constant_or_not(text: &mut String, named: &str, constant: bool) -> Result<(), AllocError>
     ensures { OnOk result (string_bytes text.new ≡ string_bytes text.old ++ constant_or_not named.now constant) }
 {

@@ -1,3 +1,5 @@
+//! How far printing has come: the steps that are still to be done, and the text so far.
+
 ghost use Rattle.std.specs.Prelude.{◌≡◌, ◌++◌, ℕ, true, false, [], ◌∷◌, List, None, length};
 ghost use Rattle.std.specs.Prelude.{reverse, take, drop, string_bytes, IfOk, OnOk, is_some};
 ghost use Rattle.std.specs.String.Boundary.{IsSplitPoint};
@@ -26,9 +28,9 @@ use std::mem;
 /// depth of calls.
 #[derive(Drop)]
 pub struct Progress<'s> {
-    /// What is still to be done; the next step is the last.
+    // What is still to be done; the next step is the last.
     steps: Vec<Pending<'s>>,
-    /// The indices of types that are open. Each of them has a step that closes it.
+    // The indices of types that are open. Each of them has a step that closes it.
     open_indices: BTreeSet<u32>,
     text: String,
     failure: Option<Failure>,
@@ -221,7 +223,7 @@ impl<'s> Progress<'s> {
     }
 }
 
-/// A type ends: where one was missing in it, a note follows what was printed.
+// A type ends: where one was missing in it, a note follows what was printed.
 fn end_catch(text: &mut String, failure: &mut Option<Failure>) -> Result<(), AllocError>
     ensures cut { OnOk result ((marks : List ℕ) → MayBeCut (string_bytes text.old) marks
         → MayBeCut (string_bytes text.new) marks) }
@@ -237,7 +239,7 @@ fn end_catch(text: &mut String, failure: &mut Option<Failure>) -> Result<(), All
     Ok(())
 }
 
-/// Whether a text ends in `*` or `&`, of what stands from a byte on.
+// Whether a text ends in `*` or `&`, of what stands from a byte on.
 fn has_sigil_at_end(text: &str, mark: usize) -> bool
     ensures { result ≡ ends_in_sigil (drop mark text.now) }
 {
@@ -249,7 +251,7 @@ fn has_sigil_at_end(text: &str, mark: usize) -> bool
     last == b'*' || last == b'&'
 }
 
-/// The target of pointers ends: they follow it, or nothing of it stays where it failed.
+// The target of pointers ends: they follow it, or nothing of it stays where it failed.
 fn end_buffer(
     text: &mut String,
     failure: &Option<Failure>,

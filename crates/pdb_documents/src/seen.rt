@@ -1,3 +1,5 @@
+//! Sets of the indices that are open, level by level; an index that is put in twice is refused.
+
 ghost use Rattle.std.specs.Prelude.{◌≡◌, ℕ, Bool, false, not, ◌&&◌, ◌||◌, ◌==◌};
 ghost use Rattle.std.specs.Prelude.{[], ◌∷◌, ◌++◌, OnOk, OnErr, IfOk, IfErr};
 ghost use Rattle.pdb_documents.specs.Seen.{has, base, IsRefusal};
@@ -24,7 +26,7 @@ impl fmt::Debug for AlreadySeenError {
 pub enum SeenError {
     /// It was there before.
     Already(AlreadySeenError),
-    /// There was no memory for it.
+    /// Memory ran out.
     OutOfMemory,
 }
 
@@ -118,16 +120,17 @@ impl<'a> Seen<'a> {
     ///
     /// # Errors
     ///
-    /// [`SeenError::Already`] where the index is there, and else out of memory. The set is then as it was.
+    /// [`SeenError::Already`] where the index is there. Answers `OutOfMemory` where memory runs out. In either case
+    /// the set is as it was.
     pub fn insert(&mut self, index: TypeIndex) -> Result<(), SeenError>
         ensures same_reference { self.new.set.ghost_name ≡ self.old.set.ghost_name }
-        ensures added { OnOk result ((q : ℕ) → has self.new.set.now q ≡ (has self.old.set.now q || q == index.0)) }
+        ensures state { OnOk result ((q : ℕ) → has self.new.set.now q ≡ (has self.old.set.now q || q == index.0)) }
         ensures absent { OnOk result (has self.old.set.now index.0 ≡ false) }
         ensures refused { IfErr result (λ e. IsRefusal e index (has self.old.set.now index.0)) }
-        ensures forgotten { OnErr result (self.new.inserted.items ≡ self.old.inserted.items) }
-        ensures unchanged { OnErr result ((q : ℕ) → has self.new.set.now q ≡ has self.old.set.now q) }
+        ensures inserted_unchanged { OnErr result (self.new.inserted.items ≡ self.old.inserted.items) }
+        ensures unchanged_if_refused { OnErr result ((q : ℕ) → has self.new.set.now q ≡ has self.old.set.now q) }
         // Whatever the result is, what stood before the level stays.
-        ensures remembered { OnOk result (self.new.inserted.items ≡ self.old.inserted.items ++ index ∷ []) }
+        ensures inserted { OnOk result (self.new.inserted.items ≡ self.old.inserted.items ++ index ∷ []) }
         ensures base_unchanged { (q : ℕ) → base self.new.set.now self.new.inserted.items q
             ≡ base self.old.set.now self.old.inserted.items q }
     {
@@ -159,7 +162,7 @@ impl<'a> Seen<'a> {
     ///
     /// As [`Seen::insert`]. The set is then as it was.
     pub fn insert_one(&mut self, index: TypeIndex) -> Result<Seen<'_>, SeenError>
-        ensures added { IfOk result (λ level. (q : ℕ)
+        ensures answer { IfOk result (λ level. (q : ℕ)
             → has level.set.now q ≡ (has self.entry.now.set.now q || q == index.0)) }
         ensures absent { OnOk result (has self.entry.now.set.now index.0 ≡ false) }
         ensures one { IfOk result (λ level. level.inserted.items ≡ index ∷ []) }

@@ -1,3 +1,5 @@
+//! What is still to be printed, and what is to be done after it: the steps of printing.
+
 use crate::attributes::Attribute;
 use crate::wording::Wording;
 use pdb_records::{IdIndex, MemberFunctionType, ModifierType, TypeData, TypeIndex};

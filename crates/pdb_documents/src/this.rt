@@ -1,3 +1,5 @@
+//! What the type of a method's `this` shows: a constant method, or one argument more.
+
 ghost use Rattle.std.specs.Prelude.{◌≡◌};
 ghost use Rattle.pdb_documents.specs.Methods.{this_by_target};
 

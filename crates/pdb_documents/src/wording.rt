@@ -1,3 +1,5 @@
+//! The pieces of text that signatures are made of: words, names, notes of what is missing.
+
 ghost use Rattle.std.specs.Prelude.{◌≡◌, ◌++◌, OnOk, string_bytes};
 ghost use Rattle.pdb_records.specs.Names.{lossy};
 ghost use Rattle.pdb_documents.specs.Namespaces.{namespace_text};
@@ -7,8 +9,8 @@ ghost use Rattle.pdb_documents.specs.Wording.{function_name, static_text, comma,
 
 use crate::attributes::{Attribute, Predecessor, write_attributes};
 use crate::dimensions::write_dimensions;
+use crate::flags::{with_names_alone, with_space_after_comma, without_static};
 use crate::namespaces::namespace_name;
-use crate::options::{with_names_alone, with_space_after_comma, without_static};
 use crate::primitives::write_primitive;
 use pdb_records::{ClassKind, PrimitiveType, RawString, TypeIndex};
 use pdb_types::TypeFormatterFlags;
@@ -42,10 +44,7 @@ pub enum Wording<'s> {
 }
 
 /// Appends a piece of a signature.
-///
-/// # Errors
-///
-/// Out of memory alone.
+/// Answers `AllocError` where memory runs out.
 pub fn write(
     text: &mut String,
     flags: TypeFormatterFlags,
@@ -79,28 +78,28 @@ pub fn write_missing(text: &mut String, index: u32) -> Result<(), AllocError>
     write!(text, "<missing type 0x{index:x}>")
 }
 
-/// Appends the note of a type or an id of a kind that the reader of the records doesn't know.
+// Appends the note of a type or an id of a kind that the reader of the records doesn't know.
 fn write_unimplemented(text: &mut String, kind: u16) -> Result<(), AllocError>
     ensures { OnOk result (string_bytes text.new ≡ string_bytes text.old ++ unimplemented_text kind) }
 {
     write!(text, "<unimplemented type kind 0x{kind:x}>")
 }
 
-/// Appends the note of a type of a kind that is read and not printed.
+// Appends the note of a type of a kind that is read and not printed.
 fn write_unhandled(text: &mut String, kind: &str) -> Result<(), AllocError>
     ensures { OnOk result (string_bytes text.new ≡ string_bytes text.old ++ unhandled_text kind.now) }
 {
     write!(text, "unhandled type /* {kind} */")
 }
 
-/// Appends what stands for a scope of a kind that is read and not printed.
+// Appends what stands for a scope of a kind that is read and not printed.
 fn write_unhandled_scope(text: &mut String, kind: &str) -> Result<(), AllocError>
     ensures { OnOk result (string_bytes text.new ≡ string_bytes text.old ++ unhandled_scope_text kind.now) }
 {
     write!(text, "<unhandled id scope {kind}>::")
 }
 
-/// Appends the name of a function, or a note where it is empty.
+// Appends the name of a function, or a note where it is empty.
 fn write_function_name(text: &mut String, name: &RawString) -> Result<(), AllocError>
     ensures { OnOk result (string_bytes text.new ≡ string_bytes text.old ++ function_name (lossy name.now)) }
 {
@@ -108,7 +107,7 @@ fn write_function_name(text: &mut String, name: &RawString) -> Result<(), AllocE
     text.push_str(function_name(name.as_str()))
 }
 
-/// Appends what a namespace is called in print.
+// Appends what a namespace is called in print.
 fn write_namespace(text: &mut String, name: &RawString) -> Result<(), AllocError>
     ensures { OnOk result (string_bytes text.new ≡ string_bytes text.old ++ namespace_text (lossy name.now)) }
 {
@@ -116,8 +115,8 @@ fn write_namespace(text: &mut String, name: &RawString) -> Result<(), AllocError
     text.push_str(namespace_name(name.as_str()))
 }
 
-/// Appends a name as text, with the word that it was declared with before it, unless names stand
-/// alone.
+// Appends a name as text, with the word that it was declared with before it, unless names stand
+// alone.
 fn write_declared(
     text: &mut String,
     flags: TypeFormatterFlags,

@@ -1,3 +1,5 @@
+//! The cache of modules' code: where code at an offset of a function comes from, and what is to blame.
+
 ghost use Rattle.std.specs.Prelude.{◌≡◌, Some, Ok, IfOk};
 ghost use Rattle.pdb_types.specs.Outcomes.{Gives, and_then};
 ghost use Rattle.pdb_functions.specs.Lookup.{found_function};
@@ -13,7 +15,7 @@ use crate::extended_infos::ExtendedInfos;
 use crate::function_lines::FunctionLines;
 use crate::origins::{Origin, function_module, function_start};
 use crate::procedure_ranges::ProcedureRanges;
-use pdb_functions::PublicOrProcedureSymbol;
+use pdb_functions::FoundFunction;
 use pdb_inline::InlineRange;
 use pdb_records::{LineInfo, LineProgram, ModuleInfo, PdbInternalSectionOffset};
 use pdb_types::{Error, Result};
@@ -64,7 +66,7 @@ impl<'a> CodeCache<'a> {
     pub fn origin(
         &mut self,
         module_info: &'a ModuleInfo,
-        function: PublicOrProcedureSymbol<'_>,
+        function: FoundFunction<'_>,
         offset: u32,
     ) -> Result<Origin<'a>>
         ghost records: { Records }
@@ -94,7 +96,7 @@ impl<'a> CodeCache<'a> {
     pub fn part_to_blame(
         &mut self,
         module_info: &'a ModuleInfo,
-        function: PublicOrProcedureSymbol<'_>,
+        function: FoundFunction<'_>,
     ) -> Result<CodePart, AllocError>
         ghost records: { Records }
         requires is_cache { IsCodeCache records self.old }
@@ -111,7 +113,7 @@ impl<'a> CodeCache<'a> {
         }
     }
 
-    /// The same, once it is known what is known of the module's code.
+    // The same, once it is known what is known of the module's code.
     fn blame_behind(
         &mut self,
         module_index: usize,
@@ -131,7 +133,7 @@ impl<'a> CodeCache<'a> {
         }
     }
 
-    /// The line program of the module at a module index, once all is known of its code that can be.
+    // The line program of the module at a module index, once all is known of its code that can be.
     fn line_program(
         &mut self,
         module_index: usize,
@@ -147,8 +149,8 @@ impl<'a> CodeCache<'a> {
         self.infos.line_program(module_index, module_info)
     }
 
-    /// The line row over an offset in the function that starts at a section offset, by the line program of the
-    /// module at a module index.
+    // The line row over an offset in the function that starts at a section offset, by the line program of the
+    // module at a module index.
     fn row(
         &mut self,
         module_index: usize,
@@ -165,12 +167,12 @@ impl<'a> CodeCache<'a> {
         self.lines.row(module_index, line_program, start, offset)
     }
 
-    /// The inlined bodies over an offset of a function, the outermost first, by the records of its module. A
-    /// global function has none.
+    // The inlined bodies over an offset of a function, the outermost first, by the records of its module. A
+    // global function has none.
     fn stack(
         &mut self,
         module_info: &ModuleInfo,
-        function: PublicOrProcedureSymbol<'_>,
+        function: FoundFunction<'_>,
         offset: u32,
     ) -> Result<Vec<InlineRange>>
         ghost records: { Records }
@@ -181,8 +183,8 @@ impl<'a> CodeCache<'a> {
         ensures is_cache { IsCodeCache records self.new }
     {
         match function {
-            PublicOrProcedureSymbol::Public(_, _) => Ok(Vec::new(self.alloc)),
-            PublicOrProcedureSymbol::Procedure(module_index, procedure) => {
+            FoundFunction::Global(_, _) => Ok(Vec::new(self.alloc)),
+            FoundFunction::Procedure(module_index, procedure) => {
                 self.ranges
                     .stack(&self.infos, module_index, module_info, &procedure, offset)
             }

@@ -1,9 +1,11 @@
+//! The keys by which functions and procedures of modules are cached.
+
 ghost use Rattle.std.specs.Prelude.{◌≡◌};
 
 use pdb_functions::ProcedureSymbolFunction;
 use pdb_records::PdbInternalSectionOffset;
 
-/// A function of a module: the module index, and where the function starts.
+// A function of a module: the module index, and where the function starts.
 #[derive(Clone, Copy, PartialEq, Eq, PartialOrd, Ord)]
 pub(crate) struct FunctionKey {
     pub(crate) module_index: usize,
@@ -11,7 +13,7 @@ pub(crate) struct FunctionKey {
     pub(crate) offset: u32,
 }
 
-/// A procedure of a module: the module index, and those of the symbols that open and close it.
+// A procedure of a module: the module index, and those of the symbols that open and close it.
 #[derive(Clone, Copy, PartialEq, Eq, PartialOrd, Ord)]
 pub(crate) struct ProcedureKey {
     pub(crate) module_index: usize,
@@ -19,7 +21,7 @@ pub(crate) struct ProcedureKey {
     pub(crate) end: usize,
 }
 
-/// The key of the function that starts at a section offset, in the module at a module index.
+// The key of the function that starts at a section offset, in the module at a module index.
 pub(crate) fn function_key(module_index: usize, start: PdbInternalSectionOffset) -> FunctionKey
     ensures { result ≡ record { module_index = module_index; section = start.section; offset = start.offset } }
 {
@@ -30,7 +32,7 @@ pub(crate) fn function_key(module_index: usize, start: PdbInternalSectionOffset)
     }
 }
 
-/// The key of a procedure of the module at a module index.
+// The key of a procedure of the module at a module index.
 pub(crate) fn procedure_key(
     module_index: usize,
     procedure: &ProcedureSymbolFunction<'_>,

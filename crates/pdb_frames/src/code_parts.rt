@@ -1,3 +1,5 @@
+//! The parts of the records of code that may be broken, and the error of one that failed before.
+
 ghost use Rattle.pdb_frames.specs.CodeParts.{unsuccessful_code};
 
 use pdb_records::PdbInternalSectionOffset;

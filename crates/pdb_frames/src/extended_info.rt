@@ -1,3 +1,5 @@
+//! The extended info of a module: its line program, and the ids of the functions inlined in its code.
+
 ghost use Rattle.std.specs.Prelude.{◌≡◌, IfOk, OnOk};
 ghost use Rattle.std.specs.BTreeSet.{insert_key};
 ghost use Rattle.pdb_types.specs.Outcomes.{Gives};
@@ -17,7 +19,7 @@ pub struct ExtendedModuleInfo<'a> {
     pub inlinees: BTreeSet<IdIndex>,
 }
 
-/// Adds an id to a set.
+// Adds an id to a set.
 fn add_id(ids: &mut BTreeSet<IdIndex>, id: IdIndex) -> Result<(), AllocError>
     ensures { OnOk result (ids.new.keys ≡ insert_key id_cmp ids.old.keys id) }
 {
@@ -25,7 +27,7 @@ fn add_id(ids: &mut BTreeSet<IdIndex>, id: IdIndex) -> Result<(), AllocError>
     Ok(())
 }
 
-/// The ids of functions whose bodies stand in a module's code, as a set.
+// The ids of functions whose bodies stand in a module's code, as a set.
 fn inlinee_ids(alloc: Global, inlinees: &[Inlinee]) -> Result<BTreeSet<IdIndex>, AllocError>
     ensures { IfOk result (λ ids. ids.keys ≡ inlinee_ids inlinees.now) }
 {

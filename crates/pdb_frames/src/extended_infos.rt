@@ -1,3 +1,5 @@
+//! The cache of modules' extended infos by module index, and the inline ranges that they lead to.
+
 ghost use Rattle.std.specs.Prelude.{◌≡◌, [], Some, Ok, IfOk};
 ghost use Rattle.pdb_types.specs.Outcomes.{Gives, and_then};
 ghost use Rattle.pdb_types.specs.Resolution.{streamed};
@@ -14,7 +16,7 @@ use pdb_types::{Error, Result};
 use std::alloc::Global;
 use std::collections::BTreeMap;
 
-/// What is known of modules' code, beside their procedures, by module index. It is read once.
+// What is known of modules' code, beside their procedures, by module index. It is read once.
 #[derive(Drop)]
 pub struct ExtendedInfos<'a> {
     pub(crate) alloc: Global,
@@ -22,7 +24,7 @@ pub struct ExtendedInfos<'a> {
 }
 
 impl<'a> ExtendedInfos<'a> {
-    /// Nothing yet. It takes no memory.
+    // Nothing yet. It takes no memory.
     pub fn new(alloc: Global) -> Self
         ensures { (records : Records) → IsExtendedInfoCache records result.cached }
     {
@@ -32,12 +34,12 @@ impl<'a> ExtendedInfos<'a> {
         }
     }
 
-    /// The line program of the module at a module index, once all is known of its code that can be.
-    ///
-    /// # Errors
-    ///
-    /// [`Error::PdbError`] for a line program that could not be read, and then for the fault of the list of
-    /// inlinees.
+    // The line program of the module at a module index, once all is known of its code that can be.
+    //
+    // # Errors
+    //
+    // [`Error::PdbError`] for a line program that could not be read, and then for the fault of the list of
+    // inlinees.
     pub fn line_program(
         &mut self,
         module_index: usize,
@@ -61,11 +63,11 @@ impl<'a> ExtendedInfos<'a> {
         }
     }
 
-    /// The ranges of a procedure's code that came from inlined bodies, by depth and start.
-    ///
-    /// # Errors
-    ///
-    /// As of [`ExtendedInfos::line_program`], and then as of [`compute_procedure_inline_ranges`].
+    // The ranges of a procedure's code that came from inlined bodies, by depth and start.
+    //
+    // # Errors
+    //
+    // As of [`ExtendedInfos::line_program`], and then as of [`compute_procedure_inline_ranges`].
     pub fn inline_ranges(
         &self,
         module_index: usize,

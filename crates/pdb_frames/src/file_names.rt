@@ -1,3 +1,5 @@
+//! The names of source files, each found by its reference in a table that is made once.
+
 ghost use Rattle.std.specs.Prelude.{◌≡◌, ◌==◌, ℕ, Some, None, option_map, IfOk, OnOk, if◌then◌else◌};
 ghost use Rattle.std.specs.BTreeMap.{get};
 ghost use Rattle.std.specs.Cow.{cow_str_bytes};
@@ -14,7 +16,7 @@ use std::borrow::CowStr;
 use std::collections::BTreeMap;
 use std::marker::Model;
 
-/// Remembers a text by the number of its reference, unless an earlier one has the number.
+// Remembers a text by the number of its reference, unless an earlier one has the number.
 fn insert_first<'a>(
     alloc: Global,
     names: &mut BTreeMap<u32, CowStr<'a>>,
@@ -35,7 +37,7 @@ fn insert_first<'a>(
     }
 }
 
-/// The texts of a table, each by the number of its reference.
+// The texts of a table, each by the number of its reference.
 fn names_of(alloc: Global, table: &StringTable) -> Result<BTreeMap<u32, CowStr<'_>>, AllocError>
     ensures { IfOk result (λ names. KnowsNames (Some table.now) names) }
 {

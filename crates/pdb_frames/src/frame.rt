@@ -1,3 +1,5 @@
+//! Frames: the function, file and line of what was called or inlined at an address.
+
 ghost use Rattle.std.specs.Prelude.{◌≡◌, option_map, string_bytes, IfOk};
 ghost use Rattle.std.specs.Cow.{cow_str_bytes};
 
@@ -60,7 +62,7 @@ pub fn copy_of_name(name: &Option<String>) -> Result<Option<String>, AllocError>
     }
 }
 
-/// The name of a file once more, where there is one. A name that is lent is lent again.
+// The name of a file once more, where there is one. A name that is lent is lent again.
 fn copy_of_file<'a>(file: &Option<CowStr<'a>>) -> Result<Option<CowStr<'a>>, AllocError>
     ensures { IfOk result (λ copy. option_map cow_str_bytes copy ≡ option_map cow_str_bytes file.now) }
 {
@@ -70,7 +72,7 @@ fn copy_of_file<'a>(file: &Option<CowStr<'a>>) -> Result<Option<CowStr<'a>>, All
     }
 }
 
-/// Copies of frames.
+// Copies of frames.
 fn copies_of<'a>(alloc: Global, frames: &[Frame<'a>]) -> Result<Vec<Frame<'a>>, AllocError>
     ensures { IfOk result (λ v. v.items ≡ frames.now) }
 {

@@ -1,3 +1,5 @@
+//! The cache of functions' line rows: the line row over an offset in a function.
+
 ghost use Rattle.pdb_types.specs.Outcomes.{Gives};
 ghost use Rattle.pdb_frames.specs.Lines.{function_row};
 ghost use Rattle.pdb_frames.specs.CodeCaches.{Records, HasProgram, IsEntryCache, IsLineCache};
@@ -10,8 +12,8 @@ use pdb_types::{Error, Result};
 use std::alloc::Global;
 use std::collections::BTreeMap;
 
-/// The line rows of functions, by module index and where they start. The rows of a function are
-/// looked up and sorted once.
+// The line rows of functions, by module index and where they start. The rows of a function are
+// looked up and sorted once.
 #[derive(Drop)]
 pub struct FunctionLines<'a> {
     pub(crate) alloc: Global,
@@ -20,7 +22,7 @@ pub struct FunctionLines<'a> {
 }
 
 impl<'a> FunctionLines<'a> {
-    /// Nothing yet. It takes no memory.
+    // Nothing yet. It takes no memory.
     pub fn new(alloc: Global) -> Self
         ensures entries { (records : Records) → IsEntryCache records result.entries.cached }
         ensures is_cache { (records : Records) → IsLineCache records result.cached }
@@ -32,12 +34,12 @@ impl<'a> FunctionLines<'a> {
         }
     }
 
-    /// The line row over an offset in the function that starts at a section offset, by the line program of the
-    /// module at a module index.
-    ///
-    /// # Errors
-    ///
-    /// [`Error::PdbError`] for the fault of the function's rows.
+    // The line row over an offset in the function that starts at a section offset, by the line program of the
+    // module at a module index.
+    //
+    // # Errors
+    //
+    // [`Error::PdbError`] for the fault of the function's rows.
     pub fn row(
         &mut self,
         module_index: usize,

@@ -1,3 +1,5 @@
+//! The line rows of a function by offset, each offset once, found by a binary search.
+
 ghost use Rattle.std.specs.Prelude.{◌≡◌, ◌+◌, ◌≤◌, ℕ, None, nat_lt, length, IfOk, OnOk};
 ghost use Rattle.std.specs.List.{position_or_len};
 ghost use Rattle.std.specs.Option.{option_copied};
@@ -15,14 +17,14 @@ use pdb_types::{Error, Result};
 use std::alloc::{AllocError, Global};
 use std::marker::Model;
 
-/// Puts the rows in order of their offsets. Rows of one offset stay in the order that they had.
+// Puts the rows in order of their offsets. Rows of one offset stay in the order that they had.
 fn sort_by_offset(rows: &mut Vec<LineInfo>) -> Result<(), AllocError>
     ensures ok { OnOk result (rows.new.items ≡ in_order row_before rows.old.items) }
 {
     rows.sort_by_key(|row| row.offset)
 }
 
-/// Of neighbours with one offset, the first.
+// Of neighbours with one offset, the first.
 fn first_neighbours(alloc: Global, rows: &[LineInfo]) -> Result<Vec<LineInfo>, AllocError>
     ensures { IfOk result (λ v. v.items ≡ first_rows_after None rows.now) }
 {
@@ -37,7 +39,7 @@ fn first_neighbours(alloc: Global, rows: &[LineInfo]) -> Result<Vec<LineInfo>, A
     Ok(counted)
 }
 
-/// The rows by offset, of each offset the first that is read.
+// The rows by offset, of each offset the first that is read.
 #[tactic(auto, using(crate::proofs::RowLemmas::firsts_ascend, crate::proofs::RowLemmas::row_over_firsts))]
 fn first_of_each_offset(alloc: Global, rows: &[LineInfo]) -> Result<Vec<LineInfo>, AllocError>
     ensures ascend { IfOk result (λ v. OffsetsAscend v.items) }
@@ -49,8 +51,8 @@ fn first_of_each_offset(alloc: Global, rows: &[LineInfo]) -> Result<Vec<LineInfo
     Ok(counted)
 }
 
-/// The position of the first row above an offset, or the number of rows where none is. Each row that is
-/// looked at counts.
+// The position of the first row above an offset, or the number of rows where none is. Each row that is
+// looked at counts.
 fn position_above(rows: &[LineInfo], offset: u32, probes: &mut Probes) -> usize
     requires { OffsetsAscend rows.now }
     ensures position { result ≡ position_or_len (λ row. nat_lt offset row.offset) rows.now }
@@ -71,7 +73,7 @@ fn position_above(rows: &[LineInfo], offset: u32, probes: &mut Probes) -> usize
     from
 }
 
-/// The line rows of a function by offset, each offset once; of equal offsets the first that was read.
+// The line rows of a function by offset, each offset once; of equal offsets the first that was read.
 #[derive(Drop)]
 pub(crate) struct FunctionRows {
     rows: Vec<LineInfo>,
@@ -92,8 +94,8 @@ impl Model for FunctionRows {
 }
 
 impl FunctionRows {
-    /// The rows that a line program has for a function, if it has any. Where they have a fault, no row is
-    /// counted.
+    // The rows that a line program has for a function, if it has any. Where they have a fault, no row is
+    // counted.
     pub(crate) fn new(alloc: Global, read: Option<&Reading<LineInfo>>) -> Result<Self, AllocError>
         ensures { IfOk result (λ counted. (program : Lines) (start : PdbInternalSectionOffset)
             → lines_at start program.entries ≡ option_copied read.entry
@@ -117,7 +119,7 @@ impl FunctionRows {
         })
     }
 
-    /// The last row at or below an offset. Each row that is looked at counts.
+    // The last row at or below an offset. Each row that is looked at counts.
     fn search(&self, offset: u32, probes: &mut Probes) -> Option<LineInfo>
         ensures over { result ≡ row_over self.now.items offset }
         ensures few { probes.new ≤ probes.old + digits (length self.now.items) }
@@ -129,11 +131,11 @@ impl FunctionRows {
         Some(self.rows[above - 1])
     }
 
-    /// The row over an offset: the last at or below it. It is found by a binary search.
-    ///
-    /// # Errors
-    ///
-    /// [`Error::PdbError`] for the fault of the rows.
+    // The row over an offset: the last at or below it. It is found by a binary search.
+    //
+    // # Errors
+    //
+    // [`Error::PdbError`] for the fault of the rows.
     pub(crate) fn row(&self, offset: u32) -> Result<Option<LineInfo>>
         ensures { result ≡ row_in self.now offset }
     {

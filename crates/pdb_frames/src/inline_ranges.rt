@@ -1,3 +1,5 @@
+//! The inline ranges of a procedure that was found, by its symbols in the records of its module.
+
 ghost use Rattle.pdb_types.specs.Outcomes.{Gives};
 ghost use Rattle.pdb_inline.specs.InlineRanges.{procedure_inline_ranges};
 

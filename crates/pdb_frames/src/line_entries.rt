@@ -1,3 +1,5 @@
+//! The line rows of line programs by section offset, in a table for each module that is made once.
+
 ghost use Rattle.std.specs.Prelude.{◌≡◌, Some, None, IfOk, OnOk, if◌then◌else◌};
 ghost use Rattle.std.specs.BTreeMap.{get};
 ghost use Rattle.std.specs.Option.{option_copied, option_or};
@@ -12,7 +14,7 @@ use std::alloc::{AllocError, Global};
 use std::collections::BTreeMap;
 use std::marker::Model;
 
-/// Remembers the rows of a section offset, unless an earlier entry has the section offset.
+// Remembers the rows of a section offset, unless an earlier entry has the section offset.
 fn insert_first<'a>(
     known: &mut BTreeMap<PdbInternalSectionOffset, &'a Reading<LineInfo>>,
     section_offset: PdbInternalSectionOffset,
@@ -31,8 +33,8 @@ fn insert_first<'a>(
     }
 }
 
-/// The line rows of one line program, those of each function found by its section offset in a table that is made
-/// once.
+// The line rows of one line program, those of each function found by its section offset in a table that is made
+// once.
 #[derive(Drop)]
 pub(crate) struct LineEntries<'a> {
     program: &'a LineProgram,
@@ -59,7 +61,7 @@ impl<'a> Model for LineEntries<'a> {
 }
 
 impl<'a> LineEntries<'a> {
-    /// A table of all entries.
+    // A table of all entries.
     pub(crate) fn new(alloc: Global, program: &'a LineProgram) -> Result<Self, AllocError>
         ensures { IfOk result (λ entries. entries ≡ program.now) }
     {
@@ -70,7 +72,7 @@ impl<'a> LineEntries<'a> {
         Ok(LineEntries { program, known })
     }
 
-    /// The rows of the function that starts at a section offset, of the first entry for it.
+    // The rows of the function that starts at a section offset, of the first entry for it.
     pub(crate) fn rows_at(
         &self,
         section_offset: PdbInternalSectionOffset,
@@ -84,7 +86,7 @@ impl<'a> LineEntries<'a> {
     }
 }
 
-/// The line rows of modules' line programs, by module index. Each line program is walked once.
+// The line rows of modules' line programs, by module index. Each line program is walked once.
 #[derive(Drop)]
 pub struct ProgramEntries<'a> {
     pub(crate) alloc: Global,
@@ -92,7 +94,7 @@ pub struct ProgramEntries<'a> {
 }
 
 impl<'a> ProgramEntries<'a> {
-    /// Nothing yet. It takes no memory.
+    // Nothing yet. It takes no memory.
     pub(crate) fn new(alloc: Global) -> Self
         ensures { (records : Records) → IsEntryCache records result.cached }
     {
@@ -102,7 +104,7 @@ impl<'a> ProgramEntries<'a> {
         }
     }
 
-    /// The rows of the function that starts at a section offset, by the line program of the module at a module index.
+    // The rows of the function that starts at a section offset, by the line program of the module at a module index.
     pub(crate) fn rows_at(
         &mut self,
         module_index: usize,

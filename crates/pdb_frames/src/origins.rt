@@ -1,8 +1,10 @@
+//! Where code comes from, by line row and inlined bodies; the module and the start of a found function.
+
 ghost use Rattle.std.specs.Prelude.{◌≡◌};
 ghost use Rattle.pdb_functions.specs.Lookup.{found_function};
 ghost use Rattle.pdb_frames.specs.Origins.{function_module, function_start};
 
-use pdb_functions::PublicOrProcedureSymbol;
+use pdb_functions::FoundFunction;
 use pdb_inline::InlineRange;
 use pdb_records::{LineInfo, LineProgram, PdbInternalSectionOffset};
 
@@ -18,21 +20,21 @@ pub struct Origin<'a> {
 }
 
 /// The module index of the module that a function was found in.
-pub fn function_module(function: PublicOrProcedureSymbol<'_>) -> usize
+pub fn function_module(function: FoundFunction<'_>) -> usize
     ensures { result ≡ function_module (found_function function.entry) }
 {
     match function {
-        PublicOrProcedureSymbol::Public(module_index, _) => module_index,
-        PublicOrProcedureSymbol::Procedure(module_index, _) => module_index,
+        FoundFunction::Global(module_index, _) => module_index,
+        FoundFunction::Procedure(module_index, _) => module_index,
     }
 }
 
 /// Where a function starts.
-pub fn function_start(function: PublicOrProcedureSymbol<'_>) -> PdbInternalSectionOffset
+pub fn function_start(function: FoundFunction<'_>) -> PdbInternalSectionOffset
     ensures { result ≡ function_start (found_function function.entry) }
 {
     match function {
-        PublicOrProcedureSymbol::Public(_, function) => function.start_offset,
-        PublicOrProcedureSymbol::Procedure(_, procedure) => procedure.offset,
+        FoundFunction::Global(_, function) => function.start_offset,
+        FoundFunction::Procedure(_, procedure) => procedure.offset,
     }
 }

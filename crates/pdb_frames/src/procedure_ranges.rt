@@ -1,3 +1,5 @@
+//! The cache of procedures' inline ranges, each as the stacks over its offsets.
+
 ghost use Rattle.std.specs.Prelude.{◌≡◌, Some};
 ghost use Rattle.pdb_types.specs.Outcomes.{Gives};
 ghost use Rattle.pdb_frames.specs.CodeCaches.{Records, IsExtendedInfoCache, IsRangeCache, procedure_stack};
@@ -11,8 +13,8 @@ use pdb_types::{Error, Result};
 use std::alloc::Global;
 use std::collections::BTreeMap;
 
-/// The ranges of procedures' code that came from inlined bodies, by module index and their
-/// symbols. A procedure's symbols are walked once, and its ranges are put in a table once.
+// The ranges of procedures' code that came from inlined bodies, by module index and their
+// symbols. A procedure's symbols are walked once, and its ranges are put in a table once.
 #[derive(Drop)]
 pub struct ProcedureRanges {
     pub(crate) alloc: Global,
@@ -20,7 +22,7 @@ pub struct ProcedureRanges {
 }
 
 impl ProcedureRanges {
-    /// Nothing yet. It takes no memory.
+    // Nothing yet. It takes no memory.
     pub fn new(alloc: Global) -> Self
         ensures { (records : Records) → IsRangeCache records result.cached }
     {
@@ -30,12 +32,12 @@ impl ProcedureRanges {
         }
     }
 
-    /// The inlined bodies over an offset of a procedure, the outermost first, by the records of the module
-    /// at a module index.
-    ///
-    /// # Errors
-    ///
-    /// As of [`ExtendedInfos::inline_ranges`].
+    // The inlined bodies over an offset of a procedure, the outermost first, by the records of the module
+    // at a module index.
+    //
+    // # Errors
+    //
+    // As of [`ExtendedInfos::inline_ranges`].
     pub fn stack(
         &mut self,
         infos: &ExtendedInfos<'_>,

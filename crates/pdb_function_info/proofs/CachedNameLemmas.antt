@@ -67,61 +67,61 @@ signature_key module_index symbol type_index =
 -- ---- signatures
 
 -- no signature is cached
-pub signatures_new : {P : Type 0} (info : P → ProviderInfos) (records : ProviderInfos) (f : Formatter P)
-    (cached : List (CachedText SignatureKey)) → cached ≡ [] → IsSignatureCache info records f cached
+pub signatures_new : {P : Type 0} (info : P → ProviderInfos) (infos : ProviderInfos) (f : Formatter P)
+    (cached : List (CachedText SignatureKey)) → cached ≡ [] → IsSignatureCache info infos f cached
 unfolding IsSignatureCache
-signatures_new info records f cached empty = All-same (IsCachedSignature info records f) cached [] empty
-    (All-nil (IsCachedSignature info records f))
+signatures_new info infos f cached empty = All-same (IsCachedSignature info infos f) cached [] empty
+    (All-nil (IsCachedSignature info infos f))
 
 -- signatures that are cached stay
-pub signatures_same : {P : Type 0} (info : P → ProviderInfos) (records : ProviderInfos) (f : Formatter P)
-    (cached more : List (CachedText SignatureKey)) → more ≡ cached → IsSignatureCache info records f cached
-    → IsSignatureCache info records f more
+pub signatures_same : {P : Type 0} (info : P → ProviderInfos) (infos : ProviderInfos) (f : Formatter P)
+    (cached more : List (CachedText SignatureKey)) → more ≡ cached → IsSignatureCache info infos f cached
+    → IsSignatureCache info infos f more
 unfolding IsSignatureCache
-signatures_same info records f cached more same is_cache =
-    All-same (IsCachedSignature info records f) more cached same is_cache
+signatures_same info infos f cached more same is_cache =
+    All-same (IsCachedSignature info infos f) more cached same is_cache
 
 -- one more signature
-pub signatures_more : {P : Type 0} (info : P → ProviderInfos) (records : ProviderInfos) (f : Formatter P)
+pub signatures_more : {P : Type 0} (info : P → ProviderInfos) (infos : ProviderInfos) (f : Formatter P)
     (entry : CachedText SignatureKey) (cached more : List (CachedText SignatureKey)) → more ≡ cached ++ entry ∷ []
-    → IsCachedSignature info records f entry → IsSignatureCache info records f cached
-    → IsSignatureCache info records f more
+    → IsCachedSignature info infos f entry → IsSignatureCache info infos f cached
+    → IsSignatureCache info infos f more
 unfolding IsSignatureCache
-signatures_more info records f entry cached more is fitting is_cache =
-    All-same (IsCachedSignature info records f) more (cached ++ entry ∷ []) is
-    (All-push (IsCachedSignature info records f) cached entry is_cache fitting)
+signatures_more info infos f entry cached more is fitting is_cache =
+    All-same (IsCachedSignature info infos f) more (cached ++ entry ∷ []) is
+    (All-push (IsCachedSignature info infos f) cached entry is_cache fitting)
 
 -- what is cached of a procedure is printed, by the name that its symbol has
-pub signature_found : {P : Type 0} (info : P → ProviderInfos) (records : ProviderInfos) (f : Formatter P)
+pub signature_found : {P : Type 0} (info : P → ProviderInfos) (infos : ProviderInfos) (f : Formatter P)
     (cached : List (CachedText SignatureKey)) (key : SignatureKey) (name : List ℕ) (text : Option (List ℕ))
-    → IsSignatureCache info records f cached → HasText cached key text
-    → name_by_symbol key.symbol (procedures_of_module records f.type_inputs.modules key.module_index) ≡ Some name
+    → IsSignatureCache info infos f cached → HasText cached key text
+    → name_by_symbol key.symbol (procedures_of_module infos f.type_inputs.modules key.module_index) ≡ Some name
     → IsPrinted (signature_printing info f key name) f.failed text
 unfolding IsSignatureCache
-signature_found info records f cached key name text is_cache has named =
+signature_found info infos f cached key name text is_cache has named =
     let i = has.stands.0 in
-    let fitting : IsCachedSignature info records f has.entry =
+    let fitting : IsCachedSignature info infos f has.entry =
     rw (has.stands.1.1) (is_cache i has.entry has.stands.1.0) in
     rw (← has.keyed, ← has.is) (fitting name (rw has.keyed named))
 
 -- a signature that is printed by the name of a symbol is printed by each name that the symbol has
-pub printed_by_symbol : {P : Type 0} (info : P → ProviderInfos) (records : ProviderInfos) (f : Formatter P)
+pub printed_by_symbol : {P : Type 0} (info : P → ProviderInfos) (infos : ProviderInfos) (f : Formatter P)
     (key : SignatureKey) (name : List ℕ) (text : Option (List ℕ))
-    → name_by_symbol key.symbol (procedures_of_module records f.type_inputs.modules key.module_index) ≡ Some name
+    → name_by_symbol key.symbol (procedures_of_module infos f.type_inputs.modules key.module_index) ≡ Some name
     → IsPrinted (signature_printing info f key name) f.failed text
     → (other : List ℕ) → name_by_symbol key.symbol
-    (procedures_of_module records f.type_inputs.modules key.module_index) ≡ Some other
+    (procedures_of_module infos f.type_inputs.modules key.module_index) ≡ Some other
     → IsPrinted (signature_printing info f key other) f.failed text
-printed_by_symbol info records f key name text named printed other also = let same : name ≡ other = cc in
+printed_by_symbol info infos f key name text named printed other also = let same : name ≡ other = cc in
     rw (← same) printed
 
 -- a cache of signatures stays one as more parts fail
-pub signatures_later : {P : Type 0} (info : P → ProviderInfos) (records : ProviderInfos) (f g : Formatter P)
+pub signatures_later : {P : Type 0} (info : P → ProviderInfos) (infos : ProviderInfos) (f g : Formatter P)
     (cached : List (CachedText SignatureKey)) → g.type_inputs ≡ f.type_inputs → MoreParts f.failed g.failed
-    → IsSignatureCache info records f cached → IsSignatureCache info records g cached
+    → IsSignatureCache info infos f cached → IsSignatureCache info infos g cached
 unfolding IsSignatureCache
-signatures_later info records f g cached same more is_cache =
-    All-weaker (IsCachedSignature info records f) (IsCachedSignature info records g) (λ entry fitting name named.
+signatures_later info infos f g cached same more is_cache =
+    All-weaker (IsCachedSignature info infos f) (IsCachedSignature info infos g) (λ entry fitting name named.
     let w = formatter_inputs info f.type_inputs entry.key.module_index in
     let d = document_of w (signature w (lossy name) entry.key.type_index) in
     rw (same, more.1) (printed_later d f.failed more.0 (option_map string_bytes entry.text)

@@ -19,10 +19,10 @@ use Rattle.pdb_function_info.specs.Names.{function_name, failed_by_function_name
 use Rattle.pdb_frames.specs.Origins.{function_module, function_start}
 
 -- what follows from a start, where there is one
-with_start : {S C B : Type 0} (view : S → C) (seen : C) (start : Option S) (next : S → B) (none answer : B)
-    → option_map view start ≡ Some seen → ((s : S) → next s ≡ answer) → option_map_or next start none ≡ answer
-with_start view seen None next none answer is same = absurd cc
-with_start view seen (Some s) next none answer is same = same s
+with_start : {S C B : Type 0} (convert : S → C) (here : C) (start : Option S) (next : S → B) (none answer : B)
+    → option_map convert start ≡ Some here → ((s : S) → next s ≡ answer) → option_map_or next start none ≡ answer
+with_start convert here None next none answer is same = absurd cc
+with_start convert here (Some s) next none answer is same = same s
 
 -- where a function with this start begins and ends
 abbrev pub addresses : List GlobalFunction → FoundFunction → Rva → FunctionAddresses
@@ -33,22 +33,22 @@ addresses globals found start =
 pub frames_refused : {P : Type 0} (info : P → ProviderInfos) (type_inputs : TypeInputs P) (strings : Strings)
     (sections : List AddressRange)
     (globals : List GlobalFunction) (records : Option ModuleInfo) (found : FoundFunction) (x : ℕ) (e : Error)
-    (seen : FunctionAddresses) → option_map (addresses globals found) (rva sections (function_start found)) ≡ Some seen
+    (here : FunctionAddresses) → option_map (addresses globals found) (rva sections (function_start found)) ≡ Some here
     → function_frames strings (id_name info type_inputs (function_module found))
     (function_name info type_inputs globals found) records found x ≡ Err e
     → info_of_frames info type_inputs strings sections globals records found x ≡ Err e
-frames_refused info type_inputs strings sections globals records found x e seen is refused =
-    with_start (addresses globals found) seen (rva sections (function_start found)) _ (Ok None) (Err e) is
+frames_refused info type_inputs strings sections globals records found x e here is refused =
+    with_start (addresses globals found) here (rva sections (function_start found)) _ (Ok None) (Err e) is
     (λ start. rw refused refl)
 
 -- where a function has an address, the parts that failed are those by all names
 pub all_named : {P : Type 0} (info : P → ProviderInfos) (type_inputs : TypeInputs P) (sections : List AddressRange)
     (globals : List GlobalFunction) (records : Option ModuleInfo) (found : FoundFunction) (x : ℕ) (failed after : Parts)
-    (seen : FunctionAddresses) → option_map (addresses globals found) (rva sections (function_start found)) ≡ Some seen
+    (here : FunctionAddresses) → option_map (addresses globals found) (rva sections (function_start found)) ≡ Some here
     → after ≡ failed_by_ids (failed_by_id info type_inputs (function_module found)) (bodies_over records found x)
     (failed_by_function_name info type_inputs globals found failed)
     → after ≡ failed_by_frames info type_inputs sections globals records found x failed
-all_named info type_inputs sections globals records found x failed after seen is named =
-    sym (with_start (addresses globals found) seen (rva sections (function_start found))
+all_named info type_inputs sections globals records found x failed after here is named =
+    sym (with_start (addresses globals found) here (rva sections (function_start found))
     (λ start. failed_by_ids (failed_by_id info type_inputs (function_module found)) (bodies_over records found x)
     (failed_by_function_name info type_inputs globals found failed)) failed after is (λ start. sym named))

@@ -35,8 +35,8 @@ signature_printing info f key name = signature_run info f.type_inputs key.module
 -- what is cached of a procedure is its signature, by the name that its symbol has in these records
 abbrev pub IsCachedSignature : {P : Type 0} → (P → ProviderInfos) → ProviderInfos → Formatter P
     → CachedText SignatureKey → Type 0
-IsCachedSignature info records f cached = (name : List ℕ)
-    → name_by_symbol cached.key.symbol (procedures_of_module records f.type_inputs.modules cached.key.module_index)
+IsCachedSignature info infos f cached = (name : List ℕ)
+    → name_by_symbol cached.key.symbol (procedures_of_module infos f.type_inputs.modules cached.key.module_index)
     ≡ Some name
     → IsPrinted (signature_printing info f cached.key name) f.failed (option_map string_bytes cached.text)
 
@@ -44,7 +44,7 @@ IsCachedSignature info records f cached = (name : List ℕ)
 unfoldable pub IsSignatureCache : {P : Type 0} → (P → ProviderInfos) → ProviderInfos → Formatter P
     → List (CachedText SignatureKey)
     → Type 0
-IsSignatureCache info records f cached = All (IsCachedSignature info records f) cached
+IsSignatureCache info infos f cached = All (IsCachedSignature info infos f) cached
 
 -- what is cached of an id is its text
 abbrev pub IsCachedId : {P : Type 0} → (P → ProviderInfos) → Formatter P → CachedText IdKey → Type 0

@@ -1,3 +1,5 @@
+//! Signatures of procedures and names by ids, each printed once, and from then on taken from a cache.
+
 ghost use Rattle.std.specs.Prelude.{◌≡◌, Some, List, ℕ, option_map, string_bytes, OnOk, MatchResult};
 ghost use Rattle.pdb_records.specs.Names.{lossy};
 ghost use Rattle.pdb_types.specs.declared.error.Error.TheVariants.{OutOfMemory};
@@ -21,7 +23,7 @@ use pdb_signatures::TypeFormatter;
 use pdb_types::{ModuleProvider, Result};
 use std::alloc::{AllocError, Global};
 
-/// Caches the signature of a procedure.
+// Caches the signature of a procedure.
 fn cache_signature<P: ModuleProvider>(
     cached: &mut CachedSignatures<'_, P>,
     key: SignatureKey,
@@ -39,7 +41,7 @@ fn cache_signature<P: ModuleProvider>(
     cached.texts.put(key, text)
 }
 
-/// The signature of a procedure of the module at a module index, if it can be printed. It is printed once.
+// The signature of a procedure of the module at a module index, if it can be printed. It is printed once.
 pub(crate) fn signature_once<P: ModuleProvider>(
     alloc: Global,
     formatter: &mut TypeFormatter<'_, P>,
@@ -52,7 +54,7 @@ pub(crate) fn signature_once<P: ModuleProvider>(
     requires named { name_by_symbol procedure.symbol_index.0
         (procedures_of_module (P.info cached.old.provider.now) formatter.old.type_inputs.modules module_index)
         ≡ Some procedure.name.now }
-    ensures text { MatchResult result
+    ensures answer { MatchResult result
         (λ text. option_map string_bytes text ≡ signature_text P.info formatter.old.type_inputs module_index
         (lossy procedure.entry.name.now) procedure.entry.type_index.0)
         (λ e. e ≡ OutOfMemory) }
@@ -76,7 +78,7 @@ pub(crate) fn signature_once<P: ModuleProvider>(
     Ok(text)
 }
 
-/// Caches the text of an id.
+// Caches the text of an id.
 fn cache_id<P: ModuleProvider>(
     cached: &mut CachedTexts<IdKey>,
     key: IdKey,
@@ -90,7 +92,7 @@ fn cache_id<P: ModuleProvider>(
     cached.put(key, text)
 }
 
-/// The text of an id as the module at a module index writes it, if it can be printed. It is printed once.
+// The text of an id as the module at a module index writes it, if it can be printed. It is printed once.
 pub(crate) fn id_once<P: ModuleProvider>(
     formatter: &mut TypeFormatter<'_, P>,
     cached: &mut CachedTexts<IdKey>,
@@ -98,7 +100,7 @@ pub(crate) fn id_once<P: ModuleProvider>(
     id: IdIndex,
 ) -> Result<Option<String>>
     requires is_cache { IsIdCache P.info formatter.old cached.old.entries.items }
-    ensures name { MatchResult result
+    ensures answer { MatchResult result
         (λ name. option_map string_bytes name ≡ id_name P.info formatter.old.type_inputs module_index id)
         (λ e. e ≡ OutOfMemory) }
     ensures type_inputs { formatter.new.type_inputs ≡ formatter.old.type_inputs }

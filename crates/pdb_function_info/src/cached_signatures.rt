@@ -1,3 +1,5 @@
+//! Signatures that were printed once, with the provider of the procedures' records.
+
 ghost use Rattle.std.specs.Prelude.{◌≡◌, []};
 
 use crate::cached_texts::CachedTexts;
@@ -5,8 +7,8 @@ use crate::name_keys::SignatureKey;
 use pdb_types::ModuleProvider;
 use std::alloc::Global;
 
-/// Signatures of procedures that were printed once. The provider has the records of the procedures' modules, in which
-/// each symbol is of one procedure at most.
+// Signatures of procedures that were printed once. The provider has the records of the procedures' modules, in which
+// each symbol is of one procedure at most.
 #[derive(Drop)]
 pub(crate) struct CachedSignatures<'a, P: ModuleProvider> {
     pub(crate) provider: &'a P,
@@ -14,7 +16,7 @@ pub(crate) struct CachedSignatures<'a, P: ModuleProvider> {
 }
 
 impl<'a, P: ModuleProvider> CachedSignatures<'a, P> {
-    /// Nothing yet. It takes no memory.
+    // Nothing yet. It takes no memory.
     pub(crate) fn new(alloc: Global, provider: &'a P) -> Self
         ensures texts { result.texts.entries.items ≡ [] }
         ensures provider { result.provider ≡ provider.entry }

@@ -1,29 +1,31 @@
+//! Texts that were printed once, each with the key of what it was printed of.
+
 ghost use Rattle.std.specs.Prelude.{◌≡◌, true, [], ◌∷◌, ◌++◌, option_map, string_bytes, IfSome, IfOk, OnOk, OnErr};
 ghost use Rattle.pdb_function_info.specs.CachedNames.{HasText};
 
-use crate::name_keys::Item;
+use crate::name_keys::HintKey;
 use crate::positions::PositionTable;
 use pdb_frames::copy_of_name;
 use std::alloc::{AllocError, Global};
 
-/// What a text is cached by.
+// What a text is cached by.
 pub(crate) trait TextKey: Copy + Ord + Drop {
-    /// Whether it is another key.
-    fn is(self, other: Self) -> bool
+    // Whether it is the same key as another.
+    fn equals(self, other: Self) -> bool
         ensures { result ≡ true → self ≡ other };
 
-    /// What has the text. By that, a hint says where the text stands.
-    fn item(self) -> Item;
+    // What the hint is kept by that says where the text stands.
+    fn hint_key(self) -> HintKey;
 }
 
-/// A text that was printed, if it can be.
+// A text that was printed, if it can be.
 #[derive(Drop)]
 pub(crate) struct CachedText<K> {
     pub(crate) key: K,
     pub(crate) text: Option<String>,
 }
 
-/// Texts that were printed once.
+// Texts that were printed once.
 #[derive(Drop)]
 pub(crate) struct CachedTexts<K: TextKey> {
     pub(crate) entries: Vec<CachedText<K>>,
@@ -31,7 +33,7 @@ pub(crate) struct CachedTexts<K: TextKey> {
 }
 
 impl<K: TextKey> CachedTexts<K> {
-    /// Nothing yet. It takes no memory.
+    // Nothing yet. It takes no memory.
     pub(crate) fn new(alloc: Global) -> Self
         ensures { result.entries.items ≡ [] }
     {
@@ -41,19 +43,19 @@ impl<K: TextKey> CachedTexts<K> {
         }
     }
 
-    /// The text at a position, if it is cached by this key.
+    // The text at a position, if it is cached by this key.
     fn text_at(&self, position: usize, key: K) -> Option<&Option<String>>
         ensures { IfSome result (λ text. HasText self.now.entries.items key (option_map string_bytes text.now)) }
     {
         let cached = self.entries.get(position)?;
-        if cached.key.is(key) {
+        if cached.key.equals(key) {
             Some(&cached.text)
         } else {
             None
         }
     }
 
-    /// The text that a hint leads to, if it is cached by this key.
+    // The text that a hint leads to, if it is cached by this key.
     fn text_by(&self, hint: Option<u32>, key: K) -> Option<&Option<String>>
         ensures { IfSome result (λ text. HasText self.now.entries.items key (option_map string_bytes text.now)) }
     {
@@ -61,11 +63,11 @@ impl<K: TextKey> CachedTexts<K> {
         self.text_at(position as usize, key)
     }
 
-    /// The text of a key, if it stands where a hint says.
+    // The text of a key, if it stands where a hint says.
     fn at_hint(&self, key: K) -> Option<&Option<String>>
         ensures { IfSome result (λ text. HasText self.now.entries.items key (option_map string_bytes text.now)) }
     {
-        for &hint in self.positions.hints(key.item()) {
+        for &hint in self.positions.hints(key.hint_key()) {
             if let Some(text) = self.text_by(hint, key) {
                 return Some(text);
             }
@@ -73,18 +75,18 @@ impl<K: TextKey> CachedTexts<K> {
         None
     }
 
-    /// The position of the text that was cached last by a key, where one was.
+    // The position of the text that was cached last by a key, where one was.
     fn position(&mut self, key: K) -> Option<usize>
         ensures { self.new.entries ≡ self.old.entries }
     {
-        self.positions.find(&key, key.item())
+        self.positions.find(&key, key.hint_key())
     }
 
-    /// A copy of the text of a key, where one is cached.
+    // A copy of the text of a key, where one is cached.
     pub(crate) fn text(&mut self, key: K) -> Result<Option<Option<String>>, AllocError>
-        ensures text { IfOk result (λ cached. IfSome cached
+        ensures answer { IfOk result (λ cached. IfSome cached
             (λ text. HasText self.old.entries.items key (option_map string_bytes text))) }
-        ensures same { self.new.entries ≡ self.old.entries }
+        ensures unchanged { self.new.entries ≡ self.old.entries }
     {
         if let Some(text) = self.at_hint(key) {
             let text = copy_of_name(text)?;
@@ -100,13 +102,14 @@ impl<K: TextKey> CachedTexts<K> {
         Ok(Some(text))
     }
 
-    /// Caches the text of a key.
+    // Caches the text of a key.
     pub(crate) fn put(&mut self, key: K, text: Option<String>) -> Result<(), AllocError>
-        ensures cached { OnOk result (self.new.entries.items
+        ensures state { OnOk result (self.new.entries.items
             ≡ self.old.entries.items ++ record { key = key; text = text } ∷ []) }
-        ensures refused { OnErr result (self.new.entries.items ≡ self.old.entries.items) }
+        ensures unchanged_if_refused { OnErr result (self.new.entries.items ≡ self.old.entries.items) }
     {
-        self.positions.push(key, key.item(), self.entries.len())?;
+        self.positions
+            .push(key, key.hint_key(), self.entries.len())?;
         self.entries.push(CachedText { key, text })?;
         Ok(())
     }

@@ -1,3 +1,5 @@
+//! Frames info: where a function starts and ends, and its frames at an offset in its code.
+
 ghost use Rattle.std.specs.Prelude.{◌≡◌, [], ◌∷◌, ◌++◌, None, option_map, option_and_then};
 ghost use Rattle.std.specs.Prelude.{string_bytes, Some, IfOk, IfSome, OnOk, MatchResult};
 ghost use Rattle.std.specs.Option.{option_copied};
@@ -21,13 +23,13 @@ use crate::function_names::FunctionNames;
 use pdb_frames::{
     CodeCache, FileNames, Frame, FunctionFrames, Origin, function_module, function_start,
 };
-use pdb_functions::{GlobalFunctionTable, PublicOrProcedureSymbol};
+use pdb_functions::{FoundFunction, GlobalFunctionTable};
 use pdb_inline::InlineRange;
 use pdb_records::{AddressMap, LineInfo, LineProgram, ModuleInfo};
 use pdb_types::{ModuleProvider, Result};
 use std::alloc::{AllocError, Global};
 
-/// The frame of a function itself, by its name and the line row over the code.
+// The frame of a function itself, by its name and the line row over the code.
 fn own_frame<'a>(
     files: &FileNames<'a>,
     function: Option<String>,
@@ -51,7 +53,7 @@ fn own_frame<'a>(
     }
 }
 
-/// The frame of an inlined body, by its name and its range.
+// The frame of an inlined body, by its name and its range.
 fn inlined_frame<'a>(
     files: &FileNames<'a>,
     line_program: &LineProgram,
@@ -72,8 +74,8 @@ fn inlined_frame<'a>(
     })
 }
 
-/// The frames of inlined bodies, in the order of their ranges, in a list that has room for one more. Each is named by
-/// its id.
+// The frames of inlined bodies, in the order of their ranges, in a list that has room for one more. Each is named by
+// its id.
 fn inlined_frames<'a, P: ModuleProvider>(
     alloc: Global,
     files: &FileNames<'a>,
@@ -82,7 +84,7 @@ fn inlined_frames<'a, P: ModuleProvider>(
     line_program: &LineProgram,
     ranges: &[InlineRange],
 ) -> Result<Vec<Frame<'a>>>
-    ensures frames { MatchResult result
+    ensures answer { MatchResult result
         (λ v. v.items ≡ inlined_frames files.now line_program.now
         (id_name P.info names.old.type_inputs module_index) ranges.now)
         (λ e. e ≡ OutOfMemory) }
@@ -101,8 +103,8 @@ fn inlined_frames<'a, P: ModuleProvider>(
     Ok(frames)
 }
 
-/// The frames of code that comes from here, from inside to outside: those of the inlined bodies, and last
-/// that of the function itself.
+// The frames of code that comes from here, from inside to outside: those of the inlined bodies, and last
+// that of the function itself.
 fn frames_of_origin<'a, P: ModuleProvider>(
     alloc: Global,
     files: &FileNames<'a>,
@@ -111,7 +113,7 @@ fn frames_of_origin<'a, P: ModuleProvider>(
     name: Option<String>,
     origin: &Origin<'_>,
 ) -> Result<Vec<Frame<'a>>>
-    ensures frames { MatchResult result
+    ensures answer { MatchResult result
         (λ v. v.items ≡ origin_frames files.now
         (id_name P.info names.old.type_inputs module_index) (option_map string_bytes name) (origin_view origin.now))
         (λ e. e ≡ OutOfMemory) }
@@ -137,7 +139,7 @@ fn frames_of_origin<'a, P: ModuleProvider>(
     Ok(frames)
 }
 
-/// The one frame of a function of which nothing but its name is known.
+// The one frame of a function of which nothing but its name is known.
 fn name_alone<'a>(alloc: Global, function: Option<String>) -> Result<Vec<Frame<'a>>, AllocError>
     ensures { IfOk result (λ v. v.items
         ≡ record { function = option_map string_bytes function; file = None; line = None } ∷ []) }
@@ -151,8 +153,8 @@ fn name_alone<'a>(alloc: Global, function: Option<String>) -> Result<Vec<Frame<'
     Ok(frames)
 }
 
-/// The frames of a function of this name at an offset, from inside to outside. Without records of its
-/// module it is one frame.
+// The frames of a function of this name at an offset, from inside to outside. Without records of its
+// module it is one frame.
 fn frames_of_function<'a, P: ModuleProvider>(
     alloc: Global,
     files: &FileNames<'a>,
@@ -160,14 +162,14 @@ fn frames_of_function<'a, P: ModuleProvider>(
     code: &mut CodeCache<'a>,
     name: Option<String>,
     module_info: Option<&'a ModuleInfo>,
-    function: PublicOrProcedureSymbol<'_>,
+    function: FoundFunction<'_>,
     offset: u32,
 ) -> Result<Vec<Frame<'a>>>
     ghost records: { Records }
-    requires code { IsCodeCache records code.old }
+    requires is_cache { IsCodeCache records code.old }
     requires module_info { IfSome module_info
         (λ info. records (function_module (found_function function)) ≡ Some info.now) }
-    ensures frames { let found = found_function function.entry in
+    ensures answer { let found = found_function function.entry in
         let name_of = id_name P.info names.old.type_inputs (function_module found) in
         Gives (λ v. v.items) result (function_frames files.now name_of
         (option_map string_bytes name) (option_copied module_info.entry) found offset) }
@@ -180,7 +182,7 @@ fn frames_of_function<'a, P: ModuleProvider>(
     ensures broken { AddsBroken
         (formatter_inputs P.info names.old.type_inputs (function_module (found_function function.entry)))
         names.old.failed names.new.failed }
-    ensures code { IsCodeCache records code.new }
+    ensures is_cache { IsCodeCache records code.new }
 {
     let Some(info) = module_info else {
         let frames = name_alone(alloc, name)?;
@@ -191,17 +193,14 @@ fn frames_of_function<'a, P: ModuleProvider>(
     frames_of_origin(alloc, files, names, module_index, name, &origin)
 }
 
-/// The size of a function in bytes, if it is known. A global function reaches to the next one of its
-/// section.
-fn function_size(
-    functions: &GlobalFunctionTable<'_>,
-    function: PublicOrProcedureSymbol<'_>,
-) -> Option<u32>
+// The size of a function in bytes, if it is known. A global function reaches to the next one of its
+// section.
+fn function_size(functions: &GlobalFunctionTable<'_>, function: FoundFunction<'_>) -> Option<u32>
     ensures { result ≡ function_size functions.now (found_function function.entry) }
 {
     match function {
-        PublicOrProcedureSymbol::Procedure(_, procedure) => Some(procedure.len),
-        PublicOrProcedureSymbol::Public(_, function) => {
+        FoundFunction::Procedure(_, procedure) => Some(procedure.len),
+        FoundFunction::Global(_, function) => {
             let next = functions.next_function(function.start_offset)?;
             Some(
                 next.start_offset
@@ -212,18 +211,18 @@ fn function_size(
     }
 }
 
-/// Where a function starts, and where it ends, if that is known and fits 32 bits.
+// Where a function starts, and where it ends, if that is known and fits 32 bits.
 #[derive(Clone, Copy)]
 struct FunctionAddresses {
     start_rva: u32,
     end_rva: Option<u32>,
 }
 
-/// The addresses of a function. `None` where it has none.
+// The addresses of a function. `None` where it has none.
 fn addresses_of(
     address_map: &AddressMap,
     functions: &GlobalFunctionTable<'_>,
-    function: PublicOrProcedureSymbol<'_>,
+    function: FoundFunction<'_>,
 ) -> Option<FunctionAddresses>
     ensures { let found = found_function function.entry in
         let size = function_size functions.now found in
@@ -252,15 +251,15 @@ pub fn frames_info<'a, P: ModuleProvider>(
     names: &mut FunctionNames<'a, P>,
     code: &mut CodeCache<'a>,
     module_info: Option<&'a ModuleInfo>,
-    function: PublicOrProcedureSymbol<'a>,
+    function: FoundFunction<'a>,
     offset: u32,
 ) -> Result<Option<FunctionFrames<'a>>>
     ghost records: { Records }
     requires named { GoesBySymbol (P.info names.old.provider) names.old.type_inputs.modules (found_function function) }
-    requires code { IsCodeCache records code.old }
+    requires is_cache { IsCodeCache records code.old }
     requires module_info { IfSome module_info
         (λ info. records (function_module (found_function function)) ≡ Some info.now) }
-    ensures shown { Gives (λ f. f) result (info_of_frames P.info names.old.type_inputs files.now
+    ensures answer { Gives (λ f. f) result (info_of_frames P.info names.old.type_inputs files.now
         address_map.now functions.now (option_copied module_info.entry)
         (found_function function.entry) offset) }
     ensures type_inputs { names.new.type_inputs ≡ names.old.type_inputs }
@@ -271,7 +270,7 @@ pub fn frames_info<'a, P: ModuleProvider>(
     ensures broken { AddsBroken
         (formatter_inputs P.info names.old.type_inputs (function_module (found_function function.entry)))
         names.old.failed names.new.failed }
-    ensures code { IsCodeCache records code.new }
+    ensures is_cache { IsCodeCache records code.new }
 {
     let Some(addresses) = addresses_of(address_map, functions, function) else {
         return Ok(None);

@@ -1,3 +1,5 @@
+//! Function info: where a function starts and ends, and its name.
+
 ghost use Rattle.std.specs.Prelude.{◌≡◌, Some, option_map, string_bytes, IfOk, OnOk, MatchResult};
 ghost use Rattle.std.specs.Option.{option_copied, option_map_or};
 ghost use Rattle.pdb_records.specs.Addresses.{rva};
@@ -14,10 +16,7 @@ ghost use Rattle.pdb_function_info.specs.Function.{info_of_procedure, info_of, f
 use crate::function_names::FunctionNames;
 use crate::names::text_of_name;
 use pdb_frames::copy_of_name;
-use pdb_functions::{
-    GlobalFunctionTable, ProcedureSymbolFunction, PublicOrProcedureSymbol,
-    PublicSymbolFunctionOrPlaceholder,
-};
+use pdb_functions::{FoundFunction, GlobalFunction, GlobalFunctionTable, ProcedureSymbolFunction};
 use pdb_records::AddressMap;
 use pdb_types::{ModuleProvider, Result};
 use std::alloc::{AllocError, Global};
@@ -48,7 +47,7 @@ impl Function {
     }
 }
 
-/// The function info of a procedure of a module.
+// The function info of a procedure of a module.
 fn procedure_info<'a, P: ModuleProvider>(
     address_map: &AddressMap,
     functions: &GlobalFunctionTable<'_>,
@@ -59,7 +58,7 @@ fn procedure_info<'a, P: ModuleProvider>(
     requires named { name_by_symbol procedure.symbol_index.0
         (procedures_of_module (P.info names.old.provider) names.old.type_inputs.modules module_index)
         ≡ Some procedure.name.now }
-    ensures shown { MatchResult result
+    ensures answer { MatchResult result
         (λ f. option_map function_view f ≡ info_of_procedure address_map.now (module_procedure procedure.entry)
         (procedure_name P.info names.old.type_inputs functions.now
         module_index (module_procedure procedure.entry)))
@@ -83,12 +82,9 @@ fn procedure_info<'a, P: ModuleProvider>(
     }))
 }
 
-/// Where a global function ends, if the next one of its section shows it. `None` where that one has no
-/// address.
-fn end_of_global(
-    address_map: &AddressMap,
-    next: Option<PublicSymbolFunctionOrPlaceholder<'_>>,
-) -> Option<Option<u32>>
+// Where a global function ends, if the next one of its section shows it. `None` where that one has no
+// address.
+fn end_of_global(address_map: &AddressMap, next: Option<GlobalFunction<'_>>) -> Option<Option<u32>>
     ensures { result ≡ global_end address_map.now (option_map global_function next.entry) }
 {
     match next {
@@ -100,12 +96,12 @@ fn end_of_global(
     }
 }
 
-/// The function info of a global function.
+// The function info of a global function.
 fn global_function_info(
     alloc: Global,
     address_map: &AddressMap,
     functions: &GlobalFunctionTable<'_>,
-    function: PublicSymbolFunctionOrPlaceholder<'_>,
+    function: GlobalFunction<'_>,
 ) -> Result<Option<Function>, AllocError>
     ensures { IfOk result (λ f. option_map function_view f
         ≡ info_of_global address_map.now functions.now (global_function function.entry)) }
@@ -131,10 +127,10 @@ pub fn function_info<'a, P: ModuleProvider>(
     address_map: &AddressMap,
     functions: &GlobalFunctionTable<'_>,
     names: &mut FunctionNames<'a, P>,
-    found: PublicOrProcedureSymbol<'a>,
+    found: FoundFunction<'a>,
 ) -> Result<Option<Function>>
     requires named { GoesBySymbol (P.info names.old.provider) names.old.type_inputs.modules (found_function found) }
-    ensures shown { MatchResult result
+    ensures answer { MatchResult result
         (λ f. option_map function_view f ≡ info_of P.info names.old.type_inputs address_map.now
         functions.now (found_function found.entry))
         (λ e. e ≡ OutOfMemory) }
@@ -145,11 +141,11 @@ pub fn function_info<'a, P: ModuleProvider>(
     ensures broken { GainsBroken P.info names.old.type_inputs names.old.failed names.new.failed }
 {
     match found {
-        PublicOrProcedureSymbol::Public(_, function) => {
+        FoundFunction::Global(_, function) => {
             let function = global_function_info(alloc, address_map, functions, function)?;
             Ok(function)
         }
-        PublicOrProcedureSymbol::Procedure(module_index, procedure) => procedure_info(
+        FoundFunction::Procedure(module_index, procedure) => procedure_info(
             address_map,
             functions,
             names,

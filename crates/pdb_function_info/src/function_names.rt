@@ -1,3 +1,5 @@
+//! `FunctionNames`: the names of functions and of inlined bodies, printed by a formatter and cached.
+
 ghost use Rattle.std.specs.Prelude.{◌≡◌, Some, option_map, string_bytes, OnOk, OnErr, MatchResult};
 ghost use Rattle.pdb_records.specs.Names.{lossy};
 ghost use Rattle.pdb_types.specs.FailedParts.{with_met};
@@ -19,7 +21,7 @@ use crate::cached_signatures::CachedSignatures;
 use crate::cached_texts::CachedTexts;
 use crate::name_keys::IdKey;
 use crate::names::{decorated_name_instead, text_of, text_of_name};
-use pdb_functions::{GlobalFunctionTable, ProcedureSymbolFunction, PublicOrProcedureSymbol};
+use pdb_functions::{FoundFunction, GlobalFunctionTable, ProcedureSymbolFunction};
 use pdb_records::{IdIndex, Module, TypeIndex};
 use pdb_signatures::TypeFormatter;
 use pdb_types::{ModuleProvider, Result};
@@ -105,14 +107,14 @@ impl<'a, P: ModuleProvider> FunctionNames<'a, P> {
 
     /// What [`TypeFormatter::get_type_size`] answers.
     pub fn get_type_size(&mut self, module_index: usize, index: TypeIndex) -> Result<u64>
-        ensures size { MatchResult result
+        ensures answer { MatchResult result
             (λ size. size ≡ (size_of P.info self.old.type_inputs module_index index.0).size)
             (λ e. e ≡ OutOfMemory) }
         ensures type_inputs { self.new.type_inputs ≡ self.old.type_inputs }
         ensures provider { self.new.provider ≡ self.old.provider }
-        ensures remembered { OnOk result (self.new.failed ≡
+        ensures failed { OnOk result (self.new.failed ≡
             with_met self.old.failed (size_of P.info self.old.type_inputs module_index index.0).met) }
-        ensures unchanged { OnErr result (self.new.failed ≡ self.old.failed) }
+        ensures unchanged_if_refused { OnErr result (self.new.failed ≡ self.old.failed) }
     {
         self.formatter.get_type_size(module_index, index)
     }
@@ -148,10 +150,10 @@ impl<'a, P: ModuleProvider> FunctionNames<'a, P> {
         self.formatter.format_id(module_index, index)
     }
 
-    /// The name of a function whose body was inlined, by its id as the module at this module index writes it, if
-    /// it can be printed. It is an error only where memory runs out.
+    // The name of a function whose body was inlined, by its id as the module at this module index writes it, if
+    // it can be printed. Answers `OutOfMemory` where memory runs out.
     pub(crate) fn name_of_id(&mut self, module_index: usize, id: IdIndex) -> Result<Option<String>>
-        ensures name { MatchResult result
+        ensures answer { MatchResult result
             (λ name. option_map string_bytes name ≡ id_name P.info self.old.type_inputs module_index id)
             (λ e. e ≡ OutOfMemory) }
         ensures type_inputs { self.new.type_inputs ≡ self.old.type_inputs }
@@ -164,7 +166,7 @@ impl<'a, P: ModuleProvider> FunctionNames<'a, P> {
         id_once(&mut self.formatter, &mut self.ids, module_index, id)
     }
 
-    /// The name of a procedure of a module, if one is known.
+    // The name of a procedure of a module, if one is known.
     pub(crate) fn name_of_procedure(
         &mut self,
         functions: &GlobalFunctionTable<'_>,
@@ -174,7 +176,7 @@ impl<'a, P: ModuleProvider> FunctionNames<'a, P> {
         requires named { name_by_symbol procedure.symbol_index.0
             (procedures_of_module (P.info self.old.provider) self.old.type_inputs.modules module_index)
             ≡ Some procedure.name.now }
-        ensures name { MatchResult result
+        ensures answer { MatchResult result
             (λ name. option_map string_bytes name ≡ procedure_name P.info self.old.type_inputs
             functions.now module_index (module_procedure procedure.entry))
             (λ e. e ≡ OutOfMemory) }
@@ -192,7 +194,7 @@ impl<'a, P: ModuleProvider> FunctionNames<'a, P> {
         self.signature(module_index, procedure)
     }
 
-    /// The signature of a procedure of a module, if it can be printed.
+    // The signature of a procedure of a module, if it can be printed.
     fn signature(
         &mut self,
         module_index: usize,
@@ -201,7 +203,7 @@ impl<'a, P: ModuleProvider> FunctionNames<'a, P> {
         requires named { name_by_symbol procedure.symbol_index.0
             (procedures_of_module (P.info self.old.provider) self.old.type_inputs.modules module_index)
             ≡ Some procedure.name.now }
-        ensures text { MatchResult result
+        ensures answer { MatchResult result
             (λ text. option_map string_bytes text ≡ signature_text P.info self.old.type_inputs module_index
             (lossy procedure.entry.name.now) procedure.entry.type_index.0)
             (λ e. e ≡ OutOfMemory) }
@@ -222,15 +224,15 @@ impl<'a, P: ModuleProvider> FunctionNames<'a, P> {
         )
     }
 
-    /// The name of a function that was found, if one is known.
+    // The name of a function that was found, if one is known.
     pub(crate) fn name_of_function(
         &mut self,
         functions: &GlobalFunctionTable<'_>,
-        function: PublicOrProcedureSymbol<'_>,
+        function: FoundFunction<'_>,
     ) -> Result<Option<String>>
         requires named { GoesBySymbol (P.info self.old.provider) self.old.type_inputs.modules
             (found_function function) }
-        ensures name { MatchResult result
+        ensures answer { MatchResult result
             (λ name. option_map string_bytes name ≡ function_name P.info self.old.type_inputs
             functions.now (found_function function.entry))
             (λ e. e ≡ OutOfMemory) }
@@ -243,11 +245,11 @@ impl<'a, P: ModuleProvider> FunctionNames<'a, P> {
             self.old.failed self.new.failed }
     {
         match function {
-            PublicOrProcedureSymbol::Public(_, function) => {
+            FoundFunction::Global(_, function) => {
                 let name = text_of_name(self.alloc, function.name)?;
                 Ok(name)
             }
-            PublicOrProcedureSymbol::Procedure(module_index, procedure) => {
+            FoundFunction::Procedure(module_index, procedure) => {
                 self.name_of_procedure(functions, module_index, procedure)
             }
         }

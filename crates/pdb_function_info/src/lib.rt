@@ -1,4 +1,4 @@
-//! Function info and frames info of a function that was found: where it starts and ends, its name, and its frames.
+//! Function info and frames info of a function that was found: its addresses, its name and its frames.
 //!
 //! Names of procedures and of inlined bodies are printed by a formatter. [`FunctionNames`] caches each, so that
 //! it is printed once.

@@ -1,17 +1,19 @@
+//! What names are cached by: a procedure's symbol and type, or an id, each in its module.
+
 ghost use Rattle.std.specs.Prelude.{◌≡◌};
 
 use crate::cached_texts::TextKey;
 use pdb_functions::ProcedureSymbolFunction;
 use pdb_records::IdIndex;
 
-/// An item of a module: the module index, and the item's number there.
+// What a hint is kept by: a module index, and a number in that module, of a symbol or of an id.
 #[derive(Clone, Copy)]
-pub(crate) struct Item {
-    pub(crate) module: usize,
+pub(crate) struct HintKey {
+    pub(crate) module_index: usize,
     pub(crate) number: usize,
 }
 
-/// A procedure whose name is cached: its module index, its symbol, and the index of its type.
+// A procedure whose name is cached: its module index, its symbol, and the index of its type.
 #[derive(Clone, Copy, PartialEq, Eq, PartialOrd, Ord)]
 pub(crate) struct SignatureKey {
     pub(crate) module_index: usize,
@@ -19,7 +21,7 @@ pub(crate) struct SignatureKey {
     pub(crate) type_index: u32,
 }
 
-/// An id whose text is cached: the module index of the module that writes it, and its index.
+// An id whose text is cached: the module index of the module that writes it, and its index.
 #[derive(Clone, Copy, PartialEq, Eq, PartialOrd, Ord)]
 pub(crate) struct IdKey {
     pub(crate) module_index: usize,
@@ -27,32 +29,32 @@ pub(crate) struct IdKey {
 }
 
 impl TextKey for SignatureKey {
-    fn is(self, other: Self) -> bool {
+    fn equals(self, other: Self) -> bool {
         self == other
     }
 
-    fn item(self) -> Item {
-        Item {
-            module: self.module_index,
+    fn hint_key(self) -> HintKey {
+        HintKey {
+            module_index: self.module_index,
             number: self.symbol,
         }
     }
 }
 
 impl TextKey for IdKey {
-    fn is(self, other: Self) -> bool {
+    fn equals(self, other: Self) -> bool {
         self == other
     }
 
-    fn item(self) -> Item {
-        Item {
-            module: self.module_index,
+    fn hint_key(self) -> HintKey {
+        HintKey {
+            module_index: self.module_index,
             number: self.index as usize,
         }
     }
 }
 
-/// The key of a procedure of the module at a module index.
+// The key of a procedure of the module at a module index.
 pub(crate) fn signature_key(
     module_index: usize,
     procedure: ProcedureSymbolFunction<'_>,
@@ -70,7 +72,7 @@ pub(crate) fn signature_key(
     }
 }
 
-/// The key of an id, as the module at a module index writes it.
+// The key of an id, as the module at a module index writes it.
 pub(crate) fn id_key(module_index: usize, id: IdIndex) -> IdKey
     ensures { result ≡ record { module_index = module_index; index = id.0 } }
 {

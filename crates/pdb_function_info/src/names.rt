@@ -1,3 +1,5 @@
+//! Names as text, and the decorated name that a procedure goes by in place of its own.
+
 ghost use Rattle.std.specs.Prelude.{◌≡◌, option_map, string_bytes, IfOk};
 ghost use Rattle.std.specs.Option.{option_copied};
 ghost use Rattle.pdb_records.specs.Names.{lossy};
@@ -8,21 +10,21 @@ use pdb_functions::{GlobalFunctionTable, ProcedureSymbolFunction};
 use pdb_records::{PdbInternalSectionOffset, RawString};
 use std::alloc::{AllocError, Global};
 
-/// Whether a name is one that a compiler decorated.
+// Whether a name is one that a compiler decorated.
 fn is_decorated_name(name: &RawString) -> bool
     ensures { result ≡ is_decorated name.now }
 {
     name.0.first() == Some(&b'?')
 }
 
-/// A name as text.
+// A name as text.
 pub(crate) fn text_of(alloc: Global, name: &RawString) -> Result<String, AllocError>
     ensures { IfOk result (λ s. string_bytes s ≡ lossy name.now) }
 {
     name.to_string_lossy(alloc)?.into_owned(alloc)
 }
 
-/// A name as text, where there is one.
+// A name as text, where there is one.
 pub(crate) fn text_of_name(
     alloc: Global,
     name: Option<&RawString>,
@@ -38,7 +40,7 @@ pub(crate) fn text_of_name(
     }
 }
 
-/// The decorated name of the global function that starts at a section offset.
+// The decorated name of the global function that starts at a section offset.
 fn decorated_name_at<'a>(
     functions: &GlobalFunctionTable<'a>,
     start: PdbInternalSectionOffset,
@@ -53,7 +55,7 @@ fn decorated_name_at<'a>(
     }
 }
 
-/// The decorated name that a procedure goes by in place of its own, where it does.
+// The decorated name that a procedure goes by in place of its own, where it does.
 pub(crate) fn decorated_name_instead<'a>(
     functions: &GlobalFunctionTable<'a>,
     procedure: ProcedureSymbolFunction<'_>,

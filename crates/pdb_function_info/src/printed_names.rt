@@ -1,3 +1,5 @@
+//! Names as a formatter prints them, and none where they can't be printed.
+
 ghost use Rattle.std.specs.Prelude.{◌≡◌, ◌≢◌, None, option_map, string_bytes, OnOk, MatchResult};
 ghost use Rattle.pdb_types.specs.declared.error.Error.TheVariants.{OutOfMemory};
 ghost use Rattle.pdb_documents.specs.BrokenParts.{AddsBroken};
@@ -9,7 +11,7 @@ use pdb_records::{IdIndex, TypeIndex};
 use pdb_signatures::TypeFormatter;
 use pdb_types::{Error, ModuleProvider, Result};
 
-/// No text, where there is an error in its place. Out of memory stays an error.
+// No text, where there is an error in its place. Answers `OutOfMemory` where memory runs out.
 fn no_text_for(error: Error) -> Result<Option<String>>
     ensures { MatchResult result
         (λ text. (text ≡ None) × (error ≢ OutOfMemory))
@@ -21,14 +23,14 @@ fn no_text_for(error: Error) -> Result<Option<String>>
     }
 }
 
-/// The signature of a function, if it can be printed. It is an error only where memory runs out.
+// The signature of a function, if it can be printed. Answers `OutOfMemory` where memory runs out.
 pub(crate) fn signature_of<P: ModuleProvider>(
     formatter: &mut TypeFormatter<'_, P>,
     name: &str,
     module_index: usize,
     index: TypeIndex,
 ) -> Result<Option<String>>
-    ensures text { MatchResult result
+    ensures answer { MatchResult result
         (λ text. option_map string_bytes text
         ≡ signature_text P.info formatter.old.type_inputs module_index name.now index.0)
         (λ e. e ≡ OutOfMemory) }
@@ -45,14 +47,14 @@ pub(crate) fn signature_of<P: ModuleProvider>(
     }
 }
 
-/// The name of a function whose body was inlined, by its id as the module at this module index writes it, if it
-/// can be printed. It is an error only where memory runs out.
+// The name of a function whose body was inlined, by its id as the module at this module index writes it, if it
+// can be printed. Answers `OutOfMemory` where memory runs out.
 pub(crate) fn name_of_id<P: ModuleProvider>(
     formatter: &mut TypeFormatter<'_, P>,
     module_index: usize,
     id: IdIndex,
 ) -> Result<Option<String>>
-    ensures name { MatchResult result
+    ensures answer { MatchResult result
         (λ name. option_map string_bytes name ≡ id_name P.info formatter.old.type_inputs module_index id)
         (λ e. e ≡ OutOfMemory) }
     ensures type_inputs { formatter.new.type_inputs ≡ formatter.old.type_inputs }

@@ -8,9 +8,7 @@ use Rattle.std.proofs.lemmas.Bool.Decides.{nat_tests}
 use Rattle.pdb_records.specs.declared.addresses.PdbInternalSectionOffset.{PdbInternalSectionOffset}
 use Rattle.pdb_ranges.specs.Pick.{pick}
 use Rattle.pdb_ranges.proofs.PickLemmas.{map-pick}
-use Rattle.pdb_functions.specs.declared.global_functions.PublicSymbolFunctionOrPlaceholder.{
-  PublicSymbolFunctionOrPlaceholder,
-}
+use Rattle.pdb_functions.specs.declared.global_functions.GlobalFunction.{GlobalFunction}
 use Rattle.pdb_functions.specs.declared.procedures.ProcedureSymbolFunction.{ProcedureSymbolFunction}
 use Rattle.pdb_functions.specs.GlobalFunctions.{global_function}
 use Rattle.pdb_ranges.specs.Last.{last_over}
@@ -45,7 +43,7 @@ last_procedure section_offset ps up =
     within p covers = grind (arith, nat_tests)
 
 -- where a section offset comes before the first of the global functions, none is up to it
-pub no_function_up_to : (section_offset : PdbInternalSectionOffset) (fs : List PublicSymbolFunctionOrPlaceholder)
+pub no_function_up_to : (section_offset : PdbInternalSectionOffset) (fs : List GlobalFunction)
     → StartsAscend (λ f. f.start_offset) fs
     → position_or_len (λ f. is_before section_offset f.start_offset) fs ≡ 0
     → None ≡ last_over (λ f. not (is_before section_offset f.start)) None (map global_function fs)
@@ -54,9 +52,8 @@ no_function_up_to section_offset fs up is =
     ∙ map-last_over global_function (λ f. not (is_before section_offset f.start)) None fs
 
 -- else the one ahead of the first that it comes before is the last up to it
-pub last_function_up_to : (section_offset : PdbInternalSectionOffset) (fs : List PublicSymbolFunctionOrPlaceholder)
-    (k : ℕ)
-    (f : PublicSymbolFunctionOrPlaceholder) → StartsAscend (λ g. g.start_offset) fs
+pub last_function_up_to : (section_offset : PdbInternalSectionOffset) (fs : List GlobalFunction) (k : ℕ)
+    (f : GlobalFunction) → StartsAscend (λ g. g.start_offset) fs
     → position_or_len (λ g. is_before section_offset g.start_offset) fs ≡ suc k → slice_get fs k ≡ Some f
     → Some (global_function f) ≡ last_over (λ g. not (is_before section_offset g.start)) None (map global_function fs)
 last_function_up_to section_offset fs k f up is got =
@@ -64,7 +61,7 @@ last_function_up_to section_offset fs k f up is got =
     ∙ map-last_over global_function (λ g. not (is_before section_offset g.start)) None fs
 
 -- the first global function that a section offset comes before is at the position
-pub first_function_behind : (section_offset : PdbInternalSectionOffset) (fs : List PublicSymbolFunctionOrPlaceholder)
+pub first_function_behind : (section_offset : PdbInternalSectionOffset) (fs : List GlobalFunction)
     → option_map global_function (slice_get fs (position_or_len (λ f. is_before section_offset f.start_offset) fs))
     ≡ find (λ f. is_before section_offset f.start) (map global_function fs)
 first_function_behind section_offset fs =

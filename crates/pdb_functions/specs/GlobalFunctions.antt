@@ -10,9 +10,7 @@ use Rattle.pdb_records.specs.declared.symbols.Symbol.{Symbol}
 use Rattle.pdb_records.specs.declared.symbols.SymbolData.{SymbolData}
 use Rattle.pdb_records.specs.declared.symbols.SymbolData.TheVariants.{Public, Procedure, SeparatedCode}
 use Rattle.pdb_records.specs.declared.symbols.SymbolData.TheVariants.{Thunk, InlineSite, Other}
-use Rattle.pdb_functions.specs.declared.global_functions.PublicSymbolFunctionOrPlaceholder.{
-  PublicSymbolFunctionOrPlaceholder,
-}
+use Rattle.pdb_functions.specs.declared.global_functions.GlobalFunction as code
 use Rattle.pdb_functions.specs.Sections.{is_executable, section_ends}
 use Rattle.pdb_functions.specs.Contributions.{contribution_starts}
 use Rattle.pdb_functions.specs.Starts.{first_of_each_start}
@@ -23,7 +21,7 @@ pub record GlobalFunction : Type 0 where
   pub name : Option (List ℕ)
 
 -- the same, as the code holds it
-abbrev pub global_function : PublicSymbolFunctionOrPlaceholder → GlobalFunction
+abbrev pub global_function : code.GlobalFunction → GlobalFunction
 global_function f = record { start = f.start_offset; name = option_copied f.name }
 
 -- the function of a public symbol in a section that holds code

@@ -9,8 +9,8 @@ use Rattle.pdb_functions.specs.GlobalFunctions.{GlobalFunction}
 use Rattle.pdb_functions.specs.Procedures.{ModuleProcedure, provided_procedures}
 use Rattle.pdb_ranges.specs.Pick.{pick}
 use Rattle.pdb_functions.specs.Spans.{contribution_covers, procedure_covers, global_function_covers}
-use Rattle.pdb_functions.specs.declared.lookup.PublicOrProcedureSymbol.{PublicOrProcedureSymbol}
-use Rattle.pdb_functions.specs.declared.lookup.PublicOrProcedureSymbol.TheVariants as code
+use Rattle.pdb_functions.specs.declared.lookup.FoundFunction as code
+use Rattle.pdb_functions.specs.declared.lookup.FoundFunction.TheVariants as variant
 use Rattle.pdb_functions.specs.GlobalFunctions.{global_function}
 use Rattle.pdb_functions.specs.Procedures.{module_procedure}
 use Rattle.pdb_types.specs.TypeInputs.{ProviderInfos}
@@ -28,9 +28,9 @@ pub data FoundFunction : Type 0 where
   found_global : ℕ → GlobalFunction → FoundFunction
 
 -- the same, as the code has it
-abbrev pub found_function : PublicOrProcedureSymbol → FoundFunction
-found_function (code.Procedure m p) = found_procedure m (module_procedure p)
-found_function (code.Public m f) = found_global m (global_function f)
+abbrev pub found_function : code.FoundFunction → FoundFunction
+found_function (variant.Procedure m p) = found_procedure m (module_procedure p)
+found_function (variant.Global m f) = found_global m (global_function f)
 
 -- a global function counts where it doesn't start below the contribution
 abbrev pub global_in : ModuleSectionContribution → Option GlobalFunction → Option FoundFunction

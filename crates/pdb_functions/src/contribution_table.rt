@@ -1,3 +1,5 @@
+//! A table of merged contributions: which of them lies over a section offset.
+
 ghost use Rattle.std.specs.Prelude.{◌≡◌, ◌+◌, ◌*◌, ◌≤◌, find, length, IfOk};
 ghost use Rattle.pdb_ranges.specs.Probes.{digits};
 ghost use Rattle.pdb_functions.specs.Spans.{contribution_covers};
@@ -76,7 +78,7 @@ impl ContributionTable {
         })
     }
 
-    /// The first contribution over a section offset. Each entry of the table that is looked at counts.
+    // The first contribution over a section offset. Each entry of the table that is looked at counts.
     fn search(
         &self,
         section_offset: PdbInternalSectionOffset,

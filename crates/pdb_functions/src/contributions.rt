@@ -1,3 +1,5 @@
+//! Section contributions: which count, and how those of one module are merged, or refused where they overlap.
+
 ghost use Rattle.std.specs.Prelude.{◌≡◌, ◌≢◌, None, Some, IfOk, OnOk, MatchResult};
 ghost use Rattle.pdb_types.specs.declared.error.Error.TheVariants.{OutOfMemory};
 ghost use Rattle.pdb_ranges.specs.InOrder.{in_order};
@@ -27,14 +29,14 @@ pub struct ModuleSectionContribution {
     pub module_index: usize,
 }
 
-/// Whether a contribution counts: it isn't empty, and its section holds code.
+// Whether a contribution counts: it isn't empty, and its section holds code.
 fn counts(sections: &[ImageSectionHeader], contribution: &SectionContribution) -> bool
     ensures { result ≡ is_counted sections.now contribution.now }
 {
     contribution.size > 0 && is_executable_section(sections, contribution.offset.section)
 }
 
-/// The bytes that a contribution claims, where their end fits 32 bits.
+// The bytes that a contribution claims, where their end fits 32 bits.
 fn claim_of(contribution: &SectionContribution) -> Result<ModuleSectionContribution>
     ensures refused { Refuses result (refused_end (claimed contribution.now)) }
     ensures claim { IfOk result (λ claim. claim ≡ claimed contribution.now) }
@@ -51,7 +53,7 @@ fn claim_of(contribution: &SectionContribution) -> Result<ModuleSectionContribut
     })
 }
 
-/// What the contributions that count claim, in reading order.
+// What the contributions that count claim, in reading order.
 fn claims(
     alloc: Global,
     sections: &[ImageSectionHeader],
@@ -71,21 +73,21 @@ fn claims(
     Ok(claims)
 }
 
-/// Puts claims in order.
+// Puts claims in order.
 fn sort(claims: &mut Vec<ModuleSectionContribution>) -> Result<(), AllocError>
     ensures { OnOk result (claims.new.items ≡ in_order contribution_before claims.old.items) }
 {
     claims.sort()
 }
 
-/// Whether two belong to one module and section.
+// Whether two belong to one module and section.
 fn is_same_module(a: ModuleSectionContribution, b: ModuleSectionContribution) -> bool
     ensures { result ≡ is_same_module a b }
 {
     a.section_index == b.section_index && a.module_index == b.module_index
 }
 
-/// The intervals of claims in order: neighbours of one module and section are joined.
+// The intervals of claims in order: neighbours of one module and section are joined.
 fn intervals(
     alloc: Global,
     claims: &[ModuleSectionContribution],
@@ -113,7 +115,7 @@ fn intervals(
     Ok(intervals)
 }
 
-/// Refuses intervals of which one begins before the one in front of it ends.
+// Refuses intervals of which one begins before the one in front of it ends.
 fn check_overlap(intervals: &[ModuleSectionContribution]) -> Result<()>
     ensures { Refuses result (overlap_after None intervals.now) }
 {
@@ -135,7 +137,7 @@ fn check_overlap(intervals: &[ModuleSectionContribution]) -> Result<()>
     Ok(())
 }
 
-/// Where the contributions that count start, in reading order.
+// Where the contributions that count start, in reading order.
 fn starts(
     alloc: Global,
     sections: &[ImageSectionHeader],

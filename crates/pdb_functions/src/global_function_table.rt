@@ -1,3 +1,5 @@
+//! A table of global functions by start: the one over a section offset, the one at it, and the next.
+
 ghost use Rattle.std.specs.Prelude.{◌≡◌, ◌+◌, ◌≤◌, None, not, map, option_map, find, length};
 ghost use Rattle.pdb_ranges.specs.Pick.{pick};
 ghost use Rattle.pdb_ranges.specs.Probes.{digits};
@@ -7,7 +9,7 @@ ghost use Rattle.pdb_functions.specs.Lookup.{next_global, global_at};
 ghost use Rattle.pdb_functions.specs.Spans.{global_function_covers};
 ghost use Rattle.pdb_functions.specs.Starts.{is_before, StartsAscend};
 
-use crate::global_functions::PublicSymbolFunctionOrPlaceholder;
+use crate::global_functions::GlobalFunction;
 use crate::starts::position_behind;
 use pdb_ranges::Probes;
 use pdb_records::PdbInternalSectionOffset;
@@ -16,7 +18,7 @@ use std::marker::Model;
 /// Global functions by section and start, each start once.
 #[derive(Drop)]
 pub struct GlobalFunctionTable<'a> {
-    functions: Vec<PublicSymbolFunctionOrPlaceholder<'a>>,
+    functions: Vec<GlobalFunction<'a>>,
 }
 
 // Clauses see a table as the list of the functions.
@@ -33,8 +35,8 @@ impl<'a> Model for GlobalFunctionTable<'a> {
 }
 
 impl<'a> GlobalFunctionTable<'a> {
-    /// The table of functions that stand by section and start, each start once.
-    pub(crate) fn new(functions: Vec<PublicSymbolFunctionOrPlaceholder<'a>>) -> Self
+    // The table of functions that stand by section and start, each start once.
+    pub(crate) fn new(functions: Vec<GlobalFunction<'a>>) -> Self
         requires { StartsAscend (λ f. f.start_offset) functions.items }
         ensures { result ≡ map global_function functions.entry.items }
     {
@@ -42,7 +44,7 @@ impl<'a> GlobalFunctionTable<'a> {
     }
 
     /// The functions.
-    pub fn as_slice(&self) -> &[PublicSymbolFunctionOrPlaceholder<'a>]
+    pub fn as_slice(&self) -> &[GlobalFunction<'a>]
         ensures { map global_function result.now ≡ self.now }
     {
         &self.functions
@@ -55,12 +57,12 @@ impl<'a> GlobalFunctionTable<'a> {
         self.functions.len()
     }
 
-    /// The last function that starts at a section offset or ahead of it. Each entry that is looked at counts.
+    // The last function that starts at a section offset or ahead of it. Each entry that is looked at counts.
     fn last_up_to(
         &self,
         section_offset: PdbInternalSectionOffset,
         probes: &mut Probes,
-    ) -> Option<PublicSymbolFunctionOrPlaceholder<'a>>
+    ) -> Option<GlobalFunction<'a>>
         ensures found { option_map global_function result
             ≡ last_over (λ f. not (is_before section_offset f.start)) None self.now }
         ensures ascend { StartsAscend (λ f. f.start) self.now }
@@ -73,12 +75,12 @@ impl<'a> GlobalFunctionTable<'a> {
         Some(self.functions[behind - 1])
     }
 
-    /// The first function that starts behind a section offset. Each entry that is looked at counts.
+    // The first function that starts behind a section offset. Each entry that is looked at counts.
     fn first_behind(
         &self,
         section_offset: PdbInternalSectionOffset,
         probes: &mut Probes,
-    ) -> Option<PublicSymbolFunctionOrPlaceholder<'a>>
+    ) -> Option<GlobalFunction<'a>>
         ensures found { option_map global_function result ≡ find (λ f. is_before section_offset f.start) self.now }
         ensures ascend { StartsAscend (λ f. f.start) self.now }
         ensures few { probes.new ≤ probes.old + digits (length self.now) }
@@ -91,7 +93,7 @@ impl<'a> GlobalFunctionTable<'a> {
     pub fn function_over(
         &self,
         section_offset: PdbInternalSectionOffset,
-    ) -> Option<PublicSymbolFunctionOrPlaceholder<'a>>
+    ) -> Option<GlobalFunction<'a>>
         ensures { option_map global_function result
             ≡ pick (global_function_covers section_offset) (λ f. f.start.offset) self.now }
     {
@@ -104,10 +106,7 @@ impl<'a> GlobalFunctionTable<'a> {
     }
 
     /// The function that starts at a section offset. It is found by a binary search.
-    pub fn function_at(
-        &self,
-        start: PdbInternalSectionOffset,
-    ) -> Option<PublicSymbolFunctionOrPlaceholder<'a>>
+    pub fn function_at(&self, start: PdbInternalSectionOffset) -> Option<GlobalFunction<'a>>
         ensures { option_map global_function result ≡ global_at start self.now }
     {
         match self.last_up_to(start, &mut Probes::new()) {
@@ -120,7 +119,7 @@ impl<'a> GlobalFunctionTable<'a> {
     pub fn next_function(
         &self,
         section_offset: PdbInternalSectionOffset,
-    ) -> Option<PublicSymbolFunctionOrPlaceholder<'a>>
+    ) -> Option<GlobalFunction<'a>>
         ensures { option_map global_function result ≡ next_global section_offset self.now }
     {
         match self.first_behind(section_offset, &mut Probes::new()) {

@@ -1,3 +1,5 @@
+//! Global functions: what starts at public symbols, at contributions and at the ends of sections.
+
 ghost use Rattle.std.specs.Prelude.{◌≡◌, ◌++◌, map, option_map, IfOk, OnOk};
 ghost use Rattle.std.specs.List.{filter_map};
 ghost use Rattle.pdb_functions.specs.GlobalFunctions.{global_function, public_function, placeholder};
@@ -14,14 +16,14 @@ use std::alloc::{AllocError, Global};
 
 /// Where a function starts, as the whole program's symbols and contributions show it.
 #[derive(Clone, Copy)]
-pub struct PublicSymbolFunctionOrPlaceholder<'a> {
+pub struct GlobalFunction<'a> {
     /// Where it starts.
     pub start_offset: PdbInternalSectionOffset,
     /// The public symbol's name. A placeholder has none.
     pub name: Option<&'a RawString>,
 }
 
-impl HasStart for PublicSymbolFunctionOrPlaceholder<'_> {
+impl HasStart for GlobalFunction<'_> {
     ghost start_of = { λ f. f.start_offset };
 
     fn start(&self) -> PdbInternalSectionOffset {
@@ -29,11 +31,11 @@ impl HasStart for PublicSymbolFunctionOrPlaceholder<'_> {
     }
 }
 
-/// The function that a symbol shows, where it is a public one in a section that holds code.
+// The function that a symbol shows, where it is a public one in a section that holds code.
 fn public_symbol_function<'a>(
     sections: &[ImageSectionHeader],
     symbol: &'a Symbol,
-) -> Option<PublicSymbolFunctionOrPlaceholder<'a>>
+) -> Option<GlobalFunction<'a>>
     ensures { option_map global_function result ≡ public_function sections.now symbol.now }
 {
     if !is_public_kind(symbol.raw_kind) {
@@ -42,7 +44,7 @@ fn public_symbol_function<'a>(
     match &symbol.content {
         Some(SymbolData::Public(public))
             if is_executable_section(sections, public.offset.section) => {
-            Some(PublicSymbolFunctionOrPlaceholder {
+            Some(GlobalFunction {
                 start_offset: public.offset,
                 name: Some(&public.name),
             })
@@ -51,12 +53,12 @@ fn public_symbol_function<'a>(
     }
 }
 
-/// The functions that public symbols show, in reading order.
+// The functions that public symbols show, in reading order.
 fn public_symbol_functions<'a>(
     alloc: Global,
     sections: &[ImageSectionHeader],
     symbols: &'a [Symbol],
-) -> Result<Vec<PublicSymbolFunctionOrPlaceholder<'a>>, AllocError>
+) -> Result<Vec<GlobalFunction<'a>>, AllocError>
     ensures { IfOk result (λ v. map global_function v.items ≡ filter_map (public_function sections.now) symbols.now) }
 {
     let mut functions = Vec::new(alloc);
@@ -68,16 +70,16 @@ fn public_symbol_functions<'a>(
     Ok(functions)
 }
 
-/// Adds a start with no name for each section offset.
+// Adds a start with no name for each section offset.
 fn add_placeholders(
-    functions: &mut Vec<PublicSymbolFunctionOrPlaceholder<'_>>,
+    functions: &mut Vec<GlobalFunction<'_>>,
     starts: &[PdbInternalSectionOffset],
 ) -> Result<(), AllocError>
     ensures { OnOk result (map global_function functions.new.items
         ≡ map global_function functions.old.items ++ map placeholder starts.now) }
 {
     for start in starts {
-        functions.push(PublicSymbolFunctionOrPlaceholder {
+        functions.push(GlobalFunction {
             start_offset: *start,
             name: None,
         })?;

@@ -1,3 +1,5 @@
+//! The records of a module together with the procedures that its symbols show.
+
 ghost use Rattle.std.specs.Prelude.{◌≡◌, ◌≢◌, None, Some, map, option_map, IfOk, MatchResult};
 ghost use Rattle.pdb_records.specs.declared.error.Error.TheVariants.{Stream};
 ghost use Rattle.pdb_types.specs.declared.error.Error.TheVariants.{PdbError, OutOfMemory};

@@ -1,3 +1,5 @@
+//! The cache of modules' records and procedures by module index, each read once from the provider.
+
 ghost use Rattle.std.specs.Prelude.{◌≡◌, ◌<◌, [], true, Some, IfSome, IfOk, OnOk, length, slice_get};
 ghost use Rattle.std.specs.Borrow.{sem};
 ghost use Rattle.std.specs.Io.BufRead.{Rests};
@@ -22,7 +24,7 @@ use std::marker::Model;
 pub struct BasicModuleInfoCache<'a, P: ModuleProvider> {
     alloc: Global,
     provider: &'a P,
-    /// What was made of modules, by module index.
+    // What was made of modules, by module index.
     cached: Vec<Option<NamedInfo<'a>>>,
 }
 
@@ -47,7 +49,7 @@ impl<'a, P: ModuleProvider> Model for BasicModuleInfoCache<'a, P> {
     ghost invariant = { λ c. IsModuleInfoCache (P.info c.provider.now) c.cached.items };
 }
 
-/// The procedures of the module at a module index, where it has records that can be read.
+// The procedures of the module at a module index, where it has records that can be read.
 fn read_info<'a, P: ModuleProvider>(
     alloc: Global,
     provider: &'a P,
@@ -69,7 +71,7 @@ fn read_info<'a, P: ModuleProvider>(
     }
 }
 
-/// What is cached at a module index.
+// What is cached at a module index.
 fn cached_at<'k, 'a>(
     cached: &'k [Option<NamedInfo<'a>>],
     module_index: usize,
@@ -82,7 +84,7 @@ fn cached_at<'k, 'a>(
     }
 }
 
-/// Whether something is cached at a module index, with this name.
+// Whether something is cached at a module index, with this name.
 fn serves(cached: &[Option<NamedInfo<'_>>], module_index: usize, name: &RawString) -> bool
     ensures { result ≡ true → IsCachedInfo cached.now module_index name.now }
 {
@@ -92,7 +94,7 @@ fn serves(cached: &[Option<NamedInfo<'_>>], module_index: usize, name: &RawStrin
     }
 }
 
-/// Makes a place for what is cached at a module index.
+// Makes a place for what is cached at a module index.
 fn make_slot(cached: &mut Vec<Option<NamedInfo<'_>>>, module_index: usize) -> Result<(), AllocError>
     ensures is_cache { (infos : ProviderInfos) → IsModuleInfoCache infos cached.old.items
         → IsModuleInfoCache infos cached.new.items }
@@ -104,7 +106,7 @@ fn make_slot(cached: &mut Vec<Option<NamedInfo<'_>>>, module_index: usize) -> Re
     Ok(())
 }
 
-/// Caches what was made of the module at a module index, in the place of what was cached there.
+// Caches what was made of the module at a module index, in the place of what was cached there.
 fn cache_info<'a, P: ModuleProvider>(
     provider: &'a P,
     cached: &mut Vec<Option<NamedInfo<'a>>>,
@@ -123,7 +125,7 @@ fn cache_info<'a, P: ModuleProvider>(
     Ok(())
 }
 
-/// Makes sure that what can be read of a module is cached.
+// Makes sure that what can be read of a module is cached.
 fn cache_info_of<'a, P: ModuleProvider>(
     alloc: Global,
     provider: &'a P,
@@ -165,7 +167,7 @@ impl<'a, P: ModuleProvider> BasicModuleInfoCache<'a, P> {
         }
     }
 
-    /// Makes sure that what can be read of the module at a module index is cached, where there is one.
+    // Makes sure that what can be read of the module at a module index is cached, where there is one.
     fn learn(&mut self, modules: &[Module], module_index: usize) -> Result<(), AllocError>
         ensures provider { self.new.provider ≡ self.old.provider }
         ensures cached { OnOk result (IfSome (slice_get modules.now module_index)
@@ -185,7 +187,7 @@ impl<'a, P: ModuleProvider> BasicModuleInfoCache<'a, P> {
         )
     }
 
-    /// What is cached of the module at a module index, where there is one.
+    // What is cached of the module at a module index, where there is one.
     fn look_up(&self, modules: &[Module], module_index: usize) -> Option<&BasicModuleInfo<'a>>
         requires cached { IfSome (slice_get modules.now module_index)
             (λ m. IsCachedInfo self.now.cached module_index m.name) }

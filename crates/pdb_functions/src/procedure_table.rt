@@ -1,3 +1,5 @@
+//! A table of a module's procedures: of those over a section offset the one that starts last.
+
 ghost use Rattle.std.specs.Prelude.{◌≡◌, ◌+◌, ◌*◌, ◌≤◌, map, option_map, length, IfOk};
 ghost use Rattle.pdb_ranges.specs.Pick.{pick};
 ghost use Rattle.pdb_ranges.specs.Probes.{digits};
@@ -24,7 +26,7 @@ impl Span for ProcedureSymbolFunction<'_> {
     }
 }
 
-/// The procedures of a module by section and start, with a table of the positions of those over section offsets.
+// The procedures of a module by section and start, with a table of the positions of those over section offsets.
 #[derive(Drop)]
 pub(crate) struct ProcedureTable<'a> {
     procedures: Vec<ProcedureSymbolFunction<'a>>,
@@ -56,7 +58,7 @@ impl<'a> Model for ProcedureTable<'a> {
 }
 
 impl<'a> ProcedureTable<'a> {
-    /// The table of procedures that stand by section and start, each start once.
+    // The table of procedures that stand by section and start, each start once.
     pub(crate) fn new(
         alloc: Global,
         procedures: Vec<ProcedureSymbolFunction<'a>>,
@@ -71,14 +73,14 @@ impl<'a> ProcedureTable<'a> {
         })
     }
 
-    /// The procedures.
+    // The procedures.
     pub(crate) fn as_slice(&self) -> &[ProcedureSymbolFunction<'a>]
         ensures { map module_procedure result.now ≡ self.now }
     {
         &self.procedures
     }
 
-    /// Of the procedures over a section offset the one that starts last. Each table entry that is looked at counts.
+    // Of the procedures over a section offset the one that starts last. Each table entry that is looked at counts.
     fn search(
         &self,
         section_offset: PdbInternalSectionOffset,
@@ -91,7 +93,7 @@ impl<'a> ProcedureTable<'a> {
         find(&self.procedures, &self.segments, section_offset, probes)
     }
 
-    /// Of the procedures over a section offset the one that starts last.
+    // Of the procedures over a section offset the one that starts last.
     pub(crate) fn procedure_over(
         &self,
         section_offset: PdbInternalSectionOffset,

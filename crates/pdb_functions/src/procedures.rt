@@ -1,3 +1,5 @@
+//! The procedures of a module: functions, separated code and thunks, as its symbols show them.
+
 ghost use Rattle.std.specs.Prelude.{◌≡◌, ◌+◌, map, option_map, Option, Some, None, IfOk, IfErr, OnErr};
 ghost use Rattle.std.specs.Borrow.{Bor};
 ghost use Rattle.pdb_records.specs.declared.error.Error.TheVariants.{Stream};
@@ -40,7 +42,7 @@ impl HasStart for ProcedureSymbolFunction<'_> {
     }
 }
 
-/// A procedure, unless it has no code.
+// A procedure, unless it has no code.
 fn non_empty(procedure: ProcedureSymbolFunction<'_>) -> Option<ProcedureSymbolFunction<'_>>
     ensures { option_map module_procedure result ≡ unless_empty (module_procedure procedure.entry) }
 {
@@ -98,8 +100,8 @@ fn of_thunk(at: usize, symbol: &ThunkSymbol) -> Option<ProcedureSymbolFunction<'
     })
 }
 
-/// The procedure that the symbol at a position shows, where it does. Code apart from its body looks
-/// at the last procedure that counts.
+// The procedure that the symbol at a position shows, where it does. Code apart from its body looks
+// at the last procedure that counts.
 fn procedure_of<'a>(
     at: usize,
     last: Option<ProcedureSymbolFunction<'a>>,
@@ -119,7 +121,7 @@ fn procedure_of<'a>(
     }
 }
 
-/// The procedures that symbols show, in reading order.
+// The procedures that symbols show, in reading order.
 fn procedures_in_reading_order(
     alloc: Global,
     symbols: &[Symbol],
@@ -137,8 +139,8 @@ fn procedures_in_reading_order(
     Ok(procedures)
 }
 
-/// The procedures that symbols show, by section and start. Of each start the first in reading order
-/// stays.
+// The procedures that symbols show, by section and start. Of each start the first in reading order
+// stays.
 pub(crate) fn compute_procedures(
     alloc: Global,
     symbols: &[Symbol],

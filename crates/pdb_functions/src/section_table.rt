@@ -1,3 +1,5 @@
+//! A table of a program's sections: the section offset of an address.
+
 ghost use Rattle.std.specs.Prelude.{◌≡◌, ◌+◌, ◌*◌, ◌≤◌, length, option_and_then, IfOk};
 ghost use Rattle.pdb_records.specs.Addresses.{internal_offset};
 ghost use Rattle.pdb_ranges.specs.Probes.{digits};
@@ -8,14 +10,14 @@ use pdb_records::{AddressMap, AddressRange, PdbInternalSectionOffset, Rva};
 use std::alloc::{AllocError, Global};
 use std::marker::Model;
 
-/// Where a section starts, and its position in the list of sections, counted from 0.
+// Where a section starts, and its position in the list of sections, counted from 0.
 #[derive(Clone, Copy)]
 pub(crate) struct SectionStart {
     pub(crate) index: usize,
     pub(crate) start: u32,
 }
 
-/// The addresses of each section.
+// The addresses of each section.
 fn segments_of(
     alloc: Global,
     ranges: &[AddressRange],
@@ -34,8 +36,8 @@ fn segments_of(
     Ok(segments)
 }
 
-/// The section offset of an address in a section that starts at it or below. `None` where the section has a number
-/// past 65535.
+// The section offset of an address in a section that starts at it or below. `None` where the section has a number
+// past 65535.
 fn section_offset_in(address: u32, section: SectionStart) -> Option<PdbInternalSectionOffset>
     ensures { result ≡ section_offset_in address section }
 {
@@ -90,8 +92,8 @@ impl<'a> SectionTable<'a> {
         })
     }
 
-    /// The section offset of an address in the first section that holds it. Each entry of the table that is looked
-    /// at counts.
+    // The section offset of an address in the first section that holds it. Each entry of the table that is looked
+    // at counts.
     fn search(&self, address: Rva, probes: &mut Probes) -> Option<PdbInternalSectionOffset>
         ensures found { result ≡ internal_offset self.now address }
         ensures few { probes.new ≤ probes.old + digits (2 * length self.now) }

@@ -1,4 +1,4 @@
-// What lies over section offsets, as tables of segments that are searched by the key of a section offset.
+//! Tables of what lies over section offsets, as contributions and procedures, by section offsets' keys.
 
 ghost use Rattle.std.specs.Prelude.{◌≡◌, ◌+◌, ◌*◌, ◌^◌, ◌<◌, ◌≤◌, Bool, None, length, slice_get, option_and_then, IfOk};
 ghost use Rattle.pdb_records.specs.declared.addresses.PdbInternalSectionOffset.{PdbInternalSectionOffset};
@@ -11,11 +11,11 @@ use pdb_ranges::{Probes, Segment, Segments};
 use pdb_records::PdbInternalSectionOffset;
 use std::alloc::{AllocError, Global};
 
-/// The keys that a section has room for: more than twice as many as it has offsets, so that what starts in
-/// a section ends in its room.
+// The keys that a section has room for: more than twice as many as it has offsets, so that what starts in
+// a section ends in its room.
 const ROOM: u64 = 0x4_0000_0000;
 
-/// The number of a section offset.
+// The number of a section offset.
 pub(crate) fn key(section_offset: PdbInternalSectionOffset) -> u64
     ensures key { result ≡ key section_offset }
     ensures offset { section_offset.offset < 2 ^ 32 }
@@ -24,24 +24,24 @@ pub(crate) fn key(section_offset: PdbInternalSectionOffset) -> u64
     u64::from(section_offset.section) * ROOM + u64::from(section_offset.offset)
 }
 
-/// The keys from a first one up to the one before an end.
+// The keys from a first one up to the one before an end.
 #[derive(Clone, Copy)]
 pub(crate) struct Keys {
     pub(crate) start: u64,
     pub(crate) end: u64,
 }
 
-/// What lies over the section offsets from a start up to an end, in one section.
+// What lies over the section offsets from a start up to an end, in one section.
 pub(crate) trait Span: Copy {
-    /// Whether it lies over a section offset.
+    // Whether it lies over a section offset.
     ghost is_over: { PdbInternalSectionOffset → Self → Bool };
 
-    /// The keys of the section offsets that it lies over.
+    // The keys of the section offsets that it lies over.
     fn keys(&self) -> Keys
         ensures { HasKeys result.start result.end (λ section_offset. is_over section_offset self.now) };
 }
 
-/// The table in which each section offset has the position of the last of the spans over it.
+// The table in which each section offset has the position of the last of the spans over it.
 pub(crate) fn segments_of<T: Span>(
     alloc: Global,
     spans: &[T],
@@ -64,7 +64,7 @@ pub(crate) fn segments_of<T: Span>(
     Ok(table)
 }
 
-/// The span whose position the table has for a section offset.
+// The span whose position the table has for a section offset.
 pub(crate) fn find<T: Copy>(
     spans: &[T],
     table: &Segments<usize>,

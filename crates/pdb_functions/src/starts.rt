@@ -1,3 +1,5 @@
+//! What starts at a section offset: in order, of each start the first, and found by a binary search.
+
 ghost use Rattle.std.specs.Prelude.{◌≡◌, ◌+◌, ◌≤◌, length, OnOk, OnErr, IfOk};
 ghost use Rattle.std.specs.List.{position_or_len};
 ghost use Rattle.pdb_records.specs.declared.addresses.PdbInternalSectionOffset.{PdbInternalSectionOffset};
@@ -9,16 +11,16 @@ use pdb_ranges::Probes;
 use pdb_records::PdbInternalSectionOffset;
 use std::alloc::{AllocError, Global};
 
-/// What starts at a section offset of the program.
+// What starts at a section offset of the program.
 pub(crate) trait HasStart: Copy {
-    /// The section offset.
+    // The section offset.
     ghost start_of: { Self → PdbInternalSectionOffset };
 
     fn start(&self) -> PdbInternalSectionOffset
         ensures { result ≡ start_of self.now };
 }
 
-/// Puts the entries in order of their starts. Entries with one start stay in the order that they had.
+// Puts the entries in order of their starts. Entries with one start stay in the order that they had.
 fn sort_by_start<T: HasStart>(entries: &mut Vec<T>) -> Result<(), AllocError>
     ensures ok { OnOk result (entries.new.items ≡ in_order (starts_before T.start_of) entries.old.items) }
     ensures err { OnErr result (entries.new.items ≡ entries.old.items) }
@@ -26,7 +28,7 @@ fn sort_by_start<T: HasStart>(entries: &mut Vec<T>) -> Result<(), AllocError>
     entries.sort_by_key(|entry| entry.start())
 }
 
-/// Of neighbours with one start, the first.
+// Of neighbours with one start, the first.
 fn first_neighbours<T: HasStart>(alloc: Global, entries: &[T]) -> Result<Vec<T>, AllocError>
     ensures { IfOk result (λ v. v.items ≡ firsts_after T.start_of None entries.now) }
 {
@@ -42,7 +44,7 @@ fn first_neighbours<T: HasStart>(alloc: Global, entries: &[T]) -> Result<Vec<T>,
     Ok(counted)
 }
 
-/// The entries by section and start, of each start the first.
+// The entries by section and start, of each start the first.
 pub(crate) fn first_of_each_start<T: HasStart>(
     alloc: Global,
     mut entries: Vec<T>,
@@ -53,8 +55,8 @@ pub(crate) fn first_of_each_start<T: HasStart>(
     first_neighbours(alloc, &entries)
 }
 
-/// The position of the first entry that starts behind a section offset, or the number of entries where none does. Each
-/// entry that is looked at counts.
+// The position of the first entry that starts behind a section offset, or the number of entries where none does. Each
+// entry that is looked at counts.
 pub(crate) fn position_behind<T: HasStart>(
     entries: &[T],
     section_offset: PdbInternalSectionOffset,

@@ -1,4 +1,4 @@
-// For each depth a table of which range is picked there, by its position in the list.
+//! For each depth a table of which inline range is picked over a number, by its position in the list.
 
 ghost use Rattle.std.specs.Prelude.{◌≡◌, ◌==◌, ◌<◌, ◌≤◌, ◌++◌, ◌∷◌, [], ℕ, map};
 ghost use Rattle.std.specs.Prelude.{length, None, IfOk, OnOk, if◌then◌else◌};
@@ -11,7 +11,7 @@ use crate::listed_ranges::{ListedRange, ranges_by_start};
 use pdb_ranges::{Probes, Segment, Segments};
 use std::alloc::{AllocError, Global};
 
-/// No segment at each of so many depths.
+// No segment at each of so many depths.
 fn no_segments(alloc: Global, depths: usize) -> Result<Vec<Vec<Segment<usize>>>, AllocError>
     ensures count { IfOk result (λ v. length v.items ≡ depths) }
     ensures none { IfOk result (λ v. (depth : ℕ) → segments_at v.items depth ≡ []) }
@@ -23,7 +23,7 @@ fn no_segments(alloc: Global, depths: usize) -> Result<Vec<Vec<Segment<usize>>>,
     Ok(all)
 }
 
-/// Adds a segment at a depth.
+// Adds a segment at a depth.
 fn push_at(
     all: &mut Vec<Vec<Segment<usize>>>,
     depth: usize,
@@ -39,7 +39,7 @@ fn push_at(
     Ok(())
 }
 
-/// At each of so many depths the ranges of it as segments of their positions, in the order in which they stand.
+// At each of so many depths the ranges of it as segments of their positions, in the order in which they stand.
 fn segments_by_depth(
     alloc: Global,
     ranges: &[ListedRange],
@@ -64,7 +64,7 @@ fn segments_by_depth(
     Ok(all)
 }
 
-/// The tables that lists of segments make, each painted in the order of its list.
+// The tables that lists of segments make, each painted in the order of its list.
 fn tables_of(
     alloc: Global,
     lists: &[Vec<Segment<usize>>],
@@ -79,10 +79,10 @@ fn tables_of(
     Ok(tables)
 }
 
-/// For each depth a table of the positions of the ranges that are picked there. A depth that is as great as there
-/// are ranges is in no stack, and has none.
-///
-/// Its time grows with n log n for n ranges.
+// For each depth a table of the positions of the ranges that are picked there. A depth that is as great as there
+// are ranges is in no stack, and has none.
+//
+// Its time grows with n log n for n ranges.
 pub(crate) fn depth_tables(
     alloc: Global,
     ranges: &[InlineRange],
@@ -96,7 +96,7 @@ pub(crate) fn depth_tables(
     Ok(tables)
 }
 
-/// Adds the positions that the tables have for a number, up to the first table that has none.
+// Adds the positions that the tables have for a number, up to the first table that has none.
 pub(crate) fn push_positions(
     positions: &mut Vec<usize>,
     tables: &[Segments<usize>],

@@ -1,3 +1,5 @@
+//! The inline ranges of a procedure: of its sites' own rows, and added for the sites inside them.
+
 ghost use Rattle.std.specs.Prelude.{◌≡◌, ◌++◌, map, IfOk, OnOk, OnErr};
 ghost use Rattle.std.specs.List.{flat_map};
 ghost use Rattle.pdb_ranges.specs.InOrder.{in_order};
@@ -31,7 +33,7 @@ pub struct InlineRange {
     pub line_start: Option<u32>,
 }
 
-/// Adds the ranges of rows, which a site has.
+// Adds the ranges of rows, which a site has.
 fn push_own(
     ranges: &mut Vec<InlineRange>,
     site: Site<'_>,
@@ -53,7 +55,7 @@ fn push_own(
     Ok(())
 }
 
-/// The ranges of the sites' own rows.
+// The ranges of the sites' own rows.
 fn own_ranges_of_sites(
     alloc: Global,
     inlinees: &BTreeSet<IdIndex>,
@@ -70,15 +72,15 @@ fn own_ranges_of_sites(
     Ok(ranges)
 }
 
-/// Puts ranges in order of their depths and starts. Those with one depth and start stay as they stood.
+// Puts ranges in order of their depths and starts. Those with one depth and start stay as they stood.
 fn sort(ranges: &mut Vec<InlineRange>) -> Result<(), AllocError>
     ensures { OnOk result (ranges.new.items ≡ in_order range_before ranges.old.items) }
 {
     ranges.sort_by_key(|range| (range.call_depth, range.start_offset))
 }
 
-/// The ranges of sites as they are read: of their own rows, and then what is added for the rows of sites
-/// inside them.
+// The ranges of sites as they are read: of their own rows, and then what is added for the rows of sites
+// inside them.
 fn read_ranges(
     alloc: Global,
     inlinees: &BTreeSet<IdIndex>,
@@ -92,7 +94,7 @@ fn read_ranges(
     Ok(ranges)
 }
 
-/// The ranges of sites, by depth and start.
+// The ranges of sites, by depth and start.
 fn ranges_of_sites(
     alloc: Global,
     inlinees: &BTreeSet<IdIndex>,

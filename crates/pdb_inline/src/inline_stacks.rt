@@ -1,3 +1,5 @@
+//! The stack of inlined bodies over an offset, picked depth by depth from a list of inline ranges.
+
 ghost use Rattle.std.specs.Prelude.{◌≡◌, ◌==◌, ◌<◌, ◌≤◌, ℕ, length, Some, None, IfOk, OnOk, if◌then◌else◌};
 ghost use Rattle.std.specs.Option.{option_copied};
 ghost use Rattle.pdb_ranges.specs.Pick.{pick, later_start};
@@ -8,7 +10,7 @@ ghost use Rattle.pdb_inline.specs.PickedSlots.{picked_at};
 use crate::inline_ranges::InlineRange;
 use std::alloc::{AllocError, Global};
 
-/// Of two ranges the one that starts later; of equal starts the first.
+// Of two ranges the one that starts later; of equal starts the first.
 fn later<'r>(picked: Option<&'r InlineRange>, range: &'r InlineRange) -> &'r InlineRange
     ensures { Some result.now ≡ later_start (λ r. r.start_offset) (option_copied picked.entry) (Some range.now) }
 {
@@ -18,7 +20,7 @@ fn later<'r>(picked: Option<&'r InlineRange>, range: &'r InlineRange) -> &'r Inl
     }
 }
 
-/// Makes a place for what is picked at a depth.
+// Makes a place for what is picked at a depth.
 fn make_slot(picked: &mut Vec<Option<&InlineRange>>, depth: usize) -> Result<(), AllocError>
     ensures same { (other : ℕ) → picked_at picked.new.items other ≡ picked_at picked.old.items other }
     ensures slot { OnOk result (depth < length picked.new.items) }
@@ -29,7 +31,7 @@ fn make_slot(picked: &mut Vec<Option<&InlineRange>>, depth: usize) -> Result<(),
     Ok(())
 }
 
-/// Picks a range at its depth, unless the one that is picked there starts as late.
+// Picks a range at its depth, unless the one that is picked there starts as late.
 fn pick_at_depth<'r>(
     picked: &mut Vec<Option<&'r InlineRange>>,
     range: &'r InlineRange,
@@ -44,15 +46,15 @@ fn pick_at_depth<'r>(
     Ok(())
 }
 
-/// Whether a range lies over an offset.
+// Whether a range lies over an offset.
 fn covers(range: &InlineRange, offset: u64) -> bool
     ensures { result ≡ is_within range.now.start_offset range.now.end_offset offset }
 {
     range.start_offset <= offset && offset < range.end_offset
 }
 
-/// Of the ranges of each depth over an offset the one that starts last; of equal starts the first. No stack reaches
-/// the depth that is as great as the number of ranges, so from there on nothing is picked.
+// Of the ranges of each depth over an offset the one that starts last; of equal starts the first. No stack reaches
+// the depth that is as great as the number of ranges, so from there on nothing is picked.
 fn picked_by_depth(
     alloc: Global,
     ranges: &[InlineRange],
@@ -72,7 +74,7 @@ fn picked_by_depth(
     Ok(picked)
 }
 
-/// The range that is picked at a depth.
+// The range that is picked at a depth.
 fn range_at(picked: &[Option<&InlineRange>], depth: usize) -> Option<InlineRange>
     ensures { result ≡ picked_at picked.now depth }
 {

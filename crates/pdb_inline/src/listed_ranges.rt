@@ -1,3 +1,5 @@
+//! Inline ranges with their positions in a list, in order of their starts.
+
 ghost use Rattle.std.specs.Prelude.{◌≡◌, reverse, IfOk, OnOk};
 ghost use Rattle.pdb_ranges.specs.InOrder.{in_order};
 ghost use Rattle.pdb_inline.specs.ListedRanges.{listed, starts_before, ranges_by_start};
@@ -5,14 +7,14 @@ ghost use Rattle.pdb_inline.specs.ListedRanges.{listed, starts_before, ranges_by
 use crate::inline_ranges::InlineRange;
 use std::alloc::{AllocError, Global};
 
-/// A range of a list, and the position at which it stands there.
+// A range of a list, and the position at which it stands there.
 #[derive(Clone, Copy)]
 pub(crate) struct ListedRange {
     pub(crate) position: usize,
     pub(crate) range: InlineRange,
 }
 
-/// The ranges of a list with their positions.
+// The ranges of a list with their positions.
 fn listed(alloc: Global, ranges: &[InlineRange]) -> Result<Vec<ListedRange>, AllocError>
     ensures { IfOk result (λ v. v.items ≡ listed 0 ranges.now) }
 {
@@ -23,14 +25,14 @@ fn listed(alloc: Global, ranges: &[InlineRange]) -> Result<Vec<ListedRange>, All
     Ok(all)
 }
 
-/// Puts ranges in order of their starts. Those with one start stay as they stood.
+// Puts ranges in order of their starts. Those with one start stay as they stood.
 fn sort(ranges: &mut Vec<ListedRange>) -> Result<(), AllocError>
     ensures { OnOk result (ranges.new.items ≡ in_order starts_before ranges.old.items) }
 {
     ranges.sort_by_key(|listed| listed.range.start_offset)
 }
 
-/// The ranges of a list with their positions, by their starts; of equal starts the last of the list stands first.
+// The ranges of a list with their positions, by their starts; of equal starts the last of the list stands first.
 pub(crate) fn ranges_by_start(
     alloc: Global,
     ranges: &[InlineRange],

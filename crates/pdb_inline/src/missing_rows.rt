@@ -1,3 +1,5 @@
+//! The inline ranges that are added to a site for what sites inside it cover and its own rows don't.
+
 ghost use Rattle.std.specs.Prelude.{◌≡◌, ◌≤◌, ◌<◌, ℕ, ◌||◌, ◌&&◌, ◌++◌, List, not, false};
 ghost use Rattle.std.specs.Prelude.{nat_lt, map, reverse, option_map, slice_get, IfOk, OnOk};
 ghost use Rattle.pdb_ranges.specs.RangeSet.{has};
@@ -15,18 +17,18 @@ use pdb_records::{FileIndex, IdIndex, InlineRow};
 use std::alloc::{AllocError, Global};
 use std::collections::BTreeSet;
 
-/// A run of code that a site covers together with the sites inside it.
+// A run of code that a site covers together with the sites inside it.
 #[derive(Clone, Copy)]
 pub(crate) struct CoveredRun {
-    /// How many sites the site is inside of.
+    // How many sites the site is inside of.
     depth: usize,
-    /// Where the run starts.
+    // Where the run starts.
     start: u64,
-    /// The offset of the first byte behind it.
+    // The offset of the first byte behind it.
     end: u64,
 }
 
-/// Takes the runs that are deeper from the end of a list.
+// Takes the runs that are deeper from the end of a list.
 fn take_deeper(
     alloc: Global,
     depth: usize,
@@ -47,7 +49,7 @@ fn take_deeper(
     Ok(taken)
 }
 
-/// Puts runs of a site at a depth at the end of a list.
+// Puts runs of a site at a depth at the end of a list.
 fn push_runs(
     stack: &mut Vec<CoveredRun>,
     depth: usize,
@@ -64,8 +66,8 @@ fn push_runs(
     Ok(())
 }
 
-/// What the sites inside a site cover and its own rows do not. In the list of covered runs, those of the
-/// sites inside it make room for its own.
+// What the sites inside a site cover and its own rows do not. In the list of covered runs, those of the
+// sites inside it make room for its own.
 fn missing_in(
     alloc: Global,
     depth: usize,
@@ -86,7 +88,7 @@ fn missing_in(
     Ok(missing)
 }
 
-/// Adds the ranges of a site's missing runs, the last run first.
+// Adds the ranges of a site's missing runs, the last run first.
 fn push_added(
     added: &mut Vec<InlineRange>,
     site: Site<'_>,
@@ -112,14 +114,14 @@ fn push_added(
     Ok(())
 }
 
-/// The file of the first row.
+// The file of the first row.
 fn first_file(rows: &[InlineRow]) -> Option<FileIndex>
     ensures { result ≡ option_map (λ row. row.file_index) (slice_get rows.now 0) }
 {
     rows.first().map(|row| row.file_index)
 }
 
-/// Adds the ranges of what the sites inside a site cover and its own rows do not, the last run first.
+// Adds the ranges of what the sites inside a site cover and its own rows do not, the last run first.
 fn add_missing(
     alloc: Global,
     inlinees: &BTreeSet<IdIndex>,
@@ -141,7 +143,7 @@ fn add_missing(
     push_added(added, site, first_file(&rows), missing.runs())
 }
 
-/// The ranges that are added to sites for what the sites inside them cover and their own rows do not.
+// The ranges that are added to sites for what the sites inside them cover and their own rows do not.
 pub(crate) fn ranges_added_to_sites(
     alloc: Global,
     inlinees: &BTreeSet<IdIndex>,

@@ -1,3 +1,5 @@
+//! The stacks of a procedure's inline ranges: from a table where that is small, else from the list.
+
 ghost use Rattle.std.specs.Prelude.{◌≡◌, ◌+◌, ◌*◌, ◌≤◌, map, length, slice_get, Some, IfOk, IfSome};
 ghost use Rattle.pdb_ranges.specs.Probes.{digits};
 ghost use Rattle.pdb_inline.specs.InlineStacks.{inline_stack};
@@ -11,13 +13,13 @@ use pdb_ranges::Probes;
 use std::alloc::{AllocError, Global};
 use std::marker::Model;
 
-/// How many positions a table may hold for each range. A range has one for each bound of a range that lies in it, and
-/// there are two bounds for each range, so tables are made where bounds lie in at most 32 ranges on average. Compilers
-/// stop at much smaller depths, since the code that they put in grows with each; but a list of ranges can be made
-/// whose stacks grow with the square of its length, and these must not fill the memory.
+// How many positions a table may hold for each range. A range has one for each bound of a range that lies in it, and
+// there are two bounds for each range, so tables are made where bounds lie in at most 32 ranges on average. Compilers
+// stop at much smaller depths, since the code that they put in grows with each; but a list of ranges can be made
+// whose stacks grow with the square of its length, and these must not fill the memory.
 const POSITIONS_FOR_EACH: usize = 64;
 
-/// Whether the stacks of ranges take little enough memory to be held.
+// Whether the stacks of ranges take little enough memory to be held.
 fn are_stacks_small(alloc: Global, ranges: &[InlineRange]) -> Result<bool, AllocError> {
     let bounds = sorted_bounds(alloc, ranges)?;
     let mut count: usize = 0;
@@ -29,7 +31,7 @@ fn are_stacks_small(alloc: Global, ranges: &[InlineRange]) -> Result<bool, Alloc
     Ok(count <= ranges.len().saturating_mul(POSITIONS_FOR_EACH))
 }
 
-/// The ranges at these positions of a list.
+// The ranges at these positions of a list.
 fn ranges_at(
     alloc: Global,
     ranges: &[InlineRange],
@@ -85,8 +87,8 @@ impl ProcedureStacks {
         Ok(ProcedureStacks { ranges, table })
     }
 
-    /// The positions of the inlined bodies over an offset, where there is a table. Each entry of the table that is
-    /// looked at counts.
+    // The positions of the inlined bodies over an offset, where there is a table. Each entry of the table that is
+    // looked at counts.
     #[tactic(auto, using(crate::proofs::StackTableLemmas::few_segments))]
     fn search(&self, offset: u64, probes: &mut Probes) -> Option<&[usize]>
         ensures found { IfSome result (λ positions.

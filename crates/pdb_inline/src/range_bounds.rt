@@ -1,3 +1,5 @@
+//! The bounds of inline ranges: where they start and end, in order.
+
 ghost use Rattle.std.specs.Prelude.{◌≡◌, ℕ, IfOk};
 ghost use Rattle.std.specs.List.Sorted.{IsPermutation, IsSorted};
 ghost use Rattle.std.specs.Ordering.{nat_cmp};
@@ -6,7 +8,7 @@ ghost use Rattle.pdb_inline.specs.RangeBounds.{bounds};
 use crate::inline_ranges::InlineRange;
 use std::alloc::{AllocError, Global};
 
-/// Where ranges start and end.
+// Where ranges start and end.
 fn bounds(alloc: Global, ranges: &[InlineRange]) -> Result<Vec<u64>, AllocError>
     ensures { IfOk result (λ v. v.items ≡ bounds ranges.now) }
 {
@@ -18,7 +20,7 @@ fn bounds(alloc: Global, ranges: &[InlineRange]) -> Result<Vec<u64>, AllocError>
     Ok(all)
 }
 
-/// Where ranges start and end, in order.
+// Where ranges start and end, in order.
 pub(crate) fn sorted_bounds(alloc: Global, ranges: &[InlineRange]) -> Result<Vec<u64>, AllocError>
     ensures all { IfOk result (λ v. IsPermutation (bounds ranges.now) v.items) }
     ensures sorted { IfOk result (λ v. IsSorted nat_cmp v.items) }

@@ -1,3 +1,5 @@
+//! The walk over a procedure's symbols that finds its inline sites and their depths.
+
 ghost use Rattle.std.specs.Prelude.{◌≡◌, ◌+◌, ◌-◌, ◌^◌, ◌++◌, drop, length, min, nat_lt, map};
 ghost use Rattle.std.specs.Prelude.{reverse, option_map, option_to_list, Option, Some, None, OnOk};
 ghost use Rattle.std.specs.Option.{option_copied};
@@ -9,18 +11,18 @@ use pdb_records::{InlineSiteSymbol, StreamError, Symbol, SymbolData, SymbolIndex
 use pdb_types::{Error, Result};
 use std::alloc::{AllocError, Global};
 
-/// A place in a procedure where a call was replaced by the callee's body.
+// A place in a procedure where a call was replaced by the callee's body.
 #[derive(Clone, Copy)]
 pub(crate) struct Site<'a> {
-    /// The position of its symbol.
+    // The position of its symbol.
     pub(crate) position: usize,
-    /// How many sites it is inside of.
+    // How many sites it is inside of.
     pub(crate) depth: usize,
-    /// What its symbol holds.
+    // What its symbol holds.
     pub(crate) symbol: &'a InlineSiteSymbol,
 }
 
-/// What a symbol holds, where it opens a site.
+// What a symbol holds, where it opens a site.
 fn site_symbol(symbol: &Symbol) -> Option<&InlineSiteSymbol>
     ensures { option_copied result ≡ site_of symbol.now }
 {
@@ -33,7 +35,7 @@ fn site_symbol(symbol: &Symbol) -> Option<&InlineSiteSymbol>
     }
 }
 
-/// The end of the procedure that a symbol shows, where it shows one.
+// The end of the procedure that a symbol shows, where it shows one.
 fn procedure_end(symbol: &Symbol) -> Option<SymbolIndex>
     ensures { option_map (λ end. end.0) result ≡ nested_end symbol.now }
 {
@@ -46,7 +48,7 @@ fn procedure_end(symbol: &Symbol) -> Option<SymbolIndex>
     }
 }
 
-/// Where the walk goes on after the symbol at a position: behind the end of a procedure that it shows.
+// Where the walk goes on after the symbol at a position: behind the end of a procedure that it shows.
 fn position_after(at: usize, symbol: &Symbol) -> usize
     ensures { result ≡ min (through_after at (nested_end symbol.now) at + 1) (2 ^ 64 - 1) }
 {
@@ -57,7 +59,7 @@ fn position_after(at: usize, symbol: &Symbol) -> usize
     through.saturating_add(1)
 }
 
-/// Where what is open ends first: the innermost site, or the procedure where no site is open.
+// Where what is open ends first: the innermost site, or the procedure where no site is open.
 fn first_end(procedure_end: usize, outer: &[Site<'_>]) -> usize
     ensures { result ≡ innermost_end procedure_end (reverse (map open_site outer.now)) }
 {
@@ -67,7 +69,7 @@ fn first_end(procedure_end: usize, outer: &[Site<'_>]) -> usize
     }
 }
 
-/// Finds and opens the site of the symbol at a position, where it has one.
+// Finds and opens the site of the symbol at a position, where it has one.
 fn open_at<'a>(
     at: usize,
     symbol: &'a Symbol,
@@ -92,7 +94,7 @@ fn open_at<'a>(
     Ok(())
 }
 
-/// Closes the innermost of what is open. `false` where no site is: that closes the procedure.
+// Closes the innermost of what is open. `false` where no site is: that closes the procedure.
 #[tactic(auto, using(crate::proofs::SiteLemmas::closed_rest))]
 fn close_innermost(outer: &mut Vec<Site<'_>>) -> bool
     ensures open { result ≡ nat_lt 0 (length outer.old.items) }
@@ -101,7 +103,7 @@ fn close_innermost(outer: &mut Vec<Site<'_>>) -> bool
     outer.pop().is_some()
 }
 
-/// The sites of a procedure by the positions of its symbol and its end, in the order of their symbols.
+// The sites of a procedure by the positions of its symbol and its end, in the order of their symbols.
 pub(crate) fn procedure_sites(
     alloc: Global,
     symbols: &[Symbol],

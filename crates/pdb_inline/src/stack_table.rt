@@ -1,3 +1,5 @@
+//! Tables of the stacks of inlined bodies over each offset, found by a binary search.
+
 ghost use Rattle.std.specs.Prelude.{◌≡◌, ℕ, ◌+◌, ◌*◌, ◌≤◌, [], length, IfOk, OnOk, if◌then◌else◌};
 ghost use Rattle.pdb_ranges.specs.Probes.{digits};
 ghost use Rattle.pdb_ranges.specs.RangeSet.{is_within};
@@ -76,7 +78,7 @@ impl StackTable {
         }
     }
 
-    /// Gives the numbers from `lo` up to the one before `hi` the positions that the tables have for `lo`.
+    // Gives the numbers from `lo` up to the one before `hi` the positions that the tables have for `lo`.
     fn paint(&mut self, tables: &[Segments<usize>], lo: u64, hi: u64) -> Result<(), AllocError>
         ensures stack { OnOk result ((x : ℕ) → stack_over self.new x
             ≡ (if is_within lo hi x then positions_in tables.now lo else stack_over self.old x)) }
@@ -88,7 +90,7 @@ impl StackTable {
     }
 }
 
-/// The table of what tables for each depth have for each number, which changes at the bounds alone.
+// The table of what tables for each depth have for each number, which changes at the bounds alone.
 fn stacks_between(
     alloc: Global,
     tables: &[Segments<usize>],

@@ -8,29 +8,29 @@ use Rattle.pdb_json_values.specs.Values.{text_of, object_of}
 use Rattle.pdb_json_records.specs.Names.{name_of}
 use Rattle.pdb_json_records.specs.Members.{member_of, all_from, list_of, optional_of, stream_of}
 use Rattle.pdb_json_records.specs.Modules.{info_of}
-use Rattle.pdb_json.specs.ModuleFiles.{stands_for_file, file_names_of}
+use Rattle.pdb_json.specs.ModuleFiles.{stands_for_file, module_file_names_in_version}
 use Rattle.pdb_json.specs.ModuleInfos.{own_info_of, info_with, infos_from, infos_of}
 use Rattle.pdb_json.specs.RecordsFile.{records_in_version, counted, records_of, in_json}
 use Rattle.pdb_json.specs.FirstVersion.{first_records_of_object, first_records_in, version_in}
 use Rattle.pdb_json.specs.Versions.{file_version_of}
 
-nothing : (a : Bool) → (a && false) ≡ false
-nothing true = refl
-nothing false = refl
+and_false : (a : Bool) → (a && false) ≡ false
+and_false true = refl
+and_false false = refl
 
-neither : (a b : Bool) → (a && (b && false)) ≡ false
-neither true true = refl
-neither true false = refl
-neither false b = refl
+and_and_false : (a b : Bool) → (a && (b && false)) ≡ false
+and_and_false true true = refl
+and_and_false true false = refl
+and_and_false false b = refl
 
 -- a name is a text
 pub names_are_texts : (d : Data) → name_of 1 d ≡ text_of d
 unfolding name_of
-names_are_texts d = rw (nothing (is_some (as_array d)))
+names_are_texts d = rw (and_false (is_some (as_array d)))
 
 -- no element stands for a module file
 stands_for_none : (d : Data) → stands_for_file 1 d ≡ false
-stands_for_none d = neither _ _
+stands_for_none d = and_and_false _ _
 
 -- an element is read by itself
 reads_itself : (bytes : List ℕ) (d : Data) → info_with 1 bytes d ≡ stream_of (optional_of (info_of 1)) d
@@ -56,10 +56,10 @@ records_by_themselves file = simp infos_by_themselves
 
 -- a value that was read as an object of the first version
 stands_over : (o : Result Data Fault) → (o >>= file_version_of) ≡ Ok 1
-    → (o >>= λ file. file_version_of file >>= λ version. file_names_of version file >>= λ names.
+    → (o >>= λ file. file_version_of file >>= λ version. module_file_names_in_version version file >>= λ names.
     counted (length names) 0 (records_in_version version [] file))
     ≡ (o >>= first_records_of_object)
-unfolding file_names_of
+unfolding module_file_names_in_version
 stands_over (Err fault) first = refl
 stands_over (Ok file) first = rw first (records_by_themselves file)
 

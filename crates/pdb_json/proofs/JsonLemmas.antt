@@ -12,8 +12,8 @@ json_of-read bytes d utf8 is_read = rw (is_utf8-from_IsUtf8 bytes utf8) is_read
 
 -- a text of which nothing is read, or that is no UTF-8, is no value
 pub json_of-none : (bytes : List ℕ) → (IsUtf8 bytes → read bytes ≡ None) → json_of bytes ≡ None
-json_of-none bytes read_error =
+json_of-none bytes nothing_read =
     elim (is_utf8 bytes) as (λ b. is_utf8 bytes ≡ b → json_of bytes ≡ None) [
-      | true ↦ λ e. rw e (read_error (IsUtf8-from_is_utf8 bytes e))
+      | true ↦ λ e. rw e (nothing_read (IsUtf8-from_is_utf8 bytes e))
       | false ↦ λ e. rw e
     ] refl

@@ -33,9 +33,9 @@ in_member {X} read name d fault is = by_read (read (unwrap_or (get name d) null)
       record { own = own; refused = here; path = sym same }
 
 -- a fault of an element behind the first is that of an element
-behind : {X : Type 0} (read : Data → Result X Fault) (first : ℕ) (d : Data) (ds : Items) (fault : Fault)
+in_later_element : {X : Type 0} (read : Data → Result X Fault) (first : ℕ) (d : Data) (ds : Items) (fault : Fault)
     → IsInElement read (first + 1) ds fault → IsInElement read first (item d ds) fault
-behind read first d ds fault is = record {
+in_later_element read first d ds fault is = record {
   number = suc is.number;
   element = is.element;
   there = is.there;
@@ -57,7 +57,7 @@ in_first_or_rest : {X : Type 0} (read : Data → Result X Fault) (first : ℕ) (
     → (read_inside (decimal first) r >>= λ x. all_from (first + 1) read ds >>= λ xs. Ok (x ∷ xs)) ≡ Err fault
     → IsInElement read first (item d ds) fault
 in_first_or_rest read first d ds fault in_rest (Ok x) here refused =
-    behind read first d ds fault (in_rest (of_rest x (all_from (first + 1) read ds) fault refused))
+    in_later_element read first d ds fault (in_rest (of_rest x (all_from (first + 1) read ds) fault refused))
 in_first_or_rest read first d ds fault in_rest (Err own) here refused =
     let same : inside (decimal first) own ≡ fault = cc in
     record {

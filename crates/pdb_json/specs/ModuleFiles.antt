@@ -18,8 +18,8 @@ stands_for_file version d =
     has (codes "file") d && (not (has (codes "error") d) && has_module_files version)
 
 -- the name of the module file that an element stands for, where it stands for one
-unfoldable pub file_name_of : ℕ → Data → Result (Option (List ℕ)) Fault
-file_name_of version d =
+unfoldable pub module_file_name_of : ℕ → Data → Result (Option (List ℕ)) Fault
+module_file_name_of version d =
     if stands_for_file version d
     then (member_of (codes "file") text_of d >>= λ name. Ok (Some name))
     else Ok None
@@ -30,20 +30,20 @@ with_name None names = names
 with_name (Some name) names = name ∷ names
 
 -- the names that elements have, the first of which has this number
-abbrev pub names_from : ℕ → ℕ → Items → Result (List (List ℕ)) Fault
-names_from version number no_items = Ok []
-names_from version number (item d ds) = do
-  name ← read_inside (decimal number) (file_name_of version d)
-  names ← names_from version (number + 1) ds
+abbrev pub module_file_names_from : ℕ → ℕ → Items → Result (List (List ℕ)) Fault
+module_file_names_from version number no_items = Ok []
+module_file_names_from version number (item d ds) = do
+  name ← read_inside (decimal number) (module_file_name_of version d)
+  names ← module_file_names_from version (number + 1) ds
   Ok (with_name name names)
 
 -- the names of the module files that the elements of an array stand for, in order
-unfoldable pub names_of : ℕ → Data → Result (List (List ℕ)) Fault
-names_of version d = do
+unfoldable pub module_file_names_of : ℕ → Data → Result (List (List ℕ)) Fault
+module_file_names_of version d = do
   ds ← array_of d
-  names_from version 0 ds
+  module_file_names_from version 0 ds
 
 -- the names of the module files of a file of a version: in the first version there are none, whatever the file holds
-unfoldable pub file_names_of : ℕ → Data → Result (List (List ℕ)) Fault
-file_names_of version file =
-    if has_module_files version then member_of (codes "module_infos") (names_of version) file else Ok []
+unfoldable pub module_file_names_in_version : ℕ → Data → Result (List (List ℕ)) Fault
+module_file_names_in_version version file =
+    if has_module_files version then member_of (codes "module_infos") (module_file_names_of version) file else Ok []

@@ -8,7 +8,7 @@ use Rattle.pdb_json_records.specs.Members.{member_of}
 use Rattle.pdb_json_records.specs.AllRecords.{shared_records_of}
 use Rattle.pdb_json.specs.Json.{json_of}
 use Rattle.pdb_json.specs.Versions.{file_version_of}
-use Rattle.pdb_json.specs.ModuleFiles.{file_names_of}
+use Rattle.pdb_json.specs.ModuleFiles.{module_file_names_in_version}
 use Rattle.pdb_json.specs.ModuleInfos.{infos_of}
 
 -- all records of a file of a version and of its module files, or the first fault. What differs between the versions is
@@ -28,7 +28,7 @@ unfoldable pub records_of : List (List ℕ) → Data → Result Records Fault
 records_of files d = do
   file ← object_of d
   version ← file_version_of file
-  names ← file_names_of version file
+  names ← module_file_names_in_version version file
   counted (length names) (length files) (records_in_version version files file)
 
 -- what is in a value, where there is one
@@ -51,7 +51,7 @@ unfoldable pub wanted_files_of : Data → Result (List (List ℕ)) Fault
 wanted_files_of d = do
   file ← object_of d
   version ← file_version_of file
-  file_names_of version file
+  module_file_names_in_version version file
 
 -- the names of the module files that a file wants, in the order in which they are read, or the first fault where
 -- they can't be answered

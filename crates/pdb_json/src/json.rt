@@ -1,3 +1,5 @@
+//! The value that bytes are, where they are a JSON text.
+
 ghost use Rattle.std.specs.Prelude.{◌≡◌, option_map, IfOk};
 ghost use Rattle.serde_json.specs.View.{view};
 ghost use Rattle.pdb_json.specs.Json.{json_of};
@@ -5,7 +7,7 @@ ghost use Rattle.pdb_json.specs.Json.{json_of};
 use serde_json::Value;
 use std::alloc::{AllocError, Global};
 
-/// The value that bytes are, where they are UTF-8 and a JSON text.
+// The value that bytes are, where they are UTF-8 and a JSON text.
 pub(crate) fn json(alloc: Global, bytes: &[u8]) -> Result<Option<Value>, AllocError>
     ensures { IfOk result (λ value. option_map view value ≡ json_of bytes.now) }
 {

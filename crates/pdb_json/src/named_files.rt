@@ -1,27 +1,30 @@
+//! Reads the names of the module files that a records file wants.
+
 ghost use Rattle.std.specs.Prelude.{◌≡◌};
 ghost use Rattle.serde_json.specs.View.{view};
 ghost use Rattle.pdb_json_values.specs.Faults.{Agrees};
-ghost use Rattle.pdb_json.specs.ModuleFiles.{stands_for_file, file_name_of, names_of, file_names_of};
+ghost use Rattle.pdb_json.specs.ModuleFiles.{stands_for_file, module_file_name_of};
+ghost use Rattle.pdb_json.specs.ModuleFiles.{module_file_names_of, module_file_names_in_version};
 
 use pdb_json_records::{FromJson, Text, element, member};
 use pdb_json_values::{Reader, RecordFault, array};
 use serde_json::Value;
 use std::marker::Model;
 
-/// Whether an element of `module_infos` stands for a module file.
+// Whether an element of `module_infos` stands for a module file.
 pub(crate) fn stands_for_file(reader: Reader, value: &Value) -> bool
     ensures { result ≡ stands_for_file reader.version (view value.now) }
 {
     value.get("file").is_some() && value.get("error").is_none() && reader.has_module_files()
 }
 
-/// The name of a module file, where an element stands for one.
+// The name of a module file, where an element stands for one.
 #[derive(Drop)]
-struct FileName {
+struct ModuleFileName {
     name: Option<String>,
 }
 
-impl Model for FileName {
+impl Model for ModuleFileName {
     ghost use Rattle.std.specs.Prelude.{List, ℕ, Option, option_map, string_bytes};
 
     ghost Value = { Option (List ℕ) };
@@ -29,30 +32,30 @@ impl Model for FileName {
     ghost view = { λ f. option_map string_bytes f.name };
 }
 
-impl FromJson for FileName {
-    ghost read = { file_name_of };
+impl FromJson for ModuleFileName {
+    ghost read = { module_file_name_of };
 
-    #[tactic(auto, unfolding(crate::specs::ModuleFiles::file_name_of))]
-    fn from_json(reader: Reader, value: Option<&Value>) -> Result<FileName, RecordFault> {
+    #[tactic(auto, unfolding(crate::specs::ModuleFiles::module_file_name_of))]
+    fn from_json(reader: Reader, value: Option<&Value>) -> Result<ModuleFileName, RecordFault> {
         match value {
             Some(value) if stands_for_file(reader, value) => {
                 let name: Text = member(reader, value, "file")?;
-                Ok(FileName {
+                Ok(ModuleFileName {
                     name: Some(name.text),
                 })
             }
-            _ => Ok(FileName { name: None }),
+            _ => Ok(ModuleFileName { name: None }),
         }
     }
 }
 
-/// The names of module files.
+// The names of module files.
 #[derive(Drop)]
-pub(crate) struct FileNames {
+pub(crate) struct ModuleFileNames {
     pub names: Vec<String>,
 }
 
-impl Model for FileNames {
+impl Model for ModuleFileNames {
     ghost use Rattle.std.specs.Prelude.{List, ℕ, map, string_bytes};
 
     ghost Value = { List (List ℕ) };
@@ -60,32 +63,32 @@ impl Model for FileNames {
     ghost view = { λ f. map string_bytes f.names.items };
 }
 
-impl FromJson for FileNames {
-    ghost read = { names_of };
+impl FromJson for ModuleFileNames {
+    ghost read = { module_file_names_of };
 
-    #[tactic(auto, unfolding(crate::specs::ModuleFiles::names_of))]
-    fn from_json(reader: Reader, value: Option<&Value>) -> Result<FileNames, RecordFault> {
+    #[tactic(auto, unfolding(crate::specs::ModuleFiles::module_file_names_of))]
+    fn from_json(reader: Reader, value: Option<&Value>) -> Result<ModuleFileNames, RecordFault> {
         let values = array(reader, value)?;
         let mut names = Vec::new(reader.alloc);
         for (number, value) in values.iter().enumerate() {
-            let file: FileName = element(reader, number, value)?;
+            let file: ModuleFileName = element(reader, number, value)?;
             if let Some(name) = file.name {
                 names.push(name)?;
             }
         }
-        Ok(FileNames { names })
+        Ok(ModuleFileNames { names })
     }
 }
 
-/// Reads the names of the module files that a file of the reader's version wants.
-#[tactic(auto, unfolding(crate::specs::ModuleFiles::file_names_of))]
-pub(crate) fn file_names(reader: Reader, file: &Value) -> Result<FileNames, RecordFault>
-    ensures { Agrees result (file_names_of reader.version (view file.now)) }
+// Reads the names of the module files that a file of the reader's version wants.
+#[tactic(auto, unfolding(crate::specs::ModuleFiles::module_file_names_in_version))]
+pub(crate) fn module_file_names(reader: Reader, file: &Value) -> Result<ModuleFileNames, RecordFault>
+    ensures { Agrees result (module_file_names_in_version reader.version (view file.now)) }
 {
     if reader.has_module_files() {
         member(reader, file, "module_infos")
     } else {
-        Ok(FileNames {
+        Ok(ModuleFileNames {
             names: Vec::new(reader.alloc),
         })
     }

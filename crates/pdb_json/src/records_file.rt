@@ -1,3 +1,5 @@
+//! `RecordsFile`, and the calls that read all records of a program from a records file.
+
 ghost use Rattle.std.specs.Prelude.{◌≡◌, [], map, string_bytes, length, codes, unwrap_or};
 ghost use Rattle.serde_json.specs.Data.{null};
 ghost use Rattle.serde_json.specs.Find.{get};
@@ -11,7 +13,7 @@ ghost use Rattle.pdb_json.specs.RecordsFile.{records_of_files, wanted_files_of, 
 
 use crate::json::json;
 use crate::module_infos::{AllKnown, infos};
-use crate::named_files::{FileNames, file_names};
+use crate::named_files::{ModuleFileNames, module_file_names};
 use crate::versions::file_version;
 use pdb_json_records::shared_records;
 use pdb_json_values::{FIRST_VERSION, Reader, RecordFault, inside, object};
@@ -19,7 +21,7 @@ use pdb_records::PDB;
 use serde_json::Value;
 use std::alloc::Global;
 
-/// What a file is read with whose version is not known yet.
+// What a file is read with whose version is not known yet.
 fn first_reader(alloc: Global) -> Reader {
     Reader {
         alloc,
@@ -27,7 +29,7 @@ fn first_reader(alloc: Global) -> Reader {
     }
 }
 
-/// Takes the values of modules out of a file: null where there are none. All else of the file is given back.
+// Takes the values of modules out of a file: null where there are none. All else of the file is given back.
 fn module_values(mut file: Value) -> Value
     ensures { view result ≡ unwrap_or (get (codes "module_infos") (view file)) null }
 {
@@ -37,7 +39,7 @@ fn module_values(mut file: Value) -> Value
     }
 }
 
-/// Reads what is known of each module from a file of the reader's version and from its module files.
+// Reads what is known of each module from a file of the reader's version and from its module files.
 #[tactic(auto, unfolding(pdb_json_records::specs::Members::member_of))]
 fn module_infos(reader: Reader, files: &[Vec<u8>], file: Value) -> Result<AllKnown, RecordFault>
     ensures { Agrees result
@@ -47,7 +49,7 @@ fn module_infos(reader: Reader, files: &[Vec<u8>], file: Value) -> Result<AllKno
     inside(reader.alloc, "module_infos", read)
 }
 
-/// Reads all records from a file of the reader's version and from its module files.
+// Reads all records from a file of the reader's version and from its module files.
 #[tactic(auto, unfolding(crate::specs::RecordsFile::records_in_version))]
 fn file_records(reader: Reader, files: &[Vec<u8>], file: Value) -> Result<PDB, RecordFault>
     ensures { Agrees result
@@ -59,7 +61,7 @@ fn file_records(reader: Reader, files: &[Vec<u8>], file: Value) -> Result<PDB, R
     Ok(records)
 }
 
-/// Reads all records where so many module files are wanted as are given.
+// Reads all records where so many module files are wanted as are given.
 fn counted_records(
     reader: Reader,
     names: &[String],
@@ -116,15 +118,15 @@ impl RecordsFile {
         }
     }
 
-    /// Reads the names of the module files.
+    // Reads the names of the module files.
     #[tactic(auto, unfolding(crate::specs::RecordsFile::wanted_files_of))]
-    fn wanted_files(&self) -> Result<FileNames, RecordFault>
+    fn wanted_files(&self) -> Result<ModuleFileNames, RecordFault>
         ensures { Agrees result (wanted_files_of (view self.now.value)) }
     {
         let alloc = self.alloc;
         let file = object(first_reader(alloc), Some(&self.value))?;
         let version = file_version(first_reader(alloc), file)?;
-        file_names(Reader { alloc, version }, file)
+        module_file_names(Reader { alloc, version }, file)
     }
 
     /// The names of the module files that the file wants, in the order in which [`RecordsFile::read_records`]
@@ -153,7 +155,7 @@ impl RecordsFile {
         let file = object(first_reader(alloc), Some(&self.value))?;
         let version = file_version(first_reader(alloc), file)?;
         let reader = Reader { alloc, version };
-        let wanted = file_names(reader, file)?;
+        let wanted = module_file_names(reader, file)?;
         counted_records(reader, &wanted.names, files, self.value)
     }
 }

@@ -32,11 +32,11 @@ machine_of d = do
 -- a file that was linked into the program
 unfoldable pub module_of : ℕ → Data → Result Module Fault
 module_of version d = do
-  link_inputs ← object_of d
-  name ← member_of (codes "name") (name_of version) link_inputs
+  entry ← object_of d
+  name ← member_of (codes "name") (name_of version) entry
   Ok (record { name = name })
 
--- a run of a section that came from one module
+-- bytes of a section that came from one module
 unfoldable pub contribution_of : Data → Result SectionContribution Fault
 contribution_of d = do
   contribution ← object_of d

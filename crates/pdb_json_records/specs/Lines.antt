@@ -14,8 +14,8 @@ use Rattle.pdb_json_records.specs.Symbols.{file_index_of}
 use Rattle.pdb_json_records.specs.Strings.{string_ref_of}
 
 -- the code from an offset on comes from a line
-unfoldable pub line_of : Data → Result LineInfo Fault
-line_of d = do
+unfoldable pub line_info_of : Data → Result LineInfo Fault
+line_info_of d = do
   line ← object_of d
   offset ← member_of (codes "offset") u32_of line
   file_index ← member_of (codes "file_index") file_index_of line
@@ -23,23 +23,23 @@ line_of d = do
   Ok (record { offset = offset; file_index = file_index; line_start = line_start })
 
 -- the line rows of the function that starts at a section offset
-unfoldable pub entry_of : Data → Result SymbolLines Fault
-entry_of d = do
+unfoldable pub symbol_lines_of : Data → Result SymbolLines Fault
+symbol_lines_of d = do
   entry ← object_of d
   offset ← section_offset_of (codes "section") (codes "offset") entry
-  lines ← member_of (codes "lines") (reading_of line_of) entry
+  lines ← member_of (codes "lines") (reading_of line_info_of) entry
   Ok (record { offset = offset; lines = lines })
 
 -- a source file, as the reference to its name
-unfoldable pub file_of : Data → Result FileInfo Fault
-file_of d = do
+unfoldable pub file_info_of : Data → Result FileInfo Fault
+file_info_of d = do
   name ← string_ref_of d
   Ok (record { name = name })
 
 -- the line rows, function by function, and the files that they name
-unfoldable pub lines_of : Data → Result Lines Fault
-lines_of d = do
+unfoldable pub line_program_of : Data → Result Lines Fault
+line_program_of d = do
   program ← object_of d
-  entries ← member_of (codes "entries") (list_of entry_of) program
-  files ← member_of (codes "files") (list_of file_of) program
+  entries ← member_of (codes "entries") (list_of symbol_lines_of) program
+  files ← member_of (codes "files") (list_of file_info_of) program
   Ok (record { entries = entries; files = files })

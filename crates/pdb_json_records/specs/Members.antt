@@ -43,7 +43,7 @@ stream_error_of d = do
   Ok (record { 0 = n })
 
 module _ {X : Type 0} where
-  -- an object with its items and perhaps a fault
+  -- an object with the elements of a list, and perhaps a fault
   unfoldable pub faulty_of : (Data → Result X Fault) → Data → Result (Read X) Fault
   faulty_of read d = do
     items ← member_of (codes "items") (list_of read) d

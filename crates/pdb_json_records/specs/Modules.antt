@@ -9,7 +9,7 @@ use Rattle.pdb_json_values.specs.Values.{object_of}
 use Rattle.pdb_json_values.specs.Numbers.{u32_of}
 use Rattle.pdb_json_records.specs.Members.{member_of, list_of, reading_of, stream_of}
 use Rattle.pdb_json_records.specs.Symbols.{symbol_of, id_index_of}
-use Rattle.pdb_json_records.specs.Lines.{lines_of}
+use Rattle.pdb_json_records.specs.Lines.{line_program_of}
 use Rattle.pdb_json_records.specs.Strings.{string_ref_of}
 
 -- a function whose body stands in the module's code
@@ -39,7 +39,7 @@ unfoldable pub info_of : ℕ → Data → Result ModuleInfo Fault
 info_of version d = do
   info ← object_of d
   symbols ← member_of (codes "symbols") (reading_of (symbol_of version)) info
-  line_program ← member_of (codes "line_program") (stream_of lines_of) info
+  line_program ← member_of (codes "line_program") (stream_of line_program_of) info
   inlinees ← member_of (codes "inlinees") (reading_of inlinee_of) info
   imports ← member_of (codes "imports") (stream_of (list_of import_of)) info
   exports ← member_of (codes "exports") (stream_of (list_of export_of)) info

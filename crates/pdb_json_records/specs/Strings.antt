@@ -1,4 +1,4 @@
--- Texts that several parts of the records share.
+-- Texts that several records share.
 use Rattle.std.specs.Prelude.{ℕ, List, Result, Ok, codes}
 use Rattle.serde_json.specs.Data.{Data}
 use Rattle.pdb_records.specs.declared.strings.StringRef.{StringRef}

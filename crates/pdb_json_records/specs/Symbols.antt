@@ -41,8 +41,8 @@ file_index_of d = do
   Ok (record { 0 = n })
 
 -- a position in a list of symbols
-unfoldable pub position_of : Data → Result SymbolIndex Fault
-position_of d = do
+unfoldable pub symbol_index_of : Data → Result SymbolIndex Fault
+symbol_index_of d = do
   n ← u32_of d
   Ok (record { 0 = n })
 
@@ -59,7 +59,7 @@ procedure_of version d = do
   offset ← section_offset_of (codes "section") (codes "offset") d
   len ← member_of (codes "len") u32_of d
   name ← member_of (codes "name") (name_of version) d
-  end ← member_of (codes "end") position_of d
+  end ← member_of (codes "end") symbol_index_of d
   type_index ← member_of (codes "type_index") type_index_of d
   Ok (record { offset = offset; len = len; name = name; end = end; type_index = type_index })
 
@@ -69,19 +69,19 @@ separated_code_of d = do
   offset ← section_offset_of (codes "section") (codes "offset") d
   len ← member_of (codes "len") u32_of d
   parent_offset ← section_offset_of (codes "parent_section") (codes "parent_offset") d
-  end ← member_of (codes "end") position_of d
+  end ← member_of (codes "end") symbol_index_of d
   Ok (record { offset = offset; len = len; parent_offset = parent_offset; end = end })
 
--- a short piece of code that leads to a procedure
+-- short code that leads to a procedure
 unfoldable pub thunk_of : ℕ → Data → Result ThunkSymbol Fault
 thunk_of version d = do
   offset ← section_offset_of (codes "section") (codes "offset") d
   len ← member_of (codes "len") u16_of d
   name ← member_of (codes "name") (name_of version) d
-  end ← member_of (codes "end") position_of d
+  end ← member_of (codes "end") symbol_index_of d
   Ok (record { offset = offset; len = len; name = name; end = end })
 
--- a run of an inlined body's code
+-- bytes of an inlined body's code, and where they come from
 unfoldable pub row_of : Data → Result InlineRow Fault
 row_of d = do
   row ← object_of d
@@ -95,7 +95,7 @@ row_of d = do
 unfoldable pub inline_site_of : Data → Result InlineSiteSymbol Fault
 inline_site_of d = do
   inlinee ← member_of (codes "inlinee") id_index_of d
-  end ← member_of (codes "end") position_of d
+  end ← member_of (codes "end") symbol_index_of d
   rows ← member_of (codes "rows") (reading_of row_of) d
   Ok (record { inlinee = inlinee; end = end; rows = rows })
 

@@ -1,3 +1,5 @@
+//! Reads all records of a records file but for those of modules.
+
 ghost use Rattle.serde_json.specs.View.{view};
 ghost use Rattle.pdb_records.specs.Sections.{listed};
 ghost use Rattle.pdb_json_values.specs.Faults.{Agrees, AgreesBy};
@@ -8,10 +10,10 @@ use pdb_json_values::{Reader, RecordFault, inside, wanted};
 use pdb_records::{ImageSectionHeader, PDB, StreamError};
 use serde_json::Value;
 
-/// The headers of the sections, where the file has any.
+// The headers of the sections, where the file has any.
 type Sections = Result<Option<Vec<ImageSectionHeader>>, StreamError>;
 
-/// Reads the headers of the sections. The member may be null, and may not be absent.
+// Reads the headers of the sections. The member may be null, and may not be absent.
 #[tactic(auto, unfolding(crate::specs::AllRecords::sections_of))]
 fn sections(reader: Reader, file: &Value) -> Result<Sections, RecordFault>
     ensures { AgreesBy listed result (sections_of (view file.now)) }
@@ -23,7 +25,7 @@ fn sections(reader: Reader, file: &Value) -> Result<Sections, RecordFault>
         reader, file, "sections",
     )?;
     Ok(match sections {
-        Ok(Some(listed)) => Ok(Some(listed.items)),
+        Ok(Some(listed)) => Ok(Some(listed.elements)),
         Ok(None) => Ok(None),
         Err(fault) => Err(fault),
     })

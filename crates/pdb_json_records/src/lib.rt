@@ -1,5 +1,6 @@
-//! Readers of what a records file is made of: lists, symbols, lines, types, ids, and all of them together, but for
-//! what is known of modules, which may lie in other files.
+//! Readers of what a records file is made of: lists, symbols, lines, types, ids, and all of them together.
+//!
+//! What is known of modules may lie in other files, and the crate above puts it in its place.
 //!
 //! Each object of the format has a definition in `specs/` and a reader here, in a file of its subject: an
 //! `impl` of [`FromJson`] for the record that it becomes. They stand in one crate, since a trait is

@@ -1,3 +1,5 @@
+//! Reads members of objects, arrays, readings with their faults, and streams; `FromJson` for all readers.
+
 ghost use Rattle.serde_json.specs.Data.{Data};
 ghost use Rattle.serde_json.specs.View.{view};
 ghost use Rattle.pdb_json_values.specs.Faults.{Fault, Agrees, read_inside};
@@ -48,10 +50,10 @@ impl<T: FromJson> FromJson for Option<T> {
     }
 }
 
-/// The elements of an array.
+// The elements of an array.
 #[derive(Drop)]
 pub(crate) struct Elements<T> {
-    pub items: Vec<T>,
+    pub elements: Vec<T>,
 }
 
 impl<T> Model for Elements<T> {
@@ -59,7 +61,7 @@ impl<T> Model for Elements<T> {
 
     ghost Value = { List T };
 
-    ghost view = { λ e. e.items.items };
+    ghost view = { λ e. e.elements.items };
 }
 
 impl<T: FromJson> FromJson for Elements<T> {
@@ -68,12 +70,12 @@ impl<T: FromJson> FromJson for Elements<T> {
     #[tactic(auto, unfolding(crate::specs::Members::list_of))]
     fn from_json(reader: Reader, value: Option<&Value>) -> Result<Elements<T>, RecordFault> {
         let values = array(reader, value)?;
-        let mut items = Vec::new(reader.alloc);
+        let mut elements = Vec::new(reader.alloc);
         for (number, value) in values.iter().enumerate() {
-            let item = element(reader, number, value)?;
-            items.push(item)?;
+            let entry = element(reader, number, value)?;
+            elements.push(entry)?;
         }
-        Ok(Elements { items })
+        Ok(Elements { elements })
     }
 }
 
@@ -86,26 +88,26 @@ impl FromJson for StreamError {
     }
 }
 
-/// Reads an object with the items of a list, and perhaps the fault that stands behind them.
+// Reads an object with the elements of a list, and perhaps the fault that stands behind them.
 #[tactic(auto, unfolding(crate::specs::Members::faulty_of))]
 fn faulty<T: FromJson>(reader: Reader, object: &Value) -> Result<Reading<T>, RecordFault>
     ensures { Agrees result (faulty_of (T.read reader.version) (view object.now)) }
 {
     let listed: Elements<T> = member(reader, object, "items")?;
     Ok(Reading {
-        items: listed.items,
+        items: listed.elements,
         fault: member(reader, object, "fault")?,
     })
 }
 
-/// Reads an array of a list's items, behind which no fault stands.
+// Reads an array of a list's elements, behind which no fault stands.
 #[tactic(auto, unfolding(crate::specs::Members::whole_list_of))]
 fn whole_list<T: FromJson>(reader: Reader, value: Option<&Value>) -> Result<Reading<T>, RecordFault>
     ensures { Agrees result (whole_list_of (T.read reader.version) (found value.entry)) }
 {
     let listed = Elements::<T>::from_json(reader, value)?;
     Ok(Reading {
-        items: listed.items,
+        items: listed.elements,
         fault: None,
     })
 }

@@ -1,3 +1,5 @@
+//! Reads what is known of a module: symbols, line program, inlinees, imports and exports.
+
 ghost use Rattle.pdb_json_records.specs.Members.{list_of};
 ghost use Rattle.pdb_json_records.specs.Modules.{inlinee_of, import_of, export_of, info_of};
 
@@ -27,7 +29,7 @@ impl FromJson for ImportedModule {
         let locals: Elements<u32> = member(reader, imported, "locals")?;
         Ok(ImportedModule {
             module,
-            locals: locals.items,
+            locals: locals.elements,
         })
     }
 }
@@ -52,7 +54,7 @@ impl FromJson for CrossModuleImports {
     fn from_json(reader: Reader, value: Option<&Value>) -> Result<CrossModuleImports, RecordFault> {
         let imports = Elements::<ImportedModule>::from_json(reader, value)?;
         Ok(CrossModuleImports {
-            modules: imports.items,
+            modules: imports.elements,
         })
     }
 }
@@ -63,7 +65,7 @@ impl FromJson for CrossModuleExports {
     fn from_json(reader: Reader, value: Option<&Value>) -> Result<CrossModuleExports, RecordFault> {
         let exports = Elements::<(u32, u32)>::from_json(reader, value)?;
         Ok(CrossModuleExports {
-            exports: exports.items,
+            exports: exports.elements,
         })
     }
 }

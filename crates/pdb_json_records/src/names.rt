@@ -1,3 +1,5 @@
+//! Reads names as bytes or as text, and texts that name a variant.
+
 ghost use Rattle.std.specs.Prelude.{◌≡◌, map, codes};
 ghost use Rattle.serde_json.specs.View.{view};
 ghost use Rattle.pdb_json_values.specs.Faults.{Agrees, AgreesBy};
@@ -11,7 +13,7 @@ use pdb_records::RawString;
 use serde_json::Value;
 use std::marker::Model;
 
-/// The variant of this name.
+// The variant of this name.
 pub(crate) fn named<T: Copy>(name: &str, names: &[(&str, T)]) -> Option<T>
     ensures { result ≡ variant_named name.now (map (λ entry. (entry.0.now, entry.1)) names.now) }
 {
@@ -23,7 +25,7 @@ pub(crate) fn named<T: Copy>(name: &str, names: &[(&str, T)]) -> Option<T>
     None
 }
 
-/// Reads a text that names a variant.
+// Reads a text that names a variant.
 #[tactic(auto, unfolding(crate::specs::Names::variant_of))]
 pub(crate) fn variant<T: Copy>(
     reader: Reader,
@@ -39,7 +41,7 @@ pub(crate) fn variant<T: Copy>(
     }
 }
 
-/// Reads the name of an object's kind.
+// Reads the name of an object's kind.
 #[tactic(auto, unfolding(crate::specs::Members::member_of, pdb_json_values::specs::Values::text_of))]
 pub(crate) fn kind(reader: Reader, object: &Value) -> Result<&str, RecordFault>
     ensures { AgreesBy (λ kind. kind.now) result (member_of (codes "kind") text_of (view object.now)) }
@@ -53,7 +55,7 @@ pub(crate) fn kind(reader: Reader, object: &Value) -> Result<&str, RecordFault>
     }
 }
 
-/// The answer to a kind whose name isn't known.
+// The answer to a kind whose name isn't known.
 pub(crate) fn unknown_kind<T: Drop>(reader: Reader) -> Result<T, RecordFault>
     ensures { Agrees result (Err unknown_kind) }
 {
@@ -68,7 +70,7 @@ impl FromJson for RawString {
         match value {
             Some(value) if value.is_array() && reader.has_names_in_bytes() => {
                 let bytes = Elements::<u8>::from_json(reader, Some(value))?;
-                Ok(RawString(bytes.items))
+                Ok(RawString(bytes.elements))
             }
             _ => {
                 let name = text(reader, value)?;

@@ -1,3 +1,5 @@
+//! Reads booleans and numbers by their widths.
+
 ghost use Rattle.pdb_json_values.specs.Values.{boolean_of};
 ghost use Rattle.pdb_json_values.specs.Numbers.{u8_of, u16_of, u32_of, u64_of, i8_of, i16_of, i32_of, i64_of};
 

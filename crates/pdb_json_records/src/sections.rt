@@ -1,3 +1,5 @@
+//! Reads the headers of sections, the address map, and section offsets.
+
 ghost use Rattle.std.specs.Prelude.{◌≡◌};
 ghost use Rattle.serde_json.specs.View.{view};
 ghost use Rattle.pdb_json_values.specs.Faults.{Agrees};
@@ -42,12 +44,12 @@ impl FromJson for AddressMap {
     fn from_json(reader: Reader, value: Option<&Value>) -> Result<AddressMap, RecordFault> {
         let ranges = Elements::<AddressRange>::from_json(reader, value)?;
         Ok(AddressMap {
-            sections: ranges.items,
+            sections: ranges.elements,
         })
     }
 }
 
-/// Reads a section offset, whose section and offset the object has under these names.
+// Reads a section offset, whose section and offset the object has under these names.
 #[tactic(auto, unfolding(crate::specs::Sections::section_offset_of))]
 pub(crate) fn section_offset(
     reader: Reader,

@@ -1,3 +1,5 @@
+//! Reads the string table: texts with their keys.
+
 ghost use Rattle.pdb_json_records.specs.Members.{list_of};
 ghost use Rattle.pdb_json_records.specs.Strings.{string_ref_of, string_of};
 
@@ -38,7 +40,7 @@ impl FromJson for StringTable {
     fn from_json(reader: Reader, value: Option<&Value>) -> Result<StringTable, RecordFault> {
         let texts = Elements::<(StringRef, RawString)>::from_json(reader, value)?;
         Ok(StringTable {
-            strings: texts.items,
+            strings: texts.elements,
         })
     }
 }

@@ -1,6 +1,8 @@
+//! Reads symbols and their kinds, and the indices of types, ids, files and symbols.
+
 ghost use Rattle.serde_json.specs.View.{view};
 ghost use Rattle.pdb_json_values.specs.Faults.{Agrees};
-ghost use Rattle.pdb_json_records.specs.Symbols.{type_index_of, id_index_of, file_index_of, position_of, public_of};
+ghost use Rattle.pdb_json_records.specs.Symbols.{type_index_of, id_index_of, file_index_of, symbol_index_of, public_of};
 ghost use Rattle.pdb_json_records.specs.Symbols.{procedure_of, separated_code_of, thunk_of, row_of, inline_site_of};
 ghost use Rattle.pdb_json_records.specs.Symbols.{data_named, data_of, symbol_of, symbol_table_of};
 
@@ -42,15 +44,15 @@ impl FromJson for FileIndex {
 }
 
 impl FromJson for SymbolIndex {
-    ghost read = { λ _. position_of };
+    ghost read = { λ _. symbol_index_of };
 
-    #[tactic(auto, unfolding(crate::specs::Symbols::position_of))]
+    #[tactic(auto, unfolding(crate::specs::Symbols::symbol_index_of))]
     fn from_json(reader: Reader, value: Option<&Value>) -> Result<SymbolIndex, RecordFault> {
         Ok(SymbolIndex(FromJson::from_json(reader, value)?))
     }
 }
 
-/// Reads a name that is visible outside its module.
+// Reads a name that is visible outside its module.
 #[tactic(auto, unfolding(crate::specs::Symbols::public_of))]
 fn public(reader: Reader, object: &Value) -> Result<PublicSymbol, RecordFault>
     ensures { Agrees result (public_of reader.version (view object.now)) }
@@ -61,7 +63,7 @@ fn public(reader: Reader, object: &Value) -> Result<PublicSymbol, RecordFault>
     })
 }
 
-/// Reads a procedure.
+// Reads a procedure.
 #[tactic(auto, unfolding(crate::specs::Symbols::procedure_of))]
 fn procedure(reader: Reader, object: &Value) -> Result<ProcedureSymbol, RecordFault>
     ensures { Agrees result (procedure_of reader.version (view object.now)) }
@@ -75,7 +77,7 @@ fn procedure(reader: Reader, object: &Value) -> Result<ProcedureSymbol, RecordFa
     })
 }
 
-/// Reads code of a procedure that stands apart from its body.
+// Reads code of a procedure that stands apart from its body.
 #[tactic(auto, unfolding(crate::specs::Symbols::separated_code_of))]
 fn separated_code(reader: Reader, object: &Value) -> Result<SeparatedCodeSymbol, RecordFault>
     ensures { Agrees result (separated_code_of (view object.now)) }
@@ -88,7 +90,7 @@ fn separated_code(reader: Reader, object: &Value) -> Result<SeparatedCodeSymbol,
     })
 }
 
-/// Reads a short piece of code that leads to a procedure.
+// Reads short code that leads to a procedure.
 #[tactic(auto, unfolding(crate::specs::Symbols::thunk_of))]
 fn thunk(reader: Reader, object: &Value) -> Result<ThunkSymbol, RecordFault>
     ensures { Agrees result (thunk_of reader.version (view object.now)) }
@@ -116,7 +118,7 @@ impl FromJson for InlineRow {
     }
 }
 
-/// Reads a place where a call was replaced by the callee's body.
+// Reads a place where a call was replaced by the callee's body.
 #[tactic(auto, unfolding(crate::specs::Symbols::inline_site_of))]
 fn inline_site(reader: Reader, object: &Value) -> Result<InlineSiteSymbol, RecordFault>
     ensures { Agrees result (inline_site_of (view object.now)) }
@@ -128,7 +130,7 @@ fn inline_site(reader: Reader, object: &Value) -> Result<InlineSiteSymbol, Recor
     })
 }
 
-/// Reads what a symbol holds whose kind has this name.
+// Reads what a symbol holds whose kind has this name.
 #[tactic(auto, unfolding(crate::specs::Symbols::data_named))]
 fn symbol_data(reader: Reader, kind: &str, object: &Value) -> Result<SymbolData, RecordFault>
     ensures { Agrees result (data_named reader.version kind.now (view object.now)) }

@@ -1,3 +1,5 @@
+//! Reads types, by their kinds.
+
 ghost use Rattle.serde_json.specs.View.{view};
 ghost use Rattle.pdb_json_values.specs.Faults.{Agrees};
 ghost use Rattle.pdb_json_records.specs.Names.{variant_of};
@@ -100,7 +102,7 @@ impl FromJson for PointerMode {
     }
 }
 
-/// Reads a type that the compiler brings, or a pointer to one.
+// Reads a type that the compiler brings, or a pointer to one.
 #[tactic(auto, unfolding(crate::specs::Types::primitive_of))]
 fn primitive(reader: Reader, object: &Value) -> Result<PrimitiveType, RecordFault>
     ensures { Agrees result (primitive_of (view object.now)) }
@@ -111,7 +113,7 @@ fn primitive(reader: Reader, object: &Value) -> Result<PrimitiveType, RecordFaul
     })
 }
 
-/// Reads a class, a struct or an interface.
+// Reads a class, a struct or an interface.
 #[tactic(auto, unfolding(crate::specs::Types::class_of))]
 fn class(reader: Reader, object: &Value) -> Result<ClassType, RecordFault>
     ensures { Agrees result (class_of reader.version (view object.now)) }
@@ -125,7 +127,7 @@ fn class(reader: Reader, object: &Value) -> Result<ClassType, RecordFault>
     })
 }
 
-/// Reads the type of a function that belongs to a class.
+// Reads the type of a function that belongs to a class.
 #[tactic(auto, unfolding(crate::specs::Types::member_function_of))]
 fn member_function(reader: Reader, object: &Value) -> Result<MemberFunctionType, RecordFault>
     ensures { Agrees result (member_function_of (view object.now)) }
@@ -139,7 +141,7 @@ fn member_function(reader: Reader, object: &Value) -> Result<MemberFunctionType,
     })
 }
 
-/// Reads the type of a function that belongs to no class.
+// Reads the type of a function that belongs to no class.
 #[tactic(auto, unfolding(crate::specs::Types::procedure_type_of))]
 fn procedure_type(reader: Reader, object: &Value) -> Result<ProcedureType, RecordFault>
     ensures { Agrees result (procedure_type_of (view object.now)) }
@@ -151,7 +153,7 @@ fn procedure_type(reader: Reader, object: &Value) -> Result<ProcedureType, Recor
     })
 }
 
-/// Reads a pointer or a reference.
+// Reads a pointer or a reference.
 #[tactic(auto, unfolding(crate::specs::Types::pointer_of))]
 fn pointer(reader: Reader, object: &Value) -> Result<PointerType, RecordFault>
     ensures { Agrees result (pointer_of (view object.now)) }
@@ -164,7 +166,7 @@ fn pointer(reader: Reader, object: &Value) -> Result<PointerType, RecordFault>
     })
 }
 
-/// Reads an array.
+// Reads an array.
 #[tactic(auto, unfolding(crate::specs::Types::dimensions_of))]
 fn array_type(reader: Reader, object: &Value) -> Result<ArrayType, RecordFault>
     ensures { Agrees result (dimensions_of (view object.now)) }
@@ -175,11 +177,11 @@ fn array_type(reader: Reader, object: &Value) -> Result<ArrayType, RecordFault>
     Ok(ArrayType {
         element_type,
         first,
-        rest: rest.items,
+        rest: rest.elements,
     })
 }
 
-/// Reads a union.
+// Reads a union.
 #[tactic(auto, unfolding(crate::specs::Types::union_of))]
 fn union(reader: Reader, object: &Value) -> Result<UnionType, RecordFault>
     ensures { Agrees result (union_of reader.version (view object.now)) }
@@ -192,7 +194,7 @@ fn union(reader: Reader, object: &Value) -> Result<UnionType, RecordFault>
     })
 }
 
-/// Reads an enumeration of named values.
+// Reads an enumeration of named values.
 #[tactic(auto, unfolding(crate::specs::Types::enumeration_of))]
 fn enumeration(reader: Reader, object: &Value) -> Result<EnumerationType, RecordFault>
     ensures { Agrees result (enumeration_of reader.version (view object.now)) }
@@ -203,7 +205,7 @@ fn enumeration(reader: Reader, object: &Value) -> Result<EnumerationType, Record
     })
 }
 
-/// Reads a number whose width and sign have this name.
+// Reads a number whose width and sign have this name.
 #[tactic(auto, unfolding(crate::specs::Types::number_named))]
 fn sized_number(reader: Reader, width: &str, object: &Value) -> Result<Variant, RecordFault>
     ensures { Agrees result (number_named width.now (view object.now)) }
@@ -232,7 +234,7 @@ impl FromJson for Variant {
     }
 }
 
-/// Reads one named value of an enumeration.
+// Reads one named value of an enumeration.
 #[tactic(auto, unfolding(crate::specs::Types::enumerate_of))]
 fn enumerate(reader: Reader, object: &Value) -> Result<EnumerateType, RecordFault>
     ensures { Agrees result (enumerate_of reader.version (view object.now)) }
@@ -243,7 +245,7 @@ fn enumerate(reader: Reader, object: &Value) -> Result<EnumerateType, RecordFaul
     })
 }
 
-/// Reads a type with `const` before it, or without.
+// Reads a type with `const` before it, or without.
 #[tactic(auto, unfolding(crate::specs::Types::modifier_of))]
 fn modifier(reader: Reader, object: &Value) -> Result<ModifierType, RecordFault>
     ensures { Agrees result (modifier_of (view object.now)) }
@@ -254,18 +256,18 @@ fn modifier(reader: Reader, object: &Value) -> Result<ModifierType, RecordFault>
     })
 }
 
-/// Reads the types of a function's arguments.
+// Reads the types of a function's arguments.
 #[tactic(auto, unfolding(crate::specs::Types::arguments_of))]
 fn arguments(reader: Reader, object: &Value) -> Result<ArgumentList, RecordFault>
     ensures { Agrees result (arguments_of (view object.now)) }
 {
     let arguments: Elements<TypeIndex> = member(reader, object, "arguments")?;
     Ok(ArgumentList {
-        arguments: arguments.items,
+        arguments: arguments.elements,
     })
 }
 
-/// Reads what a kind is called that is read and not printed.
+// Reads what a kind is called that is read and not printed.
 #[tactic(auto, unfolding(crate::specs::Types::kind_name_of))]
 pub(crate) fn kind_name(reader: Reader, object: &Value) -> Result<Text, RecordFault>
     ensures { Agrees result (kind_name_of (view object.now)) }
@@ -273,7 +275,7 @@ pub(crate) fn kind_name(reader: Reader, object: &Value) -> Result<Text, RecordFa
     member(reader, object, "kind_name")
 }
 
-/// Reads what a type says whose kind has this name.
+// Reads what a type says whose kind has this name.
 #[tactic(auto, unfolding(crate::specs::Types::type_named))]
 fn type_data(reader: Reader, kind: &str, object: &Value) -> Result<TypeData, RecordFault>
     ensures { Agrees result (type_named reader.version kind.now (view object.now)) }

@@ -1,3 +1,5 @@
+//! Why a records file is refused, with the path to the value that is at fault.
+
 ghost use Rattle.std.specs.Prelude.{◌≡◌, [], Result, IfOk, string_bytes, decimal};
 ghost use Rattle.pdb_json_values.specs.declared.faults.RecordFault.TheVariants.{OutOfMemory};
 ghost use Rattle.pdb_json_values.specs.Faults.{Fault, Agrees, shape, out_of_range, through, read_inside};
@@ -66,7 +68,7 @@ pub fn out_of_range<T>(alloc: Global) -> Result<T, RecordFault>
     })
 }
 
-/// The path through this name and on along the rest.
+// The path through this name and on along the rest.
 fn through(alloc: Global, name: &str, path: &str) -> Result<String, AllocError>
     ensures { IfOk result (λ whole. string_bytes whole ≡ through name.now path.now) }
 {

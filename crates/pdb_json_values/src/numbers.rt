@@ -1,3 +1,5 @@
+//! Reads whole numbers of a records file, with a sign or without.
+
 ghost use Rattle.pdb_json_values.specs.Faults.{Agrees};
 ghost use Rattle.pdb_json_values.specs.Values.{found};
 ghost use Rattle.pdb_json_values.specs.Numbers.{u64_of, i64_of};

@@ -1,3 +1,5 @@
+//! What each reader of a records file is handed, and what the versions of the format have.
+
 ghost use Rattle.std.specs.Prelude.{◌≡◌};
 ghost use Rattle.pdb_json_values.specs.Versions.{has_names_in_bytes, has_module_files};
 

@@ -1,3 +1,5 @@
+//! Reads booleans, texts, arrays and objects of a records file.
+
 ghost use Rattle.serde_json.specs.View.{view, items_view};
 ghost use Rattle.pdb_json_values.specs.Faults.{Agrees, AgreesBy};
 ghost use Rattle.pdb_json_values.specs.Values.{found, boolean_of, text_of, array_of, object_of};

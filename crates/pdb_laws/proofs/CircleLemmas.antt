@@ -17,7 +17,7 @@ use Rattle.pdb_laws.specs.Circles.{Repeats, Succeeds, MeetsCircle, at_task, in_r
 use Rattle.pdb_laws.specs.Circles.{in_caught}
 use Rattle.pdb_laws.proofs.ReadLemmas.{AreGoodPrintInputs}
 use Rattle.pdb_laws.proofs.PlanLemmas.{HasPrintErrors, IsGoodPlan}
-use Rattle.pdb_laws.proofs.TaskRuleLemmas.{RuleGives, circle, other, rule_gives, repeats_circular}
+use Rattle.pdb_laws.proofs.TaskRuleLemmas.{RuleGives, circle, good, rule_gives, repeats_circular}
 
 -- a failure is the refusal of this index as circular
 abbrev pub Circle : ℕ → Option Failure
@@ -77,7 +77,7 @@ circle_met w reads (later {inside = inside} {task = task} {d = d} u) plan failed
           let same : Circle again ≡ Circle index = rw (← e) at is in
           let one : again ≡ index = cc in
           at_task (subst (Repeats w inside task) one repeats)
-      by_rule (other tame) rest = in_rule (rest tame)
+      by_rule (good tame) rest = in_rule (rest tame)
 circle_met w reads (seq {p = p} {q = q} {a = a} {b = b} x y) plan failed index is =
     by_fault (run a failed).fault refl (λ h. circle_met w reads x plan.0 failed index h)
     (λ h. circle_met w reads y plan.1 (run a failed).failed index h) where

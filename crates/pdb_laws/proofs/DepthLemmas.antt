@@ -13,15 +13,15 @@ use Rattle.pdb_laws.specs.Picks.{ArePickedByDepth}
 none_that_deep : (ranges : List InlineRange) (x depth : ℕ) → depths ranges ≤ depth
     → AllByRecursion (λ range. lies_over depth x range ≡ true → ⊥) ranges
 none_that_deep [] x depth below = tt
-none_that_deep (range ∷ ranges) x depth below = (λ over. other over, none_that_deep ranges x depth rest) where
+none_that_deep (range ∷ ranges) x depth below = (λ over. not_of_depth over, none_that_deep ranges x depth rest) where
   here : range.call_depth + 1 ≤ depth
   here = let h = le-max_left (range.call_depth + 1) (depths ranges) in omega arith
 
   rest : depths ranges ≤ depth
   rest = let h = le-max_right (range.call_depth + 1) (depths ranges) in omega arith
 
-  other : lies_over depth x range ≡ true → ⊥
-  other over = let same : range.call_depth ≡ depth = grind (arith, nat_tests) in absurd (omega (arith, here))
+  not_of_depth : lies_over depth x range ≡ true → ⊥
+  not_of_depth over = let same : range.call_depth ≡ depth = grind (arith, nat_tests) in absurd (omega (arith, here))
 
 -- a stack has at each depth what is picked there, and ends where nothing is
 pub picked_by_depth : (count : ℕ) (ranges : List InlineRange) (x depth : ℕ) → depths ranges ≤ count + depth

@@ -87,19 +87,19 @@ good_ask Good has part error_view good = λ failed e is. let same : part_error f
 -- why something can't be read
 good_refusal : (Good : ErrorView → Type 0) → HasPrintErrors Good → (read_error_view : ReadErrorView)
     → IsGoodReadError Good read_error_view → IsGoodDocument Good (refusal read_error_view)
-good_refusal Good has (Missing index) other = λ failed e is. absurd (cc)
-good_refusal Good has (Unimplemented kind) other = good_error Good has (Plain (PdbError (UnimplementedTypeKind kind)))
+good_refusal Good has (Missing index) good = λ failed e is. absurd (cc)
+good_refusal Good has (Unimplemented kind) good = good_error Good has (Plain (PdbError (UnimplementedTypeKind kind)))
     (has.reading.of_records (UnimplementedTypeKind kind))
-good_refusal Good has (Refused e) other = good_error Good has e other
-good_refusal Good has (Broken part e) other = good_ask Good has part e other
+good_refusal Good has (Refused e) good = good_error Good has e good
+good_refusal Good has (Broken part e) good = good_ask Good has part e good
 
 -- why what is printed where it stands can't be read
 pub good_note : (Good : ErrorView → Type 0) → HasPrintErrors Good → (read_error_view : ReadErrorView)
     → IsGoodReadError Good read_error_view → IsGoodDocument Good (note_or_refusal read_error_view)
-good_note Good has (Missing index) other = λ failed e is. absurd (cc)
-good_note Good has (Unimplemented kind) other = λ failed e is. absurd (cc)
-good_note Good has (Refused e) other = good_error Good has e other
-good_note Good has (Broken part e) other = good_ask Good has part e other
+good_note Good has (Missing index) good = λ failed e is. absurd (cc)
+good_note Good has (Unimplemented kind) good = λ failed e is. absurd (cc)
+good_note Good has (Refused e) good = good_error Good has e good
+good_note Good has (Broken part e) good = good_ask Good has part e good
 
 -- what follows what is needed
 pub good_on_read : {A : Type 0} (Good : ErrorView → Type 0) → HasPrintErrors Good
@@ -294,7 +294,7 @@ good_function_id Good has w met function inside other =
 
 -- an id, by its kind
 pub good_id : (Good : ErrorView → Type 0) → HasPrintErrors Good → (w : PrintInputs) → AreGoodPrintInputs Good w
-    → (met : List ℕ) (entry : IdData) → IsGoodPlan Good (id_by_kind w met entry)
+    → (met : List ℕ) (content : IdData) → IsGoodPlan Good (id_by_kind w met content)
 good_id Good has w reads met (id.MemberFunction method) =
     good_on_read Good has (w.read method.function_type.0) (method_id w method (method.function_type.0 ∷ []))
     (reads.types method.function_type.0) (good_method_id Good has w method (method.function_type.0 ∷ []))

@@ -123,14 +123,14 @@ good_stream {A = A} Good has w module_index stream =
 
       by_info : (info : Result ModuleInfo Error) → IsGoodAnswer Good info
           → IsGoodAnswer Good (and_then info (λ info. streamed (stream info)))
-      by_info (Ok info) other = by_stream (stream info)
-      by_info (Err e) other = other
+      by_info (Ok info) good = by_stream (stream info)
+      by_info (Err e) good = good
 
 -- a part of the records
 good_part : {A : Type 0} (Good : ErrorView → Type 0) → HasReadErrors Good → (part : Part) (content : Result A Error)
     → IsGoodAnswer Good content → IsGoodReading Good (unbroken part content)
-good_part Good has part (Ok content) other = tt
-good_part Good has part (Err e) other = other
+good_part Good has part (Ok content) good = tt
+good_part Good has part (Err e) good = good
 
 -- the index that a module exports
 good_export : (Good : ErrorView → Type 0) → HasReadErrors Good → (w : LinkInputs) (local module_index : ℕ)
@@ -146,7 +146,7 @@ good_export Good has w local module_index =
     by_export None = has.no_export local
     by_export (Some index) = tt
 
--- the index behind an import
+-- the index that an import leads to
 good_target : (Good : ErrorView → Type 0) → HasReadErrors Good
     → (w : LinkInputs) (strings : List (StringRef × List ℕ)) (reference : StringRef) (local : ℕ)
     → IsGoodReading Good (import_target w strings (reference, local))
@@ -188,9 +188,9 @@ good_reading : {I D : Type 0} (Good : ErrorView → Type 0) → HasReadErrors Go
     → (number_of : I → ℕ) (w : LinkInputs) (list : Read (Item I D)) (module_index index : ℕ)
     → IsGoodReading Good (reading number_of w list module_index index)
 good_reading {D = D} Good has number_of w list module_index index = by_size (nat_lt index (2 ^ 32)) where
-  by_section_offset : (t : Bool) → IsGoodReading Good (cond t (Ok index) (across w module_index index))
-  by_section_offset true = tt
-  by_section_offset false = good_across Good has w module_index index
+  by_width : (t : Bool) → IsGoodReading Good (cond t (Ok index) (across w module_index index))
+  by_width true = tt
+  by_width false = good_across Good has w module_index index
 
   next : ℕ → Result (ℕ × D) ReadErrorView
   next number = and_then (entry number_of list number) (λ content. Ok (number, content))
@@ -198,7 +198,7 @@ good_reading {D = D} Good has number_of w list module_index index = by_size (nat
   by_size : (t : Bool) → IsGoodReading Good
       (cond t (and_then (resolved w module_index index) next) (Err (Missing index)))
   by_size true =
-      reads_then Good (resolved w module_index index) next (by_section_offset (nat_lt index (2 ^ 31))) (λ number.
+      reads_then Good (resolved w module_index index) next (by_width (nat_lt index (2 ^ 31))) (λ number.
       reads_then Good (entry number_of list number) (λ content. Ok (number, content))
       (good_said Good has list.fault number (first_item number_of number list.items)) (λ content. tt))
   by_size false = tt

@@ -12,7 +12,7 @@ use Rattle.pdb_documents.specs.PrintInputs.{PrintInputs}
 use Rattle.pdb_laws.specs.PrintErrors.{IsPrintError}
 use Rattle.pdb_laws.proofs.ReadLemmas.{AreGoodPrintInputs}
 use Rattle.pdb_laws.proofs.PlanLemmas.{HasPrintErrors, IsGoodDocument, IsGoodPlan}
-use Rattle.pdb_laws.proofs.TaskRuleLemmas.{RuleGives, circle, other, rule_gives}
+use Rattle.pdb_laws.proofs.TaskRuleLemmas.{RuleGives, circle, good, rule_gives}
 use Rattle.pdb_laws.proofs.CircleLemmas.{circular_document}
 
 -- a document fails for nothing but these errors, where an index that repeats is among them
@@ -33,7 +33,7 @@ good_document Good has circles w reads (later {inside = inside} {task = task} {d
           rw (← document_is) at is in
           let same : Plain (CircularTypeDefinition again) ≡ e = cc in
           subst Good same (circles again)
-      by_rule failed e is (other good) rest = rest good
+      by_rule failed e is (good tame) rest = rest tame
 good_document Good has circles w reads (seq {a = a} {b = b} x y) plan =
     λ failed e is. by_fault failed e is (run a failed).fault refl
     (λ h. good_document Good has circles w reads x plan.0 failed e h)

@@ -25,7 +25,7 @@ use Rattle.pdb_laws.proofs.PlanLemmas.{good_kind, good_on_list, good_id}
 pub data RuleGives (Good : ErrorView → Type 0) (w : PrintInputs) (inside : List ℕ) (task : Task) : Type 0 where
   circle : (index : ℕ) → Repeats w inside task index → rule w inside task ≡ circular index
       → RuleGives Good w inside task
-  other : IsGoodPlan Good (rule w inside task) → RuleGives Good w inside task
+  good : IsGoodPlan Good (rule w inside task) → RuleGives Good w inside task
 
 -- an index that opens
 gives_opening : (Good : ErrorView → Type 0) → HasPrintErrors Good → (w : PrintInputs) → AreGoodPrintInputs Good w
@@ -49,11 +49,11 @@ rule_gives Good has w reads inside (Index index) = by_tests (is_among index insi
       → RuleGives Good w inside (Index index)
   by_tests true among (Ok type) is = circle index (refl, among, (type, is)) (rw (is, among) refl)
   by_tests true among (Err read_error_view) is =
-      other (rw is (good_note Good has read_error_view (rw is at (reads.types index))))
-  by_tests false closed r is = other
+      good (rw is (good_note Good has read_error_view (rw is at (reads.types index))))
+  by_tests false closed r is = good
       (rw closed (good_on_printed Good has (w.read index) (λ type. Later (index ∷ inside) (OfType type))
       (reads.types index) (λ type. tt)))
-rule_gives Good has w reads inside (OfType type) = other (good_kind Good has w inside type)
+rule_gives Good has w reads inside (OfType type) = good (good_kind Good has w inside type)
 rule_gives Good has w reads inside (MethodArguments m form) = by_flag (without_arguments w.flags) refl where
   by_opening : without_arguments w.flags ≡ false
       → ((is_among m.argument_list.0 inside ≡ true) ×
@@ -61,10 +61,10 @@ rule_gives Good has w reads inside (MethodArguments m form) = by_flag (without_a
       (opening w inside m.argument_list.0 (on_list w m form))
       → RuleGives Good w inside (MethodArguments m form)
   by_opening printed (inl again) = circle m.argument_list.0 (refl, again.0, printed) (rw printed again.1)
-  by_opening printed (inr plan) = other (rw printed plan)
+  by_opening printed (inr plan) = good (rw printed plan)
 
   by_flag : (t : Bool) → without_arguments w.flags ≡ t → RuleGives Good w inside (MethodArguments m form)
-  by_flag true without = other (rw without (good_text Good has []))
+  by_flag true without = good (rw without (good_text Good has []))
   by_flag false printed = by_opening printed
       (gives_opening Good has w reads inside m.argument_list.0 (on_list w m form)
       (good_on_list Good has w reads m form (m.argument_list.0 ∷ inside)))
@@ -75,7 +75,7 @@ rule_gives Good has w reads inside (Chain attributes target) =
           (opening w inside target (behind_pointer w attributes) ≡ circular target)) ⊎ IsGoodPlan Good
           (opening w inside target (behind_pointer w attributes)) → RuleGives Good w inside (Chain attributes target)
       by_opening (inl again) = circle target (refl, again.0) again.1
-      by_opening (inr plan) = other plan
+      by_opening (inr plan) = good plan
 rule_gives Good has w reads inside (BehindModifier attributes target) =
     by_opening (gives_opening Good has w reads inside target (behind_modifier w attributes)
     (good_behind_modifier Good has w attributes (target ∷ inside))) where
@@ -84,7 +84,7 @@ rule_gives Good has w reads inside (BehindModifier attributes target) =
           (opening w inside target (behind_modifier w attributes))
           → RuleGives Good w inside (BehindModifier attributes target)
       by_opening (inl again) = circle target (refl, again.0) again.1
-      by_opening (inr plan) = other plan
+      by_opening (inr plan) = good plan
 rule_gives Good has w reads inside (Modified constant target) =
     by_opening (gives_opening Good has w reads inside target (modified w constant)
     (good_modified Good has w constant (target ∷ inside))) where
@@ -92,17 +92,17 @@ rule_gives Good has w reads inside (Modified constant target) =
           ⊎ IsGoodPlan Good (opening w inside target (modified w constant))
           → RuleGives Good w inside (Modified constant target)
       by_opening (inl again) = circle target (refl, again.0) again.1
-      by_opening (inr plan) = other plan
+      by_opening (inr plan) = good plan
 rule_gives Good has w reads inside (Elements elements levels next) = by_test (is_among next elements) refl where
   by_test : (t : Bool) → is_among next elements ≡ t → RuleGives Good w inside (Elements elements levels next)
   by_test true again = circle next (refl, again) (rw again refl)
-  by_test false first = other (rw first
+  by_test false first = good (rw first
       (good_on_read Good has (w.read next) (element w inside elements levels next) (reads.types next)
       (good_element Good has w inside elements levels next)))
 rule_gives Good has w reads inside (Id met index) = by_test (is_among index met) refl where
   by_test : (t : Bool) → is_among index met ≡ t → RuleGives Good w inside (Id met index)
   by_test true again = circle index (refl, again) (rw again refl)
-  by_test false first = other (rw first
+  by_test false first = good (rw first
       (good_on_printed Good has (w.read_id index) (id_by_kind w (insert_key nat_cmp met index)) (reads.ids index)
       (good_id Good has w reads (insert_key nat_cmp met index))))
 

@@ -1,6 +1,7 @@
-//! A signature or an id is refused as circular exactly where an index opens inside itself, an element of
-//! an array repeats among those before it, or a scope repeats among those that it is in, unless another
-//! error stands earlier.
+//! A signature or an id is refused as circular exactly where an index repeats.
+//!
+//! An index repeats where it opens inside itself, where an element of an array is among those before it, and where a
+//! scope is among those that it is in, unless another error stands earlier.
 
 ghost use Rattle.std.specs.Prelude.{◌≡◌, ℕ, List, Some};
 ghost use Rattle.pdb_records.specs.Readings.{Read};

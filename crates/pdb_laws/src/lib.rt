@@ -1,5 +1,4 @@
-//! Laws: what follows from the definitions of the crates below, in words of their own, where no code needs
-//! it.
+//! Laws that follow from the definitions of the crates below, where no code needs them.
 //!
 //! Each function here does nothing. Its contract is a law, for all records, and the check proves it. Laws
 //! that stand beside the code that they are about are in the modules `laws` of the crates below.

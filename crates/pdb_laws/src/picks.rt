@@ -1,5 +1,6 @@
-//! Of what lies over a place the one that starts last is picked, and of equal starts the first: so for line
-//! rows, global functions and inlined bodies, as for procedures.
+//! Of what lies over a place the one that starts last is picked, and of equal starts the first.
+//!
+//! So it is for line rows, global functions and inlined bodies, as for procedures.
 
 ghost use Rattle.std.specs.Prelude.{ℕ, List, nat_le};
 ghost use Rattle.pdb_records.specs.declared.addresses.PdbInternalSectionOffset.{PdbInternalSectionOffset};

@@ -1,5 +1,6 @@
-//! What printing a signature or an id can be refused for, and nothing else: out of memory and a writer's
-//! refusal are never among it.
+//! What printing a signature or an id can be refused for, and nothing else.
+//!
+//! Out of memory and a writer's refusal are never among it.
 
 ghost use Rattle.std.specs.Prelude.{◌≡◌, ℕ, List, Some};
 ghost use Rattle.pdb_records.specs.Readings.{Read};

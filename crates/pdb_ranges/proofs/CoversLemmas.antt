@@ -30,10 +30,10 @@ pub has_from_covers : (x : ℕ) (runs others : List (ℕ × ℕ)) → covers run
     → has runs x ≡ true
 has_from_covers x runs [] all inside = absurd cc
 has_from_covers x runs ((lo, hi) ∷ others) all inside =
-    let parts = and_parts (starts_with_all lo hi (ending_after lo runs)) (covers (ending_after lo runs) others) all in
+    let both = and_parts (starts_with_all lo hi (ending_after lo runs)) (covers (ending_after lo runs) others) all in
     has_from_ending_after lo x runs (elim (or_cases (is_within lo hi x) (has others x) inside) [
-      | inl first ↦ has_from_first lo hi x (ending_after lo runs) parts.0 first
-      | inr later ↦ has_from_covers x (ending_after lo runs) others parts.1 later
+      | inl first ↦ has_from_first lo hi x (ending_after lo runs) both.0 first
+      | inr later ↦ has_from_covers x (ending_after lo runs) others both.1 later
     ])
 
 -- runs that hold all of a range hold it in one run, the first that goes past its start

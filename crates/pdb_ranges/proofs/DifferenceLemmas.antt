@@ -1,10 +1,10 @@
--- What `ending_after`, `pieces` and `difference` make of lists of runs.
+-- What `ending_after`, `range_without` and `difference` make of lists of runs.
 use Rattle.std.proofs.Common.{◌≡◌, ℕ, ◌+◌, ◌<◌, ◌≤◌, Bool, true, false, not, ◌||◌, ◌&&◌, List, [], ◌∷◌, ◌++◌, max}
 use Rattle.std.proofs.Common.{append_assoc, refl, sym, ◌∙◌, arith, inl, inr}
 use Rattle.std.proofs.lemmas.Bool.{cases_lt, lt-ltb, le-ltb, lt-leb, le-leb}
 use Rattle.std.proofs.lemmas.Bool.Decides.{nat_tests}
 use Rattle.pdb_ranges.specs.RangeSet.{is_within, has, IsRunsFrom}
-use Rattle.pdb_ranges.specs.Runs.{ending_after, one_or_none, pieces, difference}
+use Rattle.pdb_ranges.specs.Runs.{ending_after, one_or_none, range_without, difference}
 use Rattle.pdb_ranges.proofs.HasLemmas.{within_yes, within_below, within_above, within_empty, has-append, has_below}
 use Rattle.pdb_ranges.proofs.RunLemmas.{runs_lower, runs_rest}
 
@@ -66,17 +66,17 @@ split lo hi start end x rest a b c =
       ]
     ]
 
--- the pieces hold what is within the range and not in the others
-pub has-pieces : (n lo hi x : ℕ) (others : List (ℕ × ℕ)) → IsRunsFrom n others
-    → has (pieces lo hi others) x ≡ (is_within lo hi x && not (has others x))
-has-pieces n lo hi x [] ordered = has-one_or_none lo hi x ∙ grind arith
-has-pieces n lo hi x ((start, end) ∷ others) ordered =
+-- what is left of the range holds what is within it and not in the others
+pub has-range_without : (n lo hi x : ℕ) (others : List (ℕ × ℕ)) → IsRunsFrom n others
+    → has (range_without lo hi others) x ≡ (is_within lo hi x && not (has others x))
+has-range_without n lo hi x [] ordered = has-one_or_none lo hi x ∙ grind arith
+has-range_without n lo hi x ((start, end) ∷ others) ordered =
     elim (cases_lt start hi) [
       | inl before ↦ rw (
         lt-leb hi start before,
-        has-append (one_or_none lo start) (pieces (max lo end) hi others) x,
+        has-append (one_or_none lo start) (range_without (max lo end) hi others) x,
         has-one_or_none lo start x,
-        has-pieces (end + 1) (max lo end) hi x others ordered.2,
+        has-range_without (end + 1) (max lo end) hi x others ordered.2,
       )
           (split lo hi start end x (has others x) before ordered.1
           (λ below. has_below x (end + 1) others (omega arith) ordered.2))
@@ -93,22 +93,22 @@ IsRunsFrom-one_or_none n lo hi later from some none =
       | inr empty ↦ rw (le-ltb lo hi empty) none
     ]
 
--- the pieces and later runs are runs
-pub IsRunsFrom-pieces : (n k lo hi : ℕ) (others later : List (ℕ × ℕ)) → n ≤ lo → n ≤ hi + 1 → IsRunsFrom k others
-    → IsRunsFrom (hi + 1) later → IsRunsFrom n (pieces lo hi others ++ later)
-IsRunsFrom-pieces n k lo hi [] later from to ordered rest =
+-- what is left of the range and later runs are runs
+pub IsRunsFrom-range_without : (n k lo hi : ℕ) (others later : List (ℕ × ℕ)) → n ≤ lo → n ≤ hi + 1 → IsRunsFrom k others
+    → IsRunsFrom (hi + 1) later → IsRunsFrom n (range_without lo hi others ++ later)
+IsRunsFrom-range_without n k lo hi [] later from to ordered rest =
     IsRunsFrom-one_or_none n lo hi later from (λ _. rest) (runs_lower n (hi + 1) later to rest)
-IsRunsFrom-pieces n k lo hi ((start, end) ∷ others) later from to ordered rest =
+IsRunsFrom-range_without n k lo hi ((start, end) ∷ others) later from to ordered rest =
     elim (cases_lt start hi) [
       | inl before ↦ rw (
         lt-leb hi start before,
         append_assoc (one_or_none lo start)
-            (pieces (max lo end) hi others) later,
+            (range_without (max lo end) hi others) later,
       )
-          (IsRunsFrom-one_or_none n lo start (pieces (max lo end) hi others ++ later) from
-          (λ some. IsRunsFrom-pieces (start + 1) (end + 1) (max lo end) hi others later (omega arith)
+          (IsRunsFrom-one_or_none n lo start (range_without (max lo end) hi others ++ later) from
+          (λ some. IsRunsFrom-range_without (start + 1) (end + 1) (max lo end) hi others later (omega arith)
           (omega arith) ordered.2 rest)
-          (IsRunsFrom-pieces n (end + 1) (max lo end) hi others later (omega arith) to ordered.2 rest))
+          (IsRunsFrom-range_without n (end + 1) (max lo end) hi others later (omega arith) to ordered.2 rest))
       | inr past ↦ rw (le-leb hi start past)
           (IsRunsFrom-one_or_none n lo hi later from (λ _. rest) (runs_lower n (hi + 1) later to rest))
     ]
@@ -119,7 +119,7 @@ pub IsRunsFrom-difference : (n k : ℕ) (runs others : List (ℕ × ℕ)) → Is
 IsRunsFrom-difference n k [] others p q = tt
 IsRunsFrom-difference n k ((lo, hi) ∷ runs) others p q =
     let left = IsRunsFrom-ending_after k lo others q in
-    IsRunsFrom-pieces n k lo hi (ending_after lo others) (difference runs (ending_after lo others)) p.0
+    IsRunsFrom-range_without n k lo hi (ending_after lo others) (difference runs (ending_after lo others)) p.0
     (omega arith) left
     (IsRunsFrom-difference (hi + 1) k runs (ending_after lo others) p.2 left)
 
@@ -137,8 +137,8 @@ has-difference n k x [] others p q = refl
 has-difference n k x ((lo, hi) ∷ runs) others p q =
     let left = IsRunsFrom-ending_after k lo others q in
     rw (
-      has-append (pieces lo hi (ending_after lo others)) (difference runs (ending_after lo others)) x,
-      has-pieces k lo hi x (ending_after lo others) left,
+      has-append (range_without lo hi (ending_after lo others)) (difference runs (ending_after lo others)) x,
+      has-range_without k lo hi x (ending_after lo others) left,
       has-difference (hi + 1) k x runs (ending_after lo others) p.2 left,
     )
     (elim (cases_lt x lo) [

@@ -8,7 +8,7 @@ use Rattle.std.proofs.lemmas.Bool.Decides.{nat_tests}
 use Rattle.pdb_ranges.specs.declared.segment.Segment.{Segment}
 use Rattle.pdb_ranges.specs.RangeSet.{is_within}
 use Rattle.pdb_ranges.specs.Segments.{painted, value_at, IsOrderedFrom}
-use Rattle.pdb_ranges.specs.Painting.{piece, pieces_within, pieces_from, overlaid}
+use Rattle.pdb_ranges.specs.Painting.{clipped, segments_within, segments_from, overlaid}
 use Rattle.pdb_ranges.proofs.HasLemmas.{within_yes, within_below, within_above}
 use Rattle.pdb_ranges.proofs.SegmentLemmas.{ordered_lower, option_or-None, first_or, value_at-append, value_below}
 
@@ -22,10 +22,10 @@ within_neither : (lo hi start end x : ℕ) → min hi end ≤ max lo start
     → (is_within lo hi x && is_within start end x) ≡ false
 within_neither lo hi start end x apart = grind (arith, nat_tests)
 
--- the piece of a segment gives its value where both are
-value_at-piece : {T : Type 0} (lo hi x : ℕ) (s : Segment T)
-    → value_at (piece lo hi s) x ≡ (if is_within lo hi x && is_within s.start s.end x then Some s.value else None)
-value_at-piece lo hi x s =
+-- a segment that is cut to a range gives its value to the numbers in both
+value_at-clipped : {T : Type 0} (lo hi x : ℕ) (s : Segment T)
+    → value_at (clipped lo hi s) x ≡ (if is_within lo hi x && is_within s.start s.end x then Some s.value else None)
+value_at-clipped lo hi x s =
     elim (cases_lt (max lo s.start) (min hi s.end)) [
       | inl some ↦ rw (lt-ltb (max lo s.start) (min hi s.end) some, within_both lo hi s.start s.end x)
       | inr none ↦ rw (le-ltb (max lo s.start) (min hi s.end) none, within_neither lo hi s.start s.end x none)
@@ -36,53 +36,53 @@ either : {T : Type 0} (test : Bool) (value : T) → value ≡ (if test then valu
 either true value = refl
 either false value = refl
 
--- of a first piece and the others the first that is there
-first_piece : {T : Type 0} (inside over : Bool) (value : T) (rest : Option T)
+-- of a first segment that is cut and the others the first that is there
+first_clipped : {T : Type 0} (inside over : Bool) (value : T) (rest : Option T)
     → option_or (if inside && over then Some value else None) (if inside then rest else None)
     ≡ (if inside then (if over then Some value else rest) else None)
-first_piece true true value rest = refl
-first_piece true false value rest = refl
-first_piece false over value rest = refl
+first_clipped true true value rest = refl
+first_clipped true false value rest = refl
+first_clipped false over value rest = refl
 
--- the pieces within a range give its numbers their values
-pub value_at-pieces_within : {T : Type 0} (lo hi x : ℕ) (ss : List (Segment T))
-    → value_at (pieces_within lo hi ss) x ≡ (if is_within lo hi x then value_at ss x else None)
-value_at-pieces_within lo hi x [] = either (is_within lo hi x) None
-value_at-pieces_within lo hi x (s ∷ ss) =
+-- what segments have within a range gives its numbers their values
+pub value_at-segments_within : {T : Type 0} (lo hi x : ℕ) (ss : List (Segment T))
+    → value_at (segments_within lo hi ss) x ≡ (if is_within lo hi x then value_at ss x else None)
+value_at-segments_within lo hi x [] = either (is_within lo hi x) None
+value_at-segments_within lo hi x (s ∷ ss) =
     rw (
-      value_at-append (piece lo hi s) (pieces_within lo hi ss) x,
-      value_at-piece lo hi x s,
-      value_at-pieces_within lo hi x ss,
+      value_at-append (clipped lo hi s) (segments_within lo hi ss) x,
+      value_at-clipped lo hi x s,
+      value_at-segments_within lo hi x ss,
     )
-    (first_piece (is_within lo hi x) (is_within s.start s.end x) s.value (value_at ss x))
+    (first_clipped (is_within lo hi x) (is_within s.start s.end x) s.value (value_at ss x))
 
 -- a number of a segment is before its end
 within_end : (lo start end x : ℕ)
     → (is_within lo end x && is_within start end x) ≡ (nat_le lo x && is_within start end x)
 within_end lo start end x = grind (arith, nat_tests)
 
--- the pieces from a number on give the numbers from there on their values
-pub value_at-pieces_from : {T : Type 0} (lo x : ℕ) (ss : List (Segment T))
-    → value_at (pieces_from lo ss) x ≡ (if nat_le lo x then value_at ss x else None)
-value_at-pieces_from lo x [] = either (nat_le lo x) None
-value_at-pieces_from lo x (s ∷ ss) =
+-- what segments have from a number on gives the numbers from there on their values
+pub value_at-segments_from : {T : Type 0} (lo x : ℕ) (ss : List (Segment T))
+    → value_at (segments_from lo ss) x ≡ (if nat_le lo x then value_at ss x else None)
+value_at-segments_from lo x [] = either (nat_le lo x) None
+value_at-segments_from lo x (s ∷ ss) =
     rw (
-      value_at-append (piece lo s.end s) (pieces_from lo ss) x,
-      value_at-piece lo s.end x s,
-      value_at-pieces_from lo x ss,
+      value_at-append (clipped lo s.end s) (segments_from lo ss) x,
+      value_at-clipped lo s.end x s,
+      value_at-segments_from lo x ss,
       within_end lo s.start s.end x,
     )
-    (first_piece (nat_le lo x) (is_within s.start s.end x) s.value (value_at ss x))
+    (first_clipped (nat_le lo x) (is_within s.start s.end x) s.value (value_at ss x))
 
 -- from lo on, the segments on top give their values, and those below them the others
 pub value_at-overlaid : {T : Type 0} (lo x : ℕ) (tops under : List (Segment T)) → IsOrderedFrom lo tops
     → value_at (overlaid lo tops under) x ≡
     (if nat_le lo x then option_or (value_at tops x) (value_at under x) else None)
-value_at-overlaid lo x [] under ordered = value_at-pieces_from lo x under
+value_at-overlaid lo x [] under ordered = value_at-segments_from lo x under
 value_at-overlaid lo x (top ∷ tops) under ordered =
     rw (
-      value_at-append (pieces_within lo top.start under) (top ∷ overlaid top.end tops under) x,
-      value_at-pieces_within lo top.start x under,
+      value_at-append (segments_within lo top.start under) (top ∷ overlaid top.end tops under) x,
+      value_at-segments_within lo top.start x under,
       value_at-overlaid top.end x tops under ordered.2,
     )
     (elim (cases_lt x lo) [
@@ -108,40 +108,40 @@ value_at-overlaid lo x (top ∷ tops) under ordered =
       ]
     ])
 
--- the pieces from a number on are in order
-ordered_pieces_from : {T : Type 0} (n k lo : ℕ) (ss : List (Segment T)) → n ≤ max lo k → IsOrderedFrom k ss
-    → IsOrderedFrom n (pieces_from lo ss)
-ordered_pieces_from n k lo [] from ordered = tt
-ordered_pieces_from n k lo (s ∷ ss) from ordered =
+-- what segments have from a number on is in order
+ordered_segments_from : {T : Type 0} (n k lo : ℕ) (ss : List (Segment T)) → n ≤ max lo k → IsOrderedFrom k ss
+    → IsOrderedFrom n (segments_from lo ss)
+ordered_segments_from n k lo [] from ordered = tt
+ordered_segments_from n k lo (s ∷ ss) from ordered =
     elim (cases_lt (max lo s.start) (min s.end s.end)) [
       | inl some ↦ rw (lt-ltb (max lo s.start) (min s.end s.end) some)
-          (omega arith, some, ordered_pieces_from (min s.end s.end) s.end lo ss (omega arith) ordered.2)
+          (omega arith, some, ordered_segments_from (min s.end s.end) s.end lo ss (omega arith) ordered.2)
       | inr none ↦ rw (le-ltb (max lo s.start) (min s.end s.end) none)
-          (ordered_pieces_from n s.end lo ss (omega arith) ordered.2)
+          (ordered_segments_from n s.end lo ss (omega arith) ordered.2)
     ]
 
--- the pieces within a range are in order, with segments behind them that begin at its end or later
-ordered_pieces_within : {T : Type 0} (n k lo hi : ℕ) (ss later : List (Segment T)) → n ≤ max lo k → n ≤ hi → lo ≤ hi
-    → IsOrderedFrom k ss → IsOrderedFrom hi later → IsOrderedFrom n (pieces_within lo hi ss ++ later)
-ordered_pieces_within n k lo hi [] later from to some ordered behind = ordered_lower n hi later to behind
-ordered_pieces_within n k lo hi (s ∷ ss) later from to some ordered behind =
+-- what segments have within a range is in order, with segments behind it that begin at its end or later
+ordered_segments_within : {T : Type 0} (n k lo hi : ℕ) (ss later : List (Segment T)) → n ≤ max lo k → n ≤ hi → lo ≤ hi
+    → IsOrderedFrom k ss → IsOrderedFrom hi later → IsOrderedFrom n (segments_within lo hi ss ++ later)
+ordered_segments_within n k lo hi [] later from to some ordered behind = ordered_lower n hi later to behind
+ordered_segments_within n k lo hi (s ∷ ss) later from to some ordered behind =
     elim (cases_lt (max lo s.start) (min hi s.end)) [
       | inl some ↦ rw (lt-ltb (max lo s.start) (min hi s.end) some) (
         omega arith,
         some,
-        ordered_pieces_within (min hi s.end) s.end lo hi ss later (omega arith) (omega arith)
+        ordered_segments_within (min hi s.end) s.end lo hi ss later (omega arith) (omega arith)
             (omega arith) ordered.2 behind,
       )
       | inr none ↦ rw (le-ltb (max lo s.start) (min hi s.end) none)
-          (ordered_pieces_within n s.end lo hi ss later (omega arith) to (omega arith) ordered.2 behind)
+          (ordered_segments_within n s.end lo hi ss later (omega arith) to (omega arith) ordered.2 behind)
     ]
 
 -- segments laid over others are in order
 pub ordered_overlaid : {T : Type 0} (n k lo : ℕ) (tops under : List (Segment T)) → n ≤ lo → IsOrderedFrom lo tops
     → IsOrderedFrom k under → IsOrderedFrom n (overlaid lo tops under)
-ordered_overlaid n k lo [] under from ordered below = ordered_pieces_from n k lo under (omega arith) below
+ordered_overlaid n k lo [] under from ordered below = ordered_segments_from n k lo under (omega arith) below
 ordered_overlaid n k lo (top ∷ tops) under from ordered below =
-    ordered_pieces_within n k lo top.start under (top ∷ overlaid top.end tops under) (omega arith) (omega arith)
+    ordered_segments_within n k lo top.start under (top ∷ overlaid top.end tops under) (omega arith) (omega arith)
     (omega arith) below
     (omega arith, ordered.1, ordered_overlaid top.end k top.end tops under (omega arith) ordered.2 below)
 

@@ -50,21 +50,21 @@ split_last runs i run last len =
 pub runs_push : (n i lo hi : ℕ) (run : ℕ × ℕ) (runs : List (ℕ × ℕ)) → slice_get runs i ≡ Some run → length runs ≡ i + 1
     → run.1 < lo → lo < hi → IsRunsFrom n runs → IsRunsFrom n (runs ++ (lo, hi) ∷ [])
 runs_push n i lo hi run runs last len past some ordered =
-    let parts = split_last runs i run last len in
-    subst (λ (rs : List (ℕ × ℕ)). IsRunsFrom n (rs ++ (lo, hi) ∷ [])) (sym parts.1)
-    (rw (append_assoc parts.0 (run ∷ []) ((lo, hi) ∷ []))
-    (runs_new_end n parts.0 (run ∷ (lo, hi) ∷ []) run (λ before. (omega arith, before, (omega arith, some, tt)))
-    (subst (λ (rs : List (ℕ × ℕ)). IsRunsFrom n rs) parts.1 ordered)))
+    let split = split_last runs i run last len in
+    subst (λ (rs : List (ℕ × ℕ)). IsRunsFrom n (rs ++ (lo, hi) ∷ [])) (sym split.1)
+    (rw (append_assoc split.0 (run ∷ []) ((lo, hi) ∷ []))
+    (runs_new_end n split.0 (run ∷ (lo, hi) ∷ []) run (λ before. (omega arith, before, (omega arith, some, tt)))
+    (subst (λ (rs : List (ℕ × ℕ)). IsRunsFrom n rs) split.1 ordered)))
 
 -- the last run may end later
 pub runs_grow : (n i hi : ℕ) (run : ℕ × ℕ) (runs : List (ℕ × ℕ)) → slice_get runs i ≡ Some run → length runs ≡ i + 1
     → IsRunsFrom n runs → IsRunsFrom n (set runs i (run.0, max run.1 hi))
 runs_grow n i hi run runs last len ordered =
-    let parts = split_last runs i run last len in
-    subst (λ (rs : List (ℕ × ℕ)). IsRunsFrom n (set rs i (run.0, max run.1 hi))) (sym parts.1)
-    (rw (set_at parts.0 run [] (run.0, max run.1 hi) i parts.2)
-    (runs_new_end n parts.0 ((run.0, max run.1 hi) ∷ []) run (λ before. (omega arith, omega arith, tt))
-    (subst (λ (rs : List (ℕ × ℕ)). IsRunsFrom n rs) parts.1 ordered)))
+    let split = split_last runs i run last len in
+    subst (λ (rs : List (ℕ × ℕ)). IsRunsFrom n (set rs i (run.0, max run.1 hi))) (sym split.1)
+    (rw (set_at split.0 run [] (run.0, max run.1 hi) i split.2)
+    (runs_new_end n split.0 ((run.0, max run.1 hi) ∷ []) run (λ before. (omega arith, omega arith, tt))
+    (subst (λ (rs : List (ℕ × ℕ)). IsRunsFrom n rs) split.1 ordered)))
 
 -- a range that begins within a run, or where it ends, lengthens it
 within_grown : (start end lo hi x : ℕ) → start ≤ lo → lo ≤ end → lo < hi
@@ -75,13 +75,13 @@ within_grown start end lo hi x a b c = grind (arith, nat_tests)
 pub has_grow : (i lo hi x : ℕ) (run : ℕ × ℕ) (runs : List (ℕ × ℕ)) → slice_get runs i ≡ Some run → length runs ≡ i + 1
     → run.0 ≤ lo → lo ≤ run.1 → lo < hi → has (set runs i (run.0, max run.1 hi)) x ≡ (has runs x || is_within lo hi x)
 has_grow i lo hi x run runs last len from near some =
-    let parts = split_last runs i run last len in
+    let split = split_last runs i run last len in
     subst (λ (rs : List (ℕ × ℕ)). has (set rs i (run.0, max run.1 hi)) x ≡ (has rs x || is_within lo hi x))
-    (sym parts.1)
+    (sym split.1)
     (rw (
-      set_at parts.0 run [] (run.0, max run.1 hi) i parts.2,
-      has-append parts.0 ((run.0, max run.1 hi) ∷ []) x,
-      has-append parts.0 (run ∷ []) x,
+      set_at split.0 run [] (run.0, max run.1 hi) i split.2,
+      has-append split.0 ((run.0, max run.1 hi) ∷ []) x,
+      has-append split.0 (run ∷ []) x,
       within_grown run.0 run.1 lo hi x from near some,
     )
     (grind arith))

@@ -7,7 +7,7 @@ use Rattle.std.proofs.lemmas.Grind.{reverse_onto}
 use Rattle.pdb_ranges.specs.declared.segment.Segment.{Segment}
 use Rattle.pdb_ranges.specs.RangeSet.{is_within}
 use Rattle.pdb_ranges.specs.Segments.{painted, painted_in_turn, value_at, IsOrderedFrom}
-use Rattle.pdb_ranges.specs.Painting.{piece, pieces_within, pieces_from, overlaid, HaveEdges}
+use Rattle.pdb_ranges.specs.Painting.{clipped, segments_within, segments_from, overlaid, HaveEdges}
 use Rattle.pdb_ranges.proofs.SegmentLemmas.{first_or, value_at-append}
 use Rattle.pdb_ranges.proofs.OverlaidLemmas.{value_at-overlaid}
 
@@ -91,39 +91,39 @@ edges_second : {T : Type 0} (p : ℕ → Bool) (a b : List (Segment T)) → Have
 edges_second p [] b at_all = at_all
 edges_second p (s ∷ a) b at_all = edges_second p a b at_all.2
 
--- a piece has no other edges than the segment and the range
-edges_piece : {T : Type 0} (p : ℕ → Bool) (lo hi : ℕ) (s : Segment T) → (0 < lo → p lo ≡ true) → p hi ≡ true
-    → p s.start ≡ true → p s.end ≡ true → HaveEdges p (piece lo hi s)
-edges_piece p lo hi s at_lo at_hi at_start at_end =
+-- a segment that is cut has no other edges than its own and those of the range
+edges_clipped : {T : Type 0} (p : ℕ → Bool) (lo hi : ℕ) (s : Segment T) → (0 < lo → p lo ≡ true) → p hi ≡ true
+    → p s.start ≡ true → p s.end ≡ true → HaveEdges p (clipped lo hi s)
+edges_clipped p lo hi s at_lo at_hi at_start at_end =
     elim (cases_lt (max lo s.start) (min hi s.end)) [
       | inl some ↦ rw (lt-ltb (max lo s.start) (min hi s.end) some)
           (max_passes p lo s.start at_lo at_start, min_passes p hi s.end at_hi at_end, tt)
       | inr none ↦ rw (le-ltb (max lo s.start) (min hi s.end) none) tt
     ]
 
-edges_pieces_within : {T : Type 0} (p : ℕ → Bool) (lo hi : ℕ) (ss : List (Segment T)) → (0 < lo → p lo ≡ true)
+edges_segments_within : {T : Type 0} (p : ℕ → Bool) (lo hi : ℕ) (ss : List (Segment T)) → (0 < lo → p lo ≡ true)
     → p hi ≡ true
-    → HaveEdges p ss → HaveEdges p (pieces_within lo hi ss)
-edges_pieces_within p lo hi [] at_lo at_hi at_all = tt
-edges_pieces_within p lo hi (s ∷ ss) at_lo at_hi at_all =
-    edges_both p (piece lo hi s) (pieces_within lo hi ss) (edges_piece p lo hi s at_lo at_hi at_all.0 at_all.1)
-    (edges_pieces_within p lo hi ss at_lo at_hi at_all.2)
+    → HaveEdges p ss → HaveEdges p (segments_within lo hi ss)
+edges_segments_within p lo hi [] at_lo at_hi at_all = tt
+edges_segments_within p lo hi (s ∷ ss) at_lo at_hi at_all =
+    edges_both p (clipped lo hi s) (segments_within lo hi ss) (edges_clipped p lo hi s at_lo at_hi at_all.0 at_all.1)
+    (edges_segments_within p lo hi ss at_lo at_hi at_all.2)
 
-edges_pieces_from : {T : Type 0} (p : ℕ → Bool) (lo : ℕ) (ss : List (Segment T)) → (0 < lo → p lo ≡ true)
+edges_segments_from : {T : Type 0} (p : ℕ → Bool) (lo : ℕ) (ss : List (Segment T)) → (0 < lo → p lo ≡ true)
     → HaveEdges p ss
-    → HaveEdges p (pieces_from lo ss)
-edges_pieces_from p lo [] at_lo at_all = tt
-edges_pieces_from p lo (s ∷ ss) at_lo at_all =
-    edges_both p (piece lo s.end s) (pieces_from lo ss) (edges_piece p lo s.end s at_lo at_all.1 at_all.0 at_all.1)
-    (edges_pieces_from p lo ss at_lo at_all.2)
+    → HaveEdges p (segments_from lo ss)
+edges_segments_from p lo [] at_lo at_all = tt
+edges_segments_from p lo (s ∷ ss) at_lo at_all =
+    edges_both p (clipped lo s.end s) (segments_from lo ss) (edges_clipped p lo s.end s at_lo at_all.1 at_all.0 at_all.1)
+    (edges_segments_from p lo ss at_lo at_all.2)
 
 -- segments that are laid over others have no new edges
 edges_overlaid : {T : Type 0} (p : ℕ → Bool) (lo : ℕ) (tops under : List (Segment T)) → (0 < lo → p lo ≡ true)
     → HaveEdges p tops → HaveEdges p under → HaveEdges p (overlaid lo tops under)
-edges_overlaid p lo [] under at_lo over below = edges_pieces_from p lo under at_lo below
+edges_overlaid p lo [] under at_lo over below = edges_segments_from p lo under at_lo below
 edges_overlaid p lo (top ∷ tops) under at_lo over below =
-    edges_both p (pieces_within lo top.start under) (top ∷ overlaid top.end tops under)
-    (edges_pieces_within p lo top.start under at_lo over.0 below)
+    edges_both p (segments_within lo top.start under) (top ∷ overlaid top.end tops under)
+    (edges_segments_within p lo top.start under at_lo over.0 below)
     (over.0, over.1, edges_overlaid p top.end tops under (λ _. over.1) over.2 below)
 
 -- nor have those that the halves of a list make

@@ -19,17 +19,17 @@ abbrev pub one_or_none : ℕ → ℕ → List (ℕ × ℕ)
 one_or_none lo hi = if nat_lt lo hi then (lo, hi) ∷ [] else []
 
 -- what the others leave of the range from lo to hi
-abbrev pub pieces : ℕ → ℕ → List (ℕ × ℕ) → List (ℕ × ℕ)
-pieces lo hi [] = one_or_none lo hi
-pieces lo hi (other ∷ others) =
+abbrev pub range_without : ℕ → ℕ → List (ℕ × ℕ) → List (ℕ × ℕ)
+range_without lo hi [] = one_or_none lo hi
+range_without lo hi (other ∷ others) =
     if nat_le hi other.0 then one_or_none lo hi
-    else one_or_none lo other.0 ++ pieces (max lo other.1) hi others
+    else one_or_none lo other.0 ++ range_without (max lo other.1) hi others
 
 -- what the others leave of the runs: others that end before a run begins can touch no later run either
 abbrev pub difference : List (ℕ × ℕ) → List (ℕ × ℕ) → List (ℕ × ℕ)
 difference [] others = []
 difference (run ∷ runs) others =
-    pieces run.0 run.1 (ending_after run.0 others) ++ difference runs (ending_after run.0 others)
+    range_without run.0 run.1 (ending_after run.0 others) ++ difference runs (ending_after run.0 others)
 
 -- whether the first of the runs holds all of the range from lo to hi
 abbrev pub starts_with_all : ℕ → ℕ → List (ℕ × ℕ) → Bool

@@ -1,3 +1,5 @@
+//! The segments of a table in order, read one by one so that each look of a search is counted.
+
 ghost use Rattle.std.specs.Prelude.{◌≡◌, ℕ, ◌+◌, ◌*◌, ◌<◌, ◌≤◌, [], length};
 ghost use Rattle.std.specs.Prelude.{slice_get, Some, None, IfOk, IsOk, OnOk, OnErr};
 ghost use Rattle.pdb_ranges.specs.Probes.{one_more};
@@ -41,7 +43,7 @@ impl<T: Copy> Entries<T> {
 
     // The entries after segments were painted one after the other.
     pub(crate) fn of_painted(alloc: Global, segments: &[Segment<T>]) -> Result<Self, AllocError>
-        ensures values { IfOk result (λ entries.
+        ensures answer { IfOk result (λ entries.
             (x : ℕ) → value_at entries x ≡ painted_in_turn segments.now None x) }
         ensures few { IfOk result (λ entries. length entries ≤ 2 * length segments.now) }
     {
@@ -51,7 +53,7 @@ impl<T: Copy> Entries<T> {
 
     // The number of entries.
     pub(crate) fn len(&self) -> usize
-        ensures count { result ≡ length self.now }
+        ensures answer { result ≡ length self.now }
         ensures ordered { IsOrderedFrom 0 self.now }
     {
         self.segments.len()
@@ -60,7 +62,7 @@ impl<T: Copy> Entries<T> {
     // The entry at a place, which counts as one more probe.
     pub(crate) fn look(&self, at: usize, probes: &mut Probes) -> Segment<T>
         requires { at < length self.now }
-        ensures entry { slice_get self.now at ≡ Some result }
+        ensures answer { slice_get self.now at ≡ Some result }
         ensures one_more { probes.new ≡ one_more probes.old }
         ensures no_fewer { probes.old ≤ probes.new }
     {
@@ -70,12 +72,12 @@ impl<T: Copy> Entries<T> {
 
     // Gives the numbers from lo up to the one before hi a value.
     pub(crate) fn paint(&mut self, lo: u64, hi: u64, value: T) -> Result<(), AllocError>
-        ensures ok { OnOk result
+        ensures state { OnOk result
             ((x : ℕ) → value_at self.new x ≡ painted lo hi value (value_at self.old x) x) }
         ensures few { length self.new ≤ length self.old + 2 }
         ensures empty { hi ≤ lo → IsOk result }
-        ensures no_change { hi ≤ lo → self.new ≡ self.old }
-        ensures err { OnErr result (self.new ≡ self.old) }
+        ensures unchanged { hi ≤ lo → self.new ≡ self.old }
+        ensures unchanged_if_refused { OnErr result (self.new ≡ self.old) }
     {
         painting::paint(&mut self.segments, lo, hi, value)
     }

@@ -1,4 +1,4 @@
-//! Laws of runs and of painted segments. The functions do nothing when they are called.
+//! Laws of runs and of painted segments; the functions do nothing when they are called.
 
 ghost use Rattle.std.specs.Prelude.{◌≡◌, ℕ, ◌&&◌, not, List, None, reverse};
 ghost use Rattle.pdb_ranges.specs.declared.segment.Segment.{Segment};

@@ -1,21 +1,21 @@
-// What painting does to lists of segments.
+//! How a segment is laid over a list of others, and how a whole list is painted in turn.
 
 ghost use Rattle.std.specs.Prelude.{◌≡◌, ℕ, ◌*◌, Bool, None, ◌+◌, ◌<◌, ◌≤◌, ◌++◌, length, IfOk, IsOk, OnOk, OnErr};
 ghost use Rattle.pdb_ranges.specs.Segments.{painted, painted_in_turn, value_at, IsOrderedFrom};
-ghost use Rattle.pdb_ranges.specs.Painting.{piece, pieces_within, pieces_from, going_past, overlaid, end_from};
+ghost use Rattle.pdb_ranges.specs.Painting.{clipped, segments_within, segments_from, going_past, overlaid, end_from};
 ghost use Rattle.pdb_ranges.specs.Painting.{HaveEdges};
 
 use crate::segment::Segment;
 use std::alloc::{AllocError, Global};
 
-// Appends the piece of a segment from lo to hi, if there is any.
-fn push_piece<T: Copy>(
+// Appends a segment cut to the numbers from lo up to hi, if anything is left of it.
+fn push_clipped<T: Copy>(
     all: &mut Vec<Segment<T>>,
     segment: Segment<T>,
     lo: u64,
     hi: u64,
 ) -> Result<(), AllocError>
-    ensures { OnOk result (all.new.items ≡ all.old.items ++ piece lo hi segment) }
+    ensures { OnOk result (all.new.items ≡ all.old.items ++ clipped lo hi segment) }
 {
     let start = lo.max(segment.start);
     let end = hi.min(segment.end);
@@ -26,20 +26,20 @@ fn push_piece<T: Copy>(
     Ok(())
 }
 
-// Appends the pieces of the segments from lo to hi, and returns those from the first one on that goes past hi. It
+// Appends what the segments have from lo up to hi, and returns those from the first one on that goes past hi. It
 // reads no further.
-fn push_pieces_within<'a, T: Copy>(
+fn push_segments_within<'a, T: Copy>(
     all: &mut Vec<Segment<T>>,
     segments: &'a [Segment<T>],
     lo: u64,
     hi: u64,
 ) -> Result<&'a [Segment<T>], AllocError>
     requires { IsOrderedFrom 0 segments.now }
-    ensures pieces { OnOk result (all.new.items ≡ all.old.items ++ pieces_within lo hi segments.now) }
-    ensures rest { IfOk result (λ rest. rest.now ≡ going_past hi segments.now) }
+    ensures state { OnOk result (all.new.items ≡ all.old.items ++ segments_within lo hi segments.now) }
+    ensures answer { IfOk result (λ rest. rest.now ≡ going_past hi segments.now) }
 {
     for (at, &segment) in segments.iter().enumerate() {
-        push_piece(all, segment, lo, hi)?;
+        push_clipped(all, segment, lo, hi)?;
         if hi < segment.end {
             return Ok(&segments[at..]);
         }
@@ -47,16 +47,16 @@ fn push_pieces_within<'a, T: Copy>(
     Ok(&[])
 }
 
-// Appends the pieces of the segments from lo on.
-fn push_pieces_from<T: Copy>(
+// Appends what the segments have from lo on.
+fn push_segments_from<T: Copy>(
     all: &mut Vec<Segment<T>>,
     segments: &[Segment<T>],
     lo: u64,
 ) -> Result<(), AllocError>
-    ensures { OnOk result (all.new.items ≡ all.old.items ++ pieces_from lo segments.now) }
+    ensures { OnOk result (all.new.items ≡ all.old.items ++ segments_from lo segments.now) }
 {
     for &segment in segments {
-        push_piece(all, segment, lo, segment.end)?;
+        push_clipped(all, segment, lo, segment.end)?;
     }
     Ok(())
 }
@@ -75,11 +75,11 @@ pub(crate) fn overlaid<T: Copy>(
     let mut rest = under;
     let mut from = 0;
     for &top in tops {
-        rest = push_pieces_within(&mut all, rest, from, top.start)?;
+        rest = push_segments_within(&mut all, rest, from, top.start)?;
         all.push(top)?;
         from = top.end;
     }
-    push_pieces_from(&mut all, rest, from)?;
+    push_segments_from(&mut all, rest, from)?;
     Ok(all)
 }
 
@@ -103,12 +103,12 @@ pub(crate) fn paint<T: Copy>(
 ) -> Result<(), AllocError>
     requires { IsOrderedFrom 0 segments.old.items }
     ensures ordered { IsOrderedFrom 0 segments.new.items }
-    ensures ok { OnOk result
+    ensures state { OnOk result
         ((x : ℕ) → value_at segments.new.items x ≡ painted lo hi value (value_at segments.old.items x) x) }
     ensures few { length segments.new.items ≤ length segments.old.items + 2 }
     ensures empty { hi ≤ lo → IsOk result }
-    ensures no_change { hi ≤ lo → segments.new.items ≡ segments.old.items }
-    ensures err { OnErr result (segments.new.items ≡ segments.old.items) }
+    ensures unchanged { hi ≤ lo → segments.new.items ≡ segments.old.items }
+    ensures unchanged_if_refused { OnErr result (segments.new.items ≡ segments.old.items) }
 {
     if hi <= lo {
         return Ok(());
@@ -128,10 +128,10 @@ pub(crate) fn paint<T: Copy>(
 
 // One segment, or none where it is empty.
 fn one_or_none<T: Copy>(alloc: Global, segment: Segment<T>) -> Result<Vec<Segment<T>>, AllocError>
-    ensures { IfOk result (λ all. all.items ≡ piece segment.start segment.end segment) }
+    ensures { IfOk result (λ all. all.items ≡ clipped segment.start segment.end segment) }
 {
     let mut all = Vec::new(alloc);
-    push_piece(&mut all, segment, segment.start, segment.end)?;
+    push_clipped(&mut all, segment, segment.start, segment.end)?;
     Ok(all)
 }
 
@@ -142,7 +142,7 @@ pub(crate) fn painted_in_turn<T: Copy>(
     segments: &[Segment<T>],
 ) -> Result<Vec<Segment<T>>, AllocError>
     ensures ordered { IfOk result (λ all. IsOrderedFrom 0 all.items) }
-    ensures values { IfOk result (λ all. (x : ℕ) → value_at all.items x ≡ painted_in_turn segments.now None x) }
+    ensures answer { IfOk result (λ all. (x : ℕ) → value_at all.items x ≡ painted_in_turn segments.now None x) }
     ensures edges { IfOk result (λ all. (p : ℕ → Bool) → HaveEdges p segments.now → HaveEdges p all.items) }
 {
     match segments {

@@ -1,3 +1,5 @@
+//! The count of the entries of a table that a search looks at, which bounds its cost.
+
 ghost use Rattle.std.specs.Prelude.{◌≡◌, ℕ, ◌<◌, ◌≤◌, ◌-◌, ◌^◌};
 ghost use Rattle.pdb_ranges.specs.Probes.{one_more};
 
@@ -28,7 +30,7 @@ impl Probes {
 
     /// Counts one more entry. A count of `u64::MAX` stays.
     pub fn tick(&mut self)
-        ensures one_more { self.new ≡ one_more self.old }
+        ensures state { self.new ≡ one_more self.old }
         ensures no_fewer { self.old ≤ self.new }
     {
         self.count = self.count.saturating_add(1);

@@ -1,3 +1,5 @@
+//! Sets of 64-bit numbers, held as their runs: adding, union, difference, and whether one holds another.
+
 ghost use Rattle.std.specs.Prelude.{◌≡◌, ℕ, ◌||◌, ◌&&◌, ◌↔◌, not, true, List, [], IfOk, OnOk, OnErr, IsTrue};
 ghost use Rattle.pdb_ranges.specs.RangeSet.{is_within, has, IsRunsFrom};
 
@@ -36,8 +38,8 @@ impl RangeSet {
 
     /// The set of the numbers in any of the rows, which may stand in any order, overlap, and be empty.
     ///
-    /// It sorts a copy of the rows, so it suits rows whose order is not known better than one `add` for each. The error
-    /// is that memory ran out.
+    /// It sorts a copy of the rows, so it suits rows whose order is not known better than one `add` for each. Answers
+    /// `AllocError` where memory runs out.
     pub fn of_rows(alloc: Global, rows: &[(u64, u64)]) -> Result<Self, AllocError>
         ensures { IfOk result (λ set. (x : ℕ) → has set x ≡ has rows.now x) }
     {
@@ -51,20 +53,21 @@ impl RangeSet {
     /// Adds the numbers from `lo` up to the one before `hi`, and nothing where `hi` is not above `lo`.
     ///
     /// A range that begins no lower than the last run does costs constant time on average, and any other range the time
-    /// to copy the runs. The error is that memory ran out.
+    /// to copy the runs. Answers `AllocError` where memory runs out, and the set stays.
     pub fn add(&mut self, lo: u64, hi: u64) -> Result<(), AllocError>
-        ensures ok { OnOk result
+        ensures state { OnOk result
             ((x : ℕ) → has self.new x ≡ (has self.old x || is_within lo hi x)) }
-        ensures err { OnErr result (self.new ≡ self.old) }
+        ensures unchanged_if_refused { OnErr result (self.new ≡ self.old) }
     {
         runs::add_range(&mut self.runs, lo, hi)
     }
 
-    /// Adds the numbers of another set, in one pass over the runs of both. The error is that memory ran out.
+    /// Adds the numbers of another set, in one pass over the runs of both. Answers `AllocError` where memory runs out,
+    /// and the set stays.
     pub fn union(&mut self, other: &RangeSet) -> Result<(), AllocError>
-        ensures ok { OnOk result
+        ensures state { OnOk result
             ((x : ℕ) → has self.new x ≡ (has self.old x || has other.now x)) }
-        ensures err { OnErr result (self.new ≡ self.old) }
+        ensures unchanged_if_refused { OnErr result (self.new ≡ self.old) }
     {
         self.runs = runs::union_of(*self.runs.allocator(), &self.runs, &other.runs)?;
         Ok(())
@@ -73,11 +76,11 @@ impl RangeSet {
     /// Takes the numbers of another set away, in one pass over the runs of both.
     ///
     /// A run may come apart, as `(10, 40)` without `(20, 30)` does into `(10, 20)` and `(30, 40)`, so this takes memory
-    /// too. The error is that memory ran out.
+    /// too. Answers `AllocError` where memory runs out, and the set stays.
     pub fn minus(&mut self, other: &RangeSet) -> Result<(), AllocError>
-        ensures ok { OnOk result
+        ensures state { OnOk result
             ((x : ℕ) → has self.new x ≡ (has self.old x && not (has other.now x))) }
-        ensures err { OnErr result (self.new ≡ self.old) }
+        ensures unchanged_if_refused { OnErr result (self.new ≡ self.old) }
     {
         self.runs = runs::difference_of(*self.runs.allocator(), &self.runs, &other.runs)?;
         Ok(())
@@ -92,7 +95,7 @@ impl RangeSet {
 
     /// The runs as pairs of the first number and the one past the last, the lowest first.
     pub fn runs(&self) -> &[(u64, u64)]
-        ensures all { result.now ≡ self.now }
+        ensures answer { result.now ≡ self.now }
         ensures maximal { IsRunsFrom 0 self.now }
     {
         self.runs.as_slice()

@@ -1,8 +1,8 @@
-// What a set does to its list of runs.
+//! Lists of runs: a range put in, union, difference, and whether the runs of one list cover another's.
 
 ghost use Rattle.std.specs.Prelude.{◌≡◌, ℕ, ◌||◌, ◌&&◌, ◌++◌, not, IfOk, OnOk, OnErr};
 ghost use Rattle.pdb_ranges.specs.RangeSet.{is_within, has, IsRunsFrom};
-ghost use Rattle.pdb_ranges.specs.Runs.{with_range, ending_after, pieces, covers};
+ghost use Rattle.pdb_ranges.specs.Runs.{with_range, ending_after, range_without, covers};
 
 use std::alloc::{AllocError, Global};
 
@@ -38,9 +38,9 @@ fn with_range(
 pub(crate) fn add_range(runs: &mut Vec<(u64, u64)>, lo: u64, hi: u64) -> Result<(), AllocError>
     requires { IsRunsFrom 0 runs.old.items }
     ensures ordered { IsRunsFrom 0 runs.new.items }
-    ensures ok { OnOk result
+    ensures state { OnOk result
         ((x : ℕ) → has runs.new.items x ≡ (has runs.old.items x || is_within lo hi x)) }
-    ensures err { OnErr result (runs.new.items ≡ runs.old.items) }
+    ensures unchanged_if_refused { OnErr result (runs.new.items ≡ runs.old.items) }
 {
     if hi <= lo {
         return Ok(());
@@ -67,7 +67,7 @@ pub(crate) fn add_ranges(
 ) -> Result<(), AllocError>
     requires { IsRunsFrom 0 runs.old.items }
     ensures ordered { IsRunsFrom 0 runs.new.items }
-    ensures ok { OnOk result
+    ensures state { OnOk result
         ((x : ℕ) → has runs.new.items x ≡ (has runs.old.items x || has ranges.now x)) }
 {
     for &(lo, hi) in ranges {
@@ -84,7 +84,7 @@ fn add_beginning_by<'a>(
 ) -> Result<&'a [(u64, u64)], AllocError>
     requires { IsRunsFrom 0 all.old.items }
     ensures ordered { IsRunsFrom 0 all.new.items }
-    ensures ok { IfOk result (λ rest. (x : ℕ) →
+    ensures state { IfOk result (λ rest. (x : ℕ) →
         (has all.new.items x || has rest.now x) ≡ (has all.old.items x || has runs.now x)) }
 {
     for (at, &(lo, hi)) in runs.iter().enumerate() {
@@ -103,7 +103,7 @@ pub(crate) fn union_of(
     others: &[(u64, u64)],
 ) -> Result<Vec<(u64, u64)>, AllocError>
     ensures ordered { IfOk result (λ all. IsRunsFrom 0 all.items) }
-    ensures numbers { IfOk result (λ all. (x : ℕ) →
+    ensures answer { IfOk result (λ all. (x : ℕ) →
         has all.items x ≡ (has runs.now x || has others.now x)) }
 {
     let mut all = Vec::new(alloc);
@@ -129,13 +129,13 @@ fn ending_after(runs: &[(u64, u64)], bound: u64) -> &[(u64, u64)]
 }
 
 // Appends what the others leave of lo..hi. It reads the others up to the first that begins at `hi` or later.
-fn push_pieces(
+fn push_range_without(
     left: &mut Vec<(u64, u64)>,
     lo: u64,
     hi: u64,
     others: &[(u64, u64)],
 ) -> Result<(), AllocError>
-    ensures { OnOk result (left.new.items ≡ left.old.items ++ pieces lo hi others.now) }
+    ensures { OnOk result (left.new.items ≡ left.old.items ++ range_without lo hi others.now) }
 {
     let mut from = lo;
     for &(start, end) in others {
@@ -162,14 +162,14 @@ pub(crate) fn difference_of(
     requires runs { IsRunsFrom 0 runs.now }
     requires others { IsRunsFrom 0 others.now }
     ensures ordered { IfOk result (λ left. IsRunsFrom 0 left.items) }
-    ensures numbers { IfOk result (λ left. (x : ℕ) →
+    ensures answer { IfOk result (λ left. (x : ℕ) →
         has left.items x ≡ (has runs.now x && not (has others.now x))) }
 {
     let mut left = Vec::new(alloc);
     let mut rest = others;
     for &(lo, hi) in runs {
         rest = ending_after(rest, lo);
-        push_pieces(&mut left, lo, hi, rest)?;
+        push_range_without(&mut left, lo, hi, rest)?;
     }
     Ok(left)
 }

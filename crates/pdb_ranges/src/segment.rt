@@ -1,3 +1,5 @@
+//! A segment: a range of numbers that have one value.
+
 /// A range of numbers, from `start` up to the one before `end`, that have one value.
 #[derive(Clone, Copy, Debug)]
 pub struct Segment<T> {

@@ -1,3 +1,5 @@
+//! Tables of values of 64-bit numbers, held as segments that a binary search finds.
+
 ghost use Rattle.std.specs.Prelude.{◌≡◌, ℕ, ◌+◌, ◌*◌, ◌≤◌, [], length, None, IfOk, IsOk, OnOk, OnErr};
 ghost use Rattle.pdb_ranges.specs.Probes.{digits};
 ghost use Rattle.pdb_ranges.specs.Segments.{painted, painted_in_turn, value_at};
@@ -40,11 +42,11 @@ impl<T: Copy> Segments<T> {
     /// The table after the segments were painted one after the other, in the order of the list, so that the last one
     /// over a number gives its value. They may overlap, and be empty.
     ///
-    /// Its time grows with n log n for n segments, whatever they are. The error is that memory ran out.
+    /// Its time grows with n log n for n segments, whatever they are. Answers `AllocError` where memory runs out.
     pub fn of_painted(alloc: Global, segments: &[Segment<T>]) -> Result<Self, AllocError>
-        ensures values { IfOk result (λ table.
+        ensures answer { IfOk result (λ table.
             (x : ℕ) → value_at table x ≡ painted_in_turn segments.now None x) }
-        ensures at_most_two_each { IfOk result (λ table. length table ≤ 2 * length segments.now) }
+        ensures few { IfOk result (λ table. length table ≤ 2 * length segments.now) }
     {
         let entries = Entries::of_painted(alloc, segments)?;
         Ok(Segments { entries })
@@ -61,14 +63,14 @@ impl<T: Copy> Segments<T> {
     /// were. Nothing changes where `hi` is not above `lo`.
     ///
     /// A range that begins where the last segment ends, or later, costs constant time on average, and any other range
-    /// the time to copy the segments. The error is that memory ran out.
+    /// the time to copy the segments. Answers `AllocError` where memory runs out, and the table stays.
     pub fn paint(&mut self, lo: u64, hi: u64, value: T) -> Result<(), AllocError>
-        ensures ok { OnOk result
+        ensures state { OnOk result
             ((x : ℕ) → value_at self.new x ≡ painted lo hi value (value_at self.old x) x) }
-        ensures at_most_two_more { length self.new ≤ length self.old + 2 }
+        ensures few { length self.new ≤ length self.old + 2 }
         ensures empty { hi ≤ lo → IsOk result }
-        ensures no_change { hi ≤ lo → self.new ≡ self.old }
-        ensures err { OnErr result (self.new ≡ self.old) }
+        ensures unchanged { hi ≤ lo → self.new ≡ self.old }
+        ensures unchanged_if_refused { OnErr result (self.new ≡ self.old) }
     {
         self.entries.paint(lo, hi, value)
     }
@@ -78,7 +80,7 @@ impl<T: Copy> Segments<T> {
     /// Each entry that is looked at is counted in `probes`. They are no more than the number of segments has binary
     /// digits: at most 10 of 1,000 segments, and none of none.
     pub fn find(&self, x: u64, probes: &mut Probes) -> Option<T>
-        ensures value { result ≡ value_at self.now x }
+        ensures answer { result ≡ value_at self.now x }
         ensures no_fewer { probes.old ≤ probes.new }
         ensures few { probes.new ≤ probes.old + digits (length self.now) }
     {
@@ -88,7 +90,7 @@ impl<T: Copy> Segments<T> {
 
 // The value of x.
 fn search<T: Copy>(entries: &Entries<T>, x: u64, probes: &mut Probes) -> Option<T>
-    ensures value { result ≡ value_at entries.now x }
+    ensures answer { result ≡ value_at entries.now x }
     ensures no_fewer { probes.old ≤ probes.new }
     ensures few { probes.new ≤ probes.old + digits (length entries.now) }
 {

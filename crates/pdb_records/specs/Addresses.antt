@@ -1,11 +1,11 @@
--- Addresses, and section offsets.
+-- Addresses and section offsets, and how one leads to the other.
 use Rattle.std.specs.Prelude.{ℕ, ◌+◌, ◌-◌, ◌^◌, ◌&&◌, ◌==◌, Bool, List, [], ◌∷◌, Option, Some}
 use Rattle.std.specs.Prelude.{None, nat_le, nat_lt, option_and_then, slice_get, if◌then◌else◌}
 use Rattle.pdb_records.specs.declared.addresses.Rva.{Rva}
 use Rattle.pdb_records.specs.declared.addresses.AddressRange.{AddressRange}
 use Rattle.pdb_records.specs.declared.addresses.PdbInternalSectionOffset.{PdbInternalSectionOffset}
 
--- two section offsets are one
+-- two section offsets are equal
 abbrev pub is_same_section_offset : PdbInternalSectionOffset → PdbInternalSectionOffset → Bool
 is_same_section_offset a b = (a.section == b.section) && (a.offset == b.offset)
 

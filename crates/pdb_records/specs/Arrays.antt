@@ -1,4 +1,4 @@
--- Arrays.
+-- Arrays: the type of their elements, and their dimensions.
 use Rattle.std.specs.Prelude.{ℕ, List}
 use Rattle.pdb_records.specs.declared.types.TypeIndex.{TypeIndex}
 

@@ -17,8 +17,7 @@ is_procedure_kind kind =
     (kind == S_LPROC32) || (kind == S_LPROC32_ST) || (kind == S_GPROC32) || (kind == S_GPROC32_ST)
     || (kind == S_LPROC32_ID) || (kind == S_GPROC32_ID) || (kind == S_LPROC32_DPC) || (kind == S_LPROC32_DPC_ID)
 
--- the eleven kinds that show code with a size: procedures, short pieces that lead to one, and code apart from its
--- body
+-- the eleven kinds that show code with a size: procedures, thunks, and code apart from its body
 abbrev pub is_code_kind : ℕ → Bool
 is_code_kind kind = is_procedure_kind kind || (kind == S_THUNK32) || (kind == S_THUNK32_ST) || (kind == S_SEPCODE)
 

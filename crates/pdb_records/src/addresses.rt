@@ -1,3 +1,5 @@
+//! Addresses, section offsets and sections, and how an address and a section offset lead to one another.
+
 ghost use Rattle.std.specs.Prelude.{◌≡◌};
 ghost use Rattle.std.specs.Option.{option_copied};
 ghost use Rattle.pdb_records.specs.Addresses.{internal_offset, rva, holds};
@@ -38,7 +40,7 @@ pub struct AddressRange {
 }
 
 impl AddressRange {
-    /// Whether the address lies in the section.
+    // Whether the address lies in the section.
     fn holds(self, address: u32) -> bool
         ensures { result ≡ holds address self }
     {

@@ -1,3 +1,5 @@
+//! The machine of a program, the list of its modules, and which bytes of its sections came from which.
+
 use crate::addresses::PdbInternalSectionOffset;
 use crate::error::StreamError;
 use crate::raw_string::RawString;
@@ -43,7 +45,7 @@ impl Drop for Module {
     }
 }
 
-/// A run of a section that came from one module.
+/// Bytes of a section that came from one module.
 #[derive(Clone, Copy)]
 pub struct SectionContribution {
     pub offset: PdbInternalSectionOffset,

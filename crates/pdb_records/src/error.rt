@@ -1,3 +1,5 @@
+//! The number of a stream's fault, and why a question to the records has no answer.
+
 use thiserror::Error;
 
 /// The number by which a reader says why a stream, or the rest of one, could not be read.

@@ -1,3 +1,5 @@
+//! The records of ids: functions that may be inlined, their scopes, and texts.
+
 use crate::raw_string::RawString;
 use crate::types::{ItemInformation, TypeIndex};
 use std::marker::Model;
@@ -77,7 +79,7 @@ impl Drop for StringId {
     }
 }
 
-/// A text in pieces.
+/// A text that other texts make, one after another.
 pub struct StringListId {
     pub substrings: Vec<TypeIndex>,
 }

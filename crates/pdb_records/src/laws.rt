@@ -1,5 +1,6 @@
-//! What the comparisons of index types have in common: laws, which the check proves for all values. The
-//! functions do nothing when they are called.
+//! Laws of how the order, the equality and the hash of index types agree; the functions do nothing.
+//!
+//! Each function's contract is a law, for all values, and the check proves it.
 
 ghost use Rattle.pdb_records.specs.Laws.{OrderAgrees, HashAgrees};
 

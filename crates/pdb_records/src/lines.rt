@@ -1,3 +1,5 @@
+//! The line program of a module: line rows by the section offset of their function, and source files.
+
 ghost use Rattle.std.specs.Prelude.{◌≡◌, slice_get};
 ghost use Rattle.std.specs.Option.{option_copied};
 ghost use Rattle.pdb_records.specs.Lines.{lines_at};

@@ -1,3 +1,5 @@
+//! The records of one module, with what it imports from other modules and exports to them.
+
 ghost use Rattle.std.specs.Prelude.{◌≡◌};
 ghost use Rattle.pdb_records.specs.References.{imported, exported};
 
@@ -9,13 +11,13 @@ use crate::strings::StringRef;
 use crate::symbols::Symbol;
 use std::marker::Model;
 
-/// How many bits of an import's index are a position among a module's imports.
+// How many bits of an import's index are a position among a module's imports.
 const LOCAL_BITS: u32 = 20;
 
-/// How many bits above those are a position among the modules that are imported from.
+// How many bits above those are a position among the modules that are imported from.
 const MODULE_BITS: u32 = 11;
 
-/// What is known of one module.
+/// The records of one module.
 pub struct ModuleInfo {
     pub symbols: Reading<Symbol>,
     pub line_program: Result<LineProgram, StreamError>,

@@ -1,3 +1,5 @@
+//! All records of a program, each stream read or failed on its own.
+
 use crate::addresses::{AddressMap, ImageSectionHeader};
 use crate::debug_information::DebugInformation;
 use crate::error::StreamError;
@@ -18,7 +20,7 @@ pub struct PDB {
     pub type_information: Result<TypeInformation, StreamError>,
     pub id_information: Result<IdInformation, StreamError>,
     pub string_table: Result<StringTable, StreamError>,
-    /// What is known of each module, in the order of the list of modules.
+    /// The records of each module, in the order of the list of modules.
     pub module_infos: Vec<Result<Option<ModuleInfo>, StreamError>>,
 }
 

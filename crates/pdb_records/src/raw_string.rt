@@ -1,3 +1,5 @@
+//! Names as they stand in the records, as bytes, and how they become text.
+
 ghost use Rattle.std.specs.Prelude.{◌≡◌, IfOk};
 ghost use Rattle.std.specs.Cow.{cow_str_bytes};
 ghost use Rattle.pdb_records.specs.Names.{lossy};
@@ -26,7 +28,7 @@ impl Model for RawString {
 }
 
 impl RawString {
-    /// The name as text. Each ill-formed piece of it becomes one U+FFFD.
+    /// The name as text. Each ill-formed sequence of bytes in it becomes one U+FFFD.
     ///
     /// A well-formed name is lent and takes no memory.
     pub fn to_string_lossy(&self, alloc: Global) -> Result<CowStr<'_>, AllocError>

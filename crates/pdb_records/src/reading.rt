@@ -1,9 +1,11 @@
+//! What could be read of a list: its entries, and the fault where the reading stopped early.
+
 use crate::error::StreamError;
 use std::marker::Model;
 
-/// What could be read of a list: its items in order and, where the reading stopped early, why.
+/// What could be read of a list: its entries in order and, where the reading stopped early, why.
 pub struct Reading<T> {
-    /// The items that were read.
+    /// The entries that were read.
     pub items: Vec<T>,
     /// Why nothing follows them, or `None` where the list ended.
     pub fault: Option<StreamError>,

@@ -1,3 +1,5 @@
+//! The string table: texts that the records share, as names of files and modules, by their references.
+
 ghost use Rattle.std.specs.Prelude.{◌≡◌};
 ghost use Rattle.std.specs.Option.{option_copied};
 ghost use Rattle.pdb_records.specs.Strings.{string_at};
@@ -9,7 +11,7 @@ use std::marker::Model;
 #[derive(Clone, Copy, PartialEq, Eq, PartialOrd, Ord, Hash)]
 pub struct StringRef(pub u32);
 
-/// The texts that several parts of the records share, as names of files and modules.
+/// The texts that the records share, as names of files and modules.
 pub struct StringTable {
     pub strings: Vec<(StringRef, RawString)>,
 }

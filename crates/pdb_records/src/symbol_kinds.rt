@@ -1,5 +1,6 @@
-//! The kinds of symbols that are looked at, by the numbers that stand in the records. A name that
-//! ends in `_ST` is the older form of the same symbol.
+//! The kinds of symbols that are looked at, by the numbers that stand in the records.
+//!
+//! A name that ends in `_ST` is the older form of the same symbol.
 
 ghost use Rattle.std.specs.Prelude.{◌≡◌};
 ghost use Rattle.pdb_records.specs.SymbolKinds.{is_public_kind, is_procedure_kind, is_code_kind, is_site_kind};
@@ -24,9 +25,9 @@ pub const S_GPROC32_ID: u16 = 0x1147;
 pub const S_LPROC32_DPC: u16 = 0x1155;
 /// A procedure of a parallel program's other side, with an id for its type.
 pub const S_LPROC32_DPC_ID: u16 = 0x1156;
-/// A short piece of code that leads to a procedure.
+/// A thunk: a few instructions that lead to a procedure.
 pub const S_THUNK32_ST: u16 = 0x0206;
-/// A short piece of code that leads to a procedure.
+/// A thunk: a few instructions that lead to a procedure.
 pub const S_THUNK32: u16 = 0x1102;
 /// Code of a procedure that stands apart from its body.
 pub const S_SEPCODE: u16 = 0x1132;
@@ -59,8 +60,7 @@ pub fn is_procedure_kind(raw_kind: u16) -> bool
     )
 }
 
-/// Whether symbols of this kind show code with a size: procedures, short pieces that lead to one, and
-/// code apart from its body.
+/// Whether symbols of this kind show code with a size: procedures, thunks, and code apart from its body.
 pub fn is_code_kind(raw_kind: u16) -> bool
     ensures { result ≡ is_code_kind raw_kind }
 {

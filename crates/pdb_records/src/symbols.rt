@@ -1,3 +1,5 @@
+//! Symbols: public symbols, procedures, separated code, thunks and inline sites, and the lists of them.
+
 use crate::addresses::PdbInternalSectionOffset;
 use crate::ids::IdIndex;
 use crate::lines::FileIndex;
@@ -124,7 +126,7 @@ impl Drop for SeparatedCodeSymbol {
     }
 }
 
-/// A short piece of code that leads to a procedure.
+/// A few instructions that lead to a procedure.
 pub struct ThunkSymbol {
     /// Where it starts.
     pub offset: PdbInternalSectionOffset,
@@ -166,7 +168,7 @@ impl Drop for InlineSiteSymbol {
     }
 }
 
-/// A run of an inlined body's code that comes from one line.
+/// Bytes of an inlined body's code that come from one line.
 #[derive(Clone, Copy)]
 pub struct InlineRow {
     /// Bytes from the start of the procedure's section.

@@ -1,3 +1,5 @@
+//! The records of types: classes, pointers, arrays, functions and others, in a list by their index.
+
 use crate::error::Error;
 use crate::raw_string::RawString;
 use crate::reading::Reading;

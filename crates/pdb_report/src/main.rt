@@ -15,18 +15,18 @@ use std::{env, io};
 fn main(rt: HostRuntime) -> ExitCode {
     let words = match words(&rt) {
         Ok(words) => words,
-        Err(stop) => return report(&rt, &stop),
+        Err(stop) => return print_stop(&rt, &stop),
     };
     let Ok(writer) = BufWriter::new(rt.alloc(), io::writer(&rt)) else {
-        return report(&rt, &Stop::Refused(Error::OutOfMemory));
+        return print_stop(&rt, &Stop::Refused(Error::OutOfMemory));
     };
     match run(&rt, &words, &mut Out::new(writer)) {
         Ok(()) => ExitCode::SUCCESS,
-        Err(stop) => report(&rt, &stop),
+        Err(stop) => print_stop(&rt, &stop),
     }
 }
 
-/// The words of the command line. Words that are no text ask for nothing.
+// The words of the command line. Words that are no text ask for nothing.
 fn words<R: Env + AllocGlobal>(rt: &R) -> Result<Vec<String>, Stop<'static>> {
     let words = match env::args(rt) {
         Ok(words) => words,
@@ -39,8 +39,8 @@ fn words<R: Env + AllocGlobal>(rt: &R) -> Result<Vec<String>, Stop<'static>> {
     }
 }
 
-/// Prints why the program ended early, and gives its status.
-fn report<R: Eprint>(rt: &R, stop: &Stop<'_>) -> ExitCode {
+// Prints why the program ended early, and gives its status.
+fn print_stop<R: Eprint>(rt: &R, stop: &Stop<'_>) -> ExitCode {
     let _ = eprintln!(rt; "{stop}");
     ExitCode::from(stop.status())
 }

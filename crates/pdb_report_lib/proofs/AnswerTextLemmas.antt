@@ -13,7 +13,7 @@ use Rattle.pdb_addr2line.specs.ContextInputs.{ContextState}
 use Rattle.pdb_report_lib.specs.declared.reports.Command.{Command}
 use Rattle.pdb_report_lib.specs.declared.reports.Command.TheVariants.{Names, Frames}
 use Rattle.pdb_report_lib.specs.declared.reports.Command.TheVariants as wanted
-use Rattle.pdb_report_lib.specs.AnswerTexts.{answer_text, texts_of_answers, addresses_asked}
+use Rattle.pdb_report_lib.specs.AnswerTexts.{answer_text, texts_of_answers, answer_addresses}
 use Rattle.pdb_report_lib.specs.PrintedFrames.{frames_text}
 use Rattle.pdb_report_lib.specs.PrintedLines.{names_line, list_text}
 use Rattle.pdb_report_lib.specs.Reports.{report_calls, report_text, function_text, stack_text, addresses_text}
@@ -31,13 +31,13 @@ names_of_answers info c (address ∷ addresses) =
 
 -- a first text and what follows, which are alike where there is a first text
 one_more_text : (address : ℕ) (frames : Result (Option FramesInfo) Error) (rest rest' : Result (List ℕ) Error)
-    → ((shown : Option FramesInfo) → frames ≡ Ok shown → rest ≡ rest')
-    → and_then (and_then frames (λ shown. Ok (frames_text address shown)))
+    → ((found : Option FramesInfo) → frames ≡ Ok found → rest ≡ rest')
+    → and_then (and_then frames (λ found. Ok (frames_text address found)))
     (λ text. and_then rest (λ texts. Ok (text ++ texts)))
     ≡ and_then (answer_text address (FramesView frames)) (λ text. and_then rest' (λ texts. Ok (text ++ texts)))
-one_more_text address (Ok shown) rest rest' alike =
-    ap (λ (more : Result (List ℕ) Error). and_then more (λ texts. Ok (frames_text address shown ++ texts)))
-    (alike shown refl)
+one_more_text address (Ok found) rest rest' alike =
+    ap (λ (more : Result (List ℕ) Error). and_then more (λ texts. Ok (frames_text address found ++ texts)))
+    (alike found refl)
 one_more_text address (Err e) rest rest' alike = refl
 
 -- the lines of frames are those of the answers
@@ -47,9 +47,9 @@ stacks_of_answers : {P : Type 0} (info : P → ProviderInfos) (c : ContextState 
 stacks_of_answers info c [] = refl
 stacks_of_answers info c (address ∷ addresses) =
     let next = after_frames info c address in
-    one_more_text address (frames_answered info c address) _ _ (λ shown is.
+    one_more_text address (frames_answered info c address) _ _ (λ found is.
     let same : code_failed_after info c address ≡ c.code_failed =
-    unrefused c.code_failed (blamed_at info c.inputs address) (frames_at info c.inputs address) shown is in
+    unrefused c.code_failed (blamed_at info c.inputs address) (frames_at info c.inputs address) found is in
     ap (λ code. addresses_text (stack_text info c.inputs code) addresses) (sym same)
     ∙ stacks_of_answers info next addresses)
 
@@ -57,7 +57,7 @@ stacks_of_answers info c (address ∷ addresses) =
 pub text_of_answers : {P : Type 0} (info : P → ProviderInfos) (c : ContextState P) (command : Command)
     (addresses : List ℕ)
     → report_text info c.inputs c.code_failed command addresses
-    ≡ texts_of_answers (addresses_asked command addresses) (answers_to info c (report_calls command addresses))
+    ≡ texts_of_answers (answer_addresses command addresses) (answers_to info c (report_calls command addresses))
 text_of_answers info c Names addresses = names_of_answers info c addresses
 text_of_answers info c Frames addresses = stacks_of_answers info c addresses
 text_of_answers info c wanted.List addresses = ap Ok (sym (append-nil (list_text (functions_of info c.inputs))))

@@ -81,15 +81,15 @@ same_context : {P : Type 0} (s s' : ContextInputs P) (failed failed' : Parts) (c
 same_context s s' failed failed' code code' one two three = rw (one, two, three) refl
 
 -- a look-up of frames that is answered leaves the context as the definition has it
-pub shown_where_answered : {P A : Type 0} (info : P → ProviderInfos) (before after : ContextState P) (address : ℕ)
+pub state_where_answered : {P A : Type 0} (info : P → ProviderInfos) (before after : ContextState P) (address : ℕ)
     (answer : Result A Error)
     → after.inputs ≡ before.inputs
     → ButForMemory answer (after.failed ≡ failed_after_frames info before.inputs address before.failed)
     → ButForMemory answer (after.code_failed ≡ code_failed_after info before address)
     → OnOk answer (after ≡ after_frames info before address)
-shown_where_answered info before after address (Ok answer) inputs failed code =
+state_where_answered info before after address (Ok answer) inputs failed code =
     same_context _ _ _ _ _ _ inputs failed code
-shown_where_answered info before after address (Err e) inputs failed code = tt
+state_where_answered info before after address (Err e) inputs failed code = tt
 
 -- a look-up of frames that is answered has the context remember no more than broken parts besides
 pub gains_where_answered : {P : Type 0} (info : P → ProviderInfos) (before after : ContextState P) (address : ℕ)
@@ -97,14 +97,14 @@ pub gains_where_answered : {P : Type 0} (info : P → ProviderInfos) (before aft
     → GainsBroken info before.inputs.type_inputs before.failed after.failed
     → ButForMemory answer (after.code_failed ≡ code_failed_after info before address)
     → Gives (λ f. f) answer (frames_answered info before address) → OnOk answer (OnlyGainsBroken info before after)
-gains_where_answered info before after address (Ok shown) inputs broken code given =
+gains_where_answered info before after address (Ok found) inputs broken code given =
     gains_by_one info before after inputs broken
     (code ∙ unrefused before.code_failed (blamed_at info before.inputs address)
-    (frames_at info before.inputs address) shown given)
+    (frames_at info before.inputs address) found given)
 gains_where_answered info before after address (Err e) inputs broken code given = tt
 
 -- a look-up of frames that is refused leaves it so too, unless memory ran out
-pub left_where_refused : {P A : Type 0} (info : P → ProviderInfos) (before after : ContextState P) (address : ℕ)
+pub early_where_refused : {P A : Type 0} (info : P → ProviderInfos) (before after : ContextState P) (address : ℕ)
     (answer : Result A Error)
     → after.inputs ≡ before.inputs
     → ButForMemory answer (after.failed ≡ failed_after_frames info before.inputs address before.failed)
@@ -112,18 +112,18 @@ pub left_where_refused : {P A : Type 0} (info : P → ProviderInfos) (before aft
     → IfErr answer (λ e. e ≡ OutOfMemory → after.code_failed ≡ before.code_failed)
     → GainsBroken info before.inputs.type_inputs before.failed after.failed
     → IfErr answer (λ e. IsLeftByFrames info before address (Lookup e) after)
-left_where_refused info before after address (Ok answer) inputs failed code unchanged broken = tt
-left_where_refused info before after address (Err e) inputs failed code unchanged broken = (
+early_where_refused info before after address (Ok answer) inputs failed code unchanged broken = tt
+early_where_refused info before after address (Err e) inputs failed code unchanged broken = (
   λ memory. gains_by_one info before after inputs broken (unchanged memory),
   λ other. same_context _ _ _ _ _ _ inputs (failed other) (code other),
 )
 
--- what a report of functions shows, it shows by its calls
-pub shown_by_calls : {P A E : Type 0} (info : P → ProviderInfos) (c after : ContextState P) (command : Command)
+-- what a report of functions leaves of a context, its calls leave of it
+pub state_by_calls : {P A E : Type 0} (info : P → ProviderInfos) (c after : ContextState P) (command : Command)
     (addresses : List ℕ)
     (ended : Result A E) → command ≡ Names → OnOk ended (after ≡ after_functions info c addresses)
     → OnOk ended (after ≡ after_calls info c (report_calls command addresses))
-shown_by_calls info c after command addresses (Ok done) is shown =
-    shown ∙ sym (after_function_calls info c addresses) ∙ ap
+state_by_calls info c after command addresses (Ok done) is state =
+    state ∙ sym (after_function_calls info c addresses) ∙ ap
     (λ wanted. after_calls info c (report_calls wanted addresses)) (sym is)
-shown_by_calls info c after command addresses (Err e) is shown = tt
+state_by_calls info c after command addresses (Err e) is state = tt

@@ -12,7 +12,7 @@ use Rattle.pdb_report_lib.specs.PrintedLines.{names_line, list_text}
 -- the text of an answer about an address, or the error in its place; no report shows sizes, counts or signatures
 abbrev pub answer_text : ℕ → AnswerView → Result (List ℕ) Error
 answer_text address (FunctionView function) = Ok (names_line address function)
-answer_text address (FramesView frames) = and_then frames (λ shown. Ok (frames_text address shown))
+answer_text address (FramesView frames) = and_then frames (λ found. Ok (frames_text address found))
 answer_text address (FunctionsView functions) = Ok (list_text functions)
 answer_text address other = Ok []
 
@@ -25,7 +25,7 @@ texts_of_answers (address ∷ addresses) (answer ∷ answers) =
 texts_of_answers addresses answers = Ok []
 
 -- the addresses that the answers of a report are about, as a command wants it: a list is about none, and has one answer
-abbrev pub addresses_asked : Command → List ℕ → List ℕ
-addresses_asked Names addresses = addresses
-addresses_asked Frames addresses = addresses
-addresses_asked wanted.List addresses = 0 ∷ []
+abbrev pub answer_addresses : Command → List ℕ → List ℕ
+answer_addresses Names addresses = addresses
+answer_addresses Frames addresses = addresses
+answer_addresses wanted.List addresses = 0 ∷ []

@@ -9,16 +9,16 @@ abbrev pub file_text : Option (List ℕ) → List ℕ
 file_text None = unknown
 file_text (Some file) = file
 
--- a line in a file, where it is known
-abbrev pub line_text : Option ℕ → List ℕ
-line_text None = unknown
-line_text (Some line) = decimal line
+-- the number of a line in a file, where it is known
+abbrev pub line_number_text : Option ℕ → List ℕ
+line_number_text None = unknown
+line_number_text (Some line) = decimal line
 
 -- the line of a frame: the function, the file and the line in it
 abbrev pub frame_line : FrameInfo → List ℕ
 frame_line f =
     codes "     " ++ (name_text f.function ++ (codes " at " ++ (file_text f.file
-    ++ (codes ":" ++ (line_text f.line ++ codes "\n")))))
+    ++ (codes ":" ++ (line_number_text f.line ++ codes "\n")))))
 
 -- the lines of frames, in order
 abbrev pub frame_lines : List FrameInfo → List ℕ

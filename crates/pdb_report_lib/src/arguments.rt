@@ -1,3 +1,5 @@
+//! What the words of a command line ask for: the records file, a command, and addresses.
+
 ghost use Rattle.std.specs.Prelude.{◌≡◌, ◌++◌, map, option_map, string_bytes, IfOk};
 ghost use Rattle.pdb_report_lib.specs.Arguments.{hex_digit, hex_after, without_prefix, digits_address};
 ghost use Rattle.pdb_report_lib.specs.Arguments.{address_of, addresses_of, command_of, asked_addresses, asked, request};
@@ -5,21 +7,21 @@ ghost use Rattle.pdb_report_lib.specs.Arguments.{address_of, addresses_of, comma
 use crate::reports::Command;
 use std::alloc::{AllocError, Global};
 
-/// The most digits that an address has.
+// The most digits that an address has.
 const ADDRESS_DIGITS: usize = 8;
 
 /// What a command line asks for.
 #[derive(Drop)]
 pub struct Request<'w> {
     /// The path of the records file.
-    pub records: &'w str,
+    pub path: &'w str,
     /// What to answer.
     pub command: Command,
     /// Of which addresses, in order. A list has none.
     pub addresses: Vec<u32>,
 }
 
-/// The value of a hexadecimal digit of either case.
+// The value of a hexadecimal digit of either case.
 fn digit_value(digit: u8) -> Option<u32>
     ensures { result ≡ hex_digit digit }
 {
@@ -31,7 +33,7 @@ fn digit_value(digit: u8) -> Option<u32>
     }
 }
 
-/// The number that hexadecimal digits spell, where it fits 32 bits.
+// The number that hexadecimal digits spell, where it fits 32 bits.
 fn hex_value(digits: &[u8]) -> Option<u32>
     ensures { result ≡ hex_after 0 digits.now }
 {
@@ -58,7 +60,7 @@ pub fn parse_address(word: &str) -> Option<u32>
     hex_value(digits)
 }
 
-/// The addresses that words spell, where each of them spells one.
+// The addresses that words spell, where each of them spells one.
 fn parse_addresses(alloc: Global, words: &[String]) -> Result<Option<Vec<u32>>, AllocError>
     ensures { IfOk result
         (λ found. option_map (λ v. v.items) found ≡ addresses_of (map string_bytes words.now)) }
@@ -73,7 +75,7 @@ fn parse_addresses(alloc: Global, words: &[String]) -> Result<Option<Vec<u32>>, 
     Ok(Some(addresses))
 }
 
-/// The command of a word.
+// The command of a word.
 fn parse_command(word: &str) -> Option<Command>
     ensures { result ≡ command_of word.now }
 {
@@ -88,7 +90,7 @@ fn parse_command(word: &str) -> Option<Command>
     }
 }
 
-/// The addresses that the words behind a command ask about. A list takes no words.
+// The addresses that the words behind a command ask about. A list takes no words.
 fn parse_words(
     alloc: Global,
     command: Command,
@@ -108,7 +110,7 @@ fn parse_words(
 pub fn parse(alloc: Global, words: &[String]) -> Result<Option<Request<'_>>, AllocError>
     ensures { IfOk result (λ r. option_map request r ≡ asked (map string_bytes words.now)) }
 {
-    let [_, records, command, words @ ..] = words else {
+    let [_, path, command, words @ ..] = words else {
         return Ok(None);
     };
     let Some(command) = parse_command(command.as_str()) else {
@@ -118,7 +120,7 @@ pub fn parse(alloc: Global, words: &[String]) -> Result<Option<Request<'_>>, All
         return Ok(None);
     };
     Ok(Some(Request {
-        records: records.as_str(),
+        path: path.as_str(),
         command,
         addresses,
     }))

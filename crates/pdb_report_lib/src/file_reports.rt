@@ -1,3 +1,5 @@
+//! Writes a report over the records of a file, or answers why there is none.
+
 ghost use Rattle.std.specs.Prelude.{OnOk, IfErr};
 ghost use Rattle.pdb_json.specs.ModuleFiles.{contents};
 ghost use Rattle.pdb_addr2line.specs.ContextData.{default_flags, context_of};
@@ -15,16 +17,16 @@ use pdb_addr2line::pdb::PDB;
 use pdb_json::{RecordFault, RecordsFile};
 use std::alloc::Global;
 
-/// Writes what a request asks for, over records whose streams were read.
+// Writes what a request asks for, over records whose streams were read.
 fn report_data<W: Sink>(
     alloc: Global,
     request: &Request<'_>,
     context_data: &ContextPdbData<'_>,
     sink: &mut W,
 ) -> Result<(), ReportFault>
-    ensures lines { OnOk result (TakesTexts request.now.command request.now.addresses.items
+    ensures text { OnOk result (TakesTexts request.now.command request.now.addresses.items
         (context_of default_flags context_data.now) (W.state sink.old) (W.state sink.new)) }
-    ensures fault { IfErr result (EndsOver request.now.command request.now.addresses.items
+    ensures refused { IfErr result (EndsOver request.now.command request.now.addresses.items
         (context_of default_flags context_data.now) (W.state sink.old) (W.state sink.new)) }
 {
     let mut context = context_data.make_context()?;
@@ -37,16 +39,16 @@ fn report_data<W: Sink>(
     )
 }
 
-/// Writes what a request asks for, over records.
+// Writes what a request asks for, over records.
 fn report_records<W: Sink>(
     alloc: Global,
     request: &Request<'_>,
     records: PDB,
     sink: &mut W,
 ) -> Result<(), ReportFault>
-    ensures lines { OnOk result (TakesTexts
+    ensures text { OnOk result (TakesTexts
         request.now.command request.now.addresses.items (opened records) (W.state sink.old) (W.state sink.new)) }
-    ensures fault { IfErr result (EndsOver
+    ensures refused { IfErr result (EndsOver
         request.now.command request.now.addresses.items (opened records) (W.state sink.old) (W.state sink.new)) }
 {
     let data = ContextPdbData::try_from_pdb(alloc, records)?;
@@ -67,7 +69,7 @@ pub fn report_read<'w, W: Sink>(
     read: Result<PDB, RecordFault>,
     sink: &mut W,
 ) -> Result<(), Stop<'w>>
-    ensures { Ends request.now.records.now request.now.command request.now.addresses.items read
+    ensures { Ends request.now.path.now request.now.command request.now.addresses.items read
         (W.state sink.old) (W.state sink.new) result }
 {
     match read {
@@ -75,7 +77,7 @@ pub fn report_read<'w, W: Sink>(
             report_records(alloc, request, records, sink)?;
             Ok(())
         }
-        Err(fault) => Err(Stop::Records(request.records, fault)),
+        Err(fault) => Err(Stop::Records(request.path, fault)),
     }
 }
 
@@ -91,7 +93,7 @@ pub fn report_file<'w, W: Sink>(
     files: &[Vec<u8>],
     sink: &mut W,
 ) -> Result<(), Stop<'w>>
-    ensures { EndsOverFile request.now.records.now request.now.command request.now.addresses.items
+    ensures { EndsOverFile request.now.path.now request.now.command request.now.addresses.items
         (records_of (contents files.now) (view file.value))
         (W.state sink.old) (W.state sink.new) result }
 {

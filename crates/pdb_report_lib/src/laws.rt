@@ -3,7 +3,7 @@
 ghost use Rattle.std.specs.Prelude.{◌≡◌, ℕ, List};
 ghost use Rattle.pdb_addr2line.specs.Calls.{answers_to};
 ghost use Rattle.pdb_addr2line.specs.ContextInputs.{ContextState};
-ghost use Rattle.pdb_report_lib.specs.AnswerTexts.{addresses_asked, texts_of_answers};
+ghost use Rattle.pdb_report_lib.specs.AnswerTexts.{answer_addresses, texts_of_answers};
 ghost use Rattle.pdb_report_lib.specs.Reports.{report_calls, report_text};
 ghost use Rattle.pdb_report_lib.specs.declared.reports.Command.{Command};
 
@@ -15,6 +15,6 @@ use pdb_addr2line::ModuleProvider;
 pub fn report_text_is_that_of_the_answers<P: ModuleProvider>()
     ensures { (c : ContextState P) (command : Command) (addresses : List ℕ)
         → report_text P.info c.inputs c.code_failed command addresses
-        ≡ texts_of_answers (addresses_asked command addresses)
+        ≡ texts_of_answers (answer_addresses command addresses)
         (answers_to P.info c (report_calls command addresses)) }
 {}

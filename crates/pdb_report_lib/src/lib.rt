@@ -1,5 +1,4 @@
-//! What the program `pdb_report` writes: of each address that it is asked about a line with the function
-//! there, or a line for each frame; or a line for each function of the program.
+//! What the program `pdb_report` writes: the functions or the frames over addresses, or all functions.
 #![tactic(auto)]
 
 mod arguments;

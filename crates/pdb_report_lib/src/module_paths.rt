@@ -1,9 +1,11 @@
+//! The paths of module files: a name leads on from the folder of the records file.
+
 ghost use Rattle.std.specs.Prelude.{◌≡◌, IfOk, string_bytes};
 ghost use Rattle.pdb_report_lib.specs.ModulePaths.{folder_of, module_path};
 
 use std::alloc::{AllocError, Global};
 
-/// The part of a path up to and including its last slash.
+// The part of a path up to and including its last slash.
 fn folder(alloc: Global, path: &str) -> Result<String, AllocError>
     ensures { IfOk result (λ folder. string_bytes folder ≡ folder_of path.now) }
 {
@@ -13,15 +15,15 @@ fn folder(alloc: Global, path: &str) -> Result<String, AllocError>
     }
 }
 
-/// The path of the module file that a records file names: the name itself where it begins with a slash, and
-/// else that of a file in the folder of the records file.
-pub(crate) fn module_path(alloc: Global, records: &str, name: &str) -> Result<String, AllocError>
-    ensures { IfOk result (λ path. string_bytes path ≡ module_path records.now name.now) }
+// The path of the module file that a records file names: the name itself where it begins with a slash, and
+// else that of a file in the folder of the records file.
+pub(crate) fn module_path(alloc: Global, records_path: &str, name: &str) -> Result<String, AllocError>
+    ensures { IfOk result (λ path. string_bytes path ≡ module_path records_path.now name.now) }
 {
     match name.as_bytes() {
         [b'/', ..] => String::from_str(alloc, name),
         _ => {
-            let folder = folder(alloc, records)?;
+            let folder = folder(alloc, records_path)?;
             format!(in alloc; "{folder}{name}")
         }
     }

@@ -1,16 +1,18 @@
+//! The lines that are written of the frames over an address.
+
 ghost use Rattle.std.specs.Prelude.{◌≡◌, ◌++◌, length, string_bytes, IfOk, OnOk};
 ghost use Rattle.std.specs.Prelude.{option_map};
 ghost use Rattle.std.specs.Cow.{cow_str_bytes};
-ghost use Rattle.pdb_report_lib.specs.PrintedFrames.{file_text, line_text, frame_line};
+ghost use Rattle.pdb_report_lib.specs.PrintedFrames.{file_text, line_number_text, frame_line};
 ghost use Rattle.pdb_report_lib.specs.PrintedFrames.{frame_lines, frames_heading, frames_text};
 
-use crate::printed_lines::{UNKNOWN, name_of};
+use crate::printed_lines::{UNKNOWN, name_text};
 use pdb_addr2line::{Frame, FunctionFrames};
 use std::alloc::{AllocError, Global};
 use std::borrow::CowStr;
 
-/// The name of a file, where it is known.
-fn file_of<'f>(file: &'f Option<CowStr<'_>>) -> &'f str
+// The name of a file, where it is known.
+fn file_text<'f>(file: &'f Option<CowStr<'_>>) -> &'f str
     ensures { result.now ≡ file_text (option_map cow_str_bytes file.now) }
 {
     match file {
@@ -19,9 +21,9 @@ fn file_of<'f>(file: &'f Option<CowStr<'_>>) -> &'f str
     }
 }
 
-/// A line in a file, where it is known.
-fn line_of(alloc: Global, line: Option<u32>) -> Result<String, AllocError>
-    ensures { IfOk result (λ s. string_bytes s ≡ line_text line) }
+// The number of a line in a file, where it is known.
+fn line_number_text(alloc: Global, line: Option<u32>) -> Result<String, AllocError>
+    ensures { IfOk result (λ s. string_bytes s ≡ line_number_text line) }
 {
     match line {
         Some(line) => format!(in alloc; "{line}"),
@@ -29,17 +31,17 @@ fn line_of(alloc: Global, line: Option<u32>) -> Result<String, AllocError>
     }
 }
 
-/// Appends the line of a frame.
+// Appends the line of a frame.
 fn write_frame(text: &mut String, frame: &Frame<'_>) -> Result<(), AllocError>
     ensures { OnOk result (string_bytes text.new ≡ string_bytes text.old ++ frame_line frame.now) }
 {
-    let name = name_of(&frame.function);
-    let file = file_of(&frame.file);
-    let line = line_of(*text.allocator(), frame.line)?;
+    let name = name_text(&frame.function);
+    let file = file_text(&frame.file);
+    let line = line_number_text(*text.allocator(), frame.line)?;
     write!(text, "     {name} at {file}:{line}\n")
 }
 
-/// Appends the lines of frames, in order.
+// Appends the lines of frames, in order.
 fn write_frames(text: &mut String, frames: &[Frame<'_>]) -> Result<(), AllocError>
     ensures { OnOk result (string_bytes text.new ≡ string_bytes text.old ++ frame_lines frames.now) }
 {
@@ -49,7 +51,7 @@ fn write_frames(text: &mut String, frames: &[Frame<'_>]) -> Result<(), AllocErro
     Ok(())
 }
 
-/// The lines of an address with frames.
+// The lines of an address with frames.
 fn found_text(alloc: Global, address: u32, found: &FunctionFrames<'_>) -> Result<String, AllocError>
     ensures { IfOk result (λ s. string_bytes s
         ≡ frames_heading address (length found.now.frames) ++ frame_lines found.now.frames) }
@@ -60,7 +62,7 @@ fn found_text(alloc: Global, address: u32, found: &FunctionFrames<'_>) -> Result
     Ok(text)
 }
 
-/// The lines of an address: the frames there, or that there are none.
+// The lines of an address: the frames there, or that there are none.
 pub(crate) fn frames_text(
     alloc: Global,
     address: u32,

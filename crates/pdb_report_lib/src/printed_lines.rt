@@ -1,3 +1,5 @@
+//! The line that is written of a function, over an address or in a list.
+
 ghost use Rattle.std.specs.Prelude.{◌≡◌, Some, option_map, string_bytes, IfOk};
 ghost use Rattle.pdb_function_info.specs.Function.{function_view};
 ghost use Rattle.pdb_report_lib.specs.PrintedLines.{name_text, end_text, names_line, list_line};
@@ -5,14 +7,14 @@ ghost use Rattle.pdb_report_lib.specs.PrintedLines.{name_text, end_text, names_l
 use pdb_addr2line::Function;
 use std::alloc::{AllocError, Global};
 
-/// What stands for a name that isn't known.
+// What stands for a name that isn't known.
 const UNKNOWN_NAME: &str = "<unknown>";
 
-/// What stands for anything else that isn't known.
+// What stands for anything else that isn't known.
 pub(crate) const UNKNOWN: &str = "??";
 
-/// A name, where it is known.
-pub(crate) fn name_of(name: &Option<String>) -> &str
+// A name, where it is known.
+pub(crate) fn name_text(name: &Option<String>) -> &str
     ensures { result.now ≡ name_text (option_map string_bytes name.now) }
 {
     match name {
@@ -21,8 +23,8 @@ pub(crate) fn name_of(name: &Option<String>) -> &str
     }
 }
 
-/// An end, where it is known.
-fn end_of(alloc: Global, end: Option<u32>) -> Result<String, AllocError>
+// An end, where it is known.
+fn end_text(alloc: Global, end: Option<u32>) -> Result<String, AllocError>
     ensures { IfOk result (λ s. string_bytes s ≡ end_text end) }
 {
     match end {
@@ -31,28 +33,28 @@ fn end_of(alloc: Global, end: Option<u32>) -> Result<String, AllocError>
     }
 }
 
-/// The line of an address with a function.
+// The line of an address with a function.
 fn function_line(alloc: Global, address: u32, function: &Function) -> Result<String, AllocError>
     ensures { IfOk result (λ s. string_bytes s ≡ names_line address (Some (function_view function.now))) }
 {
-    let name = name_of(&function.name);
+    let name = name_text(&function.name);
     let start = function.start_rva;
-    let end = end_of(alloc, function.end_rva)?;
+    let end = end_text(alloc, function.end_rva)?;
     format!(in alloc; "0x{address:x} - {name} 0x{start:x}..{end}\n")
 }
 
-/// The line of a function in a list.
+// The line of a function in a list.
 pub(crate) fn list_line(alloc: Global, function: &Function) -> Result<String, AllocError>
     ensures { IfOk result (λ s. string_bytes s ≡ list_line (function_view function.now)) }
 {
-    let name = name_of(&function.name);
+    let name = name_text(&function.name);
     let start = function.start_rva;
-    let end = end_of(alloc, function.end_rva)?;
+    let end = end_text(alloc, function.end_rva)?;
     format!(in alloc; "0x{start:x}..{end} {name}\n")
 }
 
-/// The line of an address: the function there, or that there is none.
-pub(crate) fn line_of(
+// The line of an address: the function there, or that there is none.
+pub(crate) fn names_line(
     alloc: Global,
     address: u32,
     function: &Option<Function>,

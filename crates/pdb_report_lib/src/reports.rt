@@ -1,3 +1,5 @@
+//! Writes a report: looks up each address, and writes its text whole before the next is looked up.
+
 ghost use Rattle.std.specs.Prelude.{◌≡◌, [], ◌∷◌, map, option_map, Ok, OnOk, OnErr, IfErr, MatchResult};
 ghost use Rattle.pdb_types.specs.declared.error.Error.TheVariants.{OutOfMemory};
 ghost use Rattle.pdb_report_lib.specs.declared.reports.ReportFault.TheVariants.{Lookup, Write};
@@ -14,7 +16,7 @@ ghost use Rattle.pdb_report_lib.specs.Reports.{TakesText, EndsAtOnce, EndsAmidTe
 ghost use Rattle.pdb_report_lib.specs.Reports.{report_calls, IsLeft, IsLeftAmid, IsLeftByFrames};
 
 use crate::printed_frames::frames_text;
-use crate::printed_lines::{line_of, list_line};
+use crate::printed_lines::{list_line, names_line};
 use crate::sinks::{Sink, SinkFault};
 use pdb_addr2line::{Context, Error, Function, FunctionFrames, ModuleProvider};
 use std::alloc::{AllocError, Global};
@@ -64,7 +66,7 @@ impl From<SinkFault> for ReportFault {
     }
 }
 
-/// The function over an address. What the context met broken on the way is broken.
+// The function over an address. What the context met broken on the way is broken.
 fn look_up<P: ModuleProvider>(
     context: &mut Context<'_, P>,
     address: u32,
@@ -72,26 +74,26 @@ fn look_up<P: ModuleProvider>(
     ensures answer { MatchResult result
         (λ found. option_map function_view found ≡ function_at P.info context.old.inputs address)
         (λ e. e ≡ OutOfMemory) }
-    ensures shown { OnOk result (context.new ≡ after_function P.info context.old address) }
+    ensures state { OnOk result (context.new ≡ after_function P.info context.old address) }
     ensures gains { OnlyGainsBroken P.info context.old context.new }
 {
     context.find_function(address)
 }
 
-/// The frames over an address. What the context met broken on the way is broken.
+// The frames over an address. What the context met broken on the way is broken.
 fn look_up_frames<'a, P: ModuleProvider>(
     context: &mut Context<'a, P>,
     address: u32,
 ) -> Result<Option<FunctionFrames<'a>>, Error>
     ensures answer { Gives (λ f. f) result (frames_answered P.info context.old address) }
-    ensures shown { OnOk result (context.new ≡ after_frames P.info context.old address) }
+    ensures state { OnOk result (context.new ≡ after_frames P.info context.old address) }
     ensures gains { OnOk result (OnlyGainsBroken P.info context.old context.new) }
-    ensures left { IfErr result (λ e. IsLeftByFrames P.info context.old address (Lookup e) context.new) }
+    ensures early { IfErr result (λ e. IsLeftByFrames P.info context.old address (Lookup e) context.new) }
 {
     context.find_frames(address)
 }
 
-/// Writes the line of one address, after its look-up.
+// Writes the line of one address, after its look-up.
 fn put_function<P: ModuleProvider, W: Sink>(
     alloc: Global,
     context: &mut Context<'_, P>,
@@ -99,20 +101,20 @@ fn put_function<P: ModuleProvider, W: Sink>(
     sink: &mut W,
 ) -> Result<(), ReportFault>
     ensures inputs { context.new.inputs ≡ context.old.inputs }
-    ensures shown { OnOk result (context.new ≡ after_function P.info context.old address) }
+    ensures state { OnOk result (context.new ≡ after_function P.info context.old address) }
     ensures gains { OnlyGainsBroken P.info context.old context.new }
     ensures text { OnOk result
         (TakesText (function_text P.info context.old.inputs address) (W.state sink.old) (W.state sink.new)) }
-    ensures fault { IfErr result
+    ensures refused { IfErr result
         (EndsAtOnce (function_text P.info context.old.inputs address) (W.state sink.old) (W.state sink.new)) }
 {
     let function = look_up(context, address)?;
-    let line = line_of(alloc, address, &function)?;
+    let line = names_line(alloc, address, &function)?;
     sink.put(line.as_bytes())?;
     Ok(())
 }
 
-/// Writes the lines of the frames of one address, after its look-up.
+// Writes the lines of the frames of one address, after its look-up.
 fn put_frames<P: ModuleProvider, W: Sink>(
     alloc: Global,
     context: &mut Context<'_, P>,
@@ -121,12 +123,12 @@ fn put_frames<P: ModuleProvider, W: Sink>(
 ) -> Result<(), ReportFault>
     ensures inputs { context.new.inputs ≡ context.old.inputs }
     ensures code_failed { OnOk result (context.new.code_failed ≡ context.old.code_failed) }
-    ensures shown { OnOk result (context.new ≡ after_frames P.info context.old address) }
-    ensures left { IfErr result (λ fault. IsLeftByFrames P.info context.old address fault context.new) }
+    ensures state { OnOk result (context.new ≡ after_frames P.info context.old address) }
+    ensures early { IfErr result (λ fault. IsLeftByFrames P.info context.old address fault context.new) }
     ensures text { OnOk result
         (let text = stack_text P.info context.old.inputs context.old.code_failed address in
         TakesText text (W.state sink.old) (W.state sink.new)) }
-    ensures fault { IfErr result
+    ensures refused { IfErr result
         (let text = stack_text P.info context.old.inputs context.old.code_failed address in
         EndsAtOnce text (W.state sink.old) (W.state sink.new)) }
 {
@@ -136,7 +138,7 @@ fn put_frames<P: ModuleProvider, W: Sink>(
     Ok(())
 }
 
-/// Writes the line of the function over a start address, after its look-up: nothing where there is none.
+// Writes the line of the function over a start address, after its look-up: nothing where there is none.
 fn put_listed<P: ModuleProvider, W: Sink>(
     alloc: Global,
     context: &mut Context<'_, P>,
@@ -144,11 +146,11 @@ fn put_listed<P: ModuleProvider, W: Sink>(
     sink: &mut W,
 ) -> Result<(), ReportFault>
     ensures inputs { context.new.inputs ≡ context.old.inputs }
-    ensures shown { OnOk result (context.new ≡ after_function P.info context.old start) }
+    ensures state { OnOk result (context.new ≡ after_function P.info context.old start) }
     ensures gains { OnlyGainsBroken P.info context.old context.new }
     ensures text { OnOk result (TakesText
         (Ok (list_text (functions_at P.info context.old.inputs (start ∷ [])))) (W.state sink.old) (W.state sink.new)) }
-    ensures fault { IfErr result (EndsListEarly [] (W.state sink.old) (W.state sink.new)) }
+    ensures refused { IfErr result (EndsListEarly [] (W.state sink.old) (W.state sink.new)) }
 {
     let Some(function) = look_up(context, start)? else {
         return Ok(());
@@ -158,8 +160,8 @@ fn put_listed<P: ModuleProvider, W: Sink>(
     Ok(())
 }
 
-/// Writes the lines of the functions over addresses, in order. The line of an address is written whole after
-/// its look-up.
+// Writes the lines of the functions over addresses, in order. The line of an address is written whole after
+// its look-up.
 fn report_names<P: ModuleProvider, W: Sink>(
     alloc: Global,
     context: &mut Context<'_, P>,
@@ -167,11 +169,11 @@ fn report_names<P: ModuleProvider, W: Sink>(
     sink: &mut W,
 ) -> Result<(), ReportFault>
     ensures inputs { context.new.inputs ≡ context.old.inputs }
-    ensures shown { OnOk result (context.new ≡ after_functions P.info context.old addresses.now) }
-    ensures cut_short { OnErr result (IsCutShort P.info context.old context.new addresses.now) }
+    ensures state { OnOk result (context.new ≡ after_functions P.info context.old addresses.now) }
+    ensures early { OnErr result (IsCutShort P.info context.old context.new addresses.now) }
     ensures text { OnOk result (TakesText (addresses_text (function_text P.info context.old.inputs) addresses.now)
         (W.state sink.old) (W.state sink.new)) }
-    ensures fault { IfErr result (EndsAmidTexts
+    ensures refused { IfErr result (EndsAmidTexts
         (function_text P.info context.old.inputs) addresses.now (W.state sink.old) (W.state sink.new)) }
 {
     for address in addresses {
@@ -180,8 +182,8 @@ fn report_names<P: ModuleProvider, W: Sink>(
     Ok(())
 }
 
-/// Writes the lines of the frames over addresses, in order. The lines of an address are written whole after
-/// its look-up.
+// Writes the lines of the frames over addresses, in order. The lines of an address are written whole after
+// its look-up.
 fn report_frames<P: ModuleProvider, W: Sink>(
     alloc: Global,
     context: &mut Context<'_, P>,
@@ -189,13 +191,13 @@ fn report_frames<P: ModuleProvider, W: Sink>(
     sink: &mut W,
 ) -> Result<(), ReportFault>
     ensures inputs { context.new.inputs ≡ context.old.inputs }
-    ensures shown { OnOk result
+    ensures state { OnOk result
         (context.new ≡ after_calls P.info context.old (map FindFrames addresses.now)) }
-    ensures left { IfErr result (IsLeftAmid P.info context.old context.new addresses.now) }
+    ensures early { IfErr result (IsLeftAmid P.info context.old context.new addresses.now) }
     ensures text { OnOk result
         (let text_of = stack_text P.info context.old.inputs context.old.code_failed in
         TakesText (addresses_text text_of addresses.now) (W.state sink.old) (W.state sink.new)) }
-    ensures fault { IfErr result
+    ensures refused { IfErr result
         (let text_of = stack_text P.info context.old.inputs context.old.code_failed in
         EndsAmidTexts text_of addresses.now (W.state sink.old) (W.state sink.new)) }
 {
@@ -205,21 +207,21 @@ fn report_frames<P: ModuleProvider, W: Sink>(
     Ok(())
 }
 
-/// Writes the lines of all functions, by where they start. The line of a function is written whole after its
-/// look-up.
+// Writes the lines of all functions, by where they start. The line of a function is written whole after its
+// look-up.
 fn report_list<P: ModuleProvider, W: Sink>(
     alloc: Global,
     context: &mut Context<'_, P>,
     sink: &mut W,
 ) -> Result<(), ReportFault>
     ensures inputs { context.new.inputs ≡ context.old.inputs }
-    ensures shown { OnOk result (context.new
+    ensures state { OnOk result (context.new
         ≡ after_functions P.info context.old (start_addresses P.info context.old.inputs)) }
-    ensures cut_short { OnErr result
+    ensures early { OnErr result
         (IsCutShort P.info context.old context.new (start_addresses P.info context.old.inputs)) }
     ensures text { OnOk result (TakesText
         (Ok (list_text (functions_of P.info context.old.inputs))) (W.state sink.old) (W.state sink.new)) }
-    ensures fault { IfErr result
+    ensures refused { IfErr result
         (EndsListEarly (functions_of P.info context.old.inputs) (W.state sink.old) (W.state sink.new)) }
 {
     let starts = context.start_addresses()?;
@@ -245,13 +247,13 @@ pub fn report<P: ModuleProvider, W: Sink>(
 ) -> Result<(), ReportFault>
     ensures inputs { context.new.inputs ≡ context.old.inputs }
     // What failed afterwards is what fails by the calls that the report stands for.
-    ensures shown { OnOk result
+    ensures state { OnOk result
         (context.new ≡ after_calls P.info context.old (report_calls command addresses.now)) }
-    ensures left { IfErr result (IsLeft P.info context.old context.new command addresses.now) }
+    ensures early { IfErr result (IsLeft P.info context.old context.new command addresses.now) }
     ensures text { OnOk result
         (let text = report_text P.info context.old.inputs context.old.code_failed command addresses.now in
         TakesText text (W.state sink.old) (W.state sink.new)) }
-    ensures fault { IfErr result (EndsEarly P.info context.old.inputs context.old.code_failed
+    ensures refused { IfErr result (EndsEarly P.info context.old.inputs context.old.code_failed
         command addresses.now (W.state sink.old) (W.state sink.new)) }
 {
     match command {

@@ -1,3 +1,5 @@
+//! Where the text of a report goes: a sink takes each piece whole, or refuses it.
+
 ghost use Rattle.std.specs.Prelude.{◌≡◌, true, false, OnOk, OnErr, IsOk, IsErr, MatchResult};
 ghost use Rattle.std.specs.Io.KnownBytes.{Keeps};
 ghost use Rattle.pdb_report_lib.specs.Sinks.{SinkState, Takes};
@@ -43,7 +45,7 @@ impl<W: io::Write> Out<W> {
 
     /// Hands on what the writer holds back.
     pub fn flush(&mut self) -> Result<(), SinkFault>
-        ensures same { Keeps (⟦<Out<W> as Sink>⟧.state self.old).held (⟦<Out<W> as Sink>⟧.state self.new).held }
+        ensures held { Keeps (⟦<Out<W> as Sink>⟧.state self.old).held (⟦<Out<W> as Sink>⟧.state self.new).held }
         ensures unchanged { OnOk result
             ((⟦<Out<W> as Sink>⟧.state self.new).failed ≡ (⟦<Out<W> as Sink>⟧.state self.old).failed) }
         ensures refused { OnErr result ((⟦<Out<W> as Sink>⟧.state self.new).failed ≡ true) }
@@ -52,7 +54,7 @@ impl<W: io::Write> Out<W> {
         self.note(flushed)
     }
 
-    /// Remembers that the writer refused, if it did.
+    // Remembers that the writer refused, if it did.
     fn note(&mut self, outcome: io::Result<()>) -> Result<(), SinkFault>
         ensures { MatchResult result
             (λ _. IsOk outcome × (self.new ≡ self.old))

@@ -1,3 +1,5 @@
+//! Why the program ended early, as the line that it prints, and its exit status.
+
 ghost use Rattle.std.specs.Prelude.{◌≡◌};
 ghost use Rattle.pdb_report_lib.specs.Stops.{status_of, stop_of};
 
@@ -5,7 +7,7 @@ use crate::reports::ReportFault;
 use pdb_addr2line::Error;
 use pdb_json::RecordFault;
 
-/// Why a run of the program ended early. Its text is the line that the program prints.
+/// Why the program ended early. Its text is the line that the program prints.
 #[derive(Debug, Drop, thiserror::Error)]
 pub enum Stop<'w> {
     /// The records were refused, or there was no memory.

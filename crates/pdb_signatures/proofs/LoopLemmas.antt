@@ -21,7 +21,7 @@ use Rattle.pdb_documents.specs.Rules.{rule}
 use Rattle.pdb_documents.specs.Unfolding.{Unfolds, Runs, done, later, seq, buffered, catch}
 use Rattle.pdb_documents.specs.Progress.{Stage, beginning, with_step, Opens, open_in, task_plan, stage_run, ended_run}
 use Rattle.pdb_documents.specs.Progress.{IsPassedOver, Ended}
-use Rattle.pdb_signatures.specs.PendingPlans.{PendingPlan, Ends, Counts, steps_left, Goes, frames, Advances, Begins}
+use Rattle.pdb_signatures.specs.PendingPlans.{PendingPlan, Ends, Counts, steps_left, Goes, plans, Advances, Begins}
 use Rattle.pdb_signatures.specs.PendingPlans.{Stands}
 use Rattle.pdb_documents.proofs.RuleLemmas.{IsBelow}
 use Rattle.pdb_signatures.proofs.TurnLemmas.{same_run}
@@ -77,18 +77,18 @@ left-falls w below k k' c c' goes = let a = goes.falls (plan-steps w below) (pla
 -- what was next has ended or was passed over
 step-ended : (w : PrintInputs) (step : Pending) (rest : List Pending) (c c' : Run)
     → ((task : tasks.Task) → step ≡ Print task → is_some c.fault ≡ true) → c' ≡ ended_run w.flags step c
-    → Goes w 1 (frames w (step ∷ rest)) c (frames w rest) c'
+    → Goes w 1 (plans w (step ∷ rest)) c (plans w rest) c'
 step-ended w (Print task) rest c c' over is =
-    subst (λ (r : Run). Goes w 1 (frames w (Print task ∷ rest)) c (frames w rest) r) (sym is)
-    (goes_over w (task_plan w (open_in rest) task) (frames w rest) c (over task refl))
+    subst (λ (r : Run). Goes w 1 (plans w (Print task ∷ rest)) c (plans w rest) r) (sym is)
+    (goes_over w (task_plan w (open_in rest) task) (plans w rest) c (over task refl))
 step-ended w (Close index) rest c c' over is =
-    subst (λ (r : Run). Goes w 1 (frames w (Close index ∷ rest)) c (frames w rest) r) (sym is)
-    (goes_closing w (frames w rest) c)
+    subst (λ (r : Run). Goes w 1 (plans w (Close index ∷ rest)) c (plans w rest) r) (sym is)
+    (goes_closing w (plans w rest) c)
 step-ended w (EndId outer index) rest c c' over is =
-    subst (λ (r : Run). Goes w 1 (frames w (EndId outer index ∷ rest)) c (frames w rest) r) (sym is)
-    (goes_closing w (frames w rest) c)
-step-ended w EndCatch rest c c' over is = goes_caught w (frames w rest) c c' is
-step-ended w (EndBuffer mark attributes) rest c c' over is = goes_held_back w mark _ _ (frames w rest) c c' is
+    subst (λ (r : Run). Goes w 1 (plans w (EndId outer index ∷ rest)) c (plans w rest) r) (sym is)
+    (goes_closing w (plans w rest) c)
+step-ended w EndCatch rest c c' over is = goes_caught w (plans w rest) c c' is
+step-ended w (EndBuffer mark attributes) rest c c' over is = goes_held_back w mark _ _ (plans w rest) c c' is
 
 -- what is passed over is passed over for a failure
 over-failed : (step : Pending) (s : Stage) → IsPassedOver step s → (task : tasks.Task) → step ≡ Print task
@@ -100,12 +100,12 @@ over-failed EndCatch s over task is = cc
 over-failed (EndBuffer mark attributes) s over task is = cc
 
 -- a stage whose next step has ended or was passed over
-pub ended-goes : (w : PrintInputs) (chosen : TypeFormatterFlags) (old new : Stage) (f : Parts) → w.flags ≡ chosen
-    → Ended chosen old new → Goes w 1 (frames w old.steps) (stage_run old f) (frames w new.steps) (stage_run new f)
-ended-goes w chosen old new f flags ended =
+pub ended-goes : (w : PrintInputs) (flags : TypeFormatterFlags) (old new : Stage) (f : Parts) → w.flags ≡ flags
+    → Ended flags old new → Goes w 1 (plans w old.steps) (stage_run old f) (plans w new.steps) (stage_run new f)
+ended-goes w flags old new f same_flags ended =
     let is : stage_run new f ≡ ended_run w.flags ended.step (stage_run old f) =
-    ended.run f ∙ ap (λ (t : TypeFormatterFlags). ended_run t ended.step (stage_run old f)) (sym flags) in
-    subst (λ (xs : List Pending). Goes w 1 (frames w xs) (stage_run old f) (frames w new.steps) (stage_run new f))
+    ended.run f ∙ ap (λ (t : TypeFormatterFlags). ended_run t ended.step (stage_run old f)) (sym same_flags) in
+    subst (λ (xs : List Pending). Goes w 1 (plans w xs) (stage_run old f) (plans w new.steps) (stage_run new f))
     (sym ended.taken)
     (step-ended w ended.step new.steps (stage_run old f) (stage_run new f)
     (over-failed ended.step old ended.passed_over) is)
@@ -113,16 +113,16 @@ ended-goes w chosen old new f flags ended =
 -- a stage whose next step was printed
 pub printed-goes : (w : PrintInputs) (task : tasks.Task) (old mid new : Stage) (f f' : Parts)
     → old ≡ with_step (Print task) mid → Advances w (task_plan w (open_in mid.steps) task) 1 mid f new f'
-    → Goes w 1 (frames w old.steps) (stage_run old f) (frames w new.steps) (stage_run new f')
+    → Goes w 1 (plans w old.steps) (stage_run old f) (plans w new.steps) (stage_run new f')
 printed-goes w task old mid new f f' taken advances =
-    subst (λ (s : Stage). Goes w 1 (frames w s.steps) (stage_run s f) (frames w new.steps) (stage_run new f'))
+    subst (λ (s : Stage). Goes w 1 (plans w s.steps) (stage_run s f) (plans w new.steps) (stage_run new f'))
     (sym taken) advances
 
 -- at the end nothing is left
 pub ends-here : (w : PrintInputs) (k : List PendingPlan) (c : Run) (s : Stage) (f : Parts)
-    → Goes w 0 k c (frames w s.steps) (stage_run s f) → s.steps ≡ [] → Ends w k c (stage_run s f)
+    → Goes w 0 k c (plans w s.steps) (stage_run s f) → s.steps ≡ [] → Ends w k c (stage_run s f)
 ends-here w k c s f goes empty =
-    goes.ends (stage_run s f) (subst (λ (xs : List Pending). Ends w (frames w xs) (stage_run s f) (stage_run s f))
+    goes.ends (stage_run s f) (subst (λ (xs : List Pending). Ends w (plans w xs) (stage_run s f) (stage_run s f))
     (sym empty) refl)
 
 -- each of these is broken, and each of those
@@ -148,7 +148,7 @@ adds-nothing = record { added = []; broken = tt; is = refl }
 done-is : {w : PrintInputs} {d d' : Document} → Unfolds w (Done d) d' → d' ≡ d
 done-is done = refl
 
--- what a run does behind nothing is what it does
+-- what a run does after nothing is what it does
 from-beginning : (f : Parts) (d : Document) → then_by None (stage_run beginning f) (run d) ≡ run d f
 from-beginning f d = refl
 
@@ -166,8 +166,8 @@ begins_stands w name index type old mid new f f' some read is true opens same st
     subst (λ (s : Stage). Stands w 0 (signature_by_type w name (open_in s.steps) type) s new) entered stands in
     let run_here : stage_run new f ≡ stage_run (with_step (Close index) beginning) f =
     same_run (with_step (Close index) beginning) new f here.text here.failure in
-    let from : Ends w (frames w new.steps) (stage_run (with_step (Close index) beginning) f) end =
-    subst (λ (r : Run). Ends w (frames w new.steps) r end) (ap (λ (g : Parts). stage_run new g) same ∙ run_here) ends in
+    let from : Ends w (plans w new.steps) (stage_run (with_step (Close index) beginning) f) end =
+    subst (λ (r : Run). Ends w (plans w new.steps) r end) (ap (λ (g : Parts). stage_run new g) same ∙ run_here) ends in
     (here.goes (stage_run (with_step (Close index) beginning) f)).ends end from d
     (subst (λ (p : Plan). Unfolds w p d) plan unfolds)
 begins_stands w name index type old mid new f f' some read is false opens same stands =
@@ -187,14 +187,14 @@ begins_refused w name index read_error_view old new f f' some read_error is step
     let whole : stage_run new f' ≡ run (refusal read_error_view) f =
     ran ∙ ap (λ (s : Stage). then_by None (stage_run s f) (run (refusal read_error_view))) is in
     let done : stage_run new f' ≡ end =
-    subst (λ (xs : List Pending). Ends w (frames w xs) (stage_run new f') end) none ends in
+    subst (λ (xs : List Pending). Ends w (plans w xs) (stage_run new f') end) none ends in
     let same : d ≡ refusal read_error_view = done-is (subst (λ (p : Plan). Unfolds w p d) plan unfolds) in
     ap (λ (x : Document). run x f) same ∙ (sym whole ∙ done)
 
 -- where a task is all that is to be done, printing comes to what its plan does
 pub begins_task : (w : PrintInputs) (task : tasks.Task) (old new : Stage) (f : Parts) (end : Run) → old ≡ beginning
-    → new ≡ with_step (Print task) old → Ends w (frames w new.steps) (stage_run new f) end
+    → new ≡ with_step (Print task) old → Ends w (plans w new.steps) (stage_run new f) end
     → Runs w (task_plan w [] task) f end
 begins_task w task old new f end is first ends =
     let all : new ≡ with_step (Print task) beginning = first ∙ ap (with_step (Print task)) is in
-    subst (λ (s : Stage). Ends w (frames w s.steps) (stage_run s f) end) all ends
+    subst (λ (s : Stage). Ends w (plans w s.steps) (stage_run s f) end) all ends

@@ -13,10 +13,10 @@ use Rattle.pdb_documents.specs.Documents as document
 use Rattle.pdb_documents.specs.PrintInputs.{PrintInputs}
 use Rattle.pdb_documents.specs.Plans.{Plan, Seq, Buffered, ◌▸◌, written}
 use Rattle.pdb_documents.specs.Progress.{Stage, with_step, open_in, task_plan}
-use Rattle.pdb_signatures.specs.PendingPlans.{PendingPlan, Then, Goes, frames, Stands, StandsHere}
+use Rattle.pdb_signatures.specs.PendingPlans.{PendingPlan, Then, Goes, plans, Stands, StandsHere}
 use Rattle.pdb_signatures.proofs.GoesLemmas.{goes_on, goes_then, goes_fewer, goes_seq, goes_done, goes_buffered}
 
--- what goes on whatever is printed before it, goes on behind a plan
+-- what goes on whatever is printed before it, goes on after a plan
 pub goes_under : (w : PrintInputs) (n : ℕ) (p : Plan) (k k' : List PendingPlan)
     → ((before : Run) → Goes w n k before k' before) → (c : Run) → Goes w n (Then p ∷ k) c (Then p ∷ k') c
 goes_under w n p k k' goes c = record {
@@ -44,10 +44,10 @@ stands_before w n task q old mid new stands is =
     let p' : Plan = task_plan w (open_in mid.steps) task in
     let same : p' ≡ p = ap (λ (inside : List ℕ). task_plan w inside task) stands.opened in
     subst (λ (s : Stage). Stands w (1 + n) (p ▸ q) old s) (sym is) (record {
-      goes = λ before. subst (λ (first : Plan). Goes w (1 + n) (Then (Seq p q) ∷ frames w old.steps) before
-          (Then first ∷ frames w mid.steps) before) (sym same)
-          (goes_then (goes_seq w p q (frames w old.steps) before)
-          (goes_under w n p (Then q ∷ frames w old.steps) (frames w mid.steps) stands.goes before));
+      goes = λ before. subst (λ (first : Plan). Goes w (1 + n) (Then (Seq p q) ∷ plans w old.steps) before
+          (Then first ∷ plans w mid.steps) before) (sym same)
+          (goes_then (goes_seq w p q (plans w old.steps) before)
+          (goes_under w n p (Then q ∷ plans w old.steps) (plans w mid.steps) stands.goes before));
       opened = stands.opened;
       text = stands.text;
       failure = stands.failure;
@@ -73,7 +73,7 @@ nothing_more c (Some e) is = refl
 -- where nothing is printed, no step is needed
 pub stands_empty : (w : PrintInputs) (s : Stage) → Stands w 1 (written []) s s
 stands_empty w s = record {
-  goes = λ before. (goes_done w (document.Text []) (frames w s.steps) before before
+  goes = λ before. (goes_done w (document.Text []) (plans w s.steps) before before
       (nothing_more before before.fault refl));
   opened = refl;
   text = refl;
@@ -90,14 +90,14 @@ pub stands_held_back : (w : PrintInputs) (attributes : Vec Attribute Global) (ta
     → StandsHere w (Buffered (task_plan w (open_in old.steps) task)
     (attributes_text w.flags Sigil (reverse attributes.items))
     (attributes_text w.flags Text (reverse attributes.items))) old new
-stands_held_back w attributes task old mid new cached is =
+stands_held_back w attributes task old mid new held_back is =
     let target : Plan = task_plan w (open_in old.steps) task in
     let u : List ℕ = attributes_text w.flags Sigil (reverse attributes.items) in
     let v : List ℕ = attributes_text w.flags Text (reverse attributes.items) in
     let all : new ≡ with_step (Print task) (with_step (EndBuffer (length old.text) attributes) old) =
-    is ∙ ap (with_step (Print task)) cached in
+    is ∙ ap (with_step (Print task)) held_back in
     subst (λ (s : Stage). StandsHere w (Buffered target u v) old s) (sym all) (record {
-      goes = λ before text. goes_buffered w target u v (frames w old.steps) before (length old.text)
+      goes = λ before text. goes_buffered w target u v (plans w old.steps) before (length old.text)
           (ap length (sym text));
       text = refl;
       failure = refl;

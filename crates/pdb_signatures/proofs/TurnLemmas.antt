@@ -23,7 +23,7 @@ use Rattle.std.specs.Ordering.{nat_cmp}
 use Rattle.pdb_records.specs.declared.ids.IdData.{IdData}
 use Rattle.pdb_documents.specs.Progress.{Stage, with_step, with_text, with_failure, open_in, alone, OpensAlone}
 use Rattle.pdb_documents.specs.Progress.{stage_run}
-use Rattle.pdb_signatures.specs.PendingPlans.{PendingPlan, Then, Ends, Goes, frames, Advances, AdvancesClosing, Stands}
+use Rattle.pdb_signatures.specs.PendingPlans.{PendingPlan, Then, Ends, Goes, plans, Advances, AdvancesClosing, Stands}
 use Rattle.pdb_signatures.specs.PendingPlans.{StandsHere, IsEntered, IsEnteredAlone}
 use Rattle.pdb_signatures.proofs.GoesLemmas.{goes_then, goes_fewer, goes_later, goes_seq, goes_done, goes_catch}
 
@@ -36,14 +36,14 @@ same_run old new f text failure = rw (text, failure) refl
 pub advances_stands : (w : PrintInputs) (n : ℕ) (p : Plan) (old new : Stage) → Stands w n p old new → (f : Parts)
     → Advances w p n old f new f
 advances_stands w n p old new stands f =
-    subst (λ (r : Run). Goes w n (Then p ∷ frames w old.steps) (stage_run old f) (frames w new.steps) r)
+    subst (λ (r : Run). Goes w n (Then p ∷ plans w old.steps) (stage_run old f) (plans w new.steps) r)
     (sym (same_run old new f stands.text stands.failure)) (stands.goes (stage_run old f))
 
 -- a plan that stands here is settled so far
 pub advances_here : (w : PrintInputs) (p : Plan) (old new : Stage) → StandsHere w p old new → (f : Parts)
     → Advances w p 0 old f new f
 advances_here w p old new stands f =
-    subst (λ (r : Run). Goes w 0 (Then p ∷ frames w old.steps) (stage_run old f) (frames w new.steps) r)
+    subst (λ (r : Run). Goes w 0 (Then p ∷ plans w old.steps) (stage_run old f) (plans w new.steps) r)
     (sym (same_run old new f stands.text stands.failure)) (stands.goes (stage_run old f) refl)
 
 -- fewer steps are claimed to be done
@@ -56,19 +56,19 @@ pub advances_later : (w : PrintInputs) (inside : List ℕ) (task : Task) (p : Pl
     (f f' : Parts) → rule w inside task ≡ p → Advances w p n old f new f'
     → Advances w (Later inside task) (2 + n) old f new f'
 advances_later w inside task p n old new f f' is goes =
-    goes_then (goes_later w inside task (frames w old.steps) (stage_run old f))
-    (subst (λ (q : Plan). Goes w n (Then q ∷ frames w old.steps) (stage_run old f) (frames w new.steps)
+    goes_then (goes_later w inside task (plans w old.steps) (stage_run old f))
+    (subst (λ (q : Plan). Goes w n (Then q ∷ plans w old.steps) (stage_run old f) (plans w new.steps)
     (stage_run new f')) (sym is) goes)
 
 -- a document is printed
 pub advances_done : (w : PrintInputs) (d : Document) (old new : Stage) (f f' : Parts) → old.failure ≡ None
     → new.steps ≡ old.steps → stage_run new f' ≡ then_by None (stage_run old f) (run d)
     → Advances w (Done d) 1 old f new f'
-advances_done w d old new f f' well steps is =
-    subst (λ (xs : List Pending). Goes w 1 (Then (Done d) ∷ frames w old.steps) (stage_run old f) (frames w xs)
+advances_done w d old new f f' no_failure steps is =
+    subst (λ (xs : List Pending). Goes w 1 (Then (Done d) ∷ plans w old.steps) (stage_run old f) (plans w xs)
     (stage_run new f')) (sym steps)
-    (goes_done w d (frames w old.steps) (stage_run old f) (stage_run new f')
-    (is ∙ ap (λ (g : Option Failure). then_by g (stage_run old f) (run d)) (sym well)))
+    (goes_done w d (plans w old.steps) (stage_run old f) (stage_run new f')
+    (is ∙ ap (λ (g : Option Failure). then_by g (stage_run old f) (run d)) (sym no_failure)))
 
 -- the plan of an index that opens and is read
 opening-is : (w : PrintInputs) (inside : List ℕ) (index : ℕ) (next : List ℕ → TypeData → Plan)
@@ -83,16 +83,16 @@ pub entered_read_error : (w : PrintInputs) (index : ℕ) (read_error_view : Read
     → mid ≡ with_step (Close index) old → w.read index ≡ Err read_error_view → new.steps ≡ mid.steps
     → stage_run new f' ≡ then_by None (stage_run mid f) (run (refusal read_error_view))
     → (next : List ℕ → TypeData → Plan) → Advances w (opening w (open_in old.steps) index next) 0 old f new f'
-entered_read_error w index read_error_view old mid new f f' well absent entered read_error steps is next =
+entered_read_error w index read_error_view old mid new f f' no_failure absent entered read_error steps is next =
     let d : Document = refusal read_error_view in
     let ran : stage_run new f' ≡ then_by None (stage_run old f) (run d) =
     is ∙ ap (λ (s : Stage). then_by None (stage_run s f) (run d)) entered in
-    let done = goes_done w d (frames w old.steps) (stage_run old f) (stage_run new f')
-    (ran ∙ ap (λ (g : Option Failure). then_by g (stage_run old f) (run d)) (sym well)) in
+    let done = goes_done w d (plans w old.steps) (stage_run old f) (stage_run new f')
+    (ran ∙ ap (λ (g : Option Failure). then_by g (stage_run old f) (run d)) (sym no_failure)) in
     let all : new.steps ≡ Close index ∷ old.steps = steps ∙ ap (λ (s : Stage). s.steps) entered in
     subst (λ (p : Plan). Advances w p 0 old f new f')
     (sym (opening-is w (open_in old.steps) index next (Err read_error_view) absent read_error))
-    (subst (λ (xs : List Pending). Goes w 0 (Then (Done d) ∷ frames w old.steps) (stage_run old f) (frames w xs)
+    (subst (λ (xs : List Pending). Goes w 0 (Then (Done d) ∷ plans w old.steps) (stage_run old f) (plans w xs)
     (stage_run new f')) (sym all) (record {
       ends = done.ends;
       falls = λ cost counts. let a = done.falls cost counts in omega arith;
@@ -112,10 +112,10 @@ turned_entered w task index next type old mid new f f' f'' is entered advances =
     let settled : Advances w q 0 (with_step (Close index) old) f new f'' =
     subst (λ (g : Parts). Advances w q 0 (with_step (Close index) old) g new f'') entered.parts here in
     let plan : rule w inside task ≡ q = is ∙ opening-is w inside index next (Ok type) entered.absent entered.read in
-    let first = goes_later w inside task (frames w old.steps) (stage_run old f) in
+    let first = goes_later w inside task (plans w old.steps) (stage_run old f) in
     record {
       ends = λ end ends. first.ends end
-          (subst (λ (p : Plan). Ends w (Then p ∷ frames w old.steps) (stage_run old f) end) (sym plan)
+          (subst (λ (p : Plan). Ends w (Then p ∷ plans w old.steps) (stage_run old f) end) (sym plan)
           (settled.ends end ends));
       falls = λ cost counts.
           let a = settled.falls cost counts in
@@ -146,14 +146,14 @@ turned_none w task index next old new f f' is advances =
 pub turned_type : (w : PrintInputs) (type : TypeData) (old mid new : Stage) (f : Parts) → old.failure ≡ None
     → mid ≡ with_step EndCatch old → Stands w 0 (by_kind w (open_in mid.steps) type) mid new
     → Advances w (Later (open_in old.steps) (OfType type)) 1 old f new f
-turned_type w type old mid new f well caught stands =
+turned_type w type old mid new f no_failure caught stands =
     let inside : List ℕ = open_in old.steps in
     let q : Plan = by_kind w inside type in
     let here : Stands w 0 q (with_step EndCatch old) new =
     subst (λ (s : Stage). Stands w 0 (by_kind w (open_in s.steps) type) s new) caught stands in
     let settled = advances_stands w 0 q (with_step EndCatch old) new here f in
-    goes_fewer 1 (omega arith) (goes_then (goes_later w inside (OfType type) (frames w old.steps) (stage_run old f))
-    (goes_then (goes_catch w q (frames w old.steps) (stage_run old f) well) settled))
+    goes_fewer 1 (omega arith) (goes_then (goes_later w inside (OfType type) (plans w old.steps) (stage_run old f))
+    (goes_then (goes_catch w q (plans w old.steps) (stage_run old f) no_failure) settled))
 
 -- printing fails: nothing is written, and what is to be done stays
 pub failed_run : (failure : Failure) (old new : Stage) (f : Parts) → new ≡ with_failure failure old
@@ -167,10 +167,10 @@ failed_run failure old new f is = (
 -- a text is written, and what is to be done stays
 pub written_run : (t : List ℕ) (old new : Stage) (f : Parts) → old.failure ≡ None → new ≡ with_text t old
     → (new.steps ≡ old.steps) × (stage_run new f ≡ then_by None (stage_run old f) (run (document.Text t)))
-written_run t old new f well is = (
+written_run t old new f no_failure is = (
   ap (λ (s : Stage). s.steps) is,
   ap (λ (s : Stage). stage_run s f) is ∙ ap
-      (λ (g : Option Failure). record { text = old.text ++ t; fault = g; failed = f }) well,
+      (λ (g : Option Failure). record { text = old.text ++ t; fault = g; failed = f }) no_failure,
 )
 
 -- a task that is one document is printed
@@ -178,36 +178,37 @@ pub turned_done : (w : PrintInputs) (task : Task) (d : Document) (old new : Stag
     → rule w (open_in old.steps) task ≡ Done d → old.failure ≡ None → new.steps ≡ old.steps
     → stage_run new f' ≡ then_by None (stage_run old f) (run d)
     → Advances w (Later (open_in old.steps) task) 1 old f new f'
-turned_done w task d old new f f' plan well steps ran =
+turned_done w task d old new f f' plan no_failure steps ran =
     advances_fewer w (Later (open_in old.steps) task) 3 1 old new f f' (omega arith)
     (advances_later w (open_in old.steps) task (Done d) 1 old new f f' plan
-    (advances_done w d old new f f' well steps ran))
+    (advances_done w d old new f f' no_failure steps ran))
 
 -- the type of an index that can't be read is noted, or printing fails
 pub index_noted : (w : PrintInputs) (index : ℕ) (read_error_view : ReadErrorView) (old new : Stage) (f f' : Parts)
     → w.read index ≡ Err read_error_view → old.failure ≡ None → new.steps ≡ old.steps
     → stage_run new f' ≡ then_by None (stage_run old f) (run (note_or_refusal read_error_view))
     → Advances w (Later (open_in old.steps) (Index index)) 1 old f new f'
-index_noted w index read_error_view old new f f' read_error well steps ran =
+index_noted w index read_error_view old new f f' read_error no_failure steps ran =
     let inside : List ℕ = open_in old.steps in
     let plan : rule w inside (Index index) ≡ Done (note_or_refusal read_error_view) =
     ap (λ (r : Result TypeData ReadErrorView). on_printed r
     (λ type. opened inside index (Later (index ∷ inside) (OfType type)))) read_error in
-    turned_done w (Index index) (note_or_refusal read_error_view) old new f f' plan well steps ran
+    turned_done w (Index index) (note_or_refusal read_error_view) old new f f' plan no_failure steps ran
 
 -- a part that was met broken is remembered, and a plan stands then
 pub advances_met : (w : PrintInputs) (met : Option Part) (q : Plan) (old new : Stage) (f f' : Parts)
     → old.failure ≡ None → f' ≡ with_met f met → Stands w 0 q old new → Advances w (met_before met q) 0 old f new f'
-advances_met w None q old new f f' well is stands = subst (λ (g : Parts). Advances w q 0 old f new g) (sym is)
+advances_met w None q old new f f' no_failure is stands = subst (λ (g : Parts). Advances w q 0 old f new g) (sym is)
     (advances_stands w 0 q old new stands f)
-advances_met w (Some part) q old new f f' well is stands =
-    let k : List PendingPlan = frames w old.steps in
+advances_met w (Some part) q old new f f' no_failure is stands =
+    let k : List PendingPlan = plans w old.steps in
     let remembered : stage_run old f' ≡ then_by None (stage_run old f) (run (document.Met part)) =
     rw is (ap (λ (t : List ℕ). record { text = t; fault = old.failure; failed = with_part f part })
     (sym (append-nil old.text)) ∙ ap
-    (λ (g : Option Failure). record { text = old.text ++ []; fault = g; failed = with_part f part }) well) in
+    (λ (g : Option Failure). record { text = old.text ++ []; fault = g; failed = with_part f part }) no_failure) in
     let met = goes_done w (document.Met part) (Then q ∷ k) (stage_run old f) (stage_run old f')
-    (remembered ∙ ap (λ (g : Option Failure). then_by g (stage_run old f) (run (document.Met part))) (sym well)) in
+    (remembered ∙ ap (λ (g : Option Failure). then_by g (stage_run old f) (run (document.Met part)))
+    (sym no_failure)) in
     goes_fewer 0 (omega arith) (goes_then (goes_seq w (Done (document.Met part)) q k (stage_run old f))
     (goes_then met (advances_stands w 0 q old new stands f')))
 
@@ -216,28 +217,28 @@ pub advances_refused : {A : Type 0} (w : PrintInputs) (r : Result A ReadErrorVie
     (read_error_view : ReadErrorView) (old new : Stage) (f f' : Parts) → r ≡ Err read_error_view → old.failure ≡ None
     → new.steps ≡ old.steps → stage_run new f' ≡ then_by None (stage_run old f) (run (refusal read_error_view))
     → Advances w (on_read r next) 1 old f new f'
-advances_refused {A = A} w r next read_error_view old new f f' is well steps ran =
+advances_refused {A = A} w r next read_error_view old new f f' is no_failure steps ran =
     subst (λ (x : Result A ReadErrorView). Advances w (on_read x next) 1 old f new f') (sym is)
-    (advances_done w (refusal read_error_view) old new f f' well steps ran)
+    (advances_done w (refusal read_error_view) old new f f' no_failure steps ran)
 
 -- printing fails
 pub advances_failed : (w : PrintInputs) (failure : Failure) (old new : Stage) (f : Parts) → old.failure ≡ None
     → new ≡ with_failure failure old → Advances w (Done (document.Fail failure)) 1 old f new f
-advances_failed w failure old new f well is = let ran = failed_run failure old new f is in
-    advances_done w (document.Fail failure) old new f f well ran.0 ran.1
+advances_failed w failure old new f no_failure is = let ran = failed_run failure old new f is in
+    advances_done w (document.Fail failure) old new f f no_failure ran.0 ran.1
 
 -- an element of an array that is one already is circular
 pub elements_circular : (w : PrintInputs) (elements levels : List ℕ) (next : ℕ) (old new : Stage) (f : Parts)
     → is_among next elements ≡ true → old.failure ≡ None
     → new ≡ with_failure (OfError (Plain (CircularTypeDefinition next))) old
     → Advances w (Later (open_in old.steps) (Elements elements levels next)) 1 old f new f
-elements_circular w elements levels next old new f among well is =
+elements_circular w elements levels next old new f among no_failure is =
     let inside : List ℕ = open_in old.steps in
     let d : Document = document.Fail (OfError (Plain (CircularTypeDefinition next))) in
     let plan : rule w inside (Elements elements levels next) ≡ Done d =
     ap (λ b. cond b (circular next) (on_read (w.read next) (element w inside elements levels next))) among in
     let ran = failed_run (OfError (Plain (CircularTypeDefinition next))) old new f is in
-    turned_done w (Elements elements levels next) d old new f f plan well ran.0 ran.1
+    turned_done w (Elements elements levels next) d old new f f plan no_failure ran.0 ran.1
 
 -- an element of an array that is none yet is read, and what follows it is settled so far
 pub elements_read : (w : PrintInputs) (elements levels : List ℕ) (next : ℕ) (old new : Stage) (f f' : Parts)
@@ -263,24 +264,24 @@ pub id_circular : (w : PrintInputs) (met : List ℕ) (index : ℕ) (old new : St
     → is_among index met ≡ true → old.failure ≡ None
     → new ≡ with_failure (OfError (Plain (CircularTypeDefinition index))) old
     → Advances w (Later (open_in old.steps) (Id met index)) 1 old f new f
-id_circular w met index old new f among well is =
+id_circular w met index old new f among no_failure is =
     let ran = failed_run (OfError (Plain (CircularTypeDefinition index))) old new f is in
     let plan = ap (λ b. cond b (circular index)
     (on_printed (w.read_id index) (id_by_kind w (insert_key nat_cmp met index)))) among in
     turned_done w (Id met index)
-    (document.Fail (OfError (Plain (CircularTypeDefinition index)))) old new f f plan well ran.0 ran.1
+    (document.Fail (OfError (Plain (CircularTypeDefinition index)))) old new f f plan no_failure ran.0 ran.1
 
 -- an id that can't be read is noted, or printing fails
 pub id_noted : (w : PrintInputs) (met : List ℕ) (index : ℕ) (read_error_view : ReadErrorView) (old new : Stage)
     (f f' : Parts) → is_among index met ≡ false → w.read_id index ≡ Err read_error_view → old.failure ≡ None
     → new.steps ≡ old.steps → stage_run new f' ≡ then_by None (stage_run old f)
     (run (note_or_refusal read_error_view)) → Advances w (Later (open_in old.steps) (Id met index)) 1 old f new f'
-id_noted w met index read_error_view old new f f' absent read_error well steps ran =
+id_noted w met index read_error_view old new f f' absent read_error no_failure steps ran =
     let next = id_by_kind w (insert_key nat_cmp met index) in
     let plan : rule w (open_in old.steps) (Id met index) ≡ Done (note_or_refusal read_error_view) =
     ap (λ b. cond b (circular index) (on_printed (w.read_id index) next)) absent ∙ ap
     (λ (r : Result IdData ReadErrorView). on_printed r next) read_error in
-    turned_done w (Id met index) (note_or_refusal read_error_view) old new f f' plan well steps ran
+    turned_done w (Id met index) (note_or_refusal read_error_view) old new f f' plan no_failure steps ran
 
 -- an id that was read is settled as far as its kind is
 pub id_read : (w : PrintInputs) (met : List ℕ) (index : ℕ) (content : IdData) (old new : Stage) (f f' : Parts)
@@ -294,10 +295,10 @@ id_read w met index content old new f f' absent read settled =
     let plan : rule w inside (Id met index) ≡ q =
     ap (λ b. cond b (circular index) (on_printed (w.read_id index) next)) absent ∙ ap
     (λ (r : Result IdData ReadErrorView). on_printed r next) read in
-    let first = goes_later w inside (Id met index) (frames w old.steps) (stage_run old f) in
+    let first = goes_later w inside (Id met index) (plans w old.steps) (stage_run old f) in
     record {
       ends = λ end ends. first.ends end
-          (subst (λ (p : Plan). Ends w (Then p ∷ frames w old.steps) (stage_run old f) end) (sym plan)
+          (subst (λ (p : Plan). Ends w (Then p ∷ plans w old.steps) (stage_run old f) end) (sym plan)
           (settled.ends end ends));
       falls = λ cost counts.
           let a = settled.falls cost counts in

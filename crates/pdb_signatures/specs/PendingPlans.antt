@@ -29,20 +29,20 @@ pub data PendingPlan : Type 0 where
   HeldBack : ℕ → List ℕ → List ℕ → PendingPlan
 
 -- what a step is, while these indices are open
-abbrev pub frame : PrintInputs → List ℕ → Pending → PendingPlan
-frame w inside (Print task) = Then (task_plan w inside task)
-frame w inside (Close index) = Closing
-frame w inside (EndId outer index) = Closing
-frame w inside EndCatch = Caught
-frame w inside (EndBuffer mark attributes) =
+abbrev pub pending_plan : PrintInputs → List ℕ → Pending → PendingPlan
+pending_plan w inside (Print task) = Then (task_plan w inside task)
+pending_plan w inside (Close index) = Closing
+pending_plan w inside (EndId outer index) = Closing
+pending_plan w inside EndCatch = Caught
+pending_plan w inside (EndBuffer mark attributes) =
     HeldBack mark
     (attributes_text w.flags Sigil (reverse attributes.items))
     (attributes_text w.flags Text (reverse attributes.items))
 
 -- what is still to be done, the next first
-abbrev pub frames : PrintInputs → List Pending → List PendingPlan
-frames w [] = []
-frames w (step ∷ rest) = frame w (open_in rest) step ∷ frames w rest
+abbrev pub plans : PrintInputs → List Pending → List PendingPlan
+plans w [] = []
+plans w (step ∷ rest) = pending_plan w (open_in rest) step ∷ plans w rest
 
 -- from a run so far, what is still to be done comes to this run in the end, whatever documents the plans unfold to
 abbrev pub Ends : PrintInputs → List PendingPlan → Run → Run → Type 0
@@ -82,19 +82,19 @@ pub record Goes (w : PrintInputs) (fewer : ℕ) (old : List PendingPlan) (before
 -- a plan that was to be printed first is settled as far as a stage has come then
 abbrev pub Advances : PrintInputs → Plan → ℕ → Stage → Parts → Stage → Parts → Type 0
 Advances w p fewer old failed new failed_then =
-    Goes w fewer (Then p ∷ frames w old.steps) (stage_run old failed) (frames w new.steps) (stage_run new failed_then)
+    Goes w fewer (Then p ∷ plans w old.steps) (stage_run old failed) (plans w new.steps) (stage_run new failed_then)
 
 -- a plan that was to be printed first is settled as far as a stage has come then, in which one step more may be left
--- for what closes behind it
+-- for what closes after it
 abbrev pub AdvancesClosing : PrintInputs → Plan → Stage → Parts → Stage → Parts → Type 0
 AdvancesClosing w p old failed new failed_then =
-    Goes w 0 (Then p ∷ Closing ∷ frames w old.steps) (stage_run old failed) (frames w new.steps)
+    Goes w 0 (Then p ∷ Closing ∷ plans w old.steps) (stage_run old failed) (plans w new.steps)
     (stage_run new failed_then)
 
 -- a plan that is to be printed first stands among the steps of a stage now, in at least so many steps fewer, and
 -- nothing else changed
 pub record Stands (w : PrintInputs) (fewer : ℕ) (p : Plan) (old new : Stage) : Type 0 where
-  pub goes : (before : Run) → Goes w fewer (Then p ∷ frames w old.steps) before (frames w new.steps) before
+  pub goes : (before : Run) → Goes w fewer (Then p ∷ plans w old.steps) before (plans w new.steps) before
   pub opened : open_in new.steps ≡ open_in old.steps
   pub text : new.text ≡ old.text
   pub failure : new.failure ≡ old.failure
@@ -102,7 +102,7 @@ pub record Stands (w : PrintInputs) (fewer : ℕ) (p : Plan) (old new : Stage) :
 -- the same, for the text as it is now and in no more steps
 pub record StandsHere (w : PrintInputs) (p : Plan) (old new : Stage) : Type 0 where
   pub goes : (before : Run) → before.text ≡ old.text
-      → Goes w 0 (Then p ∷ frames w old.steps) before (frames w new.steps) before
+      → Goes w 0 (Then p ∷ plans w old.steps) before (plans w new.steps) before
   pub text : new.text ≡ old.text
   pub failure : new.failure ≡ old.failure
 
@@ -155,4 +155,4 @@ pub record IsNoted (read_error : ReadError) (old : Stage) (failed : Parts) (new 
 -- from a stage on, printing comes to what printing a plan from the beginning does, where these parts failed before
 abbrev pub Begins : PrintInputs → Plan → Parts → Stage → Parts → Type 0
 Begins w p failed s failed_then =
-    (end : Run) → Ends w (frames w s.steps) (stage_run s failed_then) end → Runs w p failed end
+    (end : Run) → Ends w (plans w s.steps) (stage_run s failed_then) end → Runs w p failed end

@@ -1,3 +1,5 @@
+//! Prints arrays: their elements level by level, and in the end the base with the dimensions behind it.
+
 ghost use Rattle.std.specs.Prelude.{◌≡◌, None, OnOk};
 ghost use Rattle.pdb_records.specs.declared.types.TypeData.TheVariants.{Array};
 ghost use Rattle.pdb_documents.specs.Plans.{OfType, Elements, Later, ◌▸◌, written, met_before};
@@ -18,7 +20,7 @@ use pdb_types::{Error, ModuleProvider};
 use std::alloc::AllocError;
 use std::collections::BTreeSet;
 
-/// An element of an array that is an array: one more level.
+// An element of an array that is an array: one more level.
 fn further_level(
     progress: &mut Progress<'_>,
     mut elements: BTreeSet<u32>,
@@ -36,7 +38,7 @@ fn further_level(
 }
 
 impl<'a, P: ModuleProvider> TypeFormatter<'a, P> {
-    /// The base of an array: its size is asked, and then it is printed with the dimensions behind it.
+    // The base of an array: its size is asked, and then it is printed with the dimensions behind it.
     fn base<'s>(
         &mut self,
         module_index: usize,
@@ -47,7 +49,7 @@ impl<'a, P: ModuleProvider> TypeFormatter<'a, P> {
     ) -> Result<(), AllocError>
     where
         'a: 's,
-        requires well { progress.old.failure ≡ None }
+        requires no_failure { progress.old.failure ≡ None }
         ensures later { IsLater P.info module_index self.old self.new }
         ensures advances { OnOk result
             (let w = formatter_inputs P.info self.old.type_inputs module_index in
@@ -68,7 +70,7 @@ impl<'a, P: ModuleProvider> TypeFormatter<'a, P> {
         progress.first(Task::OfType(type_data))
     }
 
-    /// An element of an array that was read: one more level, or the base.
+    // An element of an array that was read: one more level, or the base.
     fn element<'s>(
         &mut self,
         module_index: usize,
@@ -80,7 +82,7 @@ impl<'a, P: ModuleProvider> TypeFormatter<'a, P> {
     ) -> Result<(), AllocError>
     where
         'a: 's,
-        requires well { progress.old.failure ≡ None }
+        requires no_failure { progress.old.failure ≡ None }
         ensures later { IsLater P.info module_index self.old self.new }
         ensures advances { OnOk result
             (let w = formatter_inputs P.info self.old.type_inputs module_index in
@@ -93,7 +95,7 @@ impl<'a, P: ModuleProvider> TypeFormatter<'a, P> {
         }
     }
 
-    /// The next element of an array, which may not be one of those so far.
+    // The next element of an array, which may not be one of those so far.
     pub(crate) fn elements<'s>(
         &mut self,
         module_index: usize,
@@ -104,7 +106,7 @@ impl<'a, P: ModuleProvider> TypeFormatter<'a, P> {
     ) -> Result<(), AllocError>
     where
         'a: 's,
-        requires well { progress.old.failure ≡ None }
+        requires no_failure { progress.old.failure ≡ None }
         ensures later { IsLater P.info module_index self.old self.new }
         ensures advances { OnOk result
             (Advances (formatter_inputs P.info self.old.type_inputs module_index)

@@ -1,3 +1,5 @@
+//! Prints what functions return, and lists of types as those of their arguments.
+
 ghost use Rattle.std.specs.Prelude.{◌≡◌, ◌||◌, OnOk};
 ghost use Rattle.pdb_documents.specs.Flags.{without_return_type};
 ghost use Rattle.pdb_documents.specs.Functions.{unless_left_out, returned, further_types};
@@ -7,7 +9,7 @@ ghost use Rattle.pdb_documents.specs.Progress.{open_in};
 ghost use Rattle.pdb_documents.specs.PrintInputs.{PrintInputs};
 ghost use Rattle.pdb_signatures.specs.PendingPlans.{Stands};
 
-use pdb_documents::options::{without_arguments, without_return_type};
+use pdb_documents::flags::{without_arguments, without_return_type};
 use pdb_documents::progress::Progress;
 use pdb_documents::tasks::Task;
 use pdb_documents::wording::Wording;
@@ -15,21 +17,21 @@ use pdb_records::TypeIndex;
 use pdb_types::TypeFormatterFlags;
 use std::alloc::AllocError;
 
-/// Whether the type that a function returns is left out, where the function is printed by itself.
+// Whether the type that a function returns is left out, where the function is printed by itself.
 pub(crate) fn is_left_out(flags: TypeFormatterFlags, constructor: bool) -> bool
     ensures { result ≡ (constructor || without_return_type flags) }
 {
     constructor || without_return_type(flags)
 }
 
-/// The type that a function returns, unless it is left out.
+// The type that a function returns, unless it is left out.
 pub(crate) fn unless_left_out(left_out: bool, index: Option<TypeIndex>) -> Option<TypeIndex>
     ensures { result ≡ unless_left_out left_out index }
 {
     if left_out { None } else { index }
 }
 
-/// The type that a function returns, with a space behind it, where there is one to print.
+// The type that a function returns, with a space behind it, where there is one to print.
 pub(crate) fn returned(
     progress: &mut Progress<'_>,
     index: Option<TypeIndex>,
@@ -44,7 +46,7 @@ pub(crate) fn returned(
     progress.first(Task::Index(index))
 }
 
-/// Further types, each behind a separator.
+// Further types, each behind a separator.
 pub(crate) fn further_types<'s>(
     progress: &mut Progress<'s>,
     separator: &'static str,
@@ -61,7 +63,7 @@ pub(crate) fn further_types<'s>(
     progress.first(Task::Written(Wording::Text(separator)))
 }
 
-/// Types, with a separator between them, behind `this` where that is one of them.
+// Types, with a separator between them, behind `this` where that is one of them.
 pub(crate) fn types_between<'s>(
     progress: &mut Progress<'s>,
     separator: &'static str,
@@ -83,7 +85,7 @@ pub(crate) fn types_between<'s>(
     progress.first(Task::Index(*next))
 }
 
-/// A function's arguments in parentheses, unless functions are printed without them.
+// A function's arguments in parentheses, unless functions are printed without them.
 pub(crate) fn function_arguments(
     progress: &mut Progress<'_>,
     flags: TypeFormatterFlags,

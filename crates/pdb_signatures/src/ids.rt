@@ -1,3 +1,5 @@
+//! Prints ids: functions of classes and of none with their scopes, namespaces, and texts in pieces.
+
 ghost use Rattle.std.specs.Prelude.{◌≡◌, [], None, OnOk, IfOk, string_bytes};
 ghost use Rattle.pdb_records.specs.declared.ids.IdData.TheVariants as kind;
 ghost use Rattle.pdb_records.specs.declared.types.TypeData.TheVariants.{MemberFunction, Procedure};
@@ -25,7 +27,7 @@ use pdb_types::{Error, ModuleProvider, TypeFormatterFlags};
 use std::alloc::AllocError;
 use std::collections::BTreeSet;
 
-/// The scope of an id, and `::` behind it.
+// The scope of an id, and `::` behind it.
 pub(crate) fn scope(
     progress: &mut Progress<'_>,
     met: BTreeSet<u32>,
@@ -41,7 +43,7 @@ pub(crate) fn scope(
     progress.first(Task::Id(met, index))
 }
 
-/// A function of a class: what it returns, the class, its name and its arguments.
+// A function of a class: what it returns, the class, its name and its arguments.
 fn method<'s>(
     progress: &mut Progress<'s>,
     flags: TypeFormatterFlags,
@@ -61,7 +63,7 @@ fn method<'s>(
     progress.first(Task::Written(Wording::Text(static_word(flags, m.this_pointer_type))))
 }
 
-/// A function of no class: what it returns, its scope, its name and its arguments.
+// A function of no class: what it returns, its scope, its name and its arguments.
 fn function<'s>(
     progress: &mut Progress<'s>,
     flags: TypeFormatterFlags,
@@ -80,14 +82,14 @@ fn function<'s>(
     progress.first(Task::Returned(return_type))
 }
 
-/// A function of a class, whose type was read: it has to be a method's.
+// A function of a class, whose type was read: it has to be a method's.
 fn method_by_type<'s>(
     progress: &mut Progress<'s>,
     flags: TypeFormatterFlags,
     id: &'s MemberFunctionId,
     type_data: &'s TypeData,
 ) -> Result<(), AllocError>
-    requires well { progress.old.failure ≡ None }
+    requires no_failure { progress.old.failure ≡ None }
     ensures { OnOk result ((w : PrintInputs) → w.flags ≡ flags → (failed : Parts)
         → Advances w (method_id w id.now (open_in progress.old.steps) type_data.now) 0
         progress.old failed progress.new failed) }
@@ -101,7 +103,7 @@ fn method_by_type<'s>(
     }
 }
 
-/// A function of no class, whose type was read: it has to be a procedure's.
+// A function of no class, whose type was read: it has to be a procedure's.
 fn function_by_type<'s>(
     progress: &mut Progress<'s>,
     flags: TypeFormatterFlags,
@@ -109,7 +111,7 @@ fn function_by_type<'s>(
     id: &'s FunctionId,
     type_data: &'s TypeData,
 ) -> Result<(), AllocError>
-    requires well { progress.old.failure ≡ None }
+    requires no_failure { progress.old.failure ≡ None }
     ensures { OnOk result ((w : PrintInputs) → w.flags ≡ flags → (failed : Parts)
         → Advances w (function_id w met.keys id.now (open_in progress.old.steps) type_data.now) 0
         progress.old failed progress.new failed) }
@@ -123,7 +125,7 @@ fn function_by_type<'s>(
     }
 }
 
-/// A text in pieces, each of them in quotation marks.
+// A text in pieces, each of them in quotation marks.
 fn string_list<'s>(
     progress: &mut Progress<'s>,
     substrings: &'s [TypeIndex],
@@ -139,7 +141,7 @@ fn string_list<'s>(
 }
 
 impl<'a, P: ModuleProvider> TypeFormatter<'a, P> {
-    /// A function of a class: its type is read, which is open in it alone.
+    // A function of a class: its type is read, which is open in it alone.
     fn method_id<'s>(
         &mut self,
         module_index: usize,
@@ -148,7 +150,7 @@ impl<'a, P: ModuleProvider> TypeFormatter<'a, P> {
     ) -> Result<(), AllocError>
     where
         'a: 's,
-        requires well { progress.old.failure ≡ None }
+        requires no_failure { progress.old.failure ≡ None }
         ensures later { IsLater P.info module_index self.old self.new }
         ensures advances { OnOk result
             (let w = formatter_inputs P.info self.old.type_inputs module_index in
@@ -161,7 +163,7 @@ impl<'a, P: ModuleProvider> TypeFormatter<'a, P> {
         }
     }
 
-    /// A function of no class: its type is read, which is open in it alone.
+    // A function of no class: its type is read, which is open in it alone.
     fn function_id<'s>(
         &mut self,
         module_index: usize,
@@ -171,7 +173,7 @@ impl<'a, P: ModuleProvider> TypeFormatter<'a, P> {
     ) -> Result<(), AllocError>
     where
         'a: 's,
-        requires well { progress.old.failure ≡ None }
+        requires no_failure { progress.old.failure ≡ None }
         ensures later { IsLater P.info module_index self.old self.new }
         ensures advances { OnOk result
             (let w = formatter_inputs P.info self.old.type_inputs module_index in
@@ -184,7 +186,7 @@ impl<'a, P: ModuleProvider> TypeFormatter<'a, P> {
         }
     }
 
-    /// An id that was read, by its kind.
+    // An id that was read, by its kind.
     fn id_by_kind<'s>(
         &mut self,
         module_index: usize,
@@ -194,7 +196,7 @@ impl<'a, P: ModuleProvider> TypeFormatter<'a, P> {
     ) -> Result<(), AllocError>
     where
         'a: 's,
-        requires well { progress.old.failure ≡ None }
+        requires no_failure { progress.old.failure ≡ None }
         ensures later { IsLater P.info module_index self.old self.new }
         ensures advances { OnOk result
             (let w = formatter_inputs P.info self.old.type_inputs module_index in
@@ -214,7 +216,7 @@ impl<'a, P: ModuleProvider> TypeFormatter<'a, P> {
         }
     }
 
-    /// The id of an index, which may not be one of those that it is a scope of.
+    // The id of an index, which may not be one of those that it is a scope of.
     pub(crate) fn id<'s>(
         &mut self,
         module_index: usize,
@@ -224,7 +226,7 @@ impl<'a, P: ModuleProvider> TypeFormatter<'a, P> {
     ) -> Result<(), AllocError>
     where
         'a: 's,
-        requires well { progress.old.failure ≡ None }
+        requires no_failure { progress.old.failure ≡ None }
         ensures later { IsLater P.info module_index self.old self.new }
         ensures advances { OnOk result
             (Advances (formatter_inputs P.info self.old.type_inputs module_index)
@@ -244,7 +246,7 @@ impl<'a, P: ModuleProvider> TypeFormatter<'a, P> {
         }
     }
 
-    /// Prints an id, by its index as the module at a module index writes it.
+    // Prints an id, by its index as the module at a module index writes it.
     pub(crate) fn print_id(
         &mut self,
         module_index: usize,

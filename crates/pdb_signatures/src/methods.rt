@@ -1,3 +1,5 @@
+//! Prints the arguments of methods, by what the type of `this` shows.
+
 ghost use Rattle.std.specs.Prelude.{◌≡◌, None, OnOk};
 ghost use Rattle.pdb_types.specs.ReadError.{Matches};
 ghost use Rattle.pdb_documents.specs.Plans.{MethodArguments, Later, on_read};
@@ -9,7 +11,7 @@ ghost use Rattle.pdb_signatures.specs.PendingPlans.{Advances, Stands};
 
 use crate::type_formatter::TypeFormatter;
 use pdb_documents::failures::Failure;
-use pdb_documents::options::without_arguments;
+use pdb_documents::flags::without_arguments;
 use pdb_documents::progress::Progress;
 use pdb_documents::tasks::{MethodForm, Task};
 use pdb_documents::this::{PLAIN_THIS, This, this_by_target};
@@ -18,7 +20,7 @@ use pdb_records::{MemberFunctionType, TypeData, TypeIndex};
 use pdb_types::{Error, ModuleProvider, ReadError, TypeFormatterFlags};
 use std::alloc::AllocError;
 
-/// What stands behind a method's arguments: `const` too, in the signature of a constant method.
+// What stands behind a method's arguments: `const` too, in the signature of a constant method.
 fn closing(form: MethodForm, constant: bool) -> &'static str
     ensures { result.now ≡ closing form constant }
 {
@@ -28,7 +30,7 @@ fn closing(form: MethodForm, constant: bool) -> &'static str
     }
 }
 
-/// A method's arguments in parentheses, and `const` behind them in the signature of a constant method.
+// A method's arguments in parentheses, and `const` behind them in the signature of a constant method.
 pub(crate) fn method_list<'s>(
     progress: &mut Progress<'s>,
     flags: TypeFormatterFlags,
@@ -46,14 +48,14 @@ pub(crate) fn method_list<'s>(
 }
 
 impl<'a, P: ModuleProvider> TypeFormatter<'a, P> {
-    /// What a method's `this` shows, where there is one.
+    // What a method's `this` shows, where there is one.
     fn read_this(
         &mut self,
         module_index: usize,
         class: TypeIndex,
         this: Option<TypeIndex>,
     ) -> Result<This, ReadError>
-        ensures this { Matches (λ this. this) result
+        ensures answer { Matches (λ this. this) result
             (this_of (formatter_inputs P.info self.old.type_inputs module_index) class this) }
         ensures unchanged { self.new ≡ self.old }
     {
@@ -74,7 +76,7 @@ impl<'a, P: ModuleProvider> TypeFormatter<'a, P> {
         Ok(this_by_target(class, this, target))
     }
 
-    /// The arguments of a method with this list of them.
+    // The arguments of a method with this list of them.
     fn list_with_this<'s>(
         &mut self,
         module_index: usize,
@@ -85,7 +87,7 @@ impl<'a, P: ModuleProvider> TypeFormatter<'a, P> {
     ) -> Result<(), AllocError>
     where
         'a: 's,
-        requires well { progress.old.failure ≡ None }
+        requires no_failure { progress.old.failure ≡ None }
         ensures later { IsLater P.info module_index self.old self.new }
         ensures advances { OnOk result
             (let w = formatter_inputs P.info self.old.type_inputs module_index in
@@ -99,7 +101,7 @@ impl<'a, P: ModuleProvider> TypeFormatter<'a, P> {
         }
     }
 
-    /// The arguments of a method, whose list was read.
+    // The arguments of a method, whose list was read.
     fn on_list<'s>(
         &mut self,
         module_index: usize,
@@ -110,7 +112,7 @@ impl<'a, P: ModuleProvider> TypeFormatter<'a, P> {
     ) -> Result<(), AllocError>
     where
         'a: 's,
-        requires well { progress.old.failure ≡ None }
+        requires no_failure { progress.old.failure ≡ None }
         ensures later { IsLater P.info module_index self.old self.new }
         ensures advances { OnOk result
             (let w = formatter_inputs P.info self.old.type_inputs module_index in
@@ -132,7 +134,7 @@ impl<'a, P: ModuleProvider> TypeFormatter<'a, P> {
         }
     }
 
-    /// The arguments of a method, unless functions are printed without them.
+    // The arguments of a method, unless functions are printed without them.
     pub(crate) fn method_arguments<'s>(
         &mut self,
         module_index: usize,
@@ -142,7 +144,7 @@ impl<'a, P: ModuleProvider> TypeFormatter<'a, P> {
     ) -> Result<(), AllocError>
     where
         'a: 's,
-        requires well { progress.old.failure ≡ None }
+        requires no_failure { progress.old.failure ≡ None }
         ensures later { IsLater P.info module_index self.old self.new }
         ensures advances { OnOk result
             (Advances (formatter_inputs P.info self.old.type_inputs module_index)

@@ -1,3 +1,5 @@
+//! Prints chains of pointers, and around them or before them what they point to.
+
 ghost use Rattle.std.specs.Prelude.{◌≡◌, ◌∷◌, false, OnOk, reverse};
 ghost use Rattle.pdb_documents.specs.Attributes.{attribute_of};
 ghost use Rattle.pdb_documents.specs.Plans.{Chain, Later};
@@ -15,7 +17,7 @@ use pdb_documents::wording::Wording;
 use pdb_records::{MemberFunctionType, PointerType, ProcedureType, TypeData};
 use std::alloc::AllocError;
 
-/// A pointer to a method: what it returns, the class and the pointers in parentheses, and its arguments.
+// A pointer to a method: what it returns, the class and the pointers in parentheses, and its arguments.
 fn pointers_to_method<'s>(
     progress: &mut Progress<'s>,
     attributes: Vec<Attribute>,
@@ -34,8 +36,8 @@ fn pointers_to_method<'s>(
     progress.first(Task::Returned(return_type))
 }
 
-/// A pointer to a function: what it returns, the pointers in parentheses, and its arguments in
-/// parentheses.
+// A pointer to a function: what it returns, the pointers in parentheses, and its arguments in
+// parentheses.
 fn pointers_to_function<'s>(
     progress: &mut Progress<'s>,
     attributes: Vec<Attribute>,
@@ -54,8 +56,8 @@ fn pointers_to_function<'s>(
     progress.first(Task::Returned(return_type))
 }
 
-/// The end of a chain of pointers: functions are printed around the pointers, and any other type before
-/// them.
+// The end of a chain of pointers: functions are printed around the pointers, and any other type before
+// them.
 fn chain_end<'s>(
     progress: &mut Progress<'s>,
     attributes: Vec<Attribute>,
@@ -75,7 +77,7 @@ fn chain_end<'s>(
     }
 }
 
-/// A further pointer of a chain.
+// A further pointer of a chain.
 fn further_pointer(
     progress: &mut Progress<'_>,
     mut attributes: Vec<Attribute>,
@@ -90,7 +92,7 @@ fn further_pointer(
     progress.first(Task::Chain(attributes, p.underlying_type))
 }
 
-/// What follows a modifier in a chain of pointers: a pointer goes on with the chain, all else ends it.
+// What follows a modifier in a chain of pointers: a pointer goes on with the chain, all else ends it.
 pub(crate) fn behind_modifier<'s>(
     progress: &mut Progress<'s>,
     attributes: Vec<Attribute>,
@@ -106,8 +108,8 @@ pub(crate) fn behind_modifier<'s>(
     }
 }
 
-/// What follows a pointer in a chain of pointers: a pointer or a modifier goes on with the chain, all else
-/// ends it.
+// What follows a pointer in a chain of pointers: a pointer or a modifier goes on with the chain, all else
+// ends it.
 pub(crate) fn behind_pointer<'s>(
     progress: &mut Progress<'s>,
     mut attributes: Vec<Attribute>,

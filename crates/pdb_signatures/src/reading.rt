@@ -1,3 +1,5 @@
+//! What printing reads of the records, and what is printed where it can't be read.
+
 ghost use Rattle.std.specs.Prelude.{◌≡◌, None, IfOk, OnOk};
 ghost use Rattle.std.specs.Option.{option_copied};
 ghost use Rattle.pdb_types.specs.declared.error.Error.{Error};
@@ -19,21 +21,21 @@ use std::alloc::AllocError;
 
 // What printing reads, and what is printed where it can't be read.
 impl<'a, P: ModuleProvider> TypeFormatter<'a, P> {
-    /// How signatures are printed.
+    // How signatures are printed.
     pub(crate) fn flags(&self) -> TypeFormatterFlags
         ensures { result ≡ self.now.type_inputs.flags }
     {
         self.type_inputs.flags()
     }
 
-    /// The type of an index, as the module at a module index writes it.
+    // The type of an index, as the module at a module index writes it.
     #[tactic(auto, unfolding(pdb_documents::specs::PrintInputs::type_at))]
     pub(crate) fn read_type(
         &mut self,
         module_index: usize,
         index: TypeIndex,
     ) -> Result<&'a TypeData, ReadError>
-        ensures read { Matches (λ t. t.now) result
+        ensures answer { Matches (λ t. t.now) result
             ((formatter_inputs P.info self.old.type_inputs module_index).read index.0) }
         ensures unchanged { self.new ≡ self.old }
     {
@@ -43,14 +45,14 @@ impl<'a, P: ModuleProvider> TypeFormatter<'a, P> {
         Ok(type_data)
     }
 
-    /// The id of an index, as the module at a module index writes it.
+    // The id of an index, as the module at a module index writes it.
     #[tactic(auto, unfolding(pdb_documents::specs::PrintInputs::id_at))]
     pub(crate) fn read_id(
         &mut self,
         module_index: usize,
         index: IdIndex,
     ) -> Result<&'a IdData, ReadError>
-        ensures read { Matches (λ i. i.now) result
+        ensures answer { Matches (λ i. i.now) result
             ((formatter_inputs P.info self.old.type_inputs module_index).read_id index.0) }
         ensures unchanged { self.new ≡ self.old }
     {
@@ -60,18 +62,18 @@ impl<'a, P: ModuleProvider> TypeFormatter<'a, P> {
         Ok(id_data)
     }
 
-    /// What is needed can't be read: printing fails.
+    // What is needed can't be read: printing fails.
     pub(crate) fn refuse(
         &mut self,
         progress: &mut Progress<'_>,
         read_error: ReadError,
     ) -> Result<(), AllocError>
-        requires well { progress.old.failure ≡ None }
+        requires no_failure { progress.old.failure ≡ None }
         ensures type_inputs { self.new.type_inputs ≡ self.old.type_inputs }
         ensures broken { (w : PrintInputs)
             → ((part : Part) (e : Error) → read_error ≡ Broken part e → IsBroken w part)
             → AddsBroken w self.old.failed self.new.failed }
-        ensures refused { OnOk result
+        ensures fails { OnOk result
             (IsRefused read_error progress.old self.old.failed progress.new self.new.failed) }
     {
         match read_error {
@@ -90,21 +92,21 @@ impl<'a, P: ModuleProvider> TypeFormatter<'a, P> {
                 Ok(())
             }
             ReadError::Broken(part, error) => {
-                let error_view = self.type_inputs.ask(&mut self.cache, part, error)?;
-                progress.fail(Failure::OfError(error_view));
+                let answered = self.type_inputs.ask(&mut self.cache, part, error)?;
+                progress.fail(Failure::OfError(answered));
                 Ok(())
             }
         }
     }
 
-    /// What is printed where it stands can't be read: a note of what is missing or of a kind that isn't known
-    /// stands for it, and else printing fails.
+    // What is printed where it stands can't be read: a note of what is missing or of a kind that isn't known
+    // stands for it, and else printing fails.
     pub(crate) fn note(
         &mut self,
         progress: &mut Progress<'_>,
         read_error: ReadError,
     ) -> Result<(), AllocError>
-        requires well { progress.old.failure ≡ None }
+        requires no_failure { progress.old.failure ≡ None }
         ensures type_inputs { self.new.type_inputs ≡ self.old.type_inputs }
         ensures broken { (w : PrintInputs)
             → ((part : Part) (e : Error) → read_error ≡ Broken part e → IsBroken w part)
@@ -123,15 +125,15 @@ impl<'a, P: ModuleProvider> TypeFormatter<'a, P> {
         }
     }
 
-    /// Opens an index and reads its type, which is needed. Where it is open already or can't be read,
-    /// printing fails.
+    // Opens an index and reads its type, which is needed. Where it is open already or can't be read,
+    // printing fails.
     pub(crate) fn enter(
         &mut self,
         module_index: usize,
         progress: &mut Progress<'_>,
         index: TypeIndex,
     ) -> Result<Option<&'a TypeData>, AllocError>
-        requires well { progress.old.failure ≡ None }
+        requires no_failure { progress.old.failure ≡ None }
         ensures later { IsLater P.info module_index self.old self.new }
         ensures entered { IfOk result (λ found.
             Entered (formatter_inputs P.info self.old.type_inputs module_index) index.0
@@ -149,15 +151,15 @@ impl<'a, P: ModuleProvider> TypeFormatter<'a, P> {
         }
     }
 
-    /// Reads the type of an index, which is needed, and begins an id in which that index alone is open. Where
-    /// it can't be read, printing fails.
+    // Reads the type of an index, which is needed, and begins an id in which that index alone is open. Where
+    // it can't be read, printing fails.
     pub(crate) fn enter_alone(
         &mut self,
         module_index: usize,
         progress: &mut Progress<'_>,
         index: TypeIndex,
     ) -> Result<Option<&'a TypeData>, AllocError>
-        requires well { progress.old.failure ≡ None }
+        requires no_failure { progress.old.failure ≡ None }
         ensures later { IsLater P.info module_index self.old self.new }
         ensures entered { IfOk result (λ found.
             EnteredAlone (formatter_inputs P.info self.old.type_inputs module_index) index.0

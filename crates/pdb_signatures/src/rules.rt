@@ -1,3 +1,5 @@
+//! Prints types by their kinds, each of them one step deep.
+
 ghost use Rattle.std.specs.Prelude.{◌≡◌, ◌∷◌, [], codes, if◌then◌else◌, OnOk};
 ghost use Rattle.pdb_records.specs.declared.types.TypeData.TheVariants.{MemberFunction, Procedure, Array};
 ghost use Rattle.pdb_documents.specs.Progress.{open_in};
@@ -20,7 +22,7 @@ use pdb_types::TypeFormatterFlags;
 use std::alloc::AllocError;
 use std::collections::BTreeSet;
 
-/// A name, with the word that it was declared with before it, unless names stand alone.
+// A name, with the word that it was declared with before it, unless names stand alone.
 fn declared<'s>(
     progress: &mut Progress<'s>,
     word: &'static str,
@@ -32,7 +34,7 @@ fn declared<'s>(
     progress.first(Task::Written(Wording::Declared(word, name)))
 }
 
-/// A method: what it returns where that is wanted, and its arguments.
+// A method: what it returns where that is wanted, and its arguments.
 fn method<'s>(
     progress: &mut Progress<'s>,
     flags: TypeFormatterFlags,
@@ -47,7 +49,7 @@ fn method<'s>(
     progress.first(Task::Returned(return_type))
 }
 
-/// A procedure: what it returns where that is wanted, and its arguments, with no parenthesis behind them.
+// A procedure: what it returns where that is wanted, and its arguments, with no parenthesis behind them.
 fn procedure<'s>(
     progress: &mut Progress<'s>,
     flags: TypeFormatterFlags,
@@ -62,7 +64,7 @@ fn procedure<'s>(
     progress.first(Task::Returned(return_type))
 }
 
-/// A pointer, constant where it says so or `constant` does: a chain of pointers begins.
+// A pointer, constant where it says so or `constant` does: a chain of pointers begins.
 pub(crate) fn pointer(
     progress: &mut Progress<'_>,
     p: &PointerType,
@@ -77,7 +79,7 @@ pub(crate) fn pointer(
     progress.first(Task::Chain(attributes, p.underlying_type))
 }
 
-/// An array: its levels and elements begin.
+// An array: its levels and elements begin.
 fn array(progress: &mut Progress<'_>, a: &ArrayType) -> Result<(), AllocError>
     ensures { OnOk result ((w : PrintInputs)
         → Stands w 0 (by_kind w (open_in progress.old.steps) (Array a.now)) progress.old progress.new) }
@@ -88,14 +90,14 @@ fn array(progress: &mut Progress<'_>, a: &ArrayType) -> Result<(), AllocError>
     progress.first(Task::Elements(elements, levels, a.element_type))
 }
 
-/// The word before a type that is constant.
+// The word before a type that is constant.
 fn const_word(constant: bool) -> &'static str
     ensures { result.now ≡ (if constant then codes "const " else []) }
 {
     if constant { "const " } else { "" }
 }
 
-/// The target of a modifier, constant or not.
+// The target of a modifier, constant or not.
 pub(crate) fn modified<'s>(
     progress: &mut Progress<'s>,
     constant: bool,
@@ -114,7 +116,7 @@ pub(crate) fn modified<'s>(
     }
 }
 
-/// A type, by its kind.
+// A type, by its kind.
 pub(crate) fn by_kind<'s>(
     progress: &mut Progress<'s>,
     flags: TypeFormatterFlags,

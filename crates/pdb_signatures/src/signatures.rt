@@ -1,3 +1,5 @@
+//! Prints the signatures of functions: their names within what their types say.
+
 ghost use Rattle.std.specs.Prelude.{◌≡◌, OnOk, IfOk, string_bytes};
 ghost use Rattle.pdb_records.specs.declared.types.TypeData.TheVariants.{MemberFunction, Procedure};
 ghost use Rattle.pdb_documents.specs.Printed.{signature_run};
@@ -17,7 +19,7 @@ use pdb_records::{MemberFunctionType, ProcedureType, TypeData, TypeIndex};
 use pdb_types::{ModuleProvider, TypeFormatterFlags};
 use std::alloc::AllocError;
 
-/// The signature of a method with this name.
+// The signature of a method with this name.
 fn method<'s>(
     progress: &mut Progress<'s>,
     flags: TypeFormatterFlags,
@@ -35,7 +37,7 @@ fn method<'s>(
     progress.first(Task::Written(Wording::Text(static_word(flags, m.this_pointer_type))))
 }
 
-/// The signature of a procedure with this name.
+// The signature of a procedure with this name.
 fn procedure<'s>(
     progress: &mut Progress<'s>,
     flags: TypeFormatterFlags,
@@ -52,7 +54,7 @@ fn procedure<'s>(
     progress.first(Task::Returned(return_type))
 }
 
-/// The signature of a function with this name and type. Where the type is no function's, the name as it is.
+// The signature of a function with this name and type. Where the type is no function's, the name as it is.
 fn by_type<'s>(
     progress: &mut Progress<'s>,
     flags: TypeFormatterFlags,
@@ -71,8 +73,8 @@ fn by_type<'s>(
 }
 
 impl<'a, P: ModuleProvider> TypeFormatter<'a, P> {
-    /// Puts the signature of a function first, with this name and the type of this index. Index 0 is no
-    /// type, and then the name stands alone.
+    // Puts the signature of a function first, with this name and the type of this index. Index 0 is no
+    // type, and then the name stands alone.
     fn signature<'s>(
         &mut self,
         module_index: usize,
@@ -101,8 +103,8 @@ impl<'a, P: ModuleProvider> TypeFormatter<'a, P> {
         }
     }
 
-    /// Prints the signature of a function with this name, and the type of this index as the module at a
-    /// module index writes it.
+    // Prints the signature of a function with this name, and the type of this index as the module at a
+    // module index writes it.
     pub(crate) fn print_function(
         &mut self,
         name: &str,

@@ -1,10 +1,12 @@
+//! The loop of printing: each turn prints a task, or puts the tasks first that it is made of.
+
 ghost use Rattle.std.specs.Prelude.{◌≡◌, None, Ok, OnOk, reverse};
 ghost use Rattle.pdb_types.specs.FailedParts.{Parts};
 ghost use Rattle.pdb_documents.specs.Plans.{Index, OfType, Chain, BehindModifier, Modified, Later};
 ghost use Rattle.pdb_documents.specs.Progress.{open_in, task_plan, stage_run};
 ghost use Rattle.pdb_documents.specs.PrintInputs.{PrintInputs, formatter_inputs};
 ghost use Rattle.pdb_signatures.specs.Formatters.{IsLater};
-ghost use Rattle.pdb_signatures.specs.PendingPlans.{Advances, Ends, frames};
+ghost use Rattle.pdb_signatures.specs.PendingPlans.{Advances, Ends, plans};
 
 use crate::functions::{function_arguments, further_types, returned, types_between};
 use crate::ids::scope;
@@ -18,13 +20,13 @@ use pdb_records::{ModifierType, TypeData, TypeIndex};
 use pdb_types::{ModuleProvider, TypeFormatterFlags};
 use std::alloc::AllocError;
 
-/// The type of an index that was read: it is printed while the index is open.
+// The type of an index that was read: it is printed while the index is open.
 fn index_read<'s>(
     progress: &mut Progress<'s>,
     index: TypeIndex,
     type_data: &'s TypeData,
 ) -> Result<(), AllocError>
-    requires well { progress.old.failure ≡ None }
+    requires no_failure { progress.old.failure ≡ None }
     ensures { OnOk result ((w : PrintInputs) → w.read index.0 ≡ Ok type_data.now → (failed : Parts)
         → Advances w (Later (open_in progress.old.steps) (Index index.0)) 1
         progress.old failed progress.new failed) }
@@ -35,13 +37,13 @@ fn index_read<'s>(
     progress.first(Task::OfType(type_data))
 }
 
-/// A type: what is printed of its kind, and a note where a type is missing in it.
+// A type: what is printed of its kind, and a note where a type is missing in it.
 pub(crate) fn of_type<'s>(
     progress: &mut Progress<'s>,
     flags: TypeFormatterFlags,
     type_data: &'s TypeData,
 ) -> Result<(), AllocError>
-    requires well { progress.old.failure ≡ None }
+    requires no_failure { progress.old.failure ≡ None }
     ensures { OnOk result ((w : PrintInputs) → w.flags ≡ flags → (failed : Parts)
         → Advances w (Later (open_in progress.old.steps) (OfType type_data.now)) 1
         progress.old failed progress.new failed) }
@@ -51,7 +53,7 @@ pub(crate) fn of_type<'s>(
 }
 
 impl<'a, P: ModuleProvider> TypeFormatter<'a, P> {
-    /// The type of an index.
+    // The type of an index.
     pub(crate) fn index<'s>(
         &mut self,
         module_index: usize,
@@ -60,7 +62,7 @@ impl<'a, P: ModuleProvider> TypeFormatter<'a, P> {
     ) -> Result<(), AllocError>
     where
         'a: 's,
-        requires well { progress.old.failure ≡ None }
+        requires no_failure { progress.old.failure ≡ None }
         ensures later { IsLater P.info module_index self.old self.new }
         ensures advances { OnOk result
             (Advances (formatter_inputs P.info self.old.type_inputs module_index)
@@ -73,7 +75,7 @@ impl<'a, P: ModuleProvider> TypeFormatter<'a, P> {
         }
     }
 
-    /// A chain of pointers to the type of an index.
+    // A chain of pointers to the type of an index.
     pub(crate) fn chain<'s>(
         &mut self,
         module_index: usize,
@@ -83,7 +85,7 @@ impl<'a, P: ModuleProvider> TypeFormatter<'a, P> {
     ) -> Result<(), AllocError>
     where
         'a: 's,
-        requires well { progress.old.failure ≡ None }
+        requires no_failure { progress.old.failure ≡ None }
         ensures later { IsLater P.info module_index self.old self.new }
         ensures advances { OnOk result
             (Advances (formatter_inputs P.info self.old.type_inputs module_index)
@@ -96,7 +98,7 @@ impl<'a, P: ModuleProvider> TypeFormatter<'a, P> {
         }
     }
 
-    /// A chain of pointers with a modifier between them and the type of an index.
+    // A chain of pointers with a modifier between them and the type of an index.
     pub(crate) fn behind_modifier<'s>(
         &mut self,
         module_index: usize,
@@ -106,7 +108,7 @@ impl<'a, P: ModuleProvider> TypeFormatter<'a, P> {
     ) -> Result<(), AllocError>
     where
         'a: 's,
-        requires well { progress.old.failure ≡ None }
+        requires no_failure { progress.old.failure ≡ None }
         ensures later { IsLater P.info module_index self.old self.new }
         ensures advances { OnOk result
             (Advances (formatter_inputs P.info self.old.type_inputs module_index)
@@ -119,7 +121,7 @@ impl<'a, P: ModuleProvider> TypeFormatter<'a, P> {
         }
     }
 
-    /// The target of a modifier.
+    // The target of a modifier.
     pub(crate) fn modified<'s>(
         &mut self,
         module_index: usize,
@@ -128,7 +130,7 @@ impl<'a, P: ModuleProvider> TypeFormatter<'a, P> {
     ) -> Result<(), AllocError>
     where
         'a: 's,
-        requires well { progress.old.failure ≡ None }
+        requires no_failure { progress.old.failure ≡ None }
         ensures later { IsLater P.info module_index self.old self.new }
         ensures advances { OnOk result
             (Advances (formatter_inputs P.info self.old.type_inputs module_index)
@@ -141,7 +143,7 @@ impl<'a, P: ModuleProvider> TypeFormatter<'a, P> {
         }
     }
 
-    /// One turn: prints a task, or puts what is printed of it first.
+    // One turn: prints a task, or puts what is printed of it first.
     fn turn<'s>(
         &mut self,
         module_index: usize,
@@ -150,7 +152,7 @@ impl<'a, P: ModuleProvider> TypeFormatter<'a, P> {
     ) -> Result<(), AllocError>
     where
         'a: 's,
-        requires well { progress.old.failure ≡ None }
+        requires no_failure { progress.old.failure ≡ None }
         ensures later { IsLater P.info module_index self.old self.new }
         ensures advances { OnOk result
             (let w = formatter_inputs P.info self.old.type_inputs module_index in
@@ -196,7 +198,7 @@ impl<'a, P: ModuleProvider> TypeFormatter<'a, P> {
         }
     }
 
-    /// Prints until nothing is left to be done.
+    // Prints until nothing is left to be done.
     pub(crate) fn print<'s>(
         &mut self,
         module_index: usize,
@@ -207,7 +209,7 @@ impl<'a, P: ModuleProvider> TypeFormatter<'a, P> {
         ensures later { IsLater P.info module_index self.old self.new }
         ensures ends { OnOk result
             (let w = formatter_inputs P.info self.old.type_inputs module_index in
-            Ends w (frames w progress.old.steps) (stage_run progress.old self.old.failed)
+            Ends w (plans w progress.old.steps) (stage_run progress.old self.old.failed)
             (stage_run progress.new self.new.failed)) }
     {
         'turns: loop {

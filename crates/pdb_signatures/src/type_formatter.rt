@@ -1,3 +1,5 @@
+//! `TypeFormatter`: the sizes of types, and the signatures of functions and ids as text.
+
 ghost use Rattle.std.specs.Prelude.{◌≡◌, [], IfOk, OnOk, OnErr, MatchResult};
 ghost use Rattle.std.specs.Option.{option_copied};
 ghost use Rattle.pdb_types.specs.declared.error.Error.TheVariants.{OutOfMemory};
@@ -64,7 +66,7 @@ impl<'a, P: ModuleProvider> TypeFormatter<'a, P> {
         string_table: Option<&'a StringTable>,
         flags: TypeFormatterFlags,
     ) -> Result<Self>
-        ensures pointer { Gives (λ f. f.type_inputs.pointer_size) result
+        ensures pointer_size { Gives (λ f. f.type_inputs.pointer_size) result
             (program_pointer_size debug_information.now.machine_type) }
         ensures type_inputs { IfOk result (λ f. f.type_inputs ≡ record {
           provider = provider.now;
@@ -75,7 +77,7 @@ impl<'a, P: ModuleProvider> TypeFormatter<'a, P> {
           ids = id_information.now.items;
           flags = flags;
         }) }
-        ensures none_failed { IfOk result (λ f. f.failed ≡ []) }
+        ensures failed { IfOk result (λ f. f.failed ≡ []) }
     {
         let type_inputs = TypeInputs::new(
             alloc,
@@ -106,15 +108,15 @@ impl<'a, P: ModuleProvider> TypeFormatter<'a, P> {
     ///
     /// # Errors
     ///
-    /// [`Error::OutOfMemory`](crate::Error::OutOfMemory) alone. The formatter is then as it was before.
+    /// Answers `OutOfMemory` where memory runs out. The formatter is then as it was before.
     pub fn get_type_size(&mut self, module_index: usize, index: TypeIndex) -> Result<u64>
-        ensures size { MatchResult result
+        ensures answer { MatchResult result
             (λ size. size ≡ (size_of P.info self.old.type_inputs module_index index.0).size)
             (λ e. e ≡ OutOfMemory) }
         ensures type_inputs { self.new.type_inputs ≡ self.old.type_inputs }
-        ensures remembered { OnOk result (self.new.failed ≡
+        ensures failed { OnOk result (self.new.failed ≡
             with_met self.old.failed (size_of P.info self.old.type_inputs module_index index.0).met) }
-        ensures unchanged { OnErr result (self.new.failed ≡ self.old.failed) }
+        ensures unchanged_if_refused { OnErr result (self.new.failed ≡ self.old.failed) }
     {
         let found = self
             .type_inputs
@@ -222,7 +224,7 @@ impl<'a, P: ModuleProvider> TypeFormatter<'a, P> {
         write_printed(writer, printed)
     }
 
-    /// Where memory comes from.
+    // Where memory comes from.
     pub(crate) fn allocator(&self) -> Global {
         self.type_inputs.allocator()
     }

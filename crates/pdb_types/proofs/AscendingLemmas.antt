@@ -121,9 +121,9 @@ module _ {T : Type 0} (number_of : T → ℕ) where
       ∙ ap (λ found. cond found (Some entry) None) here)
 
   -- the first entry of all is that of those at the beginning, else that of the others
-  pub first_parts : (entries : List T) (i number : ℕ) → first_numbered number_of number entries
+  pub first_split : (entries : List T) (i number : ℕ) → first_numbered number_of number entries
       ≡ option_or (first_numbered number_of number (take i entries)) (first_numbered number_of number (drop i entries))
-  first_parts entries i number =
+  first_split entries i number =
       let test : T → Bool = λ x. nat_eq (number_of x) number in
       ap (λ xs. find test xs) (sym (take-append-drop i entries)) ∙ find-append test (take i entries) (drop i entries)
 
@@ -132,7 +132,7 @@ module _ {T : Type 0} (number_of : T → ℕ) where
       → first_numbered number_of number (take i entries) ≡ Some entry
       → first_numbered number_of number entries ≡ Some entry
   first_take entries i number entry found =
-      first_parts entries i number ∙ ap (λ o. option_or o (first_numbered number_of number (drop i entries))) found
+      first_split entries i number ∙ ap (λ o. option_or o (first_numbered number_of number (drop i entries))) found
 
   -- no entries ascend
   pub ascends_none : Ascends number_of []

@@ -9,7 +9,7 @@ use Rattle.std.specs.Ordering.{nat_cmp, is_eq}
 use Rattle.std.specs.Map.{lookup}
 use Rattle.pdb_types.specs.Ascending.{first_numbered}
 use Rattle.pdb_types.specs.CachedEntries.{Knows}
-use Rattle.pdb_types.proofs.AscendingLemmas.{first_more, first_take, first_parts}
+use Rattle.pdb_types.proofs.AscendingLemmas.{first_more, first_take, first_split}
 
 -- what a map has under a number
 abbrev pub known_under : {T : Type 0} → BTreeMap ℕ (Bor T) → ℕ → Option T
@@ -19,7 +19,7 @@ known_under known number = option_map (λ entry. entry.now) (get nat_cmp known n
 pub record HasRead {T : Type 0} (number_of : T → ℕ) (entries : List T) (i : ℕ)
     (known : BTreeMap ℕ (Bor T)) : Type 0 where
   pub within : i ≤ length entries
-  pub indexed : Knows number_of (take i entries) known
+  pub knows : Knows number_of (take i entries) known
 
 -- entries that have numbers
 module _ {T : Type 0} (number_of : T → ℕ) where
@@ -66,15 +66,15 @@ module _ {T : Type 0} (number_of : T → ℕ) where
   pub has_read : (entries : List T) (old new i : ℕ) (known : BTreeMap ℕ (Bor T)) → (0 < i → new ≡ old)
       → i ≤ length (drop old entries) → Knows number_of (take i (drop old entries)) known
       → HasRead number_of (drop new entries) i known
-  has_read entries old new zero known stays within knew = record { within = omega arith; indexed = knew }
+  has_read entries old new zero known stays within knew = record { within = omega arith; knows = knew }
   has_read entries old new (suc i) known stays within knew =
-      let same : new ≡ old = stays (omega arith) in rw same (record { within = within; indexed = knew })
+      let same : new ≡ old = stays (omega arith) in rw same (record { within = within; knows = knew })
 
   -- what is first behind a beginning that lacks the number is first in all
   pub first_behind : (entries : List T) (i number : ℕ) → None ≡ first_numbered number_of number (take i entries)
       → first_numbered number_of number (drop i entries) ≡ first_numbered number_of number entries
   first_behind entries i number absent =
-      sym (first_parts number_of entries i number
+      sym (first_split number_of entries i number
       ∙ ap (λ o. option_or o (first_numbered number_of number (drop i entries))) (sym absent))
 
   -- so is what a map has that knows the entries behind it

@@ -104,16 +104,16 @@ keys_along-among next key keys (suc steps) index size ends among q here =
 keys_along-apart : (next : ℕ → Step) (key : ℕ → ℕ) → KeysDetermine next key → (far first : ℕ) (end : TypeSize)
     → EndsWith next (suc far) first end → (steps index : ℕ) (size : TypeSize) (ends : EndsWith next steps index size)
     → steps ≤ far → AllByRecursion (λ q. eqb (key first) q ≡ false) (keys_along next key steps index size ends)
-keys_along-apart next key report far first end long zero index size ends within = tt
-keys_along-apart next key report far first end long (suc steps) index size ends within = (
+keys_along-apart next key determine far first end long zero index size ends within = tt
+keys_along-apart next key determine far first end long (suc steps) index size ends within = (
   by_test (eqb (key first) (key index)) refl,
-  keys_along-apart next key report far first end long steps ends.0.0 size ends.2 (omega arith),
+  keys_along-apart next key determine far first end long steps ends.0.0 size ends.2 (omega arith),
 ) where
   by_test : (t : Bool) → eqb (key first) (key index) ≡ t → t ≡ false
   by_test false other = refl
   by_test true same =
       let e : next first ≡ next index =
-      report first index long.0 ends.0 long.1 ends.1 (eqb-true (key first) (key index) same) in
+      determine first index long.0 ends.0 long.1 ends.1 (eqb-true (key first) (key index) same) in
       let equal : suc far ≡ suc steps = steps_to_end next (suc far) (suc steps) index end size
       (long.0, sym e ∙ long.1, long.2) ends in
       absurd (omega arith)
@@ -123,19 +123,19 @@ keys_along-distinct : (next : ℕ → Step) (key : ℕ → ℕ) → KeysDetermin
     → (steps index : ℕ) (size : TypeSize) (ends : EndsWith next steps index size)
     → IsDistinct eqb (keys_along next key steps index size ends)
 unfolding IsDistinct
-keys_along-distinct next key report zero index size ends = tt
-keys_along-distinct next key report (suc steps) index size ends = (
-  keys_along-apart next key report steps index size ends steps ends.0.0 size ends.2 (omega arith),
-  keys_along-distinct next key report steps ends.0.0 size ends.2,
+keys_along-distinct next key determine zero index size ends = tt
+keys_along-distinct next key determine (suc steps) index size ends = (
+  keys_along-apart next key determine steps index size ends steps ends.0.0 size ends.2 (omega arith),
+  keys_along-distinct next key determine steps ends.0.0 size ends.2,
 )
 
 -- a chain that ends has no more steps than there are keys
 steps-le_keys : (next : ℕ → Step) (key : ℕ → ℕ) (keys : List ℕ) → KeysDetermine next key → KeysAmong next key keys
     → (steps index : ℕ) (size : TypeSize) → EndsWith next steps index size → steps ≤ length keys
-steps-le_keys next key keys report among steps index size ends =
+steps-le_keys next key keys determine among steps index size ends =
     subst (λ (n : ℕ). n ≤ length keys) (length-keys_along next key steps index size ends)
     (length-le_from_is_member nat_eq_equiv (keys_along next key steps index size ends) keys
-    (keys_along-distinct next key report steps index size ends)
+    (keys_along-distinct next key determine steps index size ends)
     (keys_along-among next key keys steps index size ends among))
 
 -- the numbers of entries
@@ -177,93 +177,93 @@ follows-entry types pointer (Ok number) further on =
 
 -- an index of 32 bits goes on as what it stands for does; others don't go on
 abbrev follows_within : LinkInputs → Read (Item TypeIndex TypeData) → ℕ → ℕ → ℕ → Bool → Step
-follows_within w types pointer module_index index within =
+follows_within link types pointer module_index index within =
     step_after pointer types.items
-    (cond within (and_then (resolved w module_index index)
+    (cond within (and_then (resolved link module_index index)
     (λ number. and_then (entry (λ i. i.0) types number) (λ content. Ok (number, content)))) (Err (Missing index)))
 
 -- an index that goes on goes on as what it stands for does
-step-follows : (w : LinkInputs) (types : Read (Item TypeIndex TypeData)) (pointer module_index index : ℕ)
-    (further : TypeIndex) → step w types pointer module_index index ≡ Next further
-    → step w types pointer module_index index ≡ follows types pointer (resolved w module_index index)
-step-follows w types pointer module_index index further on =
-    (elim (nat_lt index (2 ^ 32)) as (λ b. follows_within w types pointer module_index index b ≡ Next further
-    → follows_within w types pointer module_index index b ≡ follows types pointer (resolved w module_index index))
+step-follows : (link : LinkInputs) (types : Read (Item TypeIndex TypeData)) (pointer module_index index : ℕ)
+    (further : TypeIndex) → step link types pointer module_index index ≡ Next further
+    → step link types pointer module_index index ≡ follows types pointer (resolved link module_index index)
+step-follows link types pointer module_index index further on =
+    (elim (nat_lt index (2 ^ 32)) as (λ b. follows_within link types pointer module_index index b ≡ Next further
+    → follows_within link types pointer module_index index b ≡ follows types pointer (resolved link module_index index))
     [ true ↦ λ e. refl | false ↦ λ e. cc ]) on
 
 -- only an index of 32 bits goes on
-pub step-below : (w : LinkInputs) (types : Read (Item TypeIndex TypeData)) (pointer module_index index : ℕ)
-    (further : TypeIndex) → step w types pointer module_index index ≡ Next further → index < 2 ^ 32
-step-below w types pointer module_index index further on =
+pub step-below : (link : LinkInputs) (types : Read (Item TypeIndex TypeData)) (pointer module_index index : ℕ)
+    (further : TypeIndex) → step link types pointer module_index index ≡ Next further → index < 2 ^ 32
+step-below link types pointer module_index index further on =
     (elim (nat_lt index (2 ^ 32)) as (λ b. nat_lt index (2 ^ 32) ≡ b
-    → follows_within w types pointer module_index index b ≡ Next further
+    → follows_within link types pointer module_index index b ≡ Next further
     → index < 2 ^ 32) [ true ↦ λ e _. ltb-true index (2 ^ 32) e | false ↦ λ _ e. cc ]) refl on
 
 -- the number that an index stands for, where it stands for one
 abbrev number_of : LinkInputs → ℕ → ℕ → ℕ
-number_of w module_index index = result_unwrap_or (resolved w module_index index) 0
+number_of link module_index index = result_unwrap_or (resolved link module_index index) 0
 
 -- the numbers of the indices that go on are those of entries
-numbers_among : (w : LinkInputs) (types : Read (Item TypeIndex TypeData)) (pointer module_index : ℕ)
-    → KeysAmong (step w types pointer module_index) (number_of w module_index) (numbers types.items)
-numbers_among w types pointer module_index index further on =
-    let entry = follows-entry types pointer (resolved w module_index index) further
-    (sym (step-follows w types pointer module_index index further on) ∙ on) in rw entry.1 entry.2
+numbers_among : (link : LinkInputs) (types : Read (Item TypeIndex TypeData)) (pointer module_index : ℕ)
+    → KeysAmong (step link types pointer module_index) (number_of link module_index) (numbers types.items)
+numbers_among link types pointer module_index index further on =
+    let entry = follows-entry types pointer (resolved link module_index index) further
+    (sym (step-follows link types pointer module_index index further on) ∙ on) in rw entry.1 entry.2
 
 -- of the indices that go on, those that stand for the same number are followed by the same
-numbers_determine : (w : LinkInputs) (types : Read (Item TypeIndex TypeData)) (pointer module_index : ℕ)
-    → KeysDetermine (step w types pointer module_index) (number_of w module_index)
-numbers_determine w types pointer module_index i j further other on onward same =
-    let on_entry = step-follows w types pointer module_index i further on in
-    let next_entry = step-follows w types pointer module_index j other onward in
-    let entry = follows-entry types pointer (resolved w module_index i) further (sym on_entry ∙ on) in
-    let next = follows-entry types pointer (resolved w module_index j) other (sym next_entry ∙ onward) in
+numbers_determine : (link : LinkInputs) (types : Read (Item TypeIndex TypeData)) (pointer module_index : ℕ)
+    → KeysDetermine (step link types pointer module_index) (number_of link module_index)
+numbers_determine link types pointer module_index i j further other on onward same =
+    let on_entry = step-follows link types pointer module_index i further on in
+    let next_entry = step-follows link types pointer module_index j other onward in
+    let entry = follows-entry types pointer (resolved link module_index i) further (sym on_entry ∙ on) in
+    let next = follows-entry types pointer (resolved link module_index j) other (sym next_entry ∙ onward) in
     let equal : entry.0 ≡ next.0 = rw (entry.1, next.1) at same in
     on_entry ∙ (ap (follows types pointer) (entry.1 ∙ (ap (λ n. Ok n) equal ∙ sym next.1)) ∙ sym next_entry)
 
 -- a chain that ends has no more steps than there are entries
-pub steps_within : (w : LinkInputs) (types : Read (Item TypeIndex TypeData)) (pointer module_index index steps : ℕ)
-    (size : TypeSize) → EndsWith (step w types pointer module_index) steps index size → steps ≤ length types.items
-steps_within w types pointer module_index index steps size ends =
-    let next = step w types pointer module_index in
-    let within = steps-le_keys next (number_of w module_index) (numbers types.items)
-    (numbers_determine w types pointer module_index)
-    (numbers_among w types pointer module_index) steps index size ends in
+pub steps_within : (link : LinkInputs) (types : Read (Item TypeIndex TypeData)) (pointer module_index index steps : ℕ)
+    (size : TypeSize) → EndsWith (step link types pointer module_index) steps index size → steps ≤ length types.items
+steps_within link types pointer module_index index steps size ends =
+    let next = step link types pointer module_index in
+    let within = steps-le_keys next (number_of link module_index) (numbers types.items)
+    (numbers_determine link types pointer module_index)
+    (numbers_among link types pointer module_index) steps index size ends in
     subst (λ (n : ℕ). steps ≤ n) (length-map types.items (λ item. item.index.0)) within
 
 -- however many steps a chain has, where it ends, the size at its end is the type's
-pub type_size-at_end : (w : LinkInputs) (types : Read (Item TypeIndex TypeData))
+pub type_size-at_end : (link : LinkInputs) (types : Read (Item TypeIndex TypeData))
     (pointer module_index index steps : ℕ) (size : TypeSize)
-    → EndsWith (step w types pointer module_index) steps index size
-    → type_size w types pointer module_index index ≡ size
+    → EndsWith (step link types pointer module_index) steps index size
+    → type_size link types pointer module_index index ≡ size
 unfolding type_size
-type_size-at_end w types pointer module_index index steps size ends =
-    size_along-within (step w types pointer module_index) (length types.items) steps index size
-    (steps_within w types pointer module_index index steps size ends) ends
+type_size-at_end link types pointer module_index index steps size ends =
+    size_along-within (step link types pointer module_index) (length types.items) steps index size
+    (steps_within link types pointer module_index index steps size ends) ends
 
 -- where a chain never ends, the type has no size
-pub type_size-never : (w : LinkInputs) (types : Read (Item TypeIndex TypeData)) (pointer module_index index : ℕ)
-    → NeverEnds (step w types pointer module_index) index → type_size w types pointer module_index index ≡ no_size
+pub type_size-never : (link : LinkInputs) (types : Read (Item TypeIndex TypeData)) (pointer module_index index : ℕ)
+    → NeverEnds (step link types pointer module_index) index → type_size link types pointer module_index index ≡ no_size
 unfolding type_size
-type_size-never w types pointer module_index index never =
-    size_along-never (step w types pointer module_index) (length types.items) index never
+type_size-never link types pointer module_index index never =
+    size_along-never (step link types pointer module_index) (length types.items) index never
 
 -- a chain ends, or not within so many steps
 abbrev pub EndsOrNot : (ℕ → Step) → ℕ → ℕ → Type 0
 EndsOrNot next steps index = ((k : ℕ) × (size : TypeSize) × EndsWith next k index size) ⊎ ((k : ℕ) (size : TypeSize)
     → EndsWith next k index size → steps < k)
 
--- a chain that goes on ends or not as the one behind it
+-- a chain that goes on ends or not as the one after it
 ends_or_not-onward : (next : ℕ → Step) (steps index : ℕ) (further : TypeIndex) → next index ≡ Next further
     → EndsOrNot next steps further.0 → EndsOrNot next (suc steps) index
 ends_or_not-onward next steps index further is (inl (k, size, ends)) = inl (suc k, size, (further, is, ends))
-ends_or_not-onward next steps index further is (inr behind) = inr longer where
+ends_or_not-onward next steps index further is (inr after) = inr longer where
   longer : (k : ℕ) (size : TypeSize) → EndsWith next k index size → suc steps < k
   longer zero size ends = let e : Ended size ≡ Next further = sym ends ∙ is in cc
   longer (suc k) size ends =
       let e : Next ends.0 ≡ Next further = sym ends.1 ∙ is in
       let same : ends.0 ≡ further = cc in
-      let less : steps < k = behind k size (subst (λ (f : TypeIndex). EndsWith next k f.0 size) same ends.2) in
+      let less : steps < k = after k size (subst (λ (f : TypeIndex). EndsWith next k f.0 size) same ends.2) in
       omega arith
 
 -- whether a chain ends within so many steps can be answered
@@ -279,5 +279,5 @@ ends_or_not next zero index = by_step (next index) refl where
   by_step (Next further) is = inr (longer further is)
 ends_or_not next (suc steps) index = by_step (next index) refl (λ i. ends_or_not next steps i) where
   by_step : (s : Step) → next index ≡ s → ((i : ℕ) → EndsOrNot next steps i) → EndsOrNot next (suc steps) index
-  by_step (Ended size) is behind = inl (zero, size, is)
-  by_step (Next further) is behind = ends_or_not-onward next steps index further is (behind further.0)
+  by_step (Ended size) is after = inl (zero, size, is)
+  by_step (Next further) is after = ends_or_not-onward next steps index further is (after further.0)

@@ -50,12 +50,12 @@ tabulates_nothing sizes empty number = ap (λ es. lookup (λ k. is_eq (nat_cmp n
 
 -- a map that takes up an entry before those that it has the definitions of has its definition too
 pub defines_more : (behind : List (Item TypeIndex TypeData)) (item : Item TypeIndex TypeData)
-    (error_view : Option Aggregate) (old new : BTreeMap (Bor (List ℕ)) ℕ) → error_view ≡ item_aggregate item
+    (found_aggregate : Option Aggregate) (old new : BTreeMap (Bor (List ℕ)) ℕ) → found_aggregate ≡ item_aggregate item
     → Defines behind old → ((name : List ℕ)
-    → size_under new name ≡ option_or (option_and_then (size_for name) error_view) (size_under old name))
+    → size_under new name ≡ option_or (option_and_then (size_for name) found_aggregate) (size_under old name))
     → Defines (item ∷ behind) new
 unfolding Defines
-defines_more behind item error_view old new is defined step name =
+defines_more behind item found_aggregate old new is defined step name =
     step name ∙ (ap (λ t. option_or (option_and_then (size_for name) t) (size_under old name)) is ∙ ap
     (λ size. option_or (definition_size name item) size) (defined name))
 
@@ -83,15 +83,17 @@ forward_size-first number item behind =
 
 -- a table that takes up an entry before those that it has the answers of has its answer too
 pub tabulates_more : (behind : List (Item TypeIndex TypeData)) (item : Item TypeIndex TypeData) (number : ℕ)
-    (error_view : Option Aggregate) (size : Option ℕ) (by_name : BTreeMap (Bor (List ℕ)) ℕ) (old new : BTreeMap ℕ ℕ)
-    → number ≡ item.index.0 → error_view ≡ item_aggregate item
-    → size ≡ option_and_then (size_under by_name) (option_and_then referred_name error_view) → Defines behind by_name
+    (found_aggregate : Option Aggregate) (size : Option ℕ) (by_name : BTreeMap (Bor (List ℕ)) ℕ)
+    (old new : BTreeMap ℕ ℕ)
+    → number ≡ item.index.0 → found_aggregate ≡ item_aggregate item
+    → size ≡ option_and_then (size_under by_name) (option_and_then referred_name found_aggregate)
+    → Defines behind by_name
     → Tabulates behind old → ((n : ℕ) → get nat_cmp new n ≡ cond (nat_eq number n) size (get nat_cmp old n))
     → Tabulates (item ∷ behind) new
 unfolding Tabulates
-tabulates_more behind item number error_view size by_name old new same is answers defined tabulated step n =
+tabulates_more behind item number found_aggregate size by_name old new same is answers defined tabulated step n =
     let own : size ≡ forward_size_among behind item =
-    answers ∙ (forward_size_among-by_name behind by_name defined (option_and_then referred_name error_view) ∙ ap
+    answers ∙ (forward_size_among-by_name behind by_name defined (option_and_then referred_name found_aggregate) ∙ ap
     (λ t. option_and_then (λ name. first_definition name behind) (option_and_then referred_name t)) is) in
     step n ∙ (ap (λ m. cond (nat_eq m n) size (get nat_cmp old n)) same ∙
     (ap (λ s. cond (nat_eq (item.index.0) n) s (get nat_cmp old n)) own ∙
@@ -108,34 +110,34 @@ entries_behind-absent number (item ∷ items) absent =
     [ true ↦ λ e. cc | false ↦ λ e. entries_behind-absent number items e ]) absent
 
 -- the size behind an entry of the name that it goes by, where it is a forward reference
-forward_size-error_view : (number : ℕ) (a : Aggregate) (items : List (Item TypeIndex TypeData))
+forward_size-aggregate : (number : ℕ) (a : Aggregate) (items : List (Item TypeIndex TypeData))
     (found : Item TypeIndex TypeData)
     → first_item (λ index. index.0) number items ≡ Some found → item_aggregate found ≡ Some a
     → a.forward_reference ≡ true
     → forward_size number items ≡ size_behind number a.name items
-forward_size-error_view number a items found is error_view refers =
+forward_size-aggregate number a items found is is_aggregate refers =
     let sized : Option (List ℕ) → Option ℕ = option_and_then (λ name. size_behind number name items) in
     ap (λ o. sized (option_and_then entry_name o)) is
-    ∙ (ap (λ t. sized (option_and_then referred_name t)) error_view ∙ ap
+    ∙ (ap (λ t. sized (option_and_then referred_name t)) is_aggregate ∙ ap
     (λ b. sized (cond b (Some a.name) None)) refers)
 
 -- the size of a forward reference that was read is that behind it by its own name
 pub forward_size-read : (types : Read (Item TypeIndex TypeData)) (number : ℕ) (type : TypeData) (a : Aggregate)
     → entry (λ index. index.0) types number ≡ Ok type → aggregate type ≡ Some a → a.forward_reference ≡ true
     → forward_size number types.items ≡ size_behind number a.name types.items
-forward_size-read types number type a read error_view refers =
+forward_size-read types number type a read is_aggregate refers =
     by_found (first_item (λ index. index.0) number types.items) refl read where
       by_content : (item : Item TypeIndex TypeData) (content : Result TypeData records.Error) → item.content ≡ content
           → answered content ≡ Ok type → item_aggregate item ≡ Some a
       by_content item (Ok said) is e = let same : said ≡ type = cc in
-          ap (λ c. option_and_then aggregate (result_ok c)) is ∙ (ap aggregate same ∙ error_view)
+          ap (λ c. option_and_then aggregate (result_ok c)) is ∙ (ap aggregate same ∙ is_aggregate)
       by_content item (Err error) is e = cc
 
       by_found : (o : Option (Item TypeIndex TypeData)) → first_item (λ index. index.0) number types.items ≡ o
           → said types.fault number o ≡ Ok type
           → forward_size number types.items ≡ size_behind number a.name types.items
       by_found None is e = cc
-      by_found (Some item) is e = forward_size-error_view number a types.items item is
+      by_found (Some item) is e = forward_size-aggregate number a types.items item is
           (by_content item item.content refl e) refers
 
 -- what a table has under a number is the size behind its index
@@ -145,11 +147,12 @@ unfolding Tabulates
 forward_size-tabulated inside items n number sizes same is tabulated = rw (← same, ← is) (tabulated n)
 
 -- a forward reference has the size that was found behind it, else its own
-pub size_elsewhere-forward : (number own : ℕ) (items : List (Item TypeIndex TypeData)) (error_view : Option Aggregate)
-    (a : Aggregate) (size : Option ℕ) → error_view ≡ Some a → a.forward_reference ≡ true
+pub size_elsewhere-forward : (number own : ℕ) (items : List (Item TypeIndex TypeData))
+    (found_aggregate : Option Aggregate)
+    (a : Aggregate) (size : Option ℕ) → found_aggregate ≡ Some a → a.forward_reference ≡ true
     → size ≡ size_behind number a.name items
-    → unwrap_or size own ≡ unwrap_or (option_and_then (size_elsewhere number items) error_view) own
-size_elsewhere-forward number own items error_view a size is refers found =
+    → unwrap_or size own ≡ unwrap_or (option_and_then (size_elsewhere number items) found_aggregate) own
+size_elsewhere-forward number own items found_aggregate a size is refers found =
     ap (λ s. unwrap_or s own) (found ∙ sym
     (ap (option_and_then (size_elsewhere number items)) is ∙ ap
     (λ b. cond b (size_behind number a.name items) None) refers))

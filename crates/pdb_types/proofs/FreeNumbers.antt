@@ -33,9 +33,9 @@ free_lt (suc n) i old new below absent here more =
           let fewer =
           free_le n old new more in rw (was, is) (omega arith)
 
-      behind : free n new < free n old
+      below_last : free n new < free n old
           → cond (new n) (free n new) (suc (free n new)) < cond (old n) (free n old) (suc (free n old))
-      behind fewer =
+      below_last fewer =
           (elim (old n) as (λ b. old n ≡ b
           → cond (new n) (free n new) (suc (free n new)) < cond b (free n old) (suc (free n old))) [
             | true ↦ λ e. rw (more n e) fewer
@@ -46,4 +46,4 @@ free_lt (suc n) i old new below absent here more =
       by_position : (n ≡ i) ⊎ (n ≡ i → ⊥) → (i < n → free n new < free n old)
           → cond (new n) (free n new) (suc (free n new)) < cond (old n) (free n old) (suc (free n old))
       by_position (inl e) fewer = here_last e
-      by_position (inr other) fewer = behind (fewer (omega (arith, other)))
+      by_position (inr other) fewer = below_last (fewer (omega (arith, other)))

@@ -22,76 +22,77 @@ use Rattle.pdb_types.proofs.ChainLemmas.{steps_to_end, steps_within, EndsOrNot, 
 use Rattle.pdb_types.proofs.ChainLemmas.{type_size-never}
 
 -- a chain that leads to an index ends as that one does
-ends_behind : (next : ℕ → Step) (steps k index other : ℕ) (size : TypeSize) → Leads next steps index other
+ends_after : (next : ℕ → Step) (steps k index other : ℕ) (size : TypeSize) → Leads next steps index other
     → EndsWith next k index size → (rest : ℕ) × (steps + rest ≡ k) × EndsWith next rest other size
-ends_behind next zero k index other size leads ends =
+ends_after next zero k index other size leads ends =
     (k, omega arith, subst (λ (i : ℕ). EndsWith next k i size) leads ends)
-ends_behind next (suc steps) zero index other size leads ends = let e : Next leads.0 ≡ Ended size =
+ends_after next (suc steps) zero index other size leads ends = let e : Next leads.0 ≡ Ended size =
     sym leads.1 ∙ ends in cc
-ends_behind next (suc steps) (suc k) index other size leads ends =
+ends_after next (suc steps) (suc k) index other size leads ends =
     let e : Next ends.0 ≡ Next leads.0 = sym ends.1 ∙ leads.1 in
     let same : ends.0 ≡ leads.0 = cc in
-    let behind = ends_behind next steps k leads.0.0 other size leads.2
+    let after = ends_after next steps k leads.0.0 other size leads.2
     (subst (λ (f : TypeIndex). EndsWith next k f.0 size) same ends.2) in
-    (behind.0, omega (arith, behind.1), behind.2)
+    (after.0, omega (arith, after.1), after.2)
 
 -- a chain that comes back to its index never ends
 never_ends : (next : ℕ → Step) (steps index : ℕ) → Leads next (suc steps) index index → NeverEnds next index
 never_ends next steps index back k size ends =
-    let behind = ends_behind next (suc steps) k index index size back ends in
-    let equal : k ≡ behind.0 = steps_to_end next k behind.0 index size size ends behind.2 in
-    absurd (omega (arith, behind.1))
+    let after = ends_after next (suc steps) k index index size back ends in
+    let equal : k ≡ after.0 = steps_to_end next k after.0 index size size ends after.2 in
+    absurd (omega (arith, after.1))
 
 -- a chain that leads to one that never ends never ends
 never_before : (next : ℕ → Step) (steps index other : ℕ) → Leads next steps index other → NeverEnds next other
     → NeverEnds next index
 never_before next steps index other leads never k size ends =
-    let behind = ends_behind next steps k index other size leads ends in never behind.0 size behind.2
+    let after = ends_after next steps k index other size leads ends in never after.0 size after.2
 
 -- a chain that leads to one that ends has its end
 ends_before : (next : ℕ → Step) (steps k index other : ℕ) (size : TypeSize) → Leads next steps index other
     → EndsWith next k other size → (total : ℕ) × EndsWith next total index size
 ends_before next zero k index other size leads ends = (k, subst (λ (i : ℕ). EndsWith next k i size) (sym leads) ends)
 ends_before next (suc steps) k index other size leads ends =
-    let behind = ends_before next steps k leads.0.0 other size leads.2 ends in
-    (suc behind.0, (leads.0, leads.1, behind.1))
+    let after = ends_before next steps k leads.0.0 other size leads.2 ends in
+    (suc after.0, (leads.0, leads.1, after.1))
 
 -- a type has the size of each that its chain leads to
-pub type_size-leads : (w : LinkInputs) (types : Read (Item TypeIndex TypeData))
-    (pointer module_index index other steps : ℕ) → Leads (step w types pointer module_index) steps index other
-    → type_size w types pointer module_index index ≡ type_size w types pointer module_index other
-type_size-leads w types pointer module_index index other steps leads =
-    by_end (ends_or_not (step w types pointer module_index) (length types.items) other) where
-      by_end : EndsOrNot (step w types pointer module_index) (length types.items) other
-          → type_size w types pointer module_index index ≡ type_size w types pointer module_index other
+pub type_size-leads : (link : LinkInputs) (types : Read (Item TypeIndex TypeData))
+    (pointer module_index index other steps : ℕ) → Leads (step link types pointer module_index) steps index other
+    → type_size link types pointer module_index index ≡ type_size link types pointer module_index other
+type_size-leads link types pointer module_index index other steps leads =
+    by_end (ends_or_not (step link types pointer module_index) (length types.items) other) where
+      by_end : EndsOrNot (step link types pointer module_index) (length types.items) other
+          → type_size link types pointer module_index index ≡ type_size link types pointer module_index other
       by_end (inl (k, size, ends)) = let total =
-          ends_before (step w types pointer module_index) steps k index other size leads ends in
-          type_size-at_end w types pointer module_index index total.0 size total.1 ∙ sym
-          (type_size-at_end w types pointer module_index other k size ends)
+          ends_before (step link types pointer module_index) steps k index other size leads ends in
+          type_size-at_end link types pointer module_index index total.0 size total.1 ∙ sym
+          (type_size-at_end link types pointer module_index other k size ends)
       by_end (inr longer) =
-          let never : NeverEnds (step w types pointer module_index) other = λ k size ends. let within =
-          steps_within w types pointer module_index other k size ends in let more = longer k size ends in
+          let never : NeverEnds (step link types pointer module_index) other = λ k size ends. let within =
+          steps_within link types pointer module_index other k size ends in let more = longer k size ends in
           absurd (omega arith) in
-          type_size-never w types pointer module_index index
-          (never_before (step w types pointer module_index) steps index other leads never) ∙ sym
-          (type_size-never w types pointer module_index other never)
+          type_size-never link types pointer module_index index
+          (never_before (step link types pointer module_index) steps index other leads never) ∙ sym
+          (type_size-never link types pointer module_index other never)
 
 -- a type whose chain comes back to it has no size
-pub type_size-back : (w : LinkInputs) (types : Read (Item TypeIndex TypeData)) (pointer module_index index steps : ℕ)
-    → Leads (step w types pointer module_index) (suc steps) index index
-    → type_size w types pointer module_index index ≡ no_size
-type_size-back w types pointer module_index index steps back =
-    type_size-never w types pointer module_index index (never_ends (step w types pointer module_index) steps index back)
+pub type_size-back : (link : LinkInputs) (types : Read (Item TypeIndex TypeData)) (pointer module_index index steps : ℕ)
+    → Leads (step link types pointer module_index) (suc steps) index index
+    → type_size link types pointer module_index index ≡ no_size
+type_size-back link types pointer module_index index steps back =
+    type_size-never link types pointer module_index index
+    (never_ends (step link types pointer module_index) steps index back)
 
 -- a type whose chain meets an index twice has no size
-pub type_size-repeats : (w : LinkInputs) (types : Read (Item TypeIndex TypeData))
+pub type_size-repeats : (link : LinkInputs) (types : Read (Item TypeIndex TypeData))
     (pointer module_index index repeated before steps : ℕ)
-    → Leads (step w types pointer module_index) before index repeated
-    → Leads (step w types pointer module_index) (suc steps) repeated repeated
-    → type_size w types pointer module_index index ≡ no_size
-type_size-repeats w types pointer module_index index repeated before steps leads back =
-    type_size-leads w types pointer module_index index repeated before leads
-    ∙ type_size-back w types pointer module_index repeated steps back
+    → Leads (step link types pointer module_index) before index repeated
+    → Leads (step link types pointer module_index) (suc steps) repeated repeated
+    → type_size link types pointer module_index index ≡ no_size
+type_size-repeats link types pointer module_index index repeated before steps leads back =
+    type_size-leads link types pointer module_index index repeated before leads
+    ∙ type_size-back link types pointer module_index repeated steps back
 
 -- a chain with one more step
 pub leads_more : (next : ℕ → Step) (steps index other : ℕ) (further : TypeIndex) → Leads next steps index other

@@ -38,23 +38,23 @@ read_by-entry number_of list (Ok n) number content e = let both =
 read_by-entry number_of list (Err t) number content e = cc
 
 -- what was read by an index is what the entry says that it stands for
-pub reading-entry : {I D : Type 0} (number_of : I → ℕ) (w : LinkInputs) (list : Read (Item I D))
+pub reading-entry : {I D : Type 0} (number_of : I → ℕ) (link : LinkInputs) (list : Read (Item I D))
     (module_index index number : ℕ) (content : D)
-    → reading number_of w list module_index index ≡ paired number content → entry number_of list number ≡ Ok content
-reading-entry number_of w list module_index index number content read =
-    (elim (nat_lt index (2 ^ 32)) as (λ b. cond b (read_by number_of list (resolved w module_index index))
+    → reading number_of link list module_index index ≡ paired number content → entry number_of list number ≡ Ok content
+reading-entry number_of link list module_index index number content read =
+    (elim (nat_lt index (2 ^ 32)) as (λ b. cond b (read_by number_of list (resolved link module_index index))
     (Err (Missing index)) ≡ paired number content → entry number_of list number ≡ Ok content) [
-      | true ↦ λ e. read_by-entry number_of list (resolved w module_index index) number content e
+      | true ↦ λ e. read_by-entry number_of list (resolved link module_index index) number content e
       | false ↦ λ e. cc
     ]) read
 
 -- only an index of 32 bits is read, whatever is made of it
-pub reading-below : {I D A : Type 0} (number_of : I → ℕ) (w : LinkInputs) (list : Read (Item I D))
+pub reading-below : {I D A : Type 0} (number_of : I → ℕ) (link : LinkInputs) (list : Read (Item I D))
     (module_index index : ℕ) (made : ℕ × D → Result A ReadErrorView) (content : A)
-    → and_then (reading number_of w list module_index index) made ≡ Ok content → index < 2 ^ 32
-reading-below number_of w list module_index index made content read =
+    → and_then (reading number_of link list module_index index) made ≡ Ok content → index < 2 ^ 32
+reading-below number_of link list module_index index made content read =
     (elim (nat_lt index (2 ^ 32)) as (λ b. nat_lt index (2 ^ 32) ≡ b
-    → and_then (cond b (read_by number_of list (resolved w module_index index)) (Err (Missing index))) made
+    → and_then (cond b (read_by number_of list (resolved link module_index index)) (Err (Missing index))) made
     ≡ Ok content → index < 2 ^ 32) [
       | true ↦ λ e _. ltb-true index (2 ^ 32) e
       | false ↦ λ _ e. cc

@@ -61,23 +61,25 @@ asked_cmp-apart a b tied =
     ]) refl tied
 
 -- where nothing was found yet, the type cache is a cache of the type inputs
-pub is_cache_new : {P : Type 0} (info : P → ProviderInfos) (s : TypeInputs P) (f : TypeCache) → f.types ≡ s.types
-    → f.ids ≡ s.ids → f.named.entries ≡ [] → f.exports.entries ≡ [] → f.forward_sizes ≡ None → f.sizes.entries ≡ []
-    → IsCacheOf info s f
+pub is_cache_new : {P : Type 0} (info : P → ProviderInfos) (inputs : TypeInputs P) (cache : TypeCache)
+    → cache.types ≡ inputs.types → cache.ids ≡ inputs.ids → cache.named.entries ≡ [] → cache.exports.entries ≡ []
+    → cache.forward_sizes ≡ None → cache.sizes.entries ≡ [] → IsCacheOf info inputs cache
 unfolding IsNameCache IsExportCache IsSizeCache
-is_cache_new info s f types ids named found forward sizes = record {
+is_cache_new info inputs cache types ids named found forward sizes = record {
   types = types;
   ids = ids;
-  named = is_cache_of_nothing nat_cmp _ f.named named;
-  exports = is_cache_of_nothing nat_cmp _ f.exports found;
+  named = is_cache_of_nothing nat_cmp _ cache.named named;
+  exports = is_cache_of_nothing nat_cmp _ cache.exports found;
   forward = rw forward tt;
-  sizes = is_cache_of_nothing asked_cmp _ f.sizes sizes;
+  sizes = is_cache_of_nothing asked_cmp _ cache.sizes sizes;
 }
 
 -- a type cache with other names of modules that fit
-pub caches_named : {P : Type 0} (info : P → ProviderInfos) (s : TypeInputs P) (f : TypeCache) (named : BTreeMap ℕ ℕ)
-    → IsCacheOf info s f → IsNameCache (link_inputs info s) named → IsCacheAfter info s f (record f { named = named })
-caches_named info s f named is_cache more =
+pub caches_named : {P : Type 0} (info : P → ProviderInfos) (inputs : TypeInputs P) (cache : TypeCache)
+    (named : BTreeMap ℕ ℕ)
+    → IsCacheOf info inputs cache → IsNameCache (link_inputs info inputs) named
+    → IsCacheAfter info inputs cache (record cache { named = named })
+caches_named info inputs cache named is_cache more =
     record {
       is_cache = record {
         types = is_cache.types;
@@ -92,10 +94,10 @@ caches_named info s f named is_cache more =
     }
 
 -- a type cache with other exports that fit
-pub caches_exports : {P : Type 0} (info : P → ProviderInfos) (s : TypeInputs P) (f : TypeCache)
-    (found : BTreeMap ℕ (List (ℕ × ℕ))) → IsCacheOf info s f → IsExportCache (link_inputs info s) found
-    → IsCacheAfter info s f (record f { exports = found })
-caches_exports info s f found is_cache more =
+pub caches_exports : {P : Type 0} (info : P → ProviderInfos) (inputs : TypeInputs P) (cache : TypeCache)
+    (found : BTreeMap ℕ (List (ℕ × ℕ))) → IsCacheOf info inputs cache → IsExportCache (link_inputs info inputs) found
+    → IsCacheAfter info inputs cache (record cache { exports = found })
+caches_exports info inputs cache found is_cache more =
     record {
       is_cache = record {
         types = is_cache.types;
@@ -110,10 +112,10 @@ caches_exports info s f found is_cache more =
     }
 
 -- a type cache with other sizes that fit
-pub caches_sizes : {P : Type 0} (info : P → ProviderInfos) (s : TypeInputs P) (f : TypeCache)
-    (sizes : BTreeMap Asked TypeSize) → IsCacheOf info s f → IsSizeCache info s sizes
-    → IsCacheAfter info s f (record f { sizes = sizes })
-caches_sizes info s f sizes is_cache more =
+pub caches_sizes : {P : Type 0} (info : P → ProviderInfos) (inputs : TypeInputs P) (cache : TypeCache)
+    (sizes : BTreeMap Asked TypeSize) → IsCacheOf info inputs cache → IsSizeCache info inputs sizes
+    → IsCacheAfter info inputs cache (record cache { sizes = sizes })
+caches_sizes info inputs cache sizes is_cache more =
     record {
       is_cache = record {
         types = is_cache.types;
@@ -128,67 +130,68 @@ caches_sizes info s f sizes is_cache more =
     }
 
 -- one more module index
-pub names_more : (w : LinkInputs) (strings : List (StringRef × List ℕ)) (reference module_index : ℕ)
-    (m n : BTreeMap ℕ ℕ) → w.strings ≡ Some strings
-    → module_under w.modules strings (record { 0 = reference }) ≡ Ok module_index
-    → Updates nat_cmp m n reference (Some module_index) → IsNameCache w m → IsNameCache w n
+pub names_more : (link : LinkInputs) (strings : List (StringRef × List ℕ)) (reference module_index : ℕ)
+    (m n : BTreeMap ℕ ℕ) → link.strings ≡ Some strings
+    → module_under link.modules strings (record { 0 = reference }) ≡ Ok module_index
+    → Updates nat_cmp m n reference (Some module_index) → IsNameCache link m → IsNameCache link n
 unfolding IsNameCache
-names_more w strings reference module_index m n there found updates is_cache =
+names_more link strings reference module_index m n there found updates is_cache =
     is_cache_more nat_cmp nat_cmp-IsAntisymmetric
-    (λ r p. and_then (texts w.strings) (λ strings. module_under w.modules strings (record { 0 = r })) ≡ Ok p) m n
+    (λ r p. and_then (texts link.strings) (λ strings. module_under link.modules strings (record { 0 = r })) ≡ Ok p) m n
     reference module_index updates (rw there found) is_cache
 
 -- names that stay
-pub names_same : (w : LinkInputs) (m n : BTreeMap ℕ ℕ) → n.entries ≡ m.entries → IsNameCache w m → IsNameCache w n
+pub names_same : (link : LinkInputs) (m n : BTreeMap ℕ ℕ) → n.entries ≡ m.entries → IsNameCache link m
+    → IsNameCache link n
 unfolding IsNameCache
-names_same w m n same is_cache = is_cache_same nat_cmp _ m n same is_cache
+names_same link m n same is_cache = is_cache_same nat_cmp _ m n same is_cache
 
 -- a module index that was found under a reference is that of the module
-pub names_found : (w : LinkInputs) (strings : List (StringRef × List ℕ)) (reference module_index : ℕ)
-    (m : BTreeMap ℕ ℕ) → w.strings ≡ Some strings → IsNameCache w m → get nat_cmp m reference ≡ Some module_index
-    → module_under w.modules strings (record { 0 = reference }) ≡ Ok module_index
+pub names_found : (link : LinkInputs) (strings : List (StringRef × List ℕ)) (reference module_index : ℕ)
+    (m : BTreeMap ℕ ℕ) → link.strings ≡ Some strings → IsNameCache link m → get nat_cmp m reference ≡ Some module_index
+    → module_under link.modules strings (record { 0 = reference }) ≡ Ok module_index
 unfolding IsNameCache
-names_found w strings reference module_index m there is_cache got = rw there at (is_cache reference module_index got)
+names_found link strings reference module_index m there is_cache got = rw there at (is_cache reference module_index got)
 
 -- one more module's exports
-pub exports_more : (w : LinkInputs) (module_index : ℕ) (list : List (ℕ × ℕ)) (m n : BTreeMap ℕ (List (ℕ × ℕ)))
-    → exports w module_index ≡ Ok list → Updates nat_cmp m n module_index (Some list) → IsExportCache w m
-    → IsExportCache w n
+pub exports_more : (link : LinkInputs) (module_index : ℕ) (list : List (ℕ × ℕ)) (m n : BTreeMap ℕ (List (ℕ × ℕ)))
+    → exports link module_index ≡ Ok list → Updates nat_cmp m n module_index (Some list) → IsExportCache link m
+    → IsExportCache link n
 unfolding IsExportCache
-exports_more w module_index list m n found updates is_cache =
+exports_more link module_index list m n found updates is_cache =
     is_cache_more nat_cmp nat_cmp-IsAntisymmetric
-    (λ p l. exports w p ≡ Ok l) m n module_index list updates found is_cache
+    (λ p l. exports link p ≡ Ok l) m n module_index list updates found is_cache
 
 -- exports that stay
-pub exports_same : (w : LinkInputs) (m n : BTreeMap ℕ (List (ℕ × ℕ))) → n.entries ≡ m.entries → IsExportCache w m
-    → IsExportCache w n
+pub exports_same : (link : LinkInputs) (m n : BTreeMap ℕ (List (ℕ × ℕ))) → n.entries ≡ m.entries → IsExportCache link m
+    → IsExportCache link n
 unfolding IsExportCache
-exports_same w m n same is_cache = is_cache_same nat_cmp _ m n same is_cache
+exports_same link m n same is_cache = is_cache_same nat_cmp _ m n same is_cache
 
 -- exports that were found are the module's
-pub exports_found : (w : LinkInputs) (module_index : ℕ) (list : List (ℕ × ℕ)) (m : BTreeMap ℕ (List (ℕ × ℕ)))
-    → IsExportCache w m → get nat_cmp m module_index ≡ Some list → exports w module_index ≡ Ok list
+pub exports_found : (link : LinkInputs) (module_index : ℕ) (list : List (ℕ × ℕ)) (m : BTreeMap ℕ (List (ℕ × ℕ)))
+    → IsExportCache link m → get nat_cmp m module_index ≡ Some list → exports link module_index ≡ Ok list
 unfolding IsExportCache
-exports_found w module_index list m is_cache got = is_cache module_index list got
+exports_found link module_index list m is_cache got = is_cache module_index list got
 
 -- one more size
-pub sizes_more : {P : Type 0} (info : P → ProviderInfos) (s : TypeInputs P) (asked : Asked) (size : TypeSize)
-    (m n : BTreeMap Asked TypeSize) → size_of info s asked.module_index asked.index ≡ size
-    → Updates asked_cmp m n asked (Some size) → IsSizeCache info s m → IsSizeCache info s n
+pub sizes_more : {P : Type 0} (info : P → ProviderInfos) (inputs : TypeInputs P) (asked : Asked) (size : TypeSize)
+    (m n : BTreeMap Asked TypeSize) → size_of info inputs asked.module_index asked.index ≡ size
+    → Updates asked_cmp m n asked (Some size) → IsSizeCache info inputs m → IsSizeCache info inputs n
 unfolding IsSizeCache
-sizes_more info s asked size m n found updates is_cache =
+sizes_more info inputs asked size m n found updates is_cache =
     is_cache_more asked_cmp asked_cmp-apart
-    (λ a z. size_of info s a.module_index a.index ≡ z) m n asked size updates found is_cache
+    (λ a z. size_of info inputs a.module_index a.index ≡ z) m n asked size updates found is_cache
 
 -- sizes that stay
-pub sizes_same : {P : Type 0} (info : P → ProviderInfos) (s : TypeInputs P) (m n : BTreeMap Asked TypeSize)
-    → n.entries ≡ m.entries → IsSizeCache info s m → IsSizeCache info s n
+pub sizes_same : {P : Type 0} (info : P → ProviderInfos) (inputs : TypeInputs P) (m n : BTreeMap Asked TypeSize)
+    → n.entries ≡ m.entries → IsSizeCache info inputs m → IsSizeCache info inputs n
 unfolding IsSizeCache
-sizes_same info s m n same is_cache = is_cache_same asked_cmp _ m n same is_cache
+sizes_same info inputs m n same is_cache = is_cache_same asked_cmp _ m n same is_cache
 
 -- a size that was found is the type's
-pub sizes_found : {P : Type 0} (info : P → ProviderInfos) (s : TypeInputs P) (asked : Asked) (size : TypeSize)
-    (m : BTreeMap Asked TypeSize) → IsSizeCache info s m → get asked_cmp m asked ≡ Some size
-    → size_of info s asked.module_index asked.index ≡ size
+pub sizes_found : {P : Type 0} (info : P → ProviderInfos) (inputs : TypeInputs P) (asked : Asked) (size : TypeSize)
+    (m : BTreeMap Asked TypeSize) → IsSizeCache info inputs m → get asked_cmp m asked ≡ Some size
+    → size_of info inputs asked.module_index asked.index ≡ size
 unfolding IsSizeCache
-sizes_found info s asked size m is_cache got = is_cache asked size got
+sizes_found info inputs asked size m is_cache got = is_cache asked size got

@@ -1,4 +1,4 @@
--- Why something could not be read.
+-- Why a type or an id can't be read.
 use Rattle.std.specs.Prelude.{◌≡◌, ℕ, Result, Ok, Err}
 use Rattle.pdb_records.specs.declared.error.Error as records
 use Rattle.pdb_records.specs.declared.error.Error.TheVariants.{TypeNotFound, UnimplementedTypeKind}

@@ -22,8 +22,8 @@ entry number_of list number = said list.fault number (first_item number_of numbe
 -- index is read
 abbrev pub reading : {I D : Type 0} → (I → ℕ) → LinkInputs → Read (Item I D) → ℕ → ℕ
     → Result (ℕ × D) ReadErrorView
-reading number_of w list module_index index = if nat_lt index (2 ^ 32) then
-    and_then (resolved w module_index index) (λ number.
+reading number_of link list module_index index = if nat_lt index (2 ^ 32) then
+    and_then (resolved link module_index index) (λ number.
     and_then (entry number_of list number) (λ content.
     Ok (number, content)))
     else Err (Missing index)

@@ -36,20 +36,20 @@ provided_info module_index (Err fault) = Err (PdbError (Stream fault))
 
 -- the records of a module, where the list has the module index
 abbrev pub info_of : LinkInputs → ℕ → Option Module → Result ModuleInfo Error
-info_of w module_index None = Err (OutOfRangeModuleIndex module_index)
-info_of w module_index (Some m) = provided_info module_index (w.info module_index m)
+info_of link module_index None = Err (OutOfRangeModuleIndex module_index)
+info_of link module_index (Some m) = provided_info module_index (link.info module_index m)
 
 -- the records of the module at a module index
 abbrev pub module_info : LinkInputs → ℕ → Result ModuleInfo Error
-module_info w module_index = info_of w module_index (slice_get w.modules module_index)
+module_info link module_index = info_of link module_index (slice_get link.modules module_index)
 
 -- what the module at a module index imports
 abbrev pub imports : LinkInputs → ℕ → Result (List Imported) Error
-imports w module_index = and_then (module_info w module_index) (λ info. streamed info.imports)
+imports link module_index = and_then (module_info link module_index) (λ info. streamed info.imports)
 
 -- what the module at a module index exports
 abbrev pub exports : LinkInputs → ℕ → Result (List (ℕ × ℕ)) Error
-exports w module_index = and_then (module_info w module_index) (λ info. streamed info.exports)
+exports link module_index = and_then (module_info link module_index) (λ info. streamed info.exports)
 
 -- a part of the records: where it answers an error it is broken
 abbrev pub unbroken : {A : Type 0} → Part → Result A Error → Result A ReadErrorView
@@ -93,24 +93,24 @@ found_export local (Some index) = Ok index
 
 -- the index that a module exports under a number
 abbrev pub export_of : LinkInputs → ℕ → ℕ → Result ℕ ReadErrorView
-export_of w local module_index =
-    and_then (unbroken (Exports module_index) (exports w module_index)) (λ list.
+export_of link local module_index =
+    and_then (unbroken (Exports module_index) (exports link module_index)) (λ list.
     found_export local (exported local list))
 
 -- the index behind an import: the name of the other module, and the number there
 abbrev pub import_target : LinkInputs → List (StringRef × List ℕ) → StringRef × ℕ → Result ℕ ReadErrorView
-import_target w strings (reference, local) =
-    and_then (module_under w.modules strings reference) (λ module_index.
-    export_of w local module_index)
+import_target link strings (reference, local) =
+    and_then (module_under link.modules strings reference) (λ module_index.
+    export_of link local module_index)
 
 -- what an index that leads to another module stands for, asked by the module at a module index
 abbrev pub across : LinkInputs → ℕ → ℕ → Result ℕ ReadErrorView
-across w module_index index =
-    and_then (texts w.strings) (λ strings.
-    and_then (unbroken (Imports module_index) (imports w module_index)) (λ list.
+across link module_index index =
+    and_then (texts link.strings) (λ strings.
+    and_then (unbroken (Imports module_index) (imports link module_index)) (λ list.
     and_then (answered (imported list index)) (λ target.
-    import_target w strings target)))
+    import_target link strings target)))
 
 -- what an index stands for: with bit 31 it leads to another module, else it is its own
 abbrev pub resolved : LinkInputs → ℕ → ℕ → Result ℕ ReadErrorView
-resolved w module_index index = if nat_lt index (2 ^ 31) then Ok index else across w module_index index
+resolved link module_index index = if nat_lt index (2 ^ 31) then Ok index else across link module_index index

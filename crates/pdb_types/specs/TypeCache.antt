@@ -14,15 +14,15 @@ use Rattle.pdb_types.specs.TypeSizes.{size_of}
 
 -- the cached module indices are those of the names under their references
 unfoldable pub IsNameCache : LinkInputs → BTreeMap ℕ ℕ → Type 0
-IsNameCache w named = (reference module_index : ℕ) → get nat_cmp named reference ≡ Some module_index
-    → and_then (texts w.strings) (λ strings. module_under w.modules strings (record { 0 = reference }))
+IsNameCache link named = (reference module_index : ℕ) → get nat_cmp named reference ≡ Some module_index
+    → and_then (texts link.strings) (λ strings. module_under link.modules strings (record { 0 = reference }))
     ≡ Ok module_index
 
 -- the cached exports are those of the modules at their module indices
 unfoldable pub IsExportCache : LinkInputs → BTreeMap ℕ (List (ℕ × ℕ)) → Type 0
-IsExportCache w found =
+IsExportCache link found =
     (module_index : ℕ) (list : List (ℕ × ℕ)) → get nat_cmp found module_index ≡ Some list
-    → exports w module_index ≡ Ok list
+    → exports link module_index ≡ Ok list
 
 -- the order of questions: by the module index of the module that asks, and then by the index
 abbrev pub asked_cmp : Asked → Asked → Ordering
@@ -30,20 +30,21 @@ asked_cmp a b = ordering_then (nat_cmp a.module_index b.module_index) (nat_cmp a
 
 -- the cached sizes are those of the types that were asked for
 unfoldable pub IsSizeCache : {P : Type 0} → (P → ProviderInfos) → TypeInputs P → BTreeMap Asked TypeSize → Type 0
-IsSizeCache info s sizes =
+IsSizeCache info inputs sizes =
     (asked : Asked) (size : TypeSize) → get asked_cmp sizes asked ≡ Some size
-    → size_of info s asked.module_index asked.index ≡ size
+    → size_of info inputs asked.module_index asked.index ≡ size
 
 -- a type cache is a cache of type inputs: what was found so far is what the records say
-pub record IsCacheOf {P : Type 0} (info : P → ProviderInfos) (s : TypeInputs P) (f : TypeCache) : Type 0 where
-  pub types : f.types ≡ s.types
-  pub ids : f.ids ≡ s.ids
-  pub named : IsNameCache (link_inputs info s) f.named
-  pub exports : IsExportCache (link_inputs info s) f.exports
-  pub forward : IfSome f.forward_sizes (Tabulates s.types.items)
-  pub sizes : IsSizeCache info s f.sizes
+pub record IsCacheOf {P : Type 0} (info : P → ProviderInfos) (inputs : TypeInputs P) (cache : TypeCache) : Type 0 where
+  pub types : cache.types ≡ inputs.types
+  pub ids : cache.ids ≡ inputs.ids
+  pub named : IsNameCache (link_inputs info inputs) cache.named
+  pub exports : IsExportCache (link_inputs info inputs) cache.exports
+  pub forward : IfSome cache.forward_sizes (Tabulates inputs.types.items)
+  pub sizes : IsSizeCache info inputs cache.sizes
 
 -- the type cache is still what the records say, and no part of them failed anew
-pub record IsCacheAfter {P : Type 0} (info : P → ProviderInfos) (s : TypeInputs P) (old new : TypeCache) : Type 0 where
-  pub is_cache : IsCacheOf info s new
-  pub failed : new.failed ≡ old.failed
+pub record IsCacheAfter {P : Type 0} (info : P → ProviderInfos) (inputs : TypeInputs P) (old new : TypeCache) : Type 0
+  where
+    pub is_cache : IsCacheOf info inputs new
+    pub failed : new.failed ≡ old.failed

@@ -40,7 +40,7 @@ pub record LinkInputs : Type 0 where
 
 -- the link inputs of type inputs
 abbrev pub link_inputs : {P : Type 0} → (P → ProviderInfos) → TypeInputs P → LinkInputs
-link_inputs info s = record { info = info s.provider; modules = s.modules; strings = s.strings }
+link_inputs info inputs = record { info = info inputs.provider; modules = inputs.modules; strings = inputs.strings }
 
 -- the size of a pointer in a program, if its machine could be read
 abbrev pub program_pointer_size : Result MachineType StreamError → Result ℕ Error

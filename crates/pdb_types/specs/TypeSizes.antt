@@ -18,7 +18,7 @@ use Rattle.pdb_types.specs.ReadError.{ReadErrorView, Broken}
 
 -- the type of an index, asked by the module at a module index, with the number that the index stands for
 abbrev pub read_type : LinkInputs → Read (Item TypeIndex TypeData) → ℕ → ℕ → Result (ℕ × TypeData) ReadErrorView
-read_type w types module_index index = reading (λ i. i.0) w types module_index index
+read_type link types module_index index = reading (λ i. i.0) link types module_index index
 
 -- the size of a forward reference's definition behind it; other types have none
 abbrev pub size_elsewhere : ℕ → List (Item TypeIndex TypeData) → Aggregate → Option ℕ
@@ -46,11 +46,11 @@ met_in other = None
 -- what follows what was read in a chain: what can't be read ends it, and has no size
 abbrev pub step_after : ℕ → List (Item TypeIndex TypeData) → Result (ℕ × TypeData) ReadErrorView → Step
 step_after pointer items (Ok read) = step_from pointer items read (underneath read.1)
-step_after pointer items (Err read_error_view) = Ended (record { size = 0; met = met_in read_error_view })
+step_after pointer items (Err error) = Ended (record { size = 0; met = met_in error })
 
 -- what follows an index in a chain
 abbrev pub step : LinkInputs → Read (Item TypeIndex TypeData) → ℕ → ℕ → ℕ → Step
-step w types pointer module_index index = step_after pointer types.items (read_type w types module_index index)
+step link types pointer module_index index = step_after pointer types.items (read_type link types module_index index)
 
 -- a chain that goes on here has no size
 abbrev pub ended : Step → TypeSize
@@ -70,8 +70,10 @@ size_along next (suc steps) index = onward (size_along next steps) (next index)
 -- the size of a type, asked by the module at a module index: the size at the end of its chain, however long, or none
 -- where it never ends; as many steps as there are entries settle that, as the laws over SizeLaws say
 unfoldable pub type_size : LinkInputs → Read (Item TypeIndex TypeData) → ℕ → ℕ → ℕ → TypeSize
-type_size w types pointer module_index index = size_along (step w types pointer module_index) (length types.items) index
+type_size link types pointer module_index index =
+    size_along (step link types pointer module_index) (length types.items) index
 
 -- the size of a type, from type inputs, and the part that is met broken
 abbrev pub size_of : {P : Type 0} → (P → ProviderInfos) → TypeInputs P → ℕ → ℕ → TypeSize
-size_of info s module_index index = type_size (link_inputs info s) s.types s.pointer_size module_index index
+size_of info inputs module_index index =
+    type_size (link_inputs info inputs) inputs.types inputs.pointer_size module_index index

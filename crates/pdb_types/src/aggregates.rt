@@ -1,21 +1,23 @@
+//! Classes and unions alike: what each goes by, its size, and whether it is a forward reference.
+
 ghost use Rattle.std.specs.Prelude.{◌≡◌, option_map};
 ghost use Rattle.std.specs.Option.{unwrap_or};
 ghost use Rattle.pdb_types.specs.ForwardReferences.{aggregate_view, aggregate, item_aggregate};
 
 use pdb_records::{Item, RawString, TypeData, TypeIndex};
 
-/// What a class or a union says of itself.
+// What a class or a union says of itself.
 #[derive(Clone, Copy)]
 pub(crate) struct Aggregate<'a> {
-    /// What it goes by: its unique name where it has one, else its name.
+    // What it goes by: its unique name where it has one, else its name.
     pub(crate) name: &'a RawString,
-    /// Its size in bytes.
+    // Its size in bytes.
     pub(crate) size: u64,
-    /// Whether only its name is known here.
+    // Whether only its name is known here.
     pub(crate) forward_reference: bool,
 }
 
-/// The name that counts: the unique one where there is one.
+// What a class or a union goes by: its unique name where it has one, else its name.
 fn name_of<'a>(unique_name: &'a Option<RawString>, name: &'a RawString) -> &'a RawString
     ensures { result.now ≡ unwrap_or unique_name.now name.now }
 {
@@ -25,7 +27,7 @@ fn name_of<'a>(unique_name: &'a Option<RawString>, name: &'a RawString) -> &'a R
     }
 }
 
-/// What a class or a union says of itself. Other types say nothing.
+// What a class or a union says of itself. Other types say nothing.
 pub(crate) fn aggregate_of(type_data: &TypeData) -> Option<Aggregate<'_>>
     ensures { option_map aggregate_view result ≡ aggregate type_data.now }
 {
@@ -44,7 +46,7 @@ pub(crate) fn aggregate_of(type_data: &TypeData) -> Option<Aggregate<'_>>
     }
 }
 
-/// What an entry says, if it could be read.
+// What an entry says, if it could be read.
 pub(crate) fn item_aggregate(item: &Item<TypeIndex, TypeData>) -> Option<Aggregate<'_>>
     ensures { option_map aggregate_view result ≡ item_aggregate item.now }
 {

@@ -1,18 +1,20 @@
+//! Lists whose entries have numbers that ascend: how far they do, and the search for an entry in them.
+
 ghost use Rattle.std.specs.Prelude.{◌≡◌, ◌<◌, ◌≤◌, ◌+◌, ℕ, IfSome, Some, None, length, slice_get, take};
 ghost use Rattle.std.specs.Option.{option_copied};
 ghost use Rattle.pdb_types.specs.Ascending.{Ascends, first_numbered};
 
-/// An entry of a list that is found by its number.
+// An entry of a list that is found by its number.
 pub(crate) trait Numbered {
-    /// The number that the entry is found by.
+    // The number that the entry is found by.
     ghost number_of: { Self → ℕ };
 
-    /// The number that the entry is found by.
+    // The number that the entry is found by.
     fn number(&self) -> u32
         ensures { result ≡ number_of self.now };
 }
 
-/// The entry that has this number if no number is left out from there to the last entry.
+// The entry that has this number if no number is left out from there to the last entry.
 fn hint<T: Numbered>(entries: &[T], number: u32) -> Option<&T>
     requires { Ascends T.number_of entries.now }
     ensures { IfSome result (λ entry. first_numbered T.number_of number entries.now ≡ Some entry.now) }
@@ -27,10 +29,10 @@ fn hint<T: Numbered>(entries: &[T], number: u32) -> Option<&T>
     None
 }
 
-/// The entry with this number, among entries whose numbers ascend. It takes no memory.
-///
-/// Lists that linkers write end in a run of entries with no number left out, so a hint from the end comes ahead of a
-/// binary search.
+// The entry with this number, among entries whose numbers ascend. It takes no memory.
+//
+// Lists that linkers write end in entries with no number left out, so a hint from the end comes ahead of a binary
+// search.
 pub(crate) fn find_ascending<T: Numbered>(entries: &[T], number: u32) -> Option<&T>
     requires { Ascends T.number_of entries.now }
     ensures { option_copied result ≡ first_numbered T.number_of number entries.now }
@@ -44,10 +46,10 @@ pub(crate) fn find_ascending<T: Numbered>(entries: &[T], number: u32) -> Option<
     }
 }
 
-/// The entry behind those at the beginning, whose numbers ascend, if there is one and its number is above theirs.
+// The entry behind those at the beginning, whose numbers ascend, if there is one and its number is above theirs.
 fn next_above<T: Numbered>(entries: &[T], ascending: usize) -> Option<&T>
     requires { Ascends T.number_of (take ascending entries.now) }
-    ensures there { IfSome result (λ entry. slice_get entries.now ascending ≡ Some entry.now) }
+    ensures entry { IfSome result (λ entry. slice_get entries.now ascending ≡ Some entry.now) }
     ensures ascends { IfSome result (λ _. Ascends T.number_of (take (ascending + 1) entries.now)) }
 {
     let entry = entries.get(ascending)?;
@@ -60,7 +62,7 @@ fn next_above<T: Numbered>(entries: &[T], ascending: usize) -> Option<&T>
     None
 }
 
-/// How many entries at the beginning ascend.
+// How many entries at the beginning ascend.
 pub(crate) fn ascending_length<T: Numbered>(entries: &[T]) -> usize
     ensures within { result ≤ length entries.now }
     ensures ascends { Ascends T.number_of (take result entries.now) }
@@ -72,7 +74,7 @@ pub(crate) fn ascending_length<T: Numbered>(entries: &[T]) -> usize
     ascending
 }
 
-/// Reads on to the entry with this number, which isn't among those that were read, or else as far as numbers ascend.
+// Reads on to the entry with this number, which isn't among those that were read, or else as far as numbers ascend.
 pub(crate) fn read_ascending<'a, T: Numbered>(
     entries: &'a [T],
     ascending: &mut usize,
@@ -80,10 +82,10 @@ pub(crate) fn read_ascending<'a, T: Numbered>(
 ) -> Option<&'a T>
     requires within { ascending.old ≤ length entries.now }
     requires ascends { Ascends T.number_of (take ascending.old entries.now) }
-    requires new { first_numbered T.number_of number (take ascending.old entries.now) ≡ None }
+    requires absent { first_numbered T.number_of number (take ascending.old entries.now) ≡ None }
     ensures within { ascending.new ≤ length entries.now }
     ensures ascends { Ascends T.number_of (take ascending.new entries.now) }
-    ensures found { option_copied result
+    ensures answer { option_copied result
         ≡ first_numbered T.number_of number (take ascending.new entries.now) }
 {
     while let Some(entry) = next_above(entries, *ascending) {
@@ -95,25 +97,25 @@ pub(crate) fn read_ascending<'a, T: Numbered>(
     None
 }
 
-/// The entry with this number, among the entries at the beginning, whose numbers ascend. As long as none behind them
-/// was read, it reads on to it, and else as far as numbers ascend.
+// The entry with this number, among the entries at the beginning, whose numbers ascend. As long as none behind them
+// was read, it reads on to it, and else as far as numbers ascend.
 pub(crate) fn find_in_beginning<'a, T: Numbered>(
     entries: &'a [T],
     ascending: &mut usize,
-    behind: usize,
+    read_behind: usize,
     number: u32,
 ) -> Option<&'a T>
     requires within { ascending.old ≤ length entries.now }
     requires ascends { Ascends T.number_of (take ascending.old entries.now) }
     ensures within { ascending.new ≤ length entries.now }
     ensures ascends { Ascends T.number_of (take ascending.new entries.now) }
-    ensures stays { 0 < behind → ascending.new ≡ ascending.old }
-    ensures found { option_copied result
+    ensures unchanged { 0 < read_behind → ascending.new ≡ ascending.old }
+    ensures answer { option_copied result
         ≡ first_numbered T.number_of number (take ascending.new entries.now) }
 {
     let (beginning, _) = entries.split_at(*ascending);
     let found = find_ascending(beginning, number);
-    if found.is_some() || behind > 0 {
+    if found.is_some() || read_behind > 0 {
         return found;
     }
     read_ascending(entries, ascending, number)

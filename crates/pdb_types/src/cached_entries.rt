@@ -1,3 +1,5 @@
+//! Maps that cache the entries of a list by their numbers, where the numbers don't ascend.
+
 ghost use Rattle.std.specs.Prelude.{◌≡◌, ◌≤◌, ◌∷◌, [], ℕ, IfOk, OnOk, OnErr, length, option_map, take};
 ghost use Rattle.std.specs.Option.{option_copied, option_or};
 ghost use Rattle.std.specs.BTreeMap.{get};
@@ -9,15 +11,16 @@ use crate::ascending::Numbered;
 use std::alloc::{AllocError, Global};
 use std::collections::BTreeMap;
 
-/// Remembers an entry by its number, unless an earlier one has the number.
+// Remembers an entry by its number, unless an earlier one has the number.
 fn insert_first<'a, T: Numbered>(
     known: &mut BTreeMap<u32, &'a T>,
     entry: &'a T,
 ) -> Result<(), AllocError>
-    ensures cached { OnOk result ((number : ℕ) → option_map (λ e. e.now) (get nat_cmp known.new number)
+    ensures state { OnOk result ((number : ℕ) → option_map (λ e. e.now) (get nat_cmp known.new number)
         ≡ option_or (option_map (λ e. e.now) (get nat_cmp known.old number))
         (first_numbered T.number_of number (entry.now ∷ []))) }
-    ensures refused { OnErr result ((number : ℕ) → get nat_cmp known.new number ≡ get nat_cmp known.old number) }
+    ensures unchanged_if_refused { OnErr result ((number : ℕ)
+        → get nat_cmp known.new number ≡ get nat_cmp known.old number) }
 {
     let number = entry.number();
     if known.contains_key(&number) {
@@ -29,7 +32,7 @@ fn insert_first<'a, T: Numbered>(
     }
 }
 
-/// The entry with this number, among those that are known.
+// The entry with this number, among those that are known.
 pub(crate) fn look_up<'a, T: Numbered>(known: &BTreeMap<u32, &'a T>, number: u32) -> Option<&'a T>
     ensures { option_copied result ≡ option_map (λ entry. entry.now) (get nat_cmp known.now number) }
 {
@@ -39,7 +42,7 @@ pub(crate) fn look_up<'a, T: Numbered>(known: &BTreeMap<u32, &'a T>, number: u32
     }
 }
 
-/// The entries of a list by their numbers.
+// The entries of a list by their numbers.
 pub(crate) fn cache_all<'a, T: Numbered>(
     alloc: Global,
     entries: &'a [T],
@@ -53,7 +56,7 @@ pub(crate) fn cache_all<'a, T: Numbered>(
     Ok(known)
 }
 
-/// The first entry with this number: one that is known, or else the list is read on to it, or to its end.
+// The first entry with this number: one that is known, or else the list is read on to it, or to its end.
 pub(crate) fn read_on<'a, T: Numbered>(
     entries: &'a [T],
     known: &mut BTreeMap<u32, &'a T>,
@@ -61,10 +64,10 @@ pub(crate) fn read_on<'a, T: Numbered>(
     number: u32,
 ) -> Result<Option<&'a T>, AllocError>
     requires within { scanned.old ≤ length entries.now }
-    requires indexed { Knows T.number_of (take scanned.old entries.now) known.old }
+    requires knows { Knows T.number_of (take scanned.old entries.now) known.old }
     ensures within { scanned.new ≤ length entries.now }
-    ensures indexed { Knows T.number_of (take scanned.new entries.now) known.new }
-    ensures found { IfOk result (λ entry. option_copied entry ≡ first_numbered T.number_of number entries.now) }
+    ensures knows { Knows T.number_of (take scanned.new entries.now) known.new }
+    ensures answer { IfOk result (λ entry. option_copied entry ≡ first_numbered T.number_of number entries.now) }
 {
     if let Some(entry) = look_up(known, number) {
         return Ok(Some(entry));

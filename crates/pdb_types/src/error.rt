@@ -1,3 +1,5 @@
+//! Why a call has no answer: the errors of this crate and of those above it.
+
 ghost use Rattle.std.specs.Prelude.{◌≡◌};
 ghost use Rattle.pdb_records.specs.declared.error.Error.TheVariants.{Stream};
 ghost use Rattle.pdb_types.specs.declared.error.Error.TheVariants.{FormatError, PdbError, OutOfMemory};
@@ -66,7 +68,7 @@ pub enum Error {
     /// The type of this index contains itself.
     #[error("Type with index {0} is circular")]
     CircularTypeDefinition(u32),
-    /// There was no memory for the answer. The same call may succeed later.
+    /// Memory ran out before there was an answer. The same call may succeed later.
     #[error("Out of memory")]
     OutOfMemory,
     /// A contribution's end lies past 32 bits.

@@ -1,3 +1,5 @@
+//! The exports of a module, each found by its number in a table that is made once.
+
 ghost use Rattle.std.specs.Prelude.{◌≡◌, IfOk};
 ghost use Rattle.pdb_records.specs.References.{exported};
 
@@ -15,7 +17,7 @@ impl Numbered for (u32, u32) {
     }
 }
 
-/// What a module exports, each index found by its number in a table that is made once.
+// What a module exports, each index found by its number in a table that is made once.
 pub(crate) struct ExportTable<'a> {
     exports: NumberedTable<'a, (u32, u32)>,
 }
@@ -35,7 +37,7 @@ impl Drop for ExportTable<'_> {
 }
 
 impl<'a> ExportTable<'a> {
-    /// A table of all exports.
+    // A table of all exports.
     pub(crate) fn new(alloc: Global, exports: &'a CrossModuleExports) -> Result<Self, AllocError>
         ensures { IfOk result (λ table. table ≡ exports.now) }
     {
@@ -43,7 +45,7 @@ impl<'a> ExportTable<'a> {
         Ok(ExportTable { exports })
     }
 
-    /// The index of the first export with this number.
+    // The index of the first export with this number.
     pub(crate) fn get(&self, local: u32) -> Option<u32>
         ensures { result ≡ exported local self.now }
     {

@@ -1,3 +1,5 @@
+//! The parts of modules' records that were met broken, and the error of one that failed before.
+
 ghost use Rattle.pdb_types.specs.FailedParts.{unsuccessful_part};
 
 use crate::error::Error;

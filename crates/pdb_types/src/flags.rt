@@ -1,3 +1,5 @@
+//! The flags of the formatter: what is printed of a signature, and how.
+
 ghost use Rattle.std.specs.Prelude.{⊤, ◌≡◌, [], ◌∷◌, codes};
 
 use bitflags::{Flag, Flags, bitflag_items};

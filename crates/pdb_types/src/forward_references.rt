@@ -1,3 +1,5 @@
+//! The size of a class or a union for a forward reference to it, by a scan of the list of types.
+
 ghost use Rattle.std.specs.Prelude.{◌≡◌, MatchResult};
 ghost use Rattle.std.specs.Str.{bytes_eq};
 ghost use Rattle.pdb_types.specs.declared.error.Error.TheVariants.{OutOfMemory};
@@ -8,25 +10,25 @@ use crate::error::Result;
 use crate::items::TypeMap;
 use pdb_records::{Item, RawString, TypeData, TypeIndex};
 
-/// Whether two names have the same bytes.
-fn is_same(a: &RawString, b: &RawString) -> bool
+// Whether two names have the same bytes.
+fn is_same_name(a: &RawString, b: &RawString) -> bool
     ensures { result ≡ bytes_eq a.now b.now }
 {
     a.0 == b.0
 }
 
-/// The size that an entry gives to a name.
+// The size that an entry gives to a name.
 fn definition_size(item: &Item<TypeIndex, TypeData>, name: &RawString) -> Option<u64>
     ensures { result ≡ definition_size name.now item.now }
 {
     let defined = item_aggregate(item)?;
-    if !defined.forward_reference && is_same(defined.name, name) {
+    if !defined.forward_reference && is_same_name(defined.name, name) {
         return Some(defined.size);
     }
     None
 }
 
-/// The size of a class or a union that is a forward reference at an index.
+// The size of a class or a union that is a forward reference at an index.
 fn size_behind(
     items: &[Item<TypeIndex, TypeData>],
     resolved: TypeIndex,
@@ -63,19 +65,17 @@ impl TypeSizeCache {
     /// a union of this name has the size. A type goes by its unique name where it has one, else by its
     /// name. The answer is `None` where no such entry is there. The list is read as far as that entry.
     ///
-    /// # Errors
-    ///
-    /// [`Error::OutOfMemory`](crate::Error::OutOfMemory) alone.
+    /// Answers `OutOfMemory` where memory runs out.
     pub fn get_size_for_forward_reference(
         &mut self,
         resolved: TypeIndex,
         name: &RawString,
         types: &mut TypeMap<'_>,
     ) -> Result<Option<u64>>
-        ensures size { MatchResult result
+        ensures answer { MatchResult result
             (λ size. size ≡ size_behind resolved.0 name.now types.old.items)
             (λ e. e ≡ OutOfMemory) }
-        ensures same { types.new ≡ types.old }
+        ensures unchanged { types.new ≡ types.old }
     {
         Ok(size_behind(&types.records().items, resolved, name))
     }

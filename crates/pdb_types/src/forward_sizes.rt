@@ -1,3 +1,5 @@
+//! The sizes of all forward references, in a table that is made in one pass over the list of types.
+
 ghost use Rattle.std.specs.Prelude.{◌≡◌, ◌==◌, ℕ, List, IfOk, OnOk, option_map, option_and_then, if◌then◌else◌};
 ghost use Rattle.std.specs.Option.{option_or};
 ghost use Rattle.std.specs.BTreeMap.{get};
@@ -9,38 +11,38 @@ use pdb_records::{Item, RawString, TypeData, TypeIndex};
 use std::alloc::{AllocError, Global};
 use std::collections::BTreeMap;
 
-/// The bytes of a name.
+// The bytes of a name.
 fn bytes_of(name: &RawString) -> &[u8]
     ensures { result.now ≡ name.now }
 {
     name.0.as_slice()
 }
 
-/// The size under the name of a forward reference.
+// The size under the name of a forward reference.
 fn reference_size<'a>(
     by_name: &BTreeMap<&'a [u8], u64>,
-    error_view: Option<Aggregate<'a>>,
+    aggregate: Option<Aggregate<'a>>,
 ) -> Option<u64>
     ensures { result ≡ option_and_then (size_under by_name.now)
-        (option_and_then referred_name (option_map aggregate_view error_view.entry)) }
+        (option_and_then referred_name (option_map aggregate_view aggregate.entry)) }
 {
-    let reference = error_view?;
+    let reference = aggregate?;
     if !reference.forward_reference {
         return None;
     }
     by_name.get(&bytes_of(reference.name)).copied()
 }
 
-/// Puts the size of a definition under its name, in the place of one from behind it.
+// Puts the size of a definition under its name, in the place of one from behind it.
 fn define<'a>(
     by_name: &mut BTreeMap<&'a [u8], u64>,
-    error_view: Option<Aggregate<'a>>,
+    aggregate: Option<Aggregate<'a>>,
 ) -> Result<(), AllocError>
     ensures { OnOk result ((name : List ℕ) → size_under by_name.new name
-        ≡ option_or (option_and_then (size_for name) (option_map aggregate_view error_view.entry))
+        ≡ option_or (option_and_then (size_for name) (option_map aggregate_view aggregate.entry))
         (size_under by_name.old name)) }
 {
-    let Some(defined) = error_view else {
+    let Some(defined) = aggregate else {
         return Ok(());
     };
     if defined.forward_reference {
@@ -52,8 +54,12 @@ fn define<'a>(
     }
 }
 
-/// Puts what an entry answers under its number, in the place of what an entry behind it answers.
-fn answer(sizes: &mut BTreeMap<u32, u64>, number: u32, size: Option<u64>) -> Result<(), AllocError>
+// Puts the size of an entry under its number, in the place of that of an entry behind it.
+fn put_size(
+    sizes: &mut BTreeMap<u32, u64>,
+    number: u32,
+    size: Option<u64>,
+) -> Result<(), AllocError>
     ensures { OnOk result ((n : ℕ) → get nat_cmp sizes.new n
         ≡ (if number == n then size else get nat_cmp sizes.old n)) }
 {
@@ -67,9 +73,9 @@ fn answer(sizes: &mut BTreeMap<u32, u64>, number: u32, size: Option<u64>) -> Res
     }
 }
 
-/// By the number of an index, the size that the own name of its forward reference is given behind it.
-///
-/// The list is read once, from its end, with the first definition of each name that was met so far.
+// By the number of an index, the size that the own name of its forward reference is given behind it.
+//
+// The list is read once, from its end, with the first definition of each name that was met so far.
 pub(crate) fn forward_sizes(
     alloc: Global,
     items: &[Item<TypeIndex, TypeData>],
@@ -82,15 +88,15 @@ pub(crate) fn forward_sizes(
     while left > 0 {
         left -= 1;
         let item = &items[left];
-        let error_view = item_aggregate(item);
-        let size = reference_size(&by_name, error_view);
-        answer(&mut sizes, item.index.0, size)?;
-        define(&mut by_name, error_view)?;
+        let aggregate = item_aggregate(item);
+        let size = reference_size(&by_name, aggregate);
+        put_size(&mut sizes, item.index.0, size)?;
+        define(&mut by_name, aggregate)?;
     }
     Ok(sizes)
 }
 
-/// The size that a table has under a number.
+// The size that a table has under a number.
 pub(crate) fn size_at(sizes: &BTreeMap<u32, u64>, number: u32) -> Option<u64>
     ensures { result ≡ get nat_cmp sizes.now number }
 {

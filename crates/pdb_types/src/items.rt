@@ -1,3 +1,5 @@
+//! Types and ids by their index: a map over a list of items, which is read as far as it was asked for.
+
 ghost use Rattle.std.specs.Prelude.{◌≡◌, ℕ, IfOk};
 ghost use Rattle.std.specs.Option.{option_copied};
 ghost use Rattle.pdb_types.specs.Items.{absence, first_item, index_number, item_of};
@@ -53,11 +55,11 @@ impl<I: ItemIndex, D> Numbered for Item<I, D> {
 /// list itself, and no memory is taken. The entries behind that beginning, if any, are cached by their index.
 pub struct ItemMap<'a, I: ItemIndex, D> {
     information: &'a ItemInformation<I, D>,
-    /// How many entries at the beginning were read and ascend.
+    // How many entries at the beginning were read and ascend.
     ascending: usize,
-    /// How many entries behind them were read.
+    // How many entries behind them were read.
     scanned: usize,
-    /// The entries behind them, as far as they were read.
+    // The entries behind them, as far as they were read.
     known: BTreeMap<u32, &'a Item<I, D>>,
 }
 
@@ -97,7 +99,7 @@ impl<I: ItemIndex, D> Drop for ItemMap<'_, I, D> {
     }
 }
 
-/// Why an index has no entry: the list could not be read to its end, or nothing in it has the index.
+// Why an index has no entry: the list could not be read to its end, or nothing in it has the index.
 pub(crate) fn absence(fault: Option<StreamError>, number: u32) -> pdb_records::Error
     ensures { result ≡ absence fault number }
 {
@@ -120,18 +122,18 @@ impl<'a, I: ItemIndex, D> ItemMap<'a, I, D> {
         }
     }
 
-    /// The list itself.
+    // The list itself.
     pub(crate) fn records(&self) -> &'a Reading<Item<I, D>>
         ensures { result.now ≡ self.now }
     {
         &self.information.items
     }
 
-    /// The first entry of the list with this index, if there is one.
+    // The first entry of the list with this index, if there is one.
     pub(crate) fn find(&mut self, index: I) -> Result<Option<&'a Item<I, D>>, AllocError>
-        ensures found { IfOk result
+        ensures answer { IfOk result
             (λ item. option_copied item ≡ first_item I.number_of (I.number_of index) self.old.items) }
-        ensures same { self.new ≡ self.old }
+        ensures unchanged { self.new ≡ self.old }
     {
         let number = index.number();
         let list = &self.information.items;
@@ -150,8 +152,8 @@ impl<'a, I: ItemIndex, D> ItemMap<'a, I, D> {
     /// [`Error::PdbError`] where no entry has the index: with the list's fault where it has one, or else
     /// with the index. After [`Error::OutOfMemory`] the same question may find an answer.
     pub fn try_get(&mut self, index: I) -> Result<&'a Item<I, D>>
-        ensures found { Gives (λ item. item.now) result (item_of I.number_of self.old (I.number_of index)) }
-        ensures same { self.new ≡ self.old }
+        ensures answer { Gives (λ item. item.now) result (item_of I.number_of self.old (I.number_of index)) }
+        ensures unchanged { self.new ≡ self.old }
     {
         let number = index.number();
         let read = &self.information.items;

@@ -14,24 +14,24 @@ ghost use Rattle.pdb_types.specs.SizeLaws.{EndsWith, NeverEnds, Leads};
 
 /// Where a chain of types ends, after however many steps, a type has the size at its end.
 pub fn chains_that_end_have_the_size_at_their_end()
-    ensures { (w : LinkInputs) (types : Read (Item TypeIndex TypeData)) (pointer module_index index steps : ℕ)
+    ensures { (link : LinkInputs) (types : Read (Item TypeIndex TypeData)) (pointer module_index index steps : ℕ)
         (size : TypeSize)
-        → EndsWith (step w types pointer module_index) steps index size
-        → type_size w types pointer module_index index ≡ size }
+        → EndsWith (step link types pointer module_index) steps index size
+        → type_size link types pointer module_index index ≡ size }
 {}
 
 /// Where a chain of types never ends, a type has no size, and no part of the records is met broken.
 pub fn chains_that_never_end_have_no_size()
-    ensures { (w : LinkInputs) (types : Read (Item TypeIndex TypeData)) (pointer module_index index : ℕ)
-        → NeverEnds (step w types pointer module_index) index
-        → type_size w types pointer module_index index ≡ no_size }
+    ensures { (link : LinkInputs) (types : Read (Item TypeIndex TypeData)) (pointer module_index index : ℕ)
+        → NeverEnds (step link types pointer module_index) index
+        → type_size link types pointer module_index index ≡ no_size }
 {}
 
 /// Where a chain of types meets an index a second time, the type has no size: not the first one either.
 pub fn chains_that_repeat_have_no_size()
-    ensures { (w : LinkInputs) (types : Read (Item TypeIndex TypeData))
+    ensures { (link : LinkInputs) (types : Read (Item TypeIndex TypeData))
         (pointer module_index index repeated before steps : ℕ)
-        → Leads (step w types pointer module_index) before index repeated
-        → Leads (step w types pointer module_index) (suc steps) repeated repeated
-        → type_size w types pointer module_index index ≡ no_size }
+        → Leads (step link types pointer module_index) before index repeated
+        → Leads (step link types pointer module_index) (suc steps) repeated repeated
+        → type_size link types pointer module_index index ≡ no_size }
 {}

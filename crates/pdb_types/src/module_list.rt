@@ -1,3 +1,5 @@
+//! The list of modules, each found by its name in a table that is made once.
+
 ghost use Rattle.std.specs.Prelude.{◌≡◌, ℕ, List, Some, IfOk, OnOk, string_bytes, if◌then◌else◌};
 ghost use Rattle.std.specs.BTreeMap.{get_by_text};
 ghost use Rattle.std.specs.Str.{bytes_eq, str_to_ascii_lowercase};
@@ -9,7 +11,7 @@ use std::alloc::{AllocError, Global};
 use std::collections::BTreeMap;
 use std::marker::Model;
 
-/// The modules of a program, each found by its name in a table that is made once.
+// The modules of a program, each found by its name in a table that is made once.
 #[derive(Drop)]
 pub(crate) struct ModuleList {
     modules: Vec<Module>,
@@ -28,7 +30,7 @@ impl Model for ModuleList {
     ghost invariant = { λ l. KnowsPositions l.modules.items l.positions };
 }
 
-/// A name as text, in lower case as far as its letters are ASCII.
+// A name as text, in lower case as far as its letters are ASCII.
 pub(crate) fn lower_case(alloc: Global, name: &RawString) -> Result<String, AllocError>
     ensures { IfOk result (λ text. string_bytes text ≡ str_to_ascii_lowercase (lossy name.now)) }
 {
@@ -37,7 +39,7 @@ pub(crate) fn lower_case(alloc: Global, name: &RawString) -> Result<String, Allo
     Ok(text)
 }
 
-/// Puts a module index under the module's name, in the place of one from before.
+// Puts a module index under the module's name, in the place of one from before.
 fn put(
     positions: &mut BTreeMap<String, usize>,
     lower_name: String,
@@ -51,7 +53,7 @@ fn put(
 }
 
 impl ModuleList {
-    /// The modules, with a table of their names. Of several with one name the last is found.
+    // The modules, with a table of their names. Of several with one name the last is found.
     pub(crate) fn new(alloc: Global, modules: Vec<Module>) -> Result<Self, AllocError>
         ensures { IfOk result (λ list. list ≡ modules.items) }
     {
@@ -63,14 +65,14 @@ impl ModuleList {
         Ok(ModuleList { modules, positions })
     }
 
-    /// The modules in their order.
+    // The modules in their order.
     pub(crate) fn modules(&self) -> &[Module]
         ensures { result.now ≡ self.now }
     {
         &self.modules
     }
 
-    /// The last module index of a module that has this name in lower case.
+    // The last module index of a module that has this name in lower case.
     pub(crate) fn last_named(&self, lower_name: &str) -> Option<usize>
         ensures { result ≡ last_position_from 0 (has_lower_name lower_name.now) self.now }
     {

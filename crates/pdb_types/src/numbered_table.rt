@@ -1,3 +1,5 @@
+//! Tables of a list's entries by their numbers, as those of exports and of texts, made once.
+
 ghost use Rattle.std.specs.Prelude.{◌≡◌, ◌≤◌, IfOk, length, take};
 ghost use Rattle.std.specs.Option.{option_copied};
 ghost use Rattle.pdb_types.specs.Ascending.{Ascends, first_numbered};
@@ -8,10 +10,10 @@ use std::alloc::{AllocError, Global};
 use std::collections::BTreeMap;
 use std::marker::Model;
 
-/// The entries of a list by their numbers, in a table that is made once.
-///
-/// As far as numbers ascend from the beginning on, an entry is searched in the list itself, and takes no memory. The
-/// entries behind that beginning, if there are any, are cached by their number.
+// The entries of a list by their numbers, in a table that is made once.
+//
+// As far as numbers ascend from the beginning on, an entry is searched in the list itself, and takes no memory. The
+// entries behind that beginning, if there are any, are cached by their number.
 pub(crate) struct NumberedTable<'a, T: Numbered> {
     entries: &'a [T],
     ascending: usize,
@@ -45,7 +47,7 @@ impl<T: Numbered> Drop for NumberedTable<'_, T> {
 }
 
 impl<'a, T: Numbered> NumberedTable<'a, T> {
-    /// A table of all entries.
+    // A table of all entries.
     pub(crate) fn new(alloc: Global, entries: &'a [T]) -> Result<Self, AllocError>
         ensures { IfOk result (λ table. table ≡ entries.now) }
     {
@@ -59,7 +61,7 @@ impl<'a, T: Numbered> NumberedTable<'a, T> {
         })
     }
 
-    /// The first entry with this number.
+    // The first entry with this number.
     pub(crate) fn get(&self, number: u32) -> Option<&'a T>
         ensures { option_copied result ≡ first_numbered T.number_of number self.now }
     {

@@ -1,3 +1,5 @@
+//! Sets of parts of the records that were met broken, and which error such a part answers.
+
 ghost use Rattle.std.specs.Prelude.{◌≡◌, [], IfOk, OnOk, OnErr};
 ghost use Rattle.pdb_types.specs.PartSet.{has_part, add_part, add_met, error_of_part};
 
@@ -55,10 +57,10 @@ impl<P: BrokenPart> PartSet<P> {
         self.parts.contains(&part)
     }
 
-    /// Remembers a part. Where there is no memory for it, nothing changes.
+    /// Remembers a part. Answers `AllocError` where memory runs out, and the set stays.
     pub fn add(&mut self, part: P) -> Result<(), AllocError>
-        ensures added { OnOk result (self.new ≡ add_part P.cmp self.old part) }
-        ensures refused { OnErr result (self.new ≡ self.old) }
+        ensures state { OnOk result (self.new ≡ add_part P.cmp self.old part) }
+        ensures unchanged_if_refused { OnErr result (self.new ≡ self.old) }
     {
         match self.parts.insert(part) {
             Ok(_) => Ok(()),
@@ -66,10 +68,11 @@ impl<P: BrokenPart> PartSet<P> {
         }
     }
 
-    /// Remembers the part that was met broken, if one was.
+    /// Remembers the part that was met broken, if one was. Answers `AllocError` where memory runs out, and the set
+    /// stays.
     pub fn add_met(&mut self, met: Option<P>) -> Result<(), AllocError>
-        ensures added { OnOk result (self.new ≡ add_met P.cmp self.old met) }
-        ensures refused { OnErr result (self.new ≡ self.old) }
+        ensures state { OnOk result (self.new ≡ add_met P.cmp self.old met) }
+        ensures unchanged_if_refused { OnErr result (self.new ≡ self.old) }
     {
         match met {
             Some(part) => self.add(part),
@@ -78,11 +81,11 @@ impl<P: BrokenPart> PartSet<P> {
     }
 
     /// What a part that is met broken answers: its own error where it is new, and then it is remembered,
-    /// else that it failed before. Where there is no memory to remember it, nothing changes.
+    /// else that it failed before. Answers `AllocError` where memory runs out, and the set stays.
     pub fn ask(&mut self, part: P, error: Error) -> Result<Error, AllocError>
-        ensures error { IfOk result (λ e. e ≡ error_of_part P.cmp P.unsuccessful_of self.old part error) }
-        ensures added { OnOk result (self.new ≡ add_part P.cmp self.old part) }
-        ensures refused { OnErr result (self.new ≡ self.old) }
+        ensures answer { IfOk result (λ e. e ≡ error_of_part P.cmp P.unsuccessful_of self.old part error) }
+        ensures state { OnOk result (self.new ≡ add_part P.cmp self.old part) }
+        ensures unchanged_if_refused { OnErr result (self.new ≡ self.old) }
     {
         let failed_before = self.has_failed(part);
         self.add(part)?;

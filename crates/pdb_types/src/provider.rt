@@ -1,3 +1,5 @@
+//! The provider, which hands in the records of a module when they are asked for.
+
 ghost use Rattle.std.specs.Prelude.{◌≡◌, ℕ, Option, Result};
 ghost use Rattle.pdb_records.specs.declared.error.StreamError.{StreamError};
 ghost use Rattle.pdb_records.specs.declared.debug_information.Module.{Module};

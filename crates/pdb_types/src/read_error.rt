@@ -1,3 +1,5 @@
+//! Why a type or an id can't be read, and which part of the records is broken where one is.
+
 ghost use Rattle.std.specs.Prelude.{◌≡◌};
 
 use crate::error::Error;
@@ -12,7 +14,7 @@ pub enum Part {
     Exports(usize),
 }
 
-/// Why something could not be read.
+/// Why a type or an id can't be read.
 #[derive(Drop)]
 pub enum ReadError {
     /// No entry has this number.
@@ -23,7 +25,7 @@ pub enum ReadError {
     Refused(Error),
     /// A part of the records is broken, with this error.
     Broken(Part, Error),
-    /// There was no memory to read it. A later try may succeed.
+    /// Memory ran out. A later try may succeed.
     OutOfMemory,
 }
 

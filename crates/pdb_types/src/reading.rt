@@ -1,3 +1,5 @@
+//! Reading of a type or an id by an index as a module writes it, in another module where it leads there.
+
 ghost use Rattle.std.specs.Prelude.{◌≡◌};
 ghost use Rattle.pdb_types.specs.ReadError.{Matches};
 ghost use Rattle.pdb_types.specs.TypeInputs.{link_inputs};
@@ -12,10 +14,10 @@ use crate::type_cache::TypeCache;
 use crate::type_inputs::TypeInputs;
 use pdb_records::{IdData, IdIndex, TypeData, TypeIndex};
 
-/// What the first entry with this index says.
+// What the first entry with this index says.
 fn entry<'a, I: ItemIndex, D>(map: &mut ItemMap<'a, I, D>, index: I) -> Result<&'a D, ReadError>
-    ensures entry { Matches (λ content. content.now) result (entry I.number_of map.old (I.number_of index)) }
-    ensures same { map.new ≡ map.old }
+    ensures answer { Matches (λ content. content.now) result (entry I.number_of map.old (I.number_of index)) }
+    ensures unchanged { map.new ≡ map.old }
 {
     let number = index.number();
     let fault = map.records().fault;
@@ -37,7 +39,7 @@ impl<'a, P: ModuleProvider> TypeInputs<'a, P> {
         index: TypeIndex,
     ) -> Result<(TypeIndex, &'a TypeData), ReadError>
         requires is_cache { IsCacheOf P.info self.now cache.old }
-        ensures read { Matches (λ read. (read.0.0, read.1.now)) result
+        ensures answer { Matches (λ read. (read.0.0, read.1.now)) result
             (reading (λ i. i.0) (link_inputs P.info self.now) self.now.types module_index index.0) }
         ensures cached { IsCacheAfter P.info self.now cache.old cache.new }
     {
@@ -54,7 +56,7 @@ impl<'a, P: ModuleProvider> TypeInputs<'a, P> {
         index: IdIndex,
     ) -> Result<(IdIndex, &'a IdData), ReadError>
         requires is_cache { IsCacheOf P.info self.now cache.old }
-        ensures read { Matches (λ read. (read.0.0, read.1.now)) result
+        ensures answer { Matches (λ read. (read.0.0, read.1.now)) result
             (reading (λ i. i.0) (link_inputs P.info self.now) self.now.ids module_index index.0) }
         ensures cached { IsCacheAfter P.info self.now cache.old cache.new }
     {

@@ -1,3 +1,5 @@
+//! Indices that lead to other modules: imports, names of modules and exports, followed to the index there.
+
 ghost use Rattle.std.specs.Prelude.{◌≡◌, Some};
 ghost use Rattle.pdb_types.specs.Outcomes.{lent};
 ghost use Rattle.pdb_types.specs.ReadError.{Matches};
@@ -18,10 +20,10 @@ use pdb_records::{
     CrossModuleExports, CrossModuleImports, ModuleInfo, RawString, StreamError, StringRef,
 };
 
-/// The bit that marks an index that leads to another module.
+// The bit that marks an index that leads to another module.
 const CROSS_MODULE: u32 = 1 << 31;
 
-/// A stream's content, or its fault as an error.
+// A stream's content, or its fault as an error.
 fn streamed<A>(content: &Result<A, StreamError>) -> Result<&A>
     ensures { lent result ≡ streamed content.now }
 {
@@ -31,7 +33,7 @@ fn streamed<A>(content: &Result<A, StreamError>) -> Result<&A>
     }
 }
 
-/// The index that was found under a number of a module's exports.
+// The index that was found under a number of a module's exports.
 fn found_export(local: u32, found: Option<u32>) -> Result<u32, ReadError>
     ensures { Matches (λ index. index) result (found_export local found) }
 {
@@ -42,7 +44,7 @@ fn found_export(local: u32, found: Option<u32>) -> Result<u32, ReadError>
 }
 
 impl<'a, P: ModuleProvider> TypeInputs<'a, P> {
-    /// The records of the module at a module index.
+    // The records of the module at a module index.
     fn module_info(&self, module_index: usize) -> Result<&'a ModuleInfo>
         ensures { lent result ≡ module_info (link_inputs P.info self.now) module_index }
     {
@@ -57,21 +59,21 @@ impl<'a, P: ModuleProvider> TypeInputs<'a, P> {
         }
     }
 
-    /// What the module at a module index imports.
+    // What the module at a module index imports.
     fn imports(&self, module_index: usize) -> Result<&'a CrossModuleImports>
         ensures { lent result ≡ imports (link_inputs P.info self.now) module_index }
     {
         streamed(&self.module_info(module_index)?.imports)
     }
 
-    /// What the module at a module index exports.
+    // What the module at a module index exports.
     fn exports(&self, module_index: usize) -> Result<&'a CrossModuleExports>
         ensures { lent result ≡ exports (link_inputs P.info self.now) module_index }
     {
         streamed(&self.module_info(module_index)?.exports)
     }
 
-    /// The module index of the module with this name.
+    // The module index of the module with this name.
     fn module_named(&self, name: &RawString) -> Result<usize, ReadError>
         ensures { Matches (λ module_index. module_index) result (module_named self.now.modules name.now) }
     {
@@ -82,7 +84,7 @@ impl<'a, P: ModuleProvider> TypeInputs<'a, P> {
         }
     }
 
-    /// The module index of the module whose name stands under a reference. It is looked for once.
+    // The module index of the module whose name stands under a reference. It is looked for once.
     fn module_under(
         &self,
         cache: &mut TypeCache<'a>,
@@ -91,7 +93,7 @@ impl<'a, P: ModuleProvider> TypeInputs<'a, P> {
     ) -> Result<usize, ReadError>
         requires is_cache { IsCacheOf P.info self.now cache.old }
         requires strings { self.now.strings ≡ Some strings.now }
-        ensures module_index { Matches (λ module_index. module_index) result
+        ensures answer { Matches (λ module_index. module_index) result
             (module_under self.now.modules strings.now reference) }
         ensures cached { IsCacheAfter P.info self.now cache.old cache.new }
     {
@@ -108,7 +110,7 @@ impl<'a, P: ModuleProvider> TypeInputs<'a, P> {
         }
     }
 
-    /// The index that the module at a module index exports under a number. Its exports are read once.
+    // The index that the module at a module index exports under a number. Its exports are read once.
     fn export_of(
         &self,
         cache: &mut TypeCache<'a>,
@@ -116,7 +118,7 @@ impl<'a, P: ModuleProvider> TypeInputs<'a, P> {
         module_index: usize,
     ) -> Result<u32, ReadError>
         requires is_cache { IsCacheOf P.info self.now cache.old }
-        ensures index { Matches (λ index. index) result (export_of (link_inputs P.info self.now) local module_index) }
+        ensures answer { Matches (λ index. index) result (export_of (link_inputs P.info self.now) local module_index) }
         ensures cached { IsCacheAfter P.info self.now cache.old cache.new }
     {
         if let Some(table) = cache.exports.get(&module_index) {
@@ -134,7 +136,7 @@ impl<'a, P: ModuleProvider> TypeInputs<'a, P> {
         }
     }
 
-    /// The index behind an import: the name of the other module, and the number there.
+    // The index behind an import: the name of the other module, and the number there.
     fn import_target(
         &self,
         cache: &mut TypeCache<'a>,
@@ -143,7 +145,7 @@ impl<'a, P: ModuleProvider> TypeInputs<'a, P> {
     ) -> Result<u32, ReadError>
         requires is_cache { IsCacheOf P.info self.now cache.old }
         requires strings { self.now.strings ≡ Some strings.now }
-        ensures index { Matches (λ index. index) result
+        ensures answer { Matches (λ index. index) result
             (import_target (link_inputs P.info self.now) strings.now target) }
         ensures cached { IsCacheAfter P.info self.now cache.old cache.new }
     {
@@ -152,7 +154,7 @@ impl<'a, P: ModuleProvider> TypeInputs<'a, P> {
         self.export_of(cache, local, module_index)
     }
 
-    /// What an index that leads to another module stands for, asked by the module at a module index.
+    // What an index that leads to another module stands for, asked by the module at a module index.
     fn across(
         &self,
         cache: &mut TypeCache<'a>,
@@ -160,7 +162,7 @@ impl<'a, P: ModuleProvider> TypeInputs<'a, P> {
         index: u32,
     ) -> Result<u32, ReadError>
         requires is_cache { IsCacheOf P.info self.now cache.old }
-        ensures index { Matches (λ index. index) result (across (link_inputs P.info self.now) module_index index) }
+        ensures answer { Matches (λ index. index) result (across (link_inputs P.info self.now) module_index index) }
         ensures cached { IsCacheAfter P.info self.now cache.old cache.new }
     {
         let Some(strings) = &self.strings else {
@@ -177,7 +179,7 @@ impl<'a, P: ModuleProvider> TypeInputs<'a, P> {
         }
     }
 
-    /// What an index stands for, asked by the module at a module index.
+    // What an index stands for, asked by the module at a module index.
     pub(crate) fn resolve(
         &self,
         cache: &mut TypeCache<'a>,
@@ -185,7 +187,7 @@ impl<'a, P: ModuleProvider> TypeInputs<'a, P> {
         index: u32,
     ) -> Result<u32, ReadError>
         requires is_cache { IsCacheOf P.info self.now cache.old }
-        ensures index { Matches (λ index. index) result (resolved (link_inputs P.info self.now) module_index index) }
+        ensures answer { Matches (λ index. index) result (resolved (link_inputs P.info self.now) module_index index) }
         ensures cached { IsCacheAfter P.info self.now cache.old cache.new }
     {
         if index < CROSS_MODULE {

@@ -1,3 +1,5 @@
+//! The texts of the string table, each found by its reference in a table that is made once.
+
 ghost use Rattle.std.specs.Prelude.{◌≡◌, IfOk};
 ghost use Rattle.std.specs.Option.{option_copied};
 ghost use Rattle.pdb_records.specs.Strings.{string_at};
@@ -16,7 +18,7 @@ impl Numbered for (StringRef, RawString) {
     }
 }
 
-/// The texts that the records share, each found by its reference in a table that is made once.
+// The texts that the records share, each found by its reference in a table that is made once.
 pub(crate) struct Texts<'a> {
     strings: NumberedTable<'a, (StringRef, RawString)>,
 }
@@ -37,7 +39,7 @@ impl Drop for Texts<'_> {
 }
 
 impl<'a> Texts<'a> {
-    /// A table of all texts.
+    // A table of all texts.
     pub(crate) fn new(alloc: Global, strings: &'a StringTable) -> Result<Self, AllocError>
         ensures { IfOk result (λ texts. texts ≡ strings.now) }
     {
@@ -45,7 +47,7 @@ impl<'a> Texts<'a> {
         Ok(Texts { strings })
     }
 
-    /// The text of the first entry with this reference.
+    // The text of the first entry with this reference.
     pub(crate) fn get(&self, reference: StringRef) -> Option<&'a RawString>
         ensures { option_copied result ≡ string_at reference self.now }
     {

@@ -1,3 +1,5 @@
+//! The type cache: what was found of types, ids and exports so far, and the parts that failed.
+
 ghost use Rattle.std.specs.Prelude.{◌≡◌, [], None};
 
 use crate::exports::ExportTable;
@@ -8,7 +10,7 @@ use pdb_records::{IdInformation, TypeInformation};
 use std::alloc::Global;
 use std::collections::BTreeMap;
 
-/// A question for a size: the module index of the module that asks, and the index as it writes it.
+// A question for a size: the module index of the module that asks, and the index as it writes it.
 #[derive(Clone, Copy, PartialEq, Eq, PartialOrd, Ord)]
 pub(crate) struct Asked {
     pub(crate) module_index: usize,
@@ -17,19 +19,19 @@ pub(crate) struct Asked {
 
 /// The type cache: what was found of the records so far. It grows, and is asked before the records are read again.
 ///
-/// Of all this, later answers show the parts that failed alone.
+/// Of all this, later answers show nothing but the parts that failed.
 pub struct TypeCache<'a> {
-    /// The entries of types.
+    // The entries of types.
     pub(crate) types: TypeMap<'a>,
-    /// The entries of ids.
+    // The entries of ids.
     pub(crate) ids: IdMap<'a>,
-    /// Module indices, by the references of the modules' names.
+    // Module indices, by the references of the modules' names.
     pub(crate) named: BTreeMap<u32, usize>,
-    /// What modules export, by module index.
+    // What modules export, by module index.
     pub(crate) exports: BTreeMap<usize, ExportTable<'a>>,
-    /// The sizes of forward references, by their numbers: of all of them, or nothing yet.
+    // The sizes of forward references, by their numbers: of all of them, or nothing yet.
     pub(crate) forward_sizes: Option<BTreeMap<u32, u64>>,
-    /// Sizes of types.
+    // Sizes of types.
     pub(crate) sizes: BTreeMap<Asked, TypeSize>,
     /// The parts of the records that were met broken.
     pub failed: FailedParts,
@@ -50,7 +52,7 @@ impl Drop for TypeCache<'_> {
 }
 
 impl<'a> TypeCache<'a> {
-    /// Nothing yet. It takes no memory.
+    // Nothing yet. It takes no memory.
     pub(crate) fn new(alloc: Global, types: &'a TypeInformation, ids: &'a IdInformation) -> Self
         ensures types { result.types ≡ types.now.items }
         ensures ids { result.ids ≡ ids.now.items }

@@ -1,3 +1,5 @@
+//! The type inputs: what answers about types are computed from, and is only read.
+
 ghost use Rattle.std.specs.Prelude.{◌≡◌, [], IfOk, OnOk, OnErr};
 ghost use Rattle.pdb_types.specs.Errors.{error_view};
 ghost use Rattle.pdb_types.specs.FailedParts.{with_part, with_met, part_error};
@@ -63,7 +65,7 @@ impl<P: ModuleProvider> Drop for TypeInputs<'_, P> {
     }
 }
 
-/// The size of a pointer in a program, if its machine could be read.
+// The size of a pointer in a program, if its machine could be read.
 fn program_pointer_size(machine_type: &Result<MachineType, StreamError>) -> Result<u64>
     ensures { result ≡ program_pointer_size machine_type.now }
 {
@@ -73,7 +75,7 @@ fn program_pointer_size(machine_type: &Result<MachineType, StreamError>) -> Resu
     }
 }
 
-/// A table of the texts, where there are any.
+// A table of the texts, where there are any.
 fn texts_of(alloc: Global, strings: Option<&StringTable>) -> Result<Option<Texts<'_>>, AllocError>
     ensures { IfOk result (λ texts. texts ≡ option_copied strings.entry) }
 {
@@ -102,12 +104,13 @@ impl<'a, P: ModuleProvider> TypeInputs<'a, P> {
         strings: Option<&'a StringTable>,
         flags: TypeFormatterFlags,
     ) -> Result<Self>
-        ensures pointer { Gives (λ s. s.pointer_size) result (program_pointer_size debug_information.now.machine_type) }
-        ensures type_inputs { IfOk result (λ s. s ≡ record {
+        ensures pointer_size { Gives (λ inputs. inputs.pointer_size) result
+            (program_pointer_size debug_information.now.machine_type) }
+        ensures type_inputs { IfOk result (λ inputs. inputs ≡ record {
           provider = provider.now;
           modules = modules.items;
           strings = option_copied strings.entry;
-          pointer_size = s.pointer_size;
+          pointer_size = inputs.pointer_size;
           types = types.now.items;
           ids = ids.now.items;
           flags = flags;
@@ -148,23 +151,24 @@ impl<'a, P: ModuleProvider> TypeInputs<'a, P> {
     /// Nothing found yet. It takes no memory.
     pub fn no_cache(&self) -> TypeCache<'a>
         ensures is_cache { IsCacheOf P.info self.now result }
-        ensures none_failed { result.failed ≡ [] }
+        ensures failed { result.failed ≡ [] }
     {
         TypeCache::new(self.alloc, self.types, self.ids)
     }
 
-    /// Remembers the part of the records that was met broken, if one was.
+    /// Remembers the part of the records that was met broken, if one was. Answers `AllocError` where memory runs out,
+    /// and the failed parts stay.
     pub fn remember(&self, cache: &mut TypeCache<'a>, met: Option<Part>) -> Result<(), AllocError>
         requires is_cache { IsCacheOf P.info self.now cache.old }
         ensures is_cache { IsCacheOf P.info self.now cache.new }
-        ensures remembered { OnOk result (cache.new.failed ≡ with_met cache.old.failed met) }
-        ensures unchanged { OnErr result (cache.new.failed ≡ cache.old.failed) }
+        ensures failed { OnOk result (cache.new.failed ≡ with_met cache.old.failed met) }
+        ensures unchanged_if_refused { OnErr result (cache.new.failed ≡ cache.old.failed) }
     {
         cache.failed.add_met(met)
     }
 
     /// What a part that is met broken answers: its own error where it is new, and then it is remembered,
-    /// else that it failed before.
+    /// else that it failed before. Answers `AllocError` where memory runs out, and the failed parts stay.
     pub fn ask(
         &self,
         cache: &mut TypeCache<'a>,
@@ -173,9 +177,9 @@ impl<'a, P: ModuleProvider> TypeInputs<'a, P> {
     ) -> Result<Error, AllocError>
         requires is_cache { IsCacheOf P.info self.now cache.old }
         ensures is_cache { IsCacheOf P.info self.now cache.new }
-        ensures error_view { IfOk result (λ e. error_view e ≡ part_error cache.old.failed part (error_view error)) }
-        ensures remembered { OnOk result (cache.new.failed ≡ with_part cache.old.failed part) }
-        ensures unchanged { OnErr result (cache.new.failed ≡ cache.old.failed) }
+        ensures answer { IfOk result (λ e. error_view e ≡ part_error cache.old.failed part (error_view error)) }
+        ensures failed { OnOk result (cache.new.failed ≡ with_part cache.old.failed part) }
+        ensures unchanged_if_refused { OnErr result (cache.new.failed ≡ cache.old.failed) }
     {
         cache.failed.ask(part, error)
     }

@@ -1,3 +1,5 @@
+//! The size of a type: that at the end of its chain of enumerations and modifiers, cached by index.
+
 ghost use Rattle.std.specs.Prelude.{◌≡◌, [], ℕ, true, Ok, IfOk, IfErr, MatchResult};
 ghost use Rattle.std.specs.List.{AllByRecursion};
 ghost use Rattle.std.specs.BTreeSet.{contains};
@@ -29,23 +31,23 @@ pub struct TypeSize {
     pub met: Option<Part>,
 }
 
-/// The size of a type that can't be read, or that is underneath itself.
+// The size of a type that can't be read, or that is underneath itself.
 const NO_SIZE: TypeSize = TypeSize { size: 0, met: None };
 
-/// How a chain of types goes on.
+// How a chain of types goes on.
 #[derive(Clone, Copy)]
 pub(crate) enum Step {
-    /// It ends here.
+    // It ends here.
     Ended(TypeSize),
-    /// It has the size of this type.
+    // It has the size of this type.
     Next(TypeIndex),
 }
 
 impl<'a, P: ModuleProvider> TypeInputs<'a, P> {
-    /// The size that the definition behind a forward reference has. The list is read once for all.
+    // The size that the definition behind a forward reference has. The list is read once for all.
     fn forward_size(&self, cache: &mut TypeCache<'a>, resolved: TypeIndex) -> Result<Option<u64>>
         requires is_cache { IsCacheOf P.info self.now cache.old }
-        ensures size { MatchResult result
+        ensures answer { MatchResult result
             (λ size. size ≡ forward_size resolved.0 self.now.types.items)
             (λ e. e ≡ OutOfMemory) }
         ensures cached { IsCacheAfter P.info self.now cache.old cache.new }
@@ -61,7 +63,7 @@ impl<'a, P: ModuleProvider> TypeInputs<'a, P> {
         Ok(size)
     }
 
-    /// The size of a type with this index that is no enumeration and no modifier.
+    // The size of a type with this index that is no enumeration and no modifier.
     fn end_size(
         &self,
         cache: &mut TypeCache<'a>,
@@ -70,14 +72,14 @@ impl<'a, P: ModuleProvider> TypeInputs<'a, P> {
     ) -> Result<u64>
         requires is_cache { IsCacheOf P.info self.now cache.old }
         requires read { entry (λ i. i.0) self.now.types resolved.0 ≡ Ok type_data.now }
-        ensures size { MatchResult result
+        ensures answer { MatchResult result
             (λ size. size ≡ end_size self.now.pointer_size self.now.types.items resolved.0 type_data.now)
             (λ e. e ≡ OutOfMemory) }
         ensures cached { IsCacheAfter P.info self.now cache.old cache.new }
     {
         let own = own_size(self.pointer_size, type_data);
         match aggregate_of(type_data) {
-            Some(error_view) if error_view.forward_reference => {
+            Some(aggregate) if aggregate.forward_reference => {
                 let elsewhere = self.forward_size(cache, resolved)?;
                 Ok(elsewhere.unwrap_or(own))
             }
@@ -85,10 +87,10 @@ impl<'a, P: ModuleProvider> TypeInputs<'a, P> {
         }
     }
 
-    /// What follows an index in a chain of types.
+    // What follows an index in a chain of types.
     fn step(&self, cache: &mut TypeCache<'a>, module_index: usize, index: TypeIndex) -> Result<Step>
         requires is_cache { IsCacheOf P.info self.now cache.old }
-        ensures step { MatchResult result
+        ensures answer { MatchResult result
             (λ s. s ≡ step (link_inputs P.info self.now) self.now.types self.now.pointer_size module_index index.0)
             (λ e. e ≡ OutOfMemory) }
         ensures cached { IsCacheAfter P.info self.now cache.old cache.new }
@@ -113,7 +115,7 @@ impl<'a, P: ModuleProvider> TypeInputs<'a, P> {
         }
     }
 
-    /// The size at the end of a chain, and the indices that were passed on the way to it.
+    // The size at the end of a chain, and the indices that were passed on the way to it.
     fn chain_size(
         &self,
         cache: &mut TypeCache<'a>,
@@ -123,7 +125,7 @@ impl<'a, P: ModuleProvider> TypeInputs<'a, P> {
     ) -> Result<TypeSize>
         requires is_cache { IsCacheOf P.info self.now cache.old }
         requires none_passed { passed.old.keys ≡ [] }
-        ensures size { MatchResult result
+        ensures answer { MatchResult result
             (λ size. size ≡ size_of P.info self.now module_index index.0)
             (λ e. e ≡ OutOfMemory) }
         ensures passed { IfOk result
@@ -151,11 +153,11 @@ impl<'a, P: ModuleProvider> TypeInputs<'a, P> {
         }
     }
 
-    /// Caches the size of a type that was asked for.
+    // Caches the size of a type that was asked for.
     fn cache_size(&self, cache: &mut TypeCache<'a>, asked: Asked, size: TypeSize) -> Result<()>
         requires is_cache { IsCacheOf P.info self.now cache.old }
         requires size { size_of P.info self.now asked.module_index asked.index ≡ size }
-        ensures only_memory { IfErr result (λ e. e ≡ OutOfMemory) }
+        ensures memory { IfErr result (λ e. e ≡ OutOfMemory) }
         ensures cached { IsCacheAfter P.info self.now cache.old cache.new }
     {
         match cache.sizes.insert(asked, size) {
@@ -164,7 +166,7 @@ impl<'a, P: ModuleProvider> TypeInputs<'a, P> {
         }
     }
 
-    /// Caches the size of types that were asked for by the module at a module index.
+    // Caches the size of types that were asked for by the module at a module index.
     fn cache_sizes(
         &self,
         cache: &mut TypeCache<'a>,
@@ -174,7 +176,7 @@ impl<'a, P: ModuleProvider> TypeInputs<'a, P> {
     ) -> Result<()>
         requires is_cache { IsCacheOf P.info self.now cache.old }
         requires sizes { AllByRecursion (λ index. size_of P.info self.now module_index index ≡ size) passed.now.keys }
-        ensures only_memory { IfErr result (λ e. e ≡ OutOfMemory) }
+        ensures memory { IfErr result (λ e. e ≡ OutOfMemory) }
         ensures cached { IsCacheAfter P.info self.now cache.old cache.new }
     {
         for index in passed {
@@ -191,9 +193,7 @@ impl<'a, P: ModuleProvider> TypeInputs<'a, P> {
     ///
     /// Each index of a chain of types is read once, whatever is asked of the chain afterwards.
     ///
-    /// # Errors
-    ///
-    /// [`Error::OutOfMemory`] alone.
+    /// Answers `OutOfMemory` where memory runs out.
     pub fn type_size(
         &self,
         cache: &mut TypeCache<'a>,
@@ -201,7 +201,7 @@ impl<'a, P: ModuleProvider> TypeInputs<'a, P> {
         index: TypeIndex,
     ) -> Result<TypeSize>
         requires is_cache { IsCacheOf P.info self.now cache.old }
-        ensures size { MatchResult result
+        ensures answer { MatchResult result
             (λ size. size ≡ size_of P.info self.now module_index index.0)
             (λ e. e ≡ OutOfMemory) }
         ensures cached { IsCacheAfter P.info self.now cache.old cache.new }

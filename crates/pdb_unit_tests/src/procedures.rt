@@ -3,8 +3,8 @@
 use crate::checks::Checks;
 use crate::modules::{is_fault, module_of};
 use pdb_functions::{
-    BasicModuleInfo, ModuleSectionContribution, ProcedureSymbolFunction, PublicOrProcedureSymbol,
-    PublicSymbolFunctionOrPlaceholder, global_function_in,
+    BasicModuleInfo, FoundFunction, GlobalFunction, ModuleSectionContribution,
+    ProcedureSymbolFunction, global_function_in,
 };
 use pdb_records::{
     ModuleInfo, PdbInternalSectionOffset, ProcedureSymbol, RawString, S_GPROC32, S_LPROC32,
@@ -193,14 +193,14 @@ fn descending(alloc: Global) -> Result<Vec<Code<'static>>, AllocError> {
 }
 
 /// What a global function that starts at an offset is in the contribution of module 5 from 0x10 on.
-fn found_from(offset: u32) -> Option<PublicOrProcedureSymbol<'static>> {
+fn found_from(offset: u32) -> Option<FoundFunction<'static>> {
     let contribution = ModuleSectionContribution {
         section_index: 1,
         start_offset: 0x10,
         end_offset: 0x20,
         module_index: 5,
     };
-    let function = PublicSymbolFunctionOrPlaceholder {
+    let function = GlobalFunction {
         start_offset: section_offset(offset),
         name: None,
     };
@@ -217,10 +217,7 @@ fn finds_thousands(alloc: Global) -> bool {
 
 /// Whether the global function of a contribution that starts at an offset is one of module 5.
 fn is_found_from(offset: u32) -> bool {
-    matches!(
-        found_from(offset),
-        Some(PublicOrProcedureSymbol::Public(5, _))
-    )
+    matches!(found_from(offset), Some(FoundFunction::Global(5, _)))
 }
 
 /// The checks of procedures, and of the global function of a contribution.

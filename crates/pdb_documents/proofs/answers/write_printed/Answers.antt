@@ -8,7 +8,7 @@ returns g c = λ r failed is.
     record {
       error = λ memory other. (
         fails_with c.in-Some.failure _ _ _ _ ran
-            (c.write_before.ensures.same other ∙ c.from.ensures),
+            (c.write_before.ensures.answer other ∙ c.from.ensures),
         rw (ap (λ x. x.text) ran) (rw c.as_str-in-Some.ensures.value at (c.write_before.ensures.written memory other)),
       );
       refused = λ format. ap (λ x. x.failed) ran;

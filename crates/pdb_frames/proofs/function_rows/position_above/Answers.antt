@@ -21,7 +21,7 @@ loop-from-preserved-then-offset-rows c =
       above = c.loop-from.invariant.above;
       below = above_up_to c.args.offset c.args.rows.now _ _ c.if-offset-rows.true;
       to_end = omega arith;
-      few = omega (arith, fewer, c.tick.ensures.one_more);
+      few = omega (arith, fewer, c.tick.ensures.state);
     }
 
 pub loop-from-preserved : goal.loop-from-preserved
@@ -33,5 +33,5 @@ loop-from-preserved c =
       above = omega (arith, past);
       below = c.loop-from.invariant.below;
       to_end = omega arith;
-      few = omega (arith, fewer, c.tick.ensures.one_more);
+      few = omega (arith, fewer, c.tick.ensures.state);
     }

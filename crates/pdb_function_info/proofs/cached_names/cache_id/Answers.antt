@@ -12,4 +12,4 @@ returns g c f is_cache printed =
     at_either_end c.put.result
     (λ added. ids_more info f entry old new added (rw c.in_ok-text.ensures printed) is_cache)
     (λ refused. ids_same info f old new refused is_cache)
-    c.put.ensures.cached c.put.ensures.refused
+    c.put.ensures.state c.put.ensures.unchanged_if_refused

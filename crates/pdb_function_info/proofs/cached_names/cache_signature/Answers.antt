@@ -6,12 +6,12 @@ use Rattle.pdb_function_info.proofs.cached_names.cache_signature.Goals as goal
 pub returns-clause-is_cache : goal.returns-clause-is_cache
 returns-clause-is_cache g c f is_cache printed =
     let info = g.P.ModuleProvider.info in
-    let records = info c.args.cached.now.provider.now in
+    let infos = info c.args.cached.now.provider.now in
     let entry : CachedText SignatureKey = record { key = c.args.key; text = c.in_ok-text.text } in
     let old = c.args.cached.now.texts.entries.items in
     let new = c.put.new.self.entries.items in
     at_either_end c.put.result
-    (λ added. signatures_more info records f entry old new added
+    (λ added. signatures_more info infos f entry old new added
     (λ name named. rw c.in_ok-text.ensures (printed name named)) is_cache)
-    (λ refused. signatures_same info records f old new refused is_cache)
-    c.put.ensures.cached c.put.ensures.refused
+    (λ refused. signatures_same info infos f old new refused is_cache)
+    c.put.ensures.state c.put.ensures.unchanged_if_refused

@@ -6,15 +6,15 @@ use Rattle.pdb_signatures.proofs.LoopLemmas.{adds-then}
 use Rattle.pdb_function_info.proofs.FrameLemmas.{frames_refused, all_named}
 use Rattle.pdb_function_info.proofs.frames.frames_info.Goals as goal
 
-pub returns-in_err-frames-clause-shown : goal.returns-in_err-frames-clause-shown
-returns-in_err-frames-clause-shown g c =
+pub returns-in_err-frames-clause-answer : goal.returns-in_err-frames-clause-answer
+returns-in_err-frames-clause-answer g c =
     let p = err_from_is_err_and c.from_residual-in_err-frames.result c.from_residual-in_err-frames.ensures.1 in
     rw (p.1, p.2) (λ no_memory. frames_refused g.P.ModuleProvider.info c.args.names.now.type_inputs
     c.args.files.now c.args.address_map.now c.args.functions.now
     (option_copied c.args.module_info) (found_function c.args.function) c.args.offset c.in_err-frames.field-0.0
     c.in-Some.addresses (sym c.addresses_of.ensures ∙ c.in-Some.is)
-    (rw (c.name_of_function.ensures.type_inputs, c.in_ok-name.ensures.name)
-    at (c.in_err-frames.ensures.frames no_memory)))
+    (rw (c.name_of_function.ensures.type_inputs, c.in_ok-name.ensures.answer)
+    at (c.in_err-frames.ensures.answer no_memory)))
 
 pub returns-in_err-frames-clause-failed : goal.returns-in_err-frames-clause-failed
 returns-in_err-frames-clause-failed g c =

@@ -17,7 +17,7 @@ returns-in_err-push-clause-broken g c =
 
 pub loop-range-preserved : goal.loop-range-preserved
 loop-range-preserved g c =
-    let name = rw c.loop-range.invariant.type_inputs at c.in_ok-function.ensures.name in
+    let name = rw c.loop-range.invariant.type_inputs at c.in_ok-function.ensures.answer in
     let failed = rw c.loop-range.invariant.type_inputs at c.in_ok-function.ensures.failed in
     record {
       frames = grind (arith, common_steps, name, c.in_ok-inlined_frame.ensures, c.in_ok-push.ensures.items);

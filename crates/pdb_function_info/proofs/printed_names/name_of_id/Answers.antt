@@ -5,14 +5,14 @@ use Rattle.pdb_documents.specs.PrintInputs.{formatter_inputs}
 use Rattle.pdb_function_info.proofs.NameLemmas.{printed-text, refused-text}
 use Rattle.pdb_function_info.proofs.printed_names.name_of_id.Goals as goal
 
-pub returns-in-Ok-clause-name : goal.returns-in-Ok-clause-name
-returns-in-Ok-clause-name g c =
+pub returns-in-Ok-clause-answer : goal.returns-in-Ok-clause-answer
+returns-in-Ok-clause-answer g c =
     let w = formatter_inputs g.P.ModuleProvider.info c.args.formatter.now.type_inputs c.args.module_index in
     let d = document_of w (id_of_index c.args.id.0) in
     printed-text d c.args.formatter.now.failed _ _ c.in-Ok.ensures.answer
 
-pub returns-in-Err-clause-name : goal.returns-in-Err-clause-name
-returns-in-Err-clause-name g c =
+pub returns-in-Err-clause-answer : goal.returns-in-Err-clause-answer
+returns-in-Err-clause-answer g c =
     let w = formatter_inputs g.P.ModuleProvider.info c.args.formatter.now.type_inputs c.args.module_index in
     let d = document_of w (id_of_index c.args.id.0) in
     let failed = c.args.formatter.now.failed in

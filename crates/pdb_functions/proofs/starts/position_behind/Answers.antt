@@ -28,7 +28,7 @@ loop-from-preserved-then-lt g c =
       above = c.loop-from.invariant.above;
       below = behind_up_to start c.args.section_offset _ _ x c.index-entries-middle.is before;
       to_end = omega arith;
-      few = omega (arith, fewer, c.tick.ensures.one_more);
+      few = omega (arith, fewer, c.tick.ensures.state);
     }
 
 pub loop-from-preserved : goal.loop-from-preserved
@@ -47,5 +47,5 @@ loop-from-preserved g c =
       above = omega (arith, past);
       below = c.loop-from.invariant.below;
       to_end = omega arith;
-      few = omega (arith, fewer, c.tick.ensures.one_more);
+      few = omega (arith, fewer, c.tick.ensures.state);
     }

@@ -11,7 +11,7 @@ returns-clause-added c = on_ok_weaker c.push_added.result (λ pushed. λ inner s
     let own : c.in_ok-own.own.items ≡ row_ranges c.args.inlinees.now.keys c.args.site.symbol.now =
     rw (c.in_ok-own.ensures, c.deref.ensures.value, c.in_ok-rows.ensures) refl in
     let runs : c.runs.result.now ≡ missing_runs inner (row_ranges c.args.inlinees.now.keys c.args.site.symbol.now) =
-    rw c.runs.ensures.all (missing_runs_are inner
+    rw c.runs.ensures.answer (missing_runs_are inner
     (row_ranges c.args.inlinees.now.keys c.args.site.symbol.now) c.in_ok-missing.missing c.runs.ensures.maximal
     (λ x. rw (c.in_ok-missing.ensures.missing x, same x, c.deref-2.ensures.value, own) refl)) in
     let file : c.first_file.result ≡ first_file c.args.inlinees.now.keys c.args.site.symbol.now =

@@ -7,5 +7,5 @@ returns-in-Ok c = sym (json_of-read _ _ c.in-Ok.ensures.ok.0 c.in-Ok.ensures.ok.
 
 pub returns-in-Err-2 : goal.returns-in-Err-2
 returns-in-Err-2 c =
-    let read_error = c.in-Err.ensures.err (λ memory. let asked = c.is_memory.ensures.1 memory in cc) in
-    sym (json_of-none _ read_error)
+    let nothing_read = c.in-Err.ensures.err (λ memory. let asked = c.is_memory.ensures.1 memory in cc) in
+    sym (json_of-none _ nothing_read)

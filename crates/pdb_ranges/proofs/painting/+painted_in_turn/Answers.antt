@@ -14,13 +14,13 @@ returns-in_ok-tops-in_default-clause-ordered g t c =
     c.in_ok-under-in_default.ensures.ordered))
     c.overlaid.ensures
 
-pub returns-in_ok-tops-in_default-clause-values : goal.returns-in_ok-tops-in_default-clause-values
-returns-in_ok-tops-in_default-clause-values g t c =
+pub returns-in_ok-tops-in_default-clause-answer : goal.returns-in_ok-tops-in_default-clause-answer
+returns-in_ok-tops-in_default-clause-answer g t c =
     IfOk-weaker c.overlaid.result (λ all. all.items ≡ overlaid 0 c.deref.result.now c.deref-in_default.result.now) _
     (λ all is. rw (is, c.deref.ensures.value, c.deref-in_default.ensures.value)
     (λ x. value_at-halves x _ c.split_at.result.0.now c.split_at.result.1.now _ _ c.split_at.ensures.by_index.0
     c.in_ok-tops-in_default.ensures.ordered
-    (c.in_ok-tops-in_default.ensures.values x) (c.in_ok-under-in_default.ensures.values x)))
+    (c.in_ok-tops-in_default.ensures.answer x) (c.in_ok-under-in_default.ensures.answer x)))
     c.overlaid.ensures
 
 pub returns-in_ok-tops-in_default-clause-edges : goal.returns-in_ok-tops-in_default-clause-edges

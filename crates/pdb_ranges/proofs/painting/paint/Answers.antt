@@ -8,8 +8,8 @@ returns-in_ok-push-clause-ordered g c =
     let end = rw (c.end_of.ensures, c.deref.ensures.value) at c.if-end_of-lo.true in
     rw c.in_ok-push.ensures.items (ordered_push 0 _ _ end c.if-hi-lo.false c.requires)
 
-pub returns-in_ok-push-clause-ok : goal.returns-in_ok-push-clause-ok
-returns-in_ok-push-clause-ok g c =
+pub returns-in_ok-push-clause-state : goal.returns-in_ok-push-clause-state
+returns-in_ok-push-clause-state g c =
     let end = rw (c.end_of.ensures, c.deref.ensures.value) at c.if-end_of-lo.true in
     rw c.in_ok-push.ensures.items
     (λ x. value_at-push x 0 _ (record { start = c.args.lo; end = c.args.hi; value = c.args.value }) end c.requires)
@@ -20,8 +20,8 @@ returns-in_ok-segments-clause-ordered g c =
     (ordered_painted (record { start = c.args.lo; end = c.args.hi; value = c.args.value }) _ c.if-hi-lo.false
     c.requires)
 
-pub returns-in_ok-segments-clause-ok : goal.returns-in_ok-segments-clause-ok
-returns-in_ok-segments-clause-ok g c =
+pub returns-in_ok-segments-clause-state : goal.returns-in_ok-segments-clause-state
+returns-in_ok-segments-clause-state g c =
     rw (c.in_ok-segments.ensures, c.deref-else-end_of-lo.ensures.value)
     (λ x. value_at-painted x (record { start = c.args.lo; end = c.args.hi; value = c.args.value }) _ c.if-hi-lo.false)
 

@@ -9,7 +9,7 @@ returns-clause-ordered c =
     let all : c.loop-lo.left.items ≡ difference c.args.runs.now c.args.others.now = grind (arith, common_steps) in
     rw all (IsRunsFrom-difference 0 0 _ _ c.requires.runs c.requires.others)
 
-pub returns-clause-numbers : goal.returns-clause-numbers
-returns-clause-numbers c =
+pub returns-clause-answer : goal.returns-clause-answer
+returns-clause-answer c =
     let all : c.loop-lo.left.items ≡ difference c.args.runs.now c.args.others.now = grind (arith, common_steps) in
     rw all (λ x. has-difference 0 0 x _ _ c.requires.runs c.requires.others)

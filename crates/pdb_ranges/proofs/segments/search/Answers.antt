@@ -8,7 +8,7 @@ loop-from-preserved-then-x-segment g c =
     let size = c.loop-from.to - c.loop-from.from in
     let fewer = digits_half (c.loop-from.from + size / 2 - c.loop-from.from) size (omega arith) (omega arith) in
     record {
-      value = sym (look_ahead _ c.loop-from.from _ c.loop-from.to _ c.look-segment.result c.look-segment.ensures.entry
+      value = sym (look_ahead _ c.loop-from.from _ c.loop-from.to _ c.look-segment.result c.look-segment.ensures.answer
           (omega arith) (omega arith)
           c.len-to.ensures.ordered (omega arith))
           ∙ c.loop-from.invariant.value;
@@ -23,7 +23,7 @@ loop-from-preserved g c =
     let fewer = digits_half (c.loop-from.to - (c.loop-from.from + size / 2 + 1)) size (omega arith) (omega arith) in
     record {
       value = sym (look_behind _ c.loop-from.from _ c.loop-from.to _ c.look-segment.result
-          c.look-segment.ensures.entry (omega arith) (omega arith)
+          c.look-segment.ensures.answer (omega arith) (omega arith)
           c.len-to.ensures.ordered (omega arith))
           ∙ c.loop-from.invariant.value;
       to_end = omega arith;
@@ -31,9 +31,9 @@ loop-from-preserved g c =
       few = omega (arith, fewer, c.look-segment.ensures.one_more);
     }
 
-pub returns-else-segment-x-clause-value : goal.returns-else-segment-x-clause-value
-returns-else-segment-x-clause-value g c =
-    sym (look_here _ c.loop-from.from _ c.loop-from.to _ c.look-segment.result c.look-segment.ensures.entry
+pub returns-else-segment-x-clause-answer : goal.returns-else-segment-x-clause-answer
+returns-else-segment-x-clause-answer g c =
+    sym (look_here _ c.loop-from.from _ c.loop-from.to _ c.look-segment.result c.look-segment.ensures.answer
     (omega arith) (omega arith)
     c.len-to.ensures.ordered c.if-x-segment.false (omega arith))
     ∙ c.loop-from.invariant.value

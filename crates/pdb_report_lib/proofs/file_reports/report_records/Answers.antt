@@ -2,14 +2,14 @@ use Rattle.std.proofs.Common.{refl}
 use Rattle.pdb_report_lib.proofs.FileReportLemmas.{opened-accepted}
 use Rattle.pdb_report_lib.proofs.file_reports.report_records.Goals as goal
 
-pub returns-clause-lines : goal.returns-clause-lines
-returns-clause-lines g c =
-    let same_records = c.in_ok-data.ensures in
-    rw (opened-accepted c.args.records c.in_ok-data.data _ same_records.same_records same_records.refused refl)
-    c.report_data.ensures.lines
+pub returns-clause-text : goal.returns-clause-text
+returns-clause-text g c =
+    let data = c.in_ok-data.ensures in
+    rw (opened-accepted c.args.records c.in_ok-data.data _ data.answer data.refused refl)
+    c.report_data.ensures.text
 
-pub returns-clause-fault : goal.returns-clause-fault
-returns-clause-fault g c =
-    let same_records = c.in_ok-data.ensures in
-    rw (opened-accepted c.args.records c.in_ok-data.data _ same_records.same_records same_records.refused refl)
-    c.report_data.ensures.fault
+pub returns-clause-refused : goal.returns-clause-refused
+returns-clause-refused g c =
+    let data = c.in_ok-data.ensures in
+    rw (opened-accepted c.args.records c.in_ok-data.data _ data.answer data.refused refl)
+    c.report_data.ensures.refused

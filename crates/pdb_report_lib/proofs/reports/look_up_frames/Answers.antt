@@ -1,17 +1,17 @@
-use Rattle.pdb_report_lib.proofs.ContextLemmas.{shown_where_answered, gains_where_answered, left_where_refused}
+use Rattle.pdb_report_lib.proofs.ContextLemmas.{state_where_answered, gains_where_answered, early_where_refused}
 use Rattle.pdb_report_lib.proofs.reports.look_up_frames.Goals as goal
 
-pub returns-clause-shown : goal.returns-clause-shown
-returns-clause-shown g c =
+pub returns-clause-state : goal.returns-clause-state
+returns-clause-state g c =
     let found = c.find_frames.ensures in
-    shown_where_answered g.P.ModuleProvider.info c.args.context.now _ c.args.address _ found.inputs found.failed
+    state_where_answered g.P.ModuleProvider.info c.args.context.now _ c.args.address _ found.inputs found.failed
     found.code_failed
 
-pub returns-clause-left : goal.returns-clause-left
-returns-clause-left g c =
+pub returns-clause-early : goal.returns-clause-early
+returns-clause-early g c =
     let found = c.find_frames.ensures in
-    left_where_refused g.P.ModuleProvider.info c.args.context.now _ c.args.address _ found.inputs found.failed
-    found.code_failed found.code_unchanged found.broken
+    early_where_refused g.P.ModuleProvider.info c.args.context.now _ c.args.address _ found.inputs found.failed
+    found.code_failed found.unchanged found.broken
 
 pub returns-clause-gains : goal.returns-clause-gains
 returns-clause-gains g c =

@@ -10,9 +10,9 @@ invariant-loop-address g l =
     let state = g.W.Sink.state in
     let text_of = stack_text g.P.ModuleProvider.info l.initial.context.inputs l.initial.context.code_failed in
     record {
-      same : l.context.inputs ≡ l.initial.context.inputs;
-      same_code : l.context.code_failed ≡ l.initial.context.code_failed;
-      shown : l.context ≡ after_calls g.P.ModuleProvider.info l.initial.context
+      inputs : l.context.inputs ≡ l.initial.context.inputs;
+      code_failed : l.context.code_failed ≡ l.initial.context.code_failed;
+      state : l.context ≡ after_calls g.P.ModuleProvider.info l.initial.context
           (map FindFrames (take l.address-index l.addresses));
       taken : TakesText (addresses_text text_of (take l.address-index l.addresses)) (state l.initial.sink)
           (state l.sink);

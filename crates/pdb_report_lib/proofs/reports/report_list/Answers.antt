@@ -20,47 +20,47 @@ loop-start-preserved g c =
     let below : i < length starts = omega arith in
     let next : Takes (state c.loop-start.sink) (state c.put_listed.new.sink)
     (list_text (functions_at info inputs (get_or starts i 0 ∷ []))) =
-    rw c.loop-start.invariant.same at c.in_ok-put_listed.ensures.text in
+    rw c.loop-start.invariant.inputs at c.in_ok-put_listed.ensures.text in
     record {
-      same = c.put_listed.ensures.inputs ∙ c.loop-start.invariant.same;
-      shown = after_one_more info c.args.context.now c.loop-start.context c.put_listed.new.context starts i below
-          c.loop-start.invariant.shown c.in_ok-put_listed.ensures.shown;
+      inputs = c.put_listed.ensures.inputs ∙ c.loop-start.invariant.inputs;
+      state = after_one_more info c.args.context.now c.loop-start.context c.put_listed.new.context starts i below
+          c.loop-start.invariant.state c.in_ok-put_listed.ensures.state;
       taken = takes_one_listed info inputs starts i (state c.args.sink.now) (state c.loop-start.sink)
           (state c.put_listed.new.sink) below c.loop-start.invariant.taken next;
     }
 
-pub returns-in_err-put_listed-clause-fault : goal.returns-in_err-put_listed-clause-fault
-returns-in_err-put_listed-clause-fault g c =
+pub returns-in_err-put_listed-clause-refused : goal.returns-in_err-put_listed-clause-refused
+returns-in_err-put_listed-clause-refused g c =
     let state = g.W.Sink.state in
     let info = g.P.ModuleProvider.info in
     let inputs = c.args.context.now.inputs in
     let starts = c.deref-start-items.result.now in
     let is : starts ≡ start_addresses info inputs =
-    c.deref-start-items.ensures.value ∙ c.in_ok-starts.ensures.addresses in
+    c.deref-start-items.ensures.value ∙ c.in_ok-starts.ensures.answer in
     let fault = c.in_err-put_listed.field-0.0 in
     let before = state c.args.sink.now in
     let after = state c.put_listed.new.sink in
     let amid : EndsListEarly (functions_at info inputs starts) before after fault =
     ends_listed info inputs starts c.loop-start.start-index before
-    (state c.loop-start.sink) after c.loop-start.invariant.taken fault c.in_err-put_listed.ensures.fault in
+    (state c.loop-start.sink) after c.loop-start.invariant.taken fault c.in_err-put_listed.ensures.refused in
     let ends = subst (λ xs. EndsListEarly (functions_at info inputs xs) before after fault) is amid in
     fails_with _ fault (EndsListEarly (functions_at info inputs (start_addresses info inputs)) before after)
     c.from_residual-in_err-put_listed.ensures.1 ends
 
-pub returns-clause-shown : goal.returns-clause-shown
-returns-clause-shown g c =
+pub returns-clause-state : goal.returns-clause-state
+returns-clause-state g c =
     let info = g.P.ModuleProvider.info in
     let whole = take_all c.loop-start.start-index c.deref-start-items.result.now c.loop-start-test.false in
-    c.loop-start.invariant.shown
+    c.loop-start.invariant.state
     ∙ ap (after_functions info c.args.context.now)
-    (whole ∙ (c.deref-start-items.ensures.value ∙ c.in_ok-starts.ensures.addresses))
+    (whole ∙ (c.deref-start-items.ensures.value ∙ c.in_ok-starts.ensures.answer))
 
-pub returns-in_err-put_listed-clause-cut_short : goal.returns-in_err-put_listed-clause-cut_short
-returns-in_err-put_listed-clause-cut_short g c =
+pub returns-in_err-put_listed-clause-early : goal.returns-in_err-put_listed-clause-early
+returns-in_err-put_listed-clause-early g c =
     let info = g.P.ModuleProvider.info in
     let starts = c.deref-start-items.result.now in
     let is : starts ≡ start_addresses info c.args.context.now.inputs =
-    c.deref-start-items.ensures.value ∙ c.in_ok-starts.ensures.addresses in
+    c.deref-start-items.ensures.value ∙ c.in_ok-starts.ensures.answer in
     let cut = cut_at_address info c.args.context.now c.loop-start.context c.put_listed.new.context starts
-    c.loop-start.start-index c.loop-start.invariant.shown c.put_listed.ensures.gains in
+    c.loop-start.start-index c.loop-start.invariant.state c.put_listed.ensures.gains in
     on_error _ (subst (λ xs. IsCutShort info c.args.context.now c.put_listed.new.context xs) is cut)

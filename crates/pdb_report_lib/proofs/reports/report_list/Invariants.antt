@@ -10,7 +10,7 @@ invariant-loop-start g l =
     let state = g.W.Sink.state in
     let functions = functions_at g.P.ModuleProvider.info l.fn.context.inputs (take l.start-index l.start-items) in
     record {
-      same : l.context.inputs ≡ l.fn.context.inputs;
-      shown : l.context ≡ after_functions g.P.ModuleProvider.info l.fn.context (take l.start-index l.start-items);
+      inputs : l.context.inputs ≡ l.fn.context.inputs;
+      state : l.context ≡ after_functions g.P.ModuleProvider.info l.fn.context (take l.start-index l.start-items);
       taken : Takes (state l.initial.sink) (state l.sink) (list_text functions);
     }

@@ -12,18 +12,18 @@ loop-address-preserved g c =
     let address = get_or c.args.addresses.now c.loop-address.address-index 0 in
     let below : c.loop-address.address-index < length c.args.addresses.now = omega arith in
     let text : TakesText (text_of address) (state c.loop-address.sink) (state c.put_function.new.sink) =
-    rw c.loop-address.invariant.same at c.in_ok-put_function.ensures.text in
+    rw c.loop-address.invariant.inputs at c.in_ok-put_function.ensures.text in
     record {
-      same = c.put_function.ensures.inputs ∙ c.loop-address.invariant.same;
-      shown = after_one_more g.P.ModuleProvider.info c.args.context.now c.loop-address.context
+      inputs = c.put_function.ensures.inputs ∙ c.loop-address.invariant.inputs;
+      state = after_one_more g.P.ModuleProvider.info c.args.context.now c.loop-address.context
           c.put_function.new.context c.args.addresses.now c.loop-address.address-index below
-          c.loop-address.invariant.shown c.in_ok-put_function.ensures.shown;
+          c.loop-address.invariant.state c.in_ok-put_function.ensures.state;
       taken = takes_one_more text_of c.args.addresses.now c.loop-address.address-index (state c.args.sink.now)
           (state c.loop-address.sink) (state c.put_function.new.sink) below c.loop-address.invariant.taken text;
     }
 
-pub returns-in_err-put_function-clause-cut_short : goal.returns-in_err-put_function-clause-cut_short
-returns-in_err-put_function-clause-cut_short g c =
+pub returns-in_err-put_function-clause-early : goal.returns-in_err-put_function-clause-early
+returns-in_err-put_function-clause-early g c =
     on_error _ (cut_at_address g.P.ModuleProvider.info c.args.context.now c.loop-address.context
-    c.put_function.new.context c.args.addresses.now c.loop-address.address-index c.loop-address.invariant.shown
+    c.put_function.new.context c.args.addresses.now c.loop-address.address-index c.loop-address.invariant.state
     c.put_function.ensures.gains)

@@ -21,7 +21,7 @@ returns-in-Ok-flush g c =
     let asked = rw c.in-Some.is at c.in-Ok.ensures in
     rw (← asked)
     (run_ends_over_value _ _ _ _ _ _ _ c.report_file-ended.result c.in-Ok-from_slice.ensures c.report_file-ended.ensures
-    c.flush.ensures.same c.in-Ok-flush.ensures.unchanged)
+    c.flush.ensures.held c.in-Ok-flush.ensures.unchanged)
 
 pub returns : goal.returns
 returns g c =
@@ -35,6 +35,6 @@ returns g c =
       written = _;
       ended = c.report_file-ended.result;
       ends = over;
-      same = c.flush.ensures.same;
+      same = c.flush.ensures.held;
       failed = c.in-Err-flush.ensures.refused;
     }))

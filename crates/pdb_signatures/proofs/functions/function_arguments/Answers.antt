@@ -9,6 +9,6 @@ returns c = on_ok_weaker c.first-3.result (λ put w flags.
     let row = stands_before w _ _ _ _ _ _ last c.in_ok-first-2.ensures in
     let all = stands_fewer 1 (omega arith) (stands_before w _ _ _ _ _ _ row put) in
     let wanted = sym c.if-without_arguments.ensures in
-    let error_view = rw (← flags) at wanted in
-    rw error_view all)
+    let wanted_here = rw (← flags) at wanted in
+    rw wanted_here all)
     c.first-3.ensures

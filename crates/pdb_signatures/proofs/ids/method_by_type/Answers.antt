@@ -18,7 +18,7 @@ returns-in-MemberFunction c = on_ok_weaker c.method.result (λ ok w flags failed
 pub returns-in_default : goal.returns-in_default
 returns-in_default c = λ w flags failed.
     let error = Plain MemberFunctionIdIsNotMemberFunctionType in
-    let fails = advances_failed w (OfError error) c.args.progress.now _ failed c.requires.well c.fail.ensures in
+    let fails = advances_failed w (OfError error) c.args.progress.now _ failed c.requires.no_failure c.fail.ensures in
     let fewer = advances_fewer w (failing error) 1 0 c.args.progress.now _ failed failed (omega arith) fails in
     rw (method_id-other w c.args.id.now
     (open_in c.args.progress.now.steps) c.args.type_data.now c.in_default.not-MemberFunction) fewer

@@ -14,7 +14,7 @@ returns-in-Procedure c = on_ok_weaker c.pointers_to_function.result (λ ok w. rw
 
 pub returns-in_ok-hold_back-in_default : goal.returns-in_ok-hold_back-in_default
 returns-in_ok-hold_back-in_default c = on_ok_weaker c.first.result (λ ok w.
-    let cached = stands_held_back w c.args.attributes _ _ _ _ c.in_ok-hold_back-in_default.ensures
+    let stands = stands_held_back w c.args.attributes _ _ _ _ c.in_ok-hold_back-in_default.ensures
     ok in
-    rw (chain_end-other w _ _ c.args.type_data.now c.in_default.not-MemberFunction c.in_default.not-Procedure) cached)
+    rw (chain_end-other w _ _ c.args.type_data.now c.in_default.not-MemberFunction c.in_default.not-Procedure) stands)
     c.first.ensures

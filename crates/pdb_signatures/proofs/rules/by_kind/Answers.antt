@@ -4,8 +4,8 @@ use Rattle.pdb_signatures.proofs.StandsLemmas.{stands_first, stands_fewer}
 use Rattle.pdb_signatures.proofs.rules.by_kind.Goals as goal
 
 pub returns-in-Class : goal.returns-in-Class
-returns-in-Class c = on_ok_weaker c.declared.result (λ ok w flags. let error_view =
-    rw c.class_word.ensures at (ok w) in rw c.in-Class.is error_view)
+returns-in-Class c = on_ok_weaker c.declared.result (λ ok w flags. let stands =
+    rw c.class_word.ensures at (ok w) in rw c.in-Class.is stands)
     c.declared.ensures
 
 pub returns-in-Union : goal.returns-in-Union
@@ -29,9 +29,9 @@ returns-in-Procedure c = on_ok_weaker c.procedure.result (λ ok w flags. rw c.in
     c.procedure.ensures
 
 pub returns-in-ArgumentList : goal.returns-in-ArgumentList
-returns-in-ArgumentList c = on_ok_weaker c.types_between.result (λ ok w flags. let error_view =
+returns-in-ArgumentList c = on_ok_weaker c.types_between.result (λ ok w flags. let stands =
     rw (c.deref.ensures.value, c.list.view_is, c.comma.ensures, ← flags) at (stands_fewer 0 (omega arith)
-    (ok w)) in rw c.in-ArgumentList.is error_view)
+    (ok w)) in rw c.in-ArgumentList.is stands)
     c.types_between.ensures
 
 pub returns-in-Pointer : goal.returns-in-Pointer
@@ -44,5 +44,5 @@ returns-in-Array c = on_ok_weaker c.array.result (λ ok w flags. rw c.in-Array.i
 
 pub returns-in-Other : goal.returns-in-Other
 returns-in-Other c = on_ok_weaker c.first-in-Other.result (λ ok w flags. let all = stands_first w _ _ _ ok in
-    let error_view = rw (c.as_str.ensures.value, c.kind.view_is) at all in rw c.in-Other.is error_view)
+    let stands = rw (c.as_str.ensures.value, c.kind.view_is) at all in rw c.in-Other.is stands)
     c.first-in-Other.ensures

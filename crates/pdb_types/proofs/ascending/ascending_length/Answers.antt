@@ -8,11 +8,11 @@ loop-ascending-init g c = record { within = omega arith; ascends = ascends_none 
 pub loop-ascending-smaller : goal.loop-ascending-smaller
 loop-ascending-smaller g c =
     let there = got_there g.T.Numbered.number_of c.args.entries.now c.loop-ascending.ascending _
-    c.in-Some.ensures.there in
+    c.in-Some.ensures.entry in
     omega (arith, there.0)
 
 pub loop-ascending-preserved : goal.loop-ascending-preserved
 loop-ascending-preserved g c =
     let there = got_there g.T.Numbered.number_of c.args.entries.now c.loop-ascending.ascending _
-    c.in-Some.ensures.there in
+    c.in-Some.ensures.entry in
     record { within = omega (arith, there.0); ascends = c.in-Some.ensures.ascends }

@@ -12,8 +12,8 @@ returns-in_default-clause-ascends g c =
     let first : c.args.ascending ≡ 0 = grind (arith, common_steps, c.in_default.ensures) in
     ascends_more g.T.Numbered.number_of _ _ _ within entry.1 (λ d more. absurd (omega (arith, first, more))) c.requires
 
-pub returns-then-number-clause-there : goal.returns-then-number-clause-there
-returns-then-number-clause-there g c =
+pub returns-then-number-clause-entry : goal.returns-then-number-clause-entry
+returns-then-number-clause-entry g c =
     let entry = c.in_ok-entry.ensures.lookup in
     let within : c.args.ascending < length c.args.entries.now = grind (arith, nat_tests, entry.0) in
     slice_get_read _ _ _ _ refl within entry.1

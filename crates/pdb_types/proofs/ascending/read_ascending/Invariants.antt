@@ -7,7 +7,7 @@ abbrev pub invariant-loop-entry : goal.invariant-loop-entry
 invariant-loop-entry g l = record {
   within : l.ascending ≤ length l.entries;
   ascends : Ascends g.T.Numbered.number_of (take l.ascending l.entries);
-  new : first_numbered g.T.Numbered.number_of l.number (take l.ascending l.entries) ≡ None;
+  absent : first_numbered g.T.Numbered.number_of l.number (take l.ascending l.entries) ≡ None;
 }
 
 -- the entries that are left

@@ -7,8 +7,8 @@ use Rattle.pdb_types.proofs.cached_entries.read_on.Given as goal
 abbrev pub invariant-loop-scanned : goal.invariant-loop-scanned
 invariant-loop-scanned g l = record {
   within : l.scanned ≤ length l.entries;
-  indexed : Knows g.T.Numbered.number_of (take l.scanned l.entries) l.known;
-  new : first_numbered g.T.Numbered.number_of l.number (take l.scanned l.entries) ≡ None;
+  knows : Knows g.T.Numbered.number_of (take l.scanned l.entries) l.known;
+  absent : first_numbered g.T.Numbered.number_of l.number (take l.scanned l.entries) ≡ None;
 }
 
 -- the entries that are left

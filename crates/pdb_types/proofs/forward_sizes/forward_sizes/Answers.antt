@@ -7,7 +7,7 @@ pub loop-left-init : goal.loop-left-init
 loop-left-init c = rw drop-length (record {
   within = omega arith;
   defined = defines_nothing _ c.new-by_name.ensures.empty;
-  answered = tabulates_nothing _ c.new-sizes.ensures.empty;
+  tabulated = tabulates_nothing _ c.new-sizes.ensures.empty;
 })
 
 pub loop-left-preserved : goal.loop-left-preserved
@@ -18,9 +18,9 @@ loop-left-preserved c =
     (c.loop-left.left - 1) c.loop-left.left c.index-items-left.result next within c.index-items-left.is in
     record {
       within = omega arith;
-      defined = rw here (defines_more _ _ _ _ _ c.item_aggregate-error_view.ensures c.loop-left.invariant.defined
+      defined = rw here (defines_more _ _ _ _ _ c.item_aggregate-aggregate.ensures c.loop-left.invariant.defined
           c.in_ok-define.ensures);
-      answered = rw here (tabulates_more _ _ _ _ _ _ _ _ refl c.item_aggregate-error_view.ensures
-          c.reference_size-size.ensures c.loop-left.invariant.defined c.loop-left.invariant.answered
-          c.in_ok-answer.ensures);
+      tabulated = rw here (tabulates_more _ _ _ _ _ _ _ _ refl c.item_aggregate-aggregate.ensures
+          c.reference_size-size.ensures c.loop-left.invariant.defined c.loop-left.invariant.tabulated
+          c.in_ok-put_size.ensures);
     }

@@ -7,7 +7,7 @@ abbrev pub invariant-loop-left : goal.invariant-loop-left
 invariant-loop-left l = record {
   within : l.left ≤ length l.items;
   defined : Defines (drop l.left l.items) l.by_name;
-  answered : Tabulates (drop l.left l.items) l.sizes;
+  tabulated : Tabulates (drop l.left l.items) l.sizes;
 }
 
 -- the entries that are left

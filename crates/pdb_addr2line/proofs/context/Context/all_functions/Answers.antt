@@ -10,7 +10,7 @@ use Rattle.pdb_addr2line.proofs.context.Context.all_functions.Goals as goal
 pub loop-address-init : goal.loop-address-init
 loop-address-init g c = record {
   functions = ap (map function_view) c.new-functions.ensures.items;
-  shown =
+  state =
       refl;
   gains = gains_none g.P.ModuleProvider.info c.start_addresses.new.self c.start_addresses.new.self refl;
 }
@@ -22,7 +22,7 @@ loop-address-preserved g c =
     let addresses = c.deref-address-items.result.now in
     let i = c.loop-address.address-index in
     let below : i < length addresses = omega arith in
-    let same = ap (λ s. s.inputs) c.loop-address.invariant.shown ∙ inputs_stay info context (take i addresses) in
+    let same = ap (λ s. s.inputs) c.loop-address.invariant.state ∙ inputs_stay info context (take i addresses) in
     let here = ap (λ s. functions_at info s (get_or addresses i 0 ∷ [])) same in
     record {
       functions = c.in_ok-add_function.ensures.added
@@ -30,40 +30,40 @@ loop-address-preserved g c =
           ∙ (ap (λ xs. xs ++ functions_at info context.inputs (get_or addresses i 0 ∷ []))
           c.loop-address.invariant.functions
           ∙ sym (functions_one_more info context.inputs addresses i below)));
-      shown = after_one_more info context c.loop-address.self c.add_function.new.self addresses i below
-          c.loop-address.invariant.shown c.in_ok-add_function.ensures.shown;
+      state = after_one_more info context c.loop-address.self c.add_function.new.self addresses i below
+          c.loop-address.invariant.state c.in_ok-add_function.ensures.state;
       gains = gains_after info context c.loop-address.self c.add_function.new.self c.loop-address.invariant.gains
           c.add_function.ensures.gains;
     }
 
-pub returns-in_err-add_function-clause-cut_short : goal.returns-in_err-add_function-clause-cut_short
-returns-in_err-add_function-clause-cut_short g c =
+pub returns-in_err-add_function-clause-early : goal.returns-in_err-add_function-clause-early
+returns-in_err-add_function-clause-early g c =
     let info = g.P.ModuleProvider.info in
     let addresses = c.deref-address-items.result.now in
     let i = c.loop-address.address-index in
     let below : i < length addresses = omega arith in
-    let is = c.deref-address-items.ensures.value ∙ c.in_ok-addresses.ensures.addresses in
+    let is = c.deref-address-items.ensures.value ∙ c.in_ok-addresses.ensures.answer in
     let cut = cut_short_later info c.start_addresses.new.self c.loop-address.self c.add_function.new.self addresses i
-    below c.loop-address.invariant.shown c.in_err-add_function.ensures.cut_short in
+    below c.loop-address.invariant.state c.in_err-add_function.ensures.early in
     on_error _ (rw (is, c.start_addresses.ensures.unchanged) at cut)
 
-pub returns-clause-functions : goal.returns-clause-functions
-returns-clause-functions g c =
+pub returns-clause-answer : goal.returns-clause-answer
+returns-clause-answer g c =
     let info = g.P.ModuleProvider.info in
     let whole = take_all c.loop-address.address-index c.deref-address-items.result.now c.loop-address-test.false in
     let functions = rw c.start_addresses.ensures.unchanged at c.loop-address.invariant.functions in
     functions
     ∙ ap (functions_at info c.args.self.now.inputs)
-    (whole ∙ (c.deref-address-items.ensures.value ∙ c.in_ok-addresses.ensures.addresses))
+    (whole ∙ (c.deref-address-items.ensures.value ∙ c.in_ok-addresses.ensures.answer))
 
-pub returns-clause-shown : goal.returns-clause-shown
-returns-clause-shown g c =
+pub returns-clause-state : goal.returns-clause-state
+returns-clause-state g c =
     let info = g.P.ModuleProvider.info in
     let whole = take_all c.loop-address.address-index c.deref-address-items.result.now c.loop-address-test.false in
-    let shown = rw c.start_addresses.ensures.unchanged at c.loop-address.invariant.shown in
-    shown
+    let state = rw c.start_addresses.ensures.unchanged at c.loop-address.invariant.state in
+    state
     ∙ ap (after_functions info c.args.self.now)
-    (whole ∙ (c.deref-address-items.ensures.value ∙ c.in_ok-addresses.ensures.addresses))
+    (whole ∙ (c.deref-address-items.ensures.value ∙ c.in_ok-addresses.ensures.answer))
 
 pub returns-in_err-add_function-clause-gains : goal.returns-in_err-add_function-clause-gains
 returns-in_err-add_function-clause-gains g c =

@@ -10,6 +10,6 @@ invariant-loop-address g l =
     record {
       functions : map function_view l.functions.items ≡ functions_at info l.initial.self.inputs
           (take l.address-index l.address-items);
-      shown : l.self ≡ after_functions info l.initial.self (take l.address-index l.address-items);
+      state : l.self ≡ after_functions info l.initial.self (take l.address-index l.address-items);
       gains : OnlyGainsBroken info l.initial.self l.self;
     }

@@ -3,8 +3,9 @@ use Rattle.pdb_addr2line.proofs.FunctionLemmas.{on_error}
 use Rattle.pdb_addr2line.proofs.GainLemmas.{gains_by_one}
 use Rattle.pdb_addr2line.proofs.context.Context.answer_id.Goals as goal
 
-pub returns-in_err-answered_error-in-Err-clause-not_made : goal.returns-in_err-answered_error-in-Err-clause-not_made
-returns-in_err-answered_error-in-Err-clause-not_made g c =
+pub returns-in_err-unless_out_of_memory-in-Err-clause-gains :
+    goal.returns-in_err-unless_out_of_memory-in-Err-clause-gains
+returns-in_err-unless_out_of_memory-in-Err-clause-gains g c =
     rw (← c.self.view_is) (on_error _ (gains_by_one g.P.ModuleProvider.info _ _
     (ap (λ t. record {
       provider = c.self.inside.provider.now;

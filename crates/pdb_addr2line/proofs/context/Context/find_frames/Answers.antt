@@ -6,7 +6,7 @@ pub returns-in-Some-2-clause-answer : goal.returns-in-Some-2-clause-answer
 returns-in-Some-2-clause-answer g c =
     let section_offset = rw (c.in-Some.is) at c.section_offset_of.ensures in
     let found = rw (c.in-Some-2.is) at c.in_ok-found_over.ensures.answer in
-    rw (← section_offset, ← found) (rw c.found_over.ensures.unchanged at c.frames_answer.ensures.shown)
+    rw (← section_offset, ← found) (rw c.found_over.ensures.unchanged at c.frames_answer.ensures.answer)
 
 pub returns-in-Some-2-clause-failed : goal.returns-in-Some-2-clause-failed
 returns-in-Some-2-clause-failed g c =

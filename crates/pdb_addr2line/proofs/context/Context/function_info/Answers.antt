@@ -1,9 +1,9 @@
 use Rattle.pdb_addr2line.proofs.context.Context.function_info.Goals as goal
 
-pub returns-clause-shown : goal.returns-clause-shown
-returns-clause-shown g c =
-    rw (← c.self.view_is) (rw (c.self.invariant.shown) at c.function_info.ensures.shown)
+pub returns-clause-answer : goal.returns-clause-answer
+returns-clause-answer g c =
+    rw (← c.self.view_is) (rw (c.self.invariant.global_functions) at c.function_info.ensures.answer)
 
 pub returns-clause-failed : goal.returns-clause-failed
 returns-clause-failed g c =
-    rw (← c.self.view_is) (rw (c.self.invariant.shown) at c.function_info.ensures.failed)
+    rw (← c.self.view_is) (rw (c.self.invariant.global_functions) at c.function_info.ensures.failed)

@@ -3,7 +3,7 @@ use Rattle.std.specs.Vec.Iter.{into_iter_items}
 use Rattle.std.specs.Option.{is_some}
 use Rattle.pdb_addr2line.specs.FunctionSteps.{untried, lender}
 use Rattle.pdb_addr2line.proofs.FunctionLemmas.{on_error}
-use Rattle.pdb_addr2line.proofs.FunctionStepLemmas.{passed_here, shown_here}
+use Rattle.pdb_addr2line.proofs.FunctionStepLemmas.{passed_here, answered_here}
 use Rattle.pdb_addr2line.proofs.functions.FunctionIterIterator.next.Goals as goal
 
 pub loop-address-preserved : goal.loop-address-preserved
@@ -11,13 +11,13 @@ loop-address-preserved g c =
     let info = g.P.ModuleProvider.info in
     let all = untried c.args.self.now in
     let passed = c.loop-address.invariant.1 in
-    let nothing = ap is_some (sym c.transpose-shown.ensures) ∙ (sym c.is_some.ensures ∙ c.if-is_some.false) in (
+    let nothing = ap is_some (sym c.transpose-answered.ensures) ∙ (sym c.is_some.ensures ∙ c.if-is_some.false) in (
       c.loop-address.invariant.0,
       passed ++ c.in-Some.address ∷ [],
       passed_here info (lender c.args.self.now) (lender c.loop-address.self) c.next_function.new.self all passed
           (untried c.loop-address.self)
           (into_iter_items c.next.new.self) c.in-Some.address c.next_function.result c.loop-address.invariant.2
-          c.in-Some.ensures.items c.next_function.ensures.answer c.next_function.ensures.shown nothing,
+          c.in-Some.ensures.items c.next_function.ensures.answer c.next_function.ensures.state nothing,
     )
 
 pub returns-then-is_some-clause-steps : goal.returns-then-is_some-clause-steps
@@ -25,13 +25,13 @@ returns-then-is_some-clause-steps g c =
     let info = g.P.ModuleProvider.info in
     let all = untried c.args.self.now in
     let passed = c.loop-address.invariant.1 in
-    let something = ap is_some (sym c.transpose-shown.ensures) ∙ (sym c.is_some.ensures ∙ c.if-is_some.true) in
-    let shown = shown_here info (lender c.args.self.now)
+    let something = ap is_some (sym c.transpose-answered.ensures) ∙ (sym c.is_some.ensures ∙ c.if-is_some.true) in
+    let answered = answered_here info (lender c.args.self.now)
     (lender c.loop-address.self) c.next_function.new.self all passed (untried c.loop-address.self)
     (into_iter_items c.next.new.self) c.in-Some.address c.next_function.result c.loop-address.invariant.2
-    c.in-Some.ensures.items c.next_function.ensures.answer c.next_function.ensures.shown
+    c.in-Some.ensures.items c.next_function.ensures.answer c.next_function.ensures.state
     (on_error c.next_function.result c.next_function.ensures.gains) something in
     record {
       same_reference = c.loop-address.invariant.0;
-      matches = rw c.transpose-shown.ensures shown;
+      matches = rw c.transpose-answered.ensures answered;
     }

@@ -2,8 +2,8 @@ use Rattle.std.proofs.Common.{sym}
 use Rattle.pdb_documents.proofs.SeenLemmas.{has-added, base-added}
 use Rattle.pdb_documents.proofs.seen.Seen.insert.Goals as goal
 
-pub returns-in-Ok-clause-added : goal.returns-in-Ok-clause-added
-returns-in-Ok-clause-added c = has-added c.args.self.now.set.now c.insert.new.self c.args.index c.in-Ok.ensures.updates
+pub returns-in-Ok-clause-state : goal.returns-in-Ok-clause-state
+returns-in-Ok-clause-state c = has-added c.args.self.now.set.now c.insert.new.self c.args.index c.in-Ok.ensures.updates
 
 pub returns-in-Ok-clause-base_unchanged : goal.returns-in-Ok-clause-base_unchanged
 returns-in-Ok-clause-base_unchanged c =

@@ -11,4 +11,4 @@ returns-clause-stack c = on_ok_weaker c.paint.result (λ painted. λ x. rw (← 
     c.self.inside.segments c.paint.new.self c.args.lo c.args.hi c.len-from.result c.len.result x
     c.in_ok-push_positions.ensures.positions
     (c.len-from.ensures ∙ c.self.inside.positions.ok.0) (c.len.ensures ∙ c.push_positions.new.positions.ok.0)
-    (c.self.invariant x) (painted x))) c.paint.ensures.ok
+    (c.self.invariant x) (painted x))) c.paint.ensures.state

@@ -7,4 +7,5 @@ use Rattle.pdb_json_records.proofs.members.ElementsFromJson.from_json.Given as g
 abbrev pub invariant-loop-number : goal.invariant-loop-number
 invariant-loop-number g l =
     all_from 0 (g.T.FromJson.read l.reader.version) (items_view l.values)
-    ≡ after l.items.items (all_from l.number (g.T.FromJson.read l.reader.version) (items_view (drop l.number l.values)))
+    ≡ after l.elements.items
+    (all_from l.number (g.T.FromJson.read l.reader.version) (items_view (drop l.number l.values)))

@@ -8,7 +8,7 @@ returns c = λ x.
     let same = list_any-IsPermutation
     (λ (row : ℕ × ℕ). is_within row.0 row.1 x) _ _ c.sort_unstable.ensures.permutation in
     rw (
-      c.in_ok-add_ranges.ensures.ok,
+      c.in_ok-add_ranges.ensures.state,
       c.new-runs.ensures.items,
       c.deref.ensures.value,
       ← same,

@@ -11,7 +11,7 @@ returns-in-Ok-clause-entered g c =
     let opened = rw c.if-not-branch.false at c.in_ok-open.ensures in
     record {
       absent = opened.0;
-      read = c.in-Ok.ensures.read;
+      read = c.in-Ok.ensures.answer;
       stage = opened.1;
       parts = ap (λ f. f.failed) c.in-Ok.ensures.unchanged;
     }
@@ -22,23 +22,23 @@ returns-in_ok-refuse-in-Err-clause-entered g c = λ next.
     let module_index = c.args.module_index in
     let w = formatter_inputs g.P.ModuleProvider.info s module_index in
     let opened = rw c.if-not-branch.false at c.in_ok-open.ensures in
-    let refused = c.in_ok-refuse-in-Err.ensures.refused in
+    let refused = c.in_ok-refuse-in-Err.ensures.fails in
     let read_error = read_error-is (w.read c.args.index.0) c.in-Err.read_error refused.read_error_view
-    c.in-Err.ensures.read refused.known in
+    c.in-Err.ensures.answer refused.known in
     let ran = rw c.in-Err.ensures.unchanged at refused.ran in
     entered_read_error w c.args.index.0 refused.read_error_view c.args.progress.now _ _ c.args.self.now.failed _
-    c.requires.well opened.0 opened.1 read_error refused.steps ran next
+    c.requires.no_failure opened.0 opened.1 read_error refused.steps ran next
 
 pub returns-in_ok-refuse-in-Err-clause-later : goal.returns-in_ok-refuse-in-Err-clause-later
 returns-in_ok-refuse-in-Err-clause-later g c =
     let w = formatter_inputs g.P.ModuleProvider.info c.args.self.now.type_inputs c.args.module_index in
     later-adds c.in-Err.ensures.unchanged c.in_ok-refuse-in-Err.ensures.type_inputs
     (c.in_ok-refuse-in-Err.ensures.broken w
-    (read_error-broken w c.args.index.0 c.in-Err.read_error c.in-Err.ensures.read))
+    (read_error-broken w c.args.index.0 c.in-Err.read_error c.in-Err.ensures.answer))
 
 pub returns-in_err-refuse-in-Err-clause-later : goal.returns-in_err-refuse-in-Err-clause-later
 returns-in_err-refuse-in-Err-clause-later g c =
     let w = formatter_inputs g.P.ModuleProvider.info c.args.self.now.type_inputs c.args.module_index in
     later-adds c.in-Err.ensures.unchanged c.in_err-refuse-in-Err.ensures.type_inputs
     (c.in_err-refuse-in-Err.ensures.broken w
-    (read_error-broken w c.args.index.0 c.in-Err.read_error c.in-Err.ensures.read))
+    (read_error-broken w c.args.index.0 c.in-Err.read_error c.in-Err.ensures.answer))

@@ -10,7 +10,7 @@ pub returns-in_ok-open_alone-in-Ok-clause-entered : goal.returns-in_ok-open_alon
 returns-in_ok-open_alone-in-Ok-clause-entered g c =
     let s = c.args.self.now.type_inputs in
     record {
-      read = c.in-Ok.ensures.read;
+      read = c.in-Ok.ensures.answer;
       opens = c.in_ok-open_alone-in-Ok.ensures;
       parts = ap (λ f. f.failed) c.in-Ok.ensures.unchanged;
     }
@@ -20,13 +20,13 @@ returns-in_ok-refuse-in-Err-clause-entered g c = λ next.
     let s = c.args.self.now.type_inputs in
     let module_index = c.args.module_index in
     let w = formatter_inputs g.P.ModuleProvider.info s module_index in
-    let refused = c.in_ok-refuse-in-Err.ensures.refused in
+    let refused = c.in_ok-refuse-in-Err.ensures.fails in
     let read_error = read_error-is (w.read c.args.index.0) c.in-Err.read_error refused.read_error_view
-    c.in-Err.ensures.read refused.known in
+    c.in-Err.ensures.answer refused.known in
     let ran = rw c.in-Err.ensures.unchanged at refused.ran in
     let advances = advances_refused w
     (w.read c.args.index.0) next refused.read_error_view c.args.progress.now _ c.args.self.now.failed _ read_error
-    c.requires.well refused.steps ran in
+    c.requires.no_failure refused.steps ran in
     closing_advances w 1 (on_read (w.read c.args.index.0) next) c.args.progress.now _ c.args.self.now.failed _ advances
 
 pub returns-in_ok-refuse-in-Err-clause-later : goal.returns-in_ok-refuse-in-Err-clause-later
@@ -34,11 +34,11 @@ returns-in_ok-refuse-in-Err-clause-later g c =
     let w = formatter_inputs g.P.ModuleProvider.info c.args.self.now.type_inputs c.args.module_index in
     later-adds c.in-Err.ensures.unchanged c.in_ok-refuse-in-Err.ensures.type_inputs
     (c.in_ok-refuse-in-Err.ensures.broken w
-    (read_error-broken w c.args.index.0 c.in-Err.read_error c.in-Err.ensures.read))
+    (read_error-broken w c.args.index.0 c.in-Err.read_error c.in-Err.ensures.answer))
 
 pub returns-in_err-refuse-in-Err-clause-later : goal.returns-in_err-refuse-in-Err-clause-later
 returns-in_err-refuse-in-Err-clause-later g c =
     let w = formatter_inputs g.P.ModuleProvider.info c.args.self.now.type_inputs c.args.module_index in
     later-adds c.in-Err.ensures.unchanged c.in_err-refuse-in-Err.ensures.type_inputs
     (c.in_err-refuse-in-Err.ensures.broken w
-    (read_error-broken w c.args.index.0 c.in-Err.read_error c.in-Err.ensures.read))
+    (read_error-broken w c.args.index.0 c.in-Err.read_error c.in-Err.ensures.answer))

@@ -13,8 +13,8 @@ returns-then-contains-clause-advances g c =
     let module_index = c.args.module_index in
     let w = formatter_inputs g.P.ModuleProvider.info s module_index in
     let among = sym (keys-among c.args.index.0 c.args.met.keys) ∙ sym c.if-contains.ensures in
-    id_circular w c.args.met.keys c.args.index.0 c.args.progress.now _ c.args.self.now.failed among c.requires.well
-    c.fail.ensures
+    id_circular w c.args.met.keys c.args.index.0 c.args.progress.now _ c.args.self.now.failed among
+    c.requires.no_failure c.fail.ensures
 
 pub returns-in-Err-clause-advances : goal.returns-in-Err-clause-advances
 returns-in-Err-clause-advances g c = on_ok_weaker c.note.result (λ ok.
@@ -24,10 +24,10 @@ returns-in-Err-clause-advances g c = on_ok_weaker c.note.result (λ ok.
     let absent = sym (keys-among c.args.index.0 c.args.met.keys) ∙ sym c.if-contains.ensures in
     let noted = ok in
     let read_error = read_error-is (w.read_id c.args.index.0) c.in-Err.read_error noted.read_error_view
-    c.in-Err.ensures.read noted.known in
+    c.in-Err.ensures.answer noted.known in
     let ran = rw c.in-Err.ensures.unchanged at noted.ran in
     id_noted w c.args.met.keys c.args.index.0 noted.read_error_view c.args.progress.now _ c.args.self.now.failed _
-    absent read_error c.requires.well noted.steps ran)
+    absent read_error c.requires.no_failure noted.steps ran)
     c.note.ensures.noted
 
 pub returns-in_ok-insert-in-Ok-clause-advances : goal.returns-in_ok-insert-in-Ok-clause-advances
@@ -36,7 +36,7 @@ returns-in_ok-insert-in-Ok-clause-advances g c = on_ok_weaker c.id_by_kind.resul
     let module_index = c.args.module_index in
     let w = formatter_inputs g.P.ModuleProvider.info s module_index in
     let absent = sym (keys-among c.args.index.0 c.args.met.keys) ∙ sym c.if-contains.ensures in
-    let read = c.in-Ok.ensures.read in
+    let read = c.in-Ok.ensures.answer in
     let settled = rw c.in-Ok.ensures.unchanged at ok in
     let keys = c.in_ok-insert-in-Ok.ensures.keys in
     id_read w c.args.met.keys c.args.index.0 c.in-Ok.id_data.now c.args.progress.now _ c.args.self.now.failed _
@@ -47,4 +47,4 @@ pub returns-in-Err-clause-later : goal.returns-in-Err-clause-later
 returns-in-Err-clause-later g c =
     let w = formatter_inputs g.P.ModuleProvider.info c.args.self.now.type_inputs c.args.module_index in
     later-adds c.in-Err.ensures.unchanged c.note.ensures.type_inputs
-    (c.note.ensures.broken w (read_error-id-broken w c.args.index.0 c.in-Err.read_error c.in-Err.ensures.read))
+    (c.note.ensures.broken w (read_error-id-broken w c.args.index.0 c.in-Err.read_error c.in-Err.ensures.answer))

@@ -10,7 +10,7 @@ returns-in-Other-clause-advances g c = on_ok_weaker c.first-in-Other.result (λ 
     let module_index = c.args.module_index in
     let w = formatter_inputs g.P.ModuleProvider.info s module_index in
     let all = stands_first w _ _ _ ok in
-    let error_view = rw (c.as_str.ensures.value, c.kind.view_is) at all in
+    let stands = rw (c.as_str.ensures.value, c.kind.view_is) at all in
     rw c.in-Other.is (closing_advances w 0 _ c.args.progress.now _ c.args.self.now.failed _
-    (advances_stands w 0 _ c.args.progress.now _ error_view c.args.self.now.failed)))
+    (advances_stands w 0 _ c.args.progress.now _ stands c.args.self.now.failed)))
     c.first-in-Other.ensures

@@ -9,7 +9,7 @@ pub returns-in-Ok-clause-advances : goal.returns-in-Ok-clause-advances
 returns-in-Ok-clause-advances g c = on_ok_weaker c.index_read.result (λ ok.
     let s = c.args.self.now.type_inputs in
     let w = formatter_inputs g.P.ModuleProvider.info s c.args.module_index in
-    let read = c.in-Ok.ensures.read in
+    let read = c.in-Ok.ensures.answer in
     rw c.in-Ok.ensures.unchanged (ok w read c.args.self.now.failed))
     c.index_read.ensures
 
@@ -20,14 +20,14 @@ returns-in-Err-clause-advances g c = on_ok_weaker c.note.result (λ ok.
     let w = formatter_inputs g.P.ModuleProvider.info s module_index in
     let noted = ok in
     let read_error = read_error-is (w.read c.args.index.0) c.in-Err.read_error noted.read_error_view
-    c.in-Err.ensures.read noted.known in
+    c.in-Err.ensures.answer noted.known in
     let ran = rw c.in-Err.ensures.unchanged at noted.ran in
     index_noted w c.args.index.0 noted.read_error_view c.args.progress.now _ c.args.self.now.failed _ read_error
-    c.requires.well noted.steps ran)
+    c.requires.no_failure noted.steps ran)
     c.note.ensures.noted
 
 pub returns-in-Err-clause-later : goal.returns-in-Err-clause-later
 returns-in-Err-clause-later g c =
     let w = formatter_inputs g.P.ModuleProvider.info c.args.self.now.type_inputs c.args.module_index in
     later-adds c.in-Err.ensures.unchanged c.note.ensures.type_inputs
-    (c.note.ensures.broken w (read_error-broken w c.args.index.0 c.in-Err.read_error c.in-Err.ensures.read))
+    (c.note.ensures.broken w (read_error-broken w c.args.index.0 c.in-Err.read_error c.in-Err.ensures.answer))

@@ -16,7 +16,7 @@ returns-in-Ok-clause-advances g c = on_ok_weaker c.method_list.result (λ ok.
     let w = formatter_inputs g.P.ModuleProvider.info s module_index in
     let stands = advances_stands w 0 _ c.args.progress.now _
     (ok w (sym (rw c.in-Ok.ensures.unchanged at c.flags.ensures))) c.args.self.now.failed in
-    rw (c.in-Ok.ensures.this, c.in-Ok.ensures.unchanged) stands)
+    rw (c.in-Ok.ensures.answer, c.in-Ok.ensures.unchanged) stands)
     c.method_list.ensures
 
 pub returns-in-Err-clause-advances : goal.returns-in-Err-clause-advances
@@ -24,20 +24,20 @@ returns-in-Err-clause-advances g c = on_ok_weaker c.refuse.result (λ ok.
     let s = c.args.self.now.type_inputs in
     let module_index = c.args.module_index in
     let w = formatter_inputs g.P.ModuleProvider.info s module_index in
-    let error_view = this_of w c.args.m.now.class_type c.args.m.now.this_pointer_type in
+    let this = this_of w c.args.m.now.class_type c.args.m.now.this_pointer_type in
     let next = method_list w (open_in c.args.progress.now.steps) c.args.form c.args.list.now in
     let refused = ok in
-    let read_error = read_error-is error_view c.in-Err.read_error
-    refused.read_error_view c.in-Err.ensures.this refused.known in
+    let read_error = read_error-is this c.in-Err.read_error
+    refused.read_error_view c.in-Err.ensures.answer refused.known in
     let ran = rw c.in-Err.ensures.unchanged at refused.ran in
-    let failed = advances_refused w error_view next refused.read_error_view c.args.progress.now _
-    c.args.self.now.failed _ read_error c.requires.well refused.steps ran in
-    advances_fewer w (on_read error_view next) 1 0 c.args.progress.now _ c.args.self.now.failed _ (omega arith) failed)
-    c.refuse.ensures.refused
+    let failed = advances_refused w this next refused.read_error_view c.args.progress.now _
+    c.args.self.now.failed _ read_error c.requires.no_failure refused.steps ran in
+    advances_fewer w (on_read this next) 1 0 c.args.progress.now _ c.args.self.now.failed _ (omega arith) failed)
+    c.refuse.ensures.fails
 
 pub returns-in-Err-clause-later : goal.returns-in-Err-clause-later
 returns-in-Err-clause-later g c =
     let w = formatter_inputs g.P.ModuleProvider.info c.args.self.now.type_inputs c.args.module_index in
     later-adds c.in-Err.ensures.unchanged c.refuse.ensures.type_inputs
     (c.refuse.ensures.broken w
-    (this-broken w c.args.m.now.class_type c.args.m.now.this_pointer_type c.in-Err.read_error c.in-Err.ensures.this))
+    (this-broken w c.args.m.now.class_type c.args.m.now.this_pointer_type c.in-Err.read_error c.in-Err.ensures.answer))

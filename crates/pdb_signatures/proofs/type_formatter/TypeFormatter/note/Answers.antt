@@ -6,7 +6,7 @@ use Rattle.pdb_signatures.proofs.type_formatter.TypeFormatter.note.Goals as goal
 
 pub returns-in-Missing-clause-noted : goal.returns-in-Missing-clause-noted
 returns-in-Missing-clause-noted g c = on_ok_weaker c.write.result (λ wrote.
-    let ran = written_run _ c.args.progress.now _ c.args.self.now.failed c.requires.well wrote in
+    let ran = written_run _ c.args.progress.now _ c.args.self.now.failed c.requires.no_failure wrote in
     record {
       read_error_view = Missing c.in-Missing.index;
       known = rw c.in-Missing.is refl;
@@ -16,7 +16,7 @@ returns-in-Missing-clause-noted g c = on_ok_weaker c.write.result (λ wrote.
 
 pub returns-in-Unimplemented-clause-noted : goal.returns-in-Unimplemented-clause-noted
 returns-in-Unimplemented-clause-noted g c = on_ok_weaker c.write-in-Unimplemented.result (λ wrote.
-    let ran = written_run _ c.args.progress.now _ c.args.self.now.failed c.requires.well wrote in
+    let ran = written_run _ c.args.progress.now _ c.args.self.now.failed c.requires.no_failure wrote in
     record {
       read_error_view = Unimplemented c.in-Unimplemented.kind;
       known = rw c.in-Unimplemented.is refl;

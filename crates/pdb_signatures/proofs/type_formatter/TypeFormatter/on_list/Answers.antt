@@ -15,7 +15,7 @@ returns-in_default-clause-advances g c =
     let module_index = c.args.module_index in
     let w = formatter_inputs g.P.ModuleProvider.info s module_index in
     let failed = advances_failed w
-    (OfError (Plain ArgumentTypeNotArgumentList)) c.args.progress.now _ c.args.self.now.failed c.requires.well
+    (OfError (Plain ArgumentTypeNotArgumentList)) c.args.progress.now _ c.args.self.now.failed c.requires.no_failure
     c.fail.ensures in
     let fewer = advances_fewer w
     (failing (Plain ArgumentTypeNotArgumentList)) 1 0 c.args.progress.now _ c.args.self.now.failed _

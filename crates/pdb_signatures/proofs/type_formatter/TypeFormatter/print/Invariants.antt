@@ -2,7 +2,7 @@ use Rattle.pdb_documents.specs.Progress.{stage_run}
 use Rattle.pdb_documents.specs.PrintInputs.{formatter_inputs}
 use Rattle.pdb_documents.proofs.UnfoldingLemmas.{formatter-below}
 use Rattle.pdb_signatures.specs.Formatters.{IsLater}
-use Rattle.pdb_signatures.specs.PendingPlans.{Goes, frames}
+use Rattle.pdb_signatures.specs.PendingPlans.{Goes, plans}
 use Rattle.pdb_signatures.proofs.LoopLemmas.{left}
 use Rattle.pdb_signatures.proofs.type_formatter.TypeFormatter.print.Given as goal
 
@@ -13,12 +13,12 @@ invariant-turns g l =
     let w = formatter_inputs info l.fn.self.type_inputs l.module_index in
     record {
       later : IsLater info l.module_index l.fn.self l.self;
-      goes : Goes w 0 (frames w l.fn.progress.steps) (stage_run l.fn.progress l.fn.self.failed)
-          (frames w l.progress.steps) (stage_run l.progress l.self.failed);
+      goes : Goes w 0 (plans w l.fn.progress.steps) (stage_run l.fn.progress l.fn.self.failed)
+          (plans w l.progress.steps) (stage_run l.progress l.self.failed);
     }
 
 abbrev pub decreases-turns : goal.decreases-turns
 decreases-turns g l =
     let s = l.fn.self.type_inputs in
     let w = formatter_inputs g.P.ModuleProvider.info s l.module_index in
-    left w (formatter-below g.P.ModuleProvider.info s l.module_index) (frames w l.progress.steps)
+    left w (formatter-below g.P.ModuleProvider.info s l.module_index) (plans w l.progress.steps)

@@ -6,14 +6,14 @@ use Rattle.pdb_signatures.proofs.TurnLemmas.{failed_run}
 use Rattle.pdb_signatures.proofs.ReadLemmas.{adds_one}
 use Rattle.pdb_signatures.proofs.type_formatter.TypeFormatter.refuse.Goals as goal
 
-pub returns-in-Missing-clause-refused : goal.returns-in-Missing-clause-refused
-returns-in-Missing-clause-refused g c =
+pub returns-in-Missing-clause-fails : goal.returns-in-Missing-clause-fails
+returns-in-Missing-clause-fails g c =
     let ran = failed_run (TypeNotFound c.in-Missing.index) c.args.progress.now _ c.args.self.now.failed
     c.fail.ensures in
     record { read_error_view = Missing c.in-Missing.index; known = rw c.in-Missing.is refl; steps = ran.0; ran = ran.1 }
 
-pub returns-in-Unimplemented-clause-refused : goal.returns-in-Unimplemented-clause-refused
-returns-in-Unimplemented-clause-refused g c =
+pub returns-in-Unimplemented-clause-fails : goal.returns-in-Unimplemented-clause-fails
+returns-in-Unimplemented-clause-fails g c =
     let ran = failed_run _ c.args.progress.now _ c.args.self.now.failed c.fail-in-Unimplemented.ensures in
     record {
       read_error_view = Unimplemented c.in-Unimplemented.kind;
@@ -23,8 +23,8 @@ returns-in-Unimplemented-clause-refused g c =
       ran = rw c.from.ensures at ran.1;
     }
 
-pub returns-in-Refused-clause-refused : goal.returns-in-Refused-clause-refused
-returns-in-Refused-clause-refused g c =
+pub returns-in-Refused-clause-fails : goal.returns-in-Refused-clause-fails
+returns-in-Refused-clause-fails g c =
     let ran = failed_run (OfError (error_view c.in-Refused.error)) c.args.progress.now _ c.args.self.now.failed
     c.fail-in-Refused.ensures in
     record {
@@ -35,16 +35,16 @@ returns-in-Refused-clause-refused g c =
       ran = ran.1;
     }
 
-pub returns-in_ok-error_view-in-Broken-clause-broken : goal.returns-in_ok-error_view-in-Broken-clause-broken
-returns-in_ok-error_view-in-Broken-clause-broken g c = λ w broken.
+pub returns-in_ok-answered-in-Broken-clause-broken : goal.returns-in_ok-answered-in-Broken-clause-broken
+returns-in_ok-answered-in-Broken-clause-broken g c = λ w broken.
     rw (← c.self.view_is) (adds_one c.in-Broken.part (broken c.in-Broken.part c.in-Broken.error c.in-Broken.is)
-    c.in_ok-error_view-in-Broken.ensures.remembered)
+    c.in_ok-answered-in-Broken.ensures.failed)
 
-pub returns-in_ok-error_view-in-Broken-clause-refused : goal.returns-in_ok-error_view-in-Broken-clause-refused
-returns-in_ok-error_view-in-Broken-clause-refused g c =
+pub returns-in_ok-answered-in-Broken-clause-fails : goal.returns-in_ok-answered-in-Broken-clause-fails
+returns-in_ok-answered-in-Broken-clause-fails g c =
     let ran = failed_run _ c.args.progress.now _ c.ask.new.cache.failed c.fail-in-Broken.ensures in
-    let matches = c.in_ok-error_view-in-Broken.ensures.error_view in
-    let remembers = c.in_ok-error_view-in-Broken.ensures.remembered in
+    let matches = c.in_ok-answered-in-Broken.ensures.answer in
+    let remembers = c.in_ok-answered-in-Broken.ensures.failed in
     record {
       read_error_view = Broken c.in-Broken.part (error_view c.in-Broken.error);
       known =

@@ -8,8 +8,8 @@ pub returns-in-Written-clause-advances : goal.returns-in-Written-clause-advances
 returns-in-Written-clause-advances g c = on_ok_weaker c.write.result (λ wrote.
     let w = formatter_inputs g.P.ModuleProvider.info c.args.self.now.type_inputs c.args.module_index in
     let failed = c.args.self.now.failed in
-    let ran = written_run _ c.args.progress.now _ failed c.requires.well (rw c.flags.ensures at wrote) in
-    rw c.in-Written.is (advances_done w _ c.args.progress.now _ failed failed c.requires.well ran.0 ran.1))
+    let ran = written_run _ c.args.progress.now _ failed c.requires.no_failure (rw c.flags.ensures at wrote) in
+    rw c.in-Written.is (advances_done w _ c.args.progress.now _ failed failed c.requires.no_failure ran.0 ran.1))
     c.write.ensures
 
 pub returns-in-Returned-clause-advances : goal.returns-in-Returned-clause-advances

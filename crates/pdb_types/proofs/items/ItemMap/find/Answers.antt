@@ -10,30 +10,30 @@ invariant_of-self g c =
     let said = c.find_in_beginning.ensures in
     let read =
     has_read (index_number g.I.ItemIndex.number_of) c.self.inside.information.now.items.items _ _ _ _
-    said.stays c.self.invariant.2 c.self.invariant.3 in
-    (rw same at said.within, rw same at said.ascends, read.within, read.indexed)
+    said.unchanged c.self.invariant.2 c.self.invariant.3 in
+    (rw same at said.within, rw same at said.ascends, read.within, read.knows)
 
-pub returns-in-Some-clause-found : goal.returns-in-Some-clause-found
-returns-in-Some-clause-found g c =
+pub returns-in-Some-clause-answer : goal.returns-in-Some-clause-answer
+returns-in-Some-clause-answer g c =
     let same =
     c.as_slice-items.ensures.value
     ∙ (ap (λ read. read.items) c.list.view_is ∙ ap (λ read. read.items) c.self.view_is) in
     rw (← same, ← c.number-number.ensures)
-    (sym (first_take (index_number g.I.ItemIndex.number_of) _ _ _ _ (sym c.in-Some.ensures.found)))
+    (sym (first_take (index_number g.I.ItemIndex.number_of) _ _ _ _ (sym c.in-Some.ensures.answer)))
 
-pub read_on-requires-clause-indexed : goal.read_on-requires-clause-indexed
-read_on-requires-clause-indexed g c =
+pub read_on-requires-clause-knows : goal.read_on-requires-clause-knows
+read_on-requires-clause-knows g c =
     let same = c.as_slice-items.ensures.value ∙ ap (λ read. read.items) c.list.view_is in
     let said = c.find_in_beginning.ensures in
     let read =
     has_read (index_number g.I.ItemIndex.number_of) c.self.inside.information.now.items.items _ _ _ _
-    said.stays c.self.invariant.2 c.self.invariant.3 in
-    rw (c.split_at.ensures.back, same) read.indexed
+    said.unchanged c.self.invariant.2 c.self.invariant.3 in
+    rw (c.split_at.ensures.back, same) read.knows
 
-pub returns-clause-found : goal.returns-clause-found
-returns-clause-found g c =
+pub returns-clause-answer : goal.returns-clause-answer
+returns-clause-answer g c =
     let same =
     c.as_slice-items.ensures.value
     ∙ (ap (λ read. read.items) c.list.view_is ∙ ap (λ read. read.items) c.self.view_is) in
-    let behind = first_behind (index_number g.I.ItemIndex.number_of) _ _ _ c.in_default.ensures.found in
-    rw (← same, ← c.number-number.ensures, ← behind, ← c.split_at.ensures.back) c.read_on.ensures.found
+    let behind = first_behind (index_number g.I.ItemIndex.number_of) _ _ _ c.in_default.ensures.answer in
+    rw (← same, ← c.number-number.ensures, ← behind, ← c.split_at.ensures.back) c.read_on.ensures.answer

@@ -22,10 +22,10 @@ in_order : (failed : Parts) (part : Part) (e : ErrorView)
     → error_of_part (order.ghosts).cmp unsuccessful failed part e ≡ part_error failed part e
 in_order failed part e = search rules
 
-pub returns-clause-error_view : goal.returns-clause-error_view
-returns-clause-error_view g c =
+pub returns-clause-answer : goal.returns-clause-answer
+returns-clause-answer g c =
     let failed = c.args.cache.now.failed in
     let part = c.args.part in
     IfOk-weaker c.ask.result _ _ (λ e is. rw is
     (view_by_test (has_part (order.ghosts).cmp failed part) part c.args.error
-    ∙ in_order failed part (error_view c.args.error))) c.ask.ensures.error
+    ∙ in_order failed part (error_view c.args.error))) c.ask.ensures.answer

@@ -11,72 +11,76 @@ use Rattle.pdb_types.proofs.FreeNumbers.{free_lt}
 use Rattle.pdb_types.proofs.PassedLemmas.{type_size-leads, type_size-back, leads_more, with_one}
 use Rattle.pdb_types.proofs.type_inputs.TypeInputs.chain_size.Goals as goal
 
-pub returns-in-Some-clause-size : goal.returns-in-Some-clause-size
-returns-in-Some-clause-size g c =
-    let s = c.args.self.now in
+pub returns-in-Some-clause-answer : goal.returns-in-Some-clause-answer
+returns-in-Some-clause-answer g c =
+    let inputs = c.args.self.now in
     let info = g.P.ModuleProvider.info in
-    let found = sizes_found info s
+    let found = sizes_found info inputs
     (record { module_index = c.args.module_index; index = c.chain.index.0 }) c.in-Some.size.now c.chain.cache.sizes
     c.chain.invariant.cached.is_cache.sizes (sym c.in-Some.ensures.value) in
-    sym (type_size-leads (link_inputs info s) s.types s.pointer_size c.args.module_index c.args.index.0
+    sym (type_size-leads (link_inputs info inputs) inputs.types inputs.pointer_size c.args.module_index c.args.index.0
     c.chain.index.0 c.chain.invariant.led.0 c.chain.invariant.led.1 ∙ found)
 
 pub returns-in-Some-clause-passed : goal.returns-in-Some-clause-passed
 returns-in-Some-clause-passed g c = λ other there.
-    let s = c.args.self.now in
+    let inputs = c.args.self.now in
     let info = g.P.ModuleProvider.info in
-    let found = sizes_found info s
+    let found = sizes_found info inputs
     (record { module_index = c.args.module_index; index = c.chain.index.0 }) c.in-Some.size.now c.chain.cache.sizes
     c.chain.invariant.cached.is_cache.sizes (sym c.in-Some.ensures.value) in
     let led = c.chain.invariant.passed other there in
-    type_size-leads (link_inputs info s) s.types s.pointer_size c.args.module_index other c.chain.index.0
+    type_size-leads (link_inputs info inputs) inputs.types inputs.pointer_size c.args.module_index other c.chain.index.0
     (suc led.0) led.1 ∙ found
 
-pub returns-then-not-branch-clause-size : goal.returns-then-not-branch-clause-size
-returns-then-not-branch-clause-size g c =
-    let s = c.args.self.now in
-    let w = link_inputs g.P.ModuleProvider.info s in
+pub returns-then-not-branch-clause-answer : goal.returns-then-not-branch-clause-answer
+returns-then-not-branch-clause-answer g c =
+    let inputs = c.args.self.now in
+    let link = link_inputs g.P.ModuleProvider.info inputs in
     let here : contains nat_cmp c.chain.passed c.chain.index.0 ≡ true =
     not-false _ (sym c.in_ok-insert.ensures.added ∙ c.if-not-branch.true) in
     let back = c.chain.invariant.passed c.chain.index.0 here in
-    sym (type_size-leads w s.types s.pointer_size c.args.module_index c.args.index.0 c.chain.index.0
+    sym (type_size-leads link inputs.types inputs.pointer_size c.args.module_index c.args.index.0 c.chain.index.0
     c.chain.invariant.led.0 c.chain.invariant.led.1
-    ∙ type_size-back w s.types s.pointer_size c.args.module_index c.chain.index.0 back.0 back.1)
+    ∙ type_size-back link inputs.types inputs.pointer_size c.args.module_index c.chain.index.0 back.0 back.1)
 
 pub returns-then-not-branch-clause-passed : goal.returns-then-not-branch-clause-passed
 returns-then-not-branch-clause-passed g c =
-    let s = c.args.self.now in
+    let inputs = c.args.self.now in
     let info = g.P.ModuleProvider.info in
-    let w = link_inputs info s in
+    let link = link_inputs info inputs in
     let here : contains nat_cmp c.chain.passed c.chain.index.0 ≡ true =
     not-false _ (sym c.in_ok-insert.ensures.added ∙ c.if-not-branch.true) in
     let back = c.chain.invariant.passed c.chain.index.0 here in
-    let none = type_size-back w s.types s.pointer_size c.args.module_index c.chain.index.0 back.0 back.1 in
-    with_one (λ other. size_of info s c.args.module_index other ≡ no_size) c.chain.passed c.insert.new.self
+    let none = type_size-back link inputs.types inputs.pointer_size c.args.module_index c.chain.index.0 back.0 back.1 in
+    with_one (λ other. size_of info inputs c.args.module_index other ≡ no_size) c.chain.passed c.insert.new.self
     c.chain.index.0 c.in_ok-insert.ensures.updates none
     (λ other there. let led = c.chain.invariant.passed other there in
-    type_size-leads w s.types s.pointer_size c.args.module_index other c.chain.index.0 (suc led.0) led.1 ∙ none)
+    type_size-leads link inputs.types inputs.pointer_size c.args.module_index other c.chain.index.0 (suc led.0) led.1
+    ∙ none)
 
-pub returns-in-Ended-clause-size : goal.returns-in-Ended-clause-size
-returns-in-Ended-clause-size g c =
-    let s = c.args.self.now in
-    let w = link_inputs g.P.ModuleProvider.info s in
-    let ended = type_size-at_end w s.types s.pointer_size c.args.module_index c.chain.index.0 zero c.in-Ended.size
-    (sym c.in_ok-size.ensures.step ∙ c.in-Ended.is) in
-    sym (type_size-leads w s.types s.pointer_size c.args.module_index c.args.index.0 c.chain.index.0
+pub returns-in-Ended-clause-answer : goal.returns-in-Ended-clause-answer
+returns-in-Ended-clause-answer g c =
+    let inputs = c.args.self.now in
+    let link = link_inputs g.P.ModuleProvider.info inputs in
+    let ended = type_size-at_end link inputs.types inputs.pointer_size c.args.module_index c.chain.index.0 zero
+    c.in-Ended.size
+    (sym c.in_ok-size.ensures.answer ∙ c.in-Ended.is) in
+    sym (type_size-leads link inputs.types inputs.pointer_size c.args.module_index c.args.index.0 c.chain.index.0
     c.chain.invariant.led.0 c.chain.invariant.led.1 ∙ ended)
 
 pub returns-in-Ended-clause-passed : goal.returns-in-Ended-clause-passed
 returns-in-Ended-clause-passed g c =
-    let s = c.args.self.now in
+    let inputs = c.args.self.now in
     let info = g.P.ModuleProvider.info in
-    let w = link_inputs info s in
-    let ended = type_size-at_end w s.types s.pointer_size c.args.module_index c.chain.index.0 zero c.in-Ended.size
-    (sym c.in_ok-size.ensures.step ∙ c.in-Ended.is) in
-    with_one (λ other. size_of info s c.args.module_index other ≡ c.in-Ended.size) c.chain.passed c.insert.new.self
+    let link = link_inputs info inputs in
+    let ended = type_size-at_end link inputs.types inputs.pointer_size c.args.module_index c.chain.index.0 zero
+    c.in-Ended.size
+    (sym c.in_ok-size.ensures.answer ∙ c.in-Ended.is) in
+    with_one (λ other. size_of info inputs c.args.module_index other ≡ c.in-Ended.size) c.chain.passed c.insert.new.self
     c.chain.index.0 c.in_ok-insert.ensures.updates ended
     (λ other there. let led = c.chain.invariant.passed other there in
-    type_size-leads w s.types s.pointer_size c.args.module_index other c.chain.index.0 (suc led.0) led.1 ∙ ended)
+    type_size-leads link inputs.types inputs.pointer_size c.args.module_index other c.chain.index.0 (suc led.0) led.1
+    ∙ ended)
 
 pub chain-smaller : goal.chain-smaller
 chain-smaller g c =
@@ -84,16 +88,16 @@ chain-smaller g c =
     not-true _ (sym c.in_ok-insert.ensures.added ∙ c.if-not-branch.false) in
     let below = step-below (link_inputs g.P.ModuleProvider.info c.args.self.now) c.args.self.now.types
     c.args.self.now.pointer_size c.args.module_index c.chain.index.0 c.in-Next.next
-    (sym c.in_ok-size.ensures.step ∙ c.in-Next.is) in
+    (sym c.in_ok-size.ensures.answer ∙ c.in-Next.is) in
     free_lt (2 ^ 32) c.chain.index.0 (contains nat_cmp c.chain.passed)
     (contains nat_cmp c.insert.new.self) below absent c.in_ok-insert.ensures.updates.1
     (λ q there. grind (arith, c.in_ok-insert.ensures.updates.0 q))
 
 pub chain-preserved : goal.chain-preserved
 chain-preserved g c =
-    let s = c.args.self.now in
-    let next = step (link_inputs g.P.ModuleProvider.info s) s.types s.pointer_size c.args.module_index in
-    let on = sym c.in_ok-size.ensures.step ∙ c.in-Next.is in
+    let inputs = c.args.self.now in
+    let next = step (link_inputs g.P.ModuleProvider.info inputs) inputs.types inputs.pointer_size c.args.module_index in
+    let on = sym c.in_ok-size.ensures.answer ∙ c.in-Next.is in
     record {
       cached = record {
         is_cache = c.step.ensures.cached.is_cache;

@@ -3,8 +3,8 @@ use Rattle.pdb_types.specs.TypeInputs.{link_inputs}
 use Rattle.pdb_types.proofs.TypeCacheLemmas.{caches_exports, exports_more, exports_same, exports_found}
 use Rattle.pdb_types.proofs.type_inputs.TypeInputs.export_of.Goals as goal
 
-pub returns-in-Some-clause-index : goal.returns-in-Some-clause-index
-returns-in-Some-clause-index g c =
+pub returns-in-Some-clause-answer : goal.returns-in-Some-clause-answer
+returns-in-Some-clause-answer g c =
     let there = exports_found (link_inputs g.P.ModuleProvider.info c.args.self.now) c.args.module_index
     c.in-Some.table.now c.args.cache.now.exports c.requires.is_cache.exports (sym c.in-Some.ensures.value) in
     rw there (rw c.get-in-Some.ensures at c.found_export.ensures)

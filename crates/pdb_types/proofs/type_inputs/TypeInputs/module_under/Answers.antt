@@ -5,8 +5,8 @@ use Rattle.pdb_types.specs.Resolution.{found_text, module_named}
 use Rattle.pdb_types.proofs.TypeCacheLemmas.{caches_named, names_more, names_same, names_found}
 use Rattle.pdb_types.proofs.type_inputs.TypeInputs.module_under.Goals as goal
 
-pub returns-in-Some-clause-module_index : goal.returns-in-Some-clause-module_index
-returns-in-Some-clause-module_index g c =
+pub returns-in-Some-clause-answer : goal.returns-in-Some-clause-answer
+returns-in-Some-clause-answer g c =
     names_found (link_inputs g.P.ModuleProvider.info c.args.self.now) c.args.strings.now c.args.reference.0
     c.in-Some.module_index.now c.args.cache.now.named c.requires.strings c.requires.is_cache.named
     (sym c.in-Some.ensures.value)

@@ -1,3 +1,5 @@
+//! What the flags of a formatter say of how signatures are printed, one test for each flag.
+
 ghost use Rattle.std.specs.Prelude.{◌≡◌};
 ghost use Rattle.pdb_documents.specs.Flags.{without_return_type, without_static, with_space_after_comma};
 ghost use Rattle.pdb_documents.specs.Flags.{with_space_before_pointer, with_names_alone, without_arguments};
