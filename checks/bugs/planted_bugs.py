@@ -1,11 +1,12 @@
 #!/usr/bin/env python3
-"""Plants bugs in the readers of PDB files where no clause stands, and shows which of them a stored run sees.
+"""Plants bugs in what reads PDB files and in `pdb_symbolizer` where no clause stands, and shows which of them a stored
+run sees.
 
 Usage: planted_bugs.py [JOBS [NAME ..]]     in the repository; needs `rt`, and about a minute of processor for each bug
 
 `planted_bugs.txt` has the bugs: a line `bug NAME`, a line `file PATH`, and lines `old TEXT` and `new TEXT`, of which the
 first stands once in the file. Each is planted in a copy of the crates, and `rt try`, which proves nothing, runs
-`pdb_container_tests` over its files. A bug is caught where the run writes something else than is stored, or doesn't end
+`pdb_container_tests` over its files, or `pdb_symbolizer_tests` for a bug of that program's. A bug is caught where the run writes something else than is stored, or doesn't end
 well. One that isn't has its reason in a line `why TEXT`. The script fails where a bug that has no reason isn't caught,
 where one that has a reason is, and where one can't be planted.
 """
@@ -18,7 +19,9 @@ import tempfile
 
 HERE = pathlib.Path(__file__).resolve().parent
 ROOT = HERE.parents[1]
-RUN = "pdb_container_tests"
+# The tests that run what a crate has; those of the readers are of all others.
+RUNS = {"pdb_symbolizer_lib": "pdb_symbolizer_tests"}
+READERS = "pdb_container_tests"
 
 
 def bugs():
@@ -44,9 +47,9 @@ def outcome(bug):
         if text.count(bug["old"]) != 1:
             return f"can't be planted: its text stands {text.count(bug['old'])} times in the file"
         file.write_text(text.replace(bug["old"], bug["new"]), encoding="utf-8")
-        folder = pathlib.Path(room) / "crates" / RUN
-        words = (folder / "args").read_text().split()
-        data = [word for name in words for word in ("--data", f"{name}=data/{name}")]
+        folder = pathlib.Path(room) / "crates" / RUNS.get(file.parts[-3], READERS)
+        words = (folder / "args").read_text().split() if (folder / "args").exists() else []
+        data = [word for path in (folder / "data").iterdir() for word in ("--data", f"{path.name}=data/{path.name}")]
         run = subprocess.run(["rt", "try", *data, "--", *words], cwd=folder, capture_output=True)
         if b"checked: " not in run.stderr:
             return "can't be planted: " + run.stderr.decode(errors="replace").strip()[-300:]
