@@ -18,11 +18,11 @@ parts_in_order failed part = search rules
 
 pub returns-in_ok-error-in_default-Some-clause-answer : goal.returns-in_ok-error-in_default-Some-clause-answer
 returns-in_ok-error-in_default-Some-clause-answer g c = rw (← c.self.view_is, c.in_default-Some.is-1)
-    (c.in_ok-error-in_default-Some.ensures.error
+    (c.in_ok-error-in_default-Some.ensures.answer
     ∙ error_in_order c.self.inside.code_failed c.in_default-Some.part c.args.error)
 
 pub returns-in_ok-error-in_default-Some-clause-state : goal.returns-in_ok-error-in_default-Some-clause-state
 returns-in_ok-error-in_default-Some-clause-state g c =
-    let added = c.in_ok-error-in_default-Some.ensures.added
+    let added = c.in_ok-error-in_default-Some.ensures.state
     ∙ parts_in_order c.self.inside.code_failed c.in_default-Some.part in
     rw (← c.self.view_is, c.in_default-Some.is-1, added) refl

@@ -38,13 +38,13 @@ returns-in-Refused-clause-fails g c =
 pub returns-in_ok-answered-in-Broken-clause-broken : goal.returns-in_ok-answered-in-Broken-clause-broken
 returns-in_ok-answered-in-Broken-clause-broken g c = λ w broken.
     rw (← c.self.view_is) (adds_one c.in-Broken.part (broken c.in-Broken.part c.in-Broken.error c.in-Broken.is)
-    c.in_ok-answered-in-Broken.ensures.remembered)
+    c.in_ok-answered-in-Broken.ensures.failed)
 
 pub returns-in_ok-answered-in-Broken-clause-fails : goal.returns-in_ok-answered-in-Broken-clause-fails
 returns-in_ok-answered-in-Broken-clause-fails g c =
     let ran = failed_run _ c.args.progress.now _ c.ask.new.cache.failed c.fail-in-Broken.ensures in
-    let matches = c.in_ok-answered-in-Broken.ensures.error_view in
-    let remembers = c.in_ok-answered-in-Broken.ensures.remembered in
+    let matches = c.in_ok-answered-in-Broken.ensures.answer in
+    let remembers = c.in_ok-answered-in-Broken.ensures.failed in
     record {
       read_error_view = Broken c.in-Broken.part (error_view c.in-Broken.error);
       known =
