@@ -61,7 +61,7 @@ impl<'a, P: ModuleProvider> Context<'a, P> {
             (Appends answers.old.items answers.new.items (answer_to P.info self.old call.entry ∷ [])) }
         ensures state { OnOk result (self.new ≡ after_call P.info self.old call.entry) }
         ensures memory { IfErr result (λ e. e ≡ OutOfMemory) }
-        ensures unchanged { OnErr result (answers.new.items ≡ answers.old.items) }
+        ensures unchanged_if_refused { OnErr result (answers.new.items ≡ answers.old.items) }
         ensures gains { OnErr result (OnlyGainsBroken P.info self.old self.new) }
     {
         answers.reserve(1)?;
@@ -136,7 +136,7 @@ impl<'a, P: ModuleProvider> Context<'a, P> {
         ensures state { OnOk result (self.new ≡ with_failed self.old
             (with_met self.old.failed (size_of P.info self.old.inputs.type_inputs module_index index.0).met)) }
         ensures memory { IfErr result (λ e. e ≡ OutOfMemory) }
-        ensures unchanged { OnErr result (self.new ≡ self.old) }
+        ensures unchanged_if_refused { OnErr result (self.new ≡ self.old) }
     {
         let size = self.names.get_type_size(module_index, index)?;
         Ok(Answer::Size(size))

@@ -128,7 +128,7 @@ impl<'a> Seen<'a> {
         ensures absent { OnOk result (has self.old.set.now index.0 ≡ false) }
         ensures refused { IfErr result (λ e. IsRefusal e index (has self.old.set.now index.0)) }
         ensures inserted_unchanged { OnErr result (self.new.inserted.items ≡ self.old.inserted.items) }
-        ensures unchanged { OnErr result ((q : ℕ) → has self.new.set.now q ≡ has self.old.set.now q) }
+        ensures unchanged_if_refused { OnErr result ((q : ℕ) → has self.new.set.now q ≡ has self.old.set.now q) }
         // Whatever the result is, what stood before the level stays.
         ensures inserted { OnOk result (self.new.inserted.items ≡ self.old.inserted.items ++ index ∷ []) }
         ensures base_unchanged { (q : ℕ) → base self.new.set.now self.new.inserted.items q

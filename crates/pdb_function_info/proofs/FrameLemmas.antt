@@ -18,7 +18,7 @@ use Rattle.pdb_function_info.specs.Frames.{bodies_over, failed_by_frames}
 use Rattle.pdb_function_info.specs.Names.{function_name, failed_by_function_name, id_name, failed_by_id}
 use Rattle.pdb_frames.specs.Origins.{function_module, function_start}
 
--- what follows from a start, where here is one
+-- what follows from a start, where there is one
 with_start : {S C B : Type 0} (convert : S → C) (here : C) (start : Option S) (next : S → B) (none answer : B)
     → option_map convert start ≡ Some here → ((s : S) → next s ≡ answer) → option_map_or next start none ≡ answer
 with_start convert here None next none answer is same = absurd cc

@@ -114,7 +114,7 @@ impl<'a, P: ModuleProvider> FunctionNames<'a, P> {
         ensures provider { self.new.provider ≡ self.old.provider }
         ensures failed { OnOk result (self.new.failed ≡
             with_met self.old.failed (size_of P.info self.old.type_inputs module_index index.0).met) }
-        ensures unchanged { OnErr result (self.new.failed ≡ self.old.failed) }
+        ensures unchanged_if_refused { OnErr result (self.new.failed ≡ self.old.failed) }
     {
         self.formatter.get_type_size(module_index, index)
     }

@@ -63,13 +63,13 @@ Contains-map f xs k x below is =
     (k, omega (arith, length-map xs f), get_or-map f xs k x (f x) below ∙ ap f (sym is))
 
 -- a module file that a value wants can't be read
-pub module_stops_the_read : (records name : List ℕ) (names : List (List ℕ)) (value : Data) (why : Stop)
-    → wanted_files_of value ≡ Ok names → Contains names name → IsModuleReadStop (module_path records name) why
-    → AreModuleReadStops records value why
-module_stops_the_read records name names value (CannotReadModule shown) wanted among at_path =
+pub module_stops_the_read : (records_path name : List ℕ) (names : List (List ℕ)) (value : Data) (why : Stop)
+    → wanted_files_of value ≡ Ok names → Contains names name → IsModuleReadStop (module_path records_path name) why
+    → AreModuleReadStops records_path value why
+module_stops_the_read records_path name names value (CannotReadModule shown) wanted among at_path =
     record { names = names; wanted = wanted; name = name; among = among; shown = at_path }
-module_stops_the_read records name names value (Refused error) wanted among at_path = at_path
-module_stops_the_read records name names value (CannotRead shown) wanted among at_path = absurd at_path
-module_stops_the_read records name names value (stop.Records shown fault) wanted among at_path = absurd at_path
-module_stops_the_read records name names value Usage wanted among at_path = absurd at_path
-module_stops_the_read records name names value CannotWrite wanted among at_path = absurd at_path
+module_stops_the_read records_path name names value (Refused error) wanted among at_path = at_path
+module_stops_the_read records_path name names value (CannotRead shown) wanted among at_path = absurd at_path
+module_stops_the_read records_path name names value (stop.Records shown fault) wanted among at_path = absurd at_path
+module_stops_the_read records_path name names value Usage wanted among at_path = absurd at_path
+module_stops_the_read records_path name names value CannotWrite wanted among at_path = absurd at_path

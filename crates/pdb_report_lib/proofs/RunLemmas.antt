@@ -19,13 +19,13 @@ use Rattle.pdb_report_lib.specs.Stops.{Ends, EndsOverFile}
 
 -- a run stops at the fault of a text
 pub text_stops_the_run : (asked : Asked) (sink : SinkState) (bytes : List ℕ) (fault : RecordFault)
-    → IsFaultOf fault (value_of bytes) → StopsWithoutModules asked sink sink asked.records fault
+    → IsFaultOf fault (value_of bytes) → StopsWithoutModules asked sink sink asked.path fault
 text_stops_the_run asked sink bytes fault refused =
     record { shown = refl; bytes = bytes; refused = text_shows_no_modules bytes fault refused; same = refl }
 
 -- a run stops where the module files of a text's value can't be read
 pub module_files_stop_the_run : (A : Type 0) (asked : Asked) (sink : SinkState) (bytes : List ℕ) (value : Data)
-    (why : Stop) → value_of bytes ≡ Ok value → AreModuleReadStops asked.records value why
+    (why : Stop) → value_of bytes ≡ Ok value → AreModuleReadStops asked.path value why
     → StopsAsked A asked sink sink why
 module_files_stop_the_run A asked sink bytes value (CannotReadModule shown) is_value stops =
     record { bytes = bytes; shown = rw (wanted_by_text bytes value is_value) stops; same = refl }
@@ -44,7 +44,7 @@ module_files_stop_the_run A asked sink bytes value CannotWrite is_value stops = 
 -- a run that ends over what was read ends over some file
 stops_over : {A : Type 0} (asked : Asked) (before written after : SinkState) (read : Result Records RecordFault)
     (why : Stop)
-    → Ends {A = A} asked.records asked.command asked.addresses read before written (Err why)
+    → Ends {A = A} asked.path asked.command asked.addresses read before written (Err why)
     → EndsOverSomeFile {A = A} asked before after (Err why) → StopsAsked A asked before after why
 stops_over asked before written after read (Refused error) ends over = inr over
 stops_over asked before written after read (stop.Records path fault) ends over = inr over
@@ -59,15 +59,15 @@ stops_over asked before written after (Err fault) Usage ends over = absurd ends
 -- what a run ends with over a text's value it ends with over the text
 pub ends_over_text : {A : Type 0} (asked : Asked) (before written : SinkState) (bytes : List ℕ) (files : List (List ℕ))
     (value : Data) (result : Result A Stop) → value_of bytes ≡ Ok value
-    → EndsOverFile asked.records asked.command asked.addresses (records_of files value) before written result
-    → EndsOverFile asked.records asked.command asked.addresses (records_of_files bytes files) before written result
+    → EndsOverFile asked.path asked.command asked.addresses (records_of files value) before written result
+    → EndsOverFile asked.path asked.command asked.addresses (records_of_files bytes files) before written result
 ends_over_text asked before written bytes files value result is_value ends =
     rw (records_by_text bytes files value is_value) ends
 
 -- a run ends as it does over a text's value, once what the sink holds back is handed on
 pub run_ends_over_value : {A : Type 0} (asked : Asked) (before written after : SinkState) (bytes : List ℕ)
     (files : List (List ℕ)) (value : Data) (result : Result A Stop) → value_of bytes ≡ Ok value
-    → EndsOverFile asked.records asked.command asked.addresses (records_of files value) before written result
+    → EndsOverFile asked.path asked.command asked.addresses (records_of files value) before written result
     → Keeps written.held after.held → after.failed ≡ written.failed → EndsRun (Some asked) before after result
 run_ends_over_value asked before written after bytes files value (Ok done) is_value ends same unchanged =
     let over = ends_over_text asked before written bytes files value (Ok done) is_value ends in

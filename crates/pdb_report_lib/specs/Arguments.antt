@@ -55,9 +55,9 @@ addresses_of (word ∷ words) = do
   rest ← addresses_of words
   Some (address ∷ rest)
 
--- what is asked for: a records file, what to answer, and of which addresses
+-- what is asked for: the path of a records file, what to answer, and of which addresses
 pub record Asked : Type 0 where
-  pub records : List ℕ
+  pub path : List ℕ
   pub command : Command
   pub addresses : List ℕ
 
@@ -78,14 +78,14 @@ asked_addresses wanted.List (word ∷ words) = None
 
 -- what the words behind the program's name ask for; no answer asks for the usage line
 abbrev pub asked : List (List ℕ) → Option Asked
-asked (program ∷ records ∷ command ∷ words) = do
+asked (program ∷ path ∷ command ∷ words) = do
   command ← command_of command
   addresses ← asked_addresses command words
-  Some (record { records = records; command = command; addresses = addresses })
+  Some (record { path = path; command = command; addresses = addresses })
 asked [] = None
 asked (program ∷ []) = None
-asked (program ∷ records ∷ []) = None
+asked (program ∷ path ∷ []) = None
 
 -- a request, as it was asked
 abbrev pub request : Request → Asked
-request r = record { records = r.records.now; command = r.command; addresses = r.addresses.items }
+request r = record { path = r.path.now; command = r.command; addresses = r.addresses.items }

@@ -14,4 +14,4 @@ folder_of path = folder_before (rsplit_once slash path)
 -- the path of the module file that a records file names: a name that begins with a slash is a path by itself, and any
 -- other lies in the folder of the records file
 abbrev pub module_path : List ℕ → List ℕ → List ℕ
-module_path records name = if slice_index name 0 == slash then name else folder_of records ++ name
+module_path records_path name = if slice_index name 0 == slash then name else folder_of records_path ++ name

@@ -42,24 +42,24 @@ IsModuleReadStop path Usage = ⊥
 IsModuleReadStop path CannotWrite = ⊥
 
 -- a path is that of one of the module files which are wanted beside a records file
-pub record IsWantedPath (records : List ℕ) (files : Result (List (List ℕ)) Fault) (path : List ℕ) : Type 0 where
+pub record IsWantedPath (records_path : List ℕ) (files : Result (List (List ℕ)) Fault) (path : List ℕ) : Type 0 where
   pub names : List (List ℕ)
   pub wanted : files ≡ Ok names
   pub name : List ℕ
   pub among : Contains names name
-  pub shown : path ≡ module_path records name
+  pub shown : path ≡ module_path records_path name
 
 -- a module file that a records file with this value wants can't be read, and is shown by its path; or the value shows
 -- no module files; or memory ran out
 abbrev pub AreModuleReadStops : List ℕ → Data → Stop → Type 0
-AreModuleReadStops records value (CannotReadModule shown) =
-    IsWantedPath records (wanted_files_of value) (string_bytes shown)
-AreModuleReadStops records value (Refused error) = error ≡ OutOfMemory
-AreModuleReadStops records value (stop.Records shown fault) =
-    (shown.now ≡ records) × IsFaultOf fault (wanted_files_of value)
-AreModuleReadStops records value (CannotRead shown) = ⊥
-AreModuleReadStops records value Usage = ⊥
-AreModuleReadStops records value CannotWrite = ⊥
+AreModuleReadStops records_path value (CannotReadModule shown) =
+    IsWantedPath records_path (wanted_files_of value) (string_bytes shown)
+AreModuleReadStops records_path value (Refused error) = error ≡ OutOfMemory
+AreModuleReadStops records_path value (stop.Records shown fault) =
+    (shown.now ≡ records_path) × IsFaultOf fault (wanted_files_of value)
+AreModuleReadStops records_path value (CannotRead shown) = ⊥
+AreModuleReadStops records_path value Usage = ⊥
+AreModuleReadStops records_path value CannotWrite = ⊥
 
 -- why a run ends early whose words ask for nothing: memory ran out, or it shows how to ask; the sink is as it was
 abbrev pub StopsUnasked : SinkState → SinkState → Stop → Type 0
@@ -76,7 +76,7 @@ pub record EndsOverSomeFile {A : Type 0} (asked : Asked) (before after : SinkSta
   pub bytes : List ℕ
   pub files : List (List ℕ)
   pub written : SinkState
-  pub ends : EndsOverFile asked.records asked.command asked.addresses (records_of_files bytes files)
+  pub ends : EndsOverFile asked.path asked.command asked.addresses (records_of_files bytes files)
       before written result
   pub same : Keeps written.held after.held
   pub unchanged : after.failed ≡ written.failed
@@ -87,7 +87,7 @@ pub record EndsAtFlush (A : Type 0) (asked : Asked) (before after : SinkState) :
   pub files : List (List ℕ)
   pub written : SinkState
   pub ended : Result A Stop
-  pub ends : EndsOverFile asked.records asked.command asked.addresses (records_of_files bytes files)
+  pub ends : EndsOverFile asked.path asked.command asked.addresses (records_of_files bytes files)
       before written ended
   pub same : Keeps written.held after.held
   pub failed : after.failed ≡ true
@@ -95,7 +95,7 @@ pub record EndsAtFlush (A : Type 0) (asked : Asked) (before after : SinkState) :
 -- some bytes show no module files, for this fault, which is shown with the file's path; the sink is as it was
 pub record StopsWithoutModules (asked : Asked) (before after : SinkState) (path : List ℕ) (fault : RecordFault)
     : Type 0 where
-  pub shown : path ≡ asked.records
+  pub shown : path ≡ asked.path
   pub bytes : List ℕ
   pub refused : IsFaultOf fault (module_files_of bytes)
   pub same : after ≡ before
@@ -103,7 +103,7 @@ pub record StopsWithoutModules (asked : Asked) (before after : SinkState) (path 
 -- a module file that some bytes want can't be read, and is shown by its path; the sink is as it was
 pub record StopsAtModule (asked : Asked) (before after : SinkState) (path : List ℕ) : Type 0 where
   pub bytes : List ℕ
-  pub shown : IsWantedPath asked.records (module_files_of bytes) path
+  pub shown : IsWantedPath asked.path (module_files_of bytes) path
   pub same : after ≡ before
 
 -- why a run ends early whose words ask for something: a file can't be read, and is shown by its path, or memory ran
@@ -112,7 +112,7 @@ abbrev pub StopsAsked : Type 0 → Asked → SinkState → SinkState → Stop �
 StopsAsked A asked before after Usage = ⊥
 StopsAsked A asked before after (Refused error) =
     ((error ≡ OutOfMemory) × (after ≡ before)) ⊎ EndsOverSomeFile {A = A} asked before after (Err (Refused error))
-StopsAsked A asked before after (CannotRead path) = (path.now ≡ asked.records) × (after ≡ before)
+StopsAsked A asked before after (CannotRead path) = (path.now ≡ asked.path) × (after ≡ before)
 StopsAsked A asked before after (CannotReadModule path) =
     StopsAtModule asked before after (string_bytes path)
 StopsAsked A asked before after (stop.Records path fault) =

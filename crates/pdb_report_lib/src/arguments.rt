@@ -14,7 +14,7 @@ const ADDRESS_DIGITS: usize = 8;
 #[derive(Drop)]
 pub struct Request<'w> {
     /// The path of the records file.
-    pub records: &'w str,
+    pub path: &'w str,
     /// What to answer.
     pub command: Command,
     /// Of which addresses, in order. A list has none.
@@ -110,7 +110,7 @@ fn parse_words(
 pub fn parse(alloc: Global, words: &[String]) -> Result<Option<Request<'_>>, AllocError>
     ensures { IfOk result (λ r. option_map request r ≡ asked (map string_bytes words.now)) }
 {
-    let [_, records, command, words @ ..] = words else {
+    let [_, path, command, words @ ..] = words else {
         return Ok(None);
     };
     let Some(command) = parse_command(command.as_str()) else {
@@ -120,7 +120,7 @@ pub fn parse(alloc: Global, words: &[String]) -> Result<Option<Request<'_>>, All
         return Ok(None);
     };
     Ok(Some(Request {
-        records: records.as_str(),
+        path: path.as_str(),
         command,
         addresses,
     }))

@@ -69,7 +69,7 @@ pub fn report_read<'w, W: Sink>(
     read: Result<PDB, RecordFault>,
     sink: &mut W,
 ) -> Result<(), Stop<'w>>
-    ensures { Ends request.now.records.now request.now.command request.now.addresses.items read
+    ensures { Ends request.now.path.now request.now.command request.now.addresses.items read
         (W.state sink.old) (W.state sink.new) result }
 {
     match read {
@@ -77,7 +77,7 @@ pub fn report_read<'w, W: Sink>(
             report_records(alloc, request, records, sink)?;
             Ok(())
         }
-        Err(fault) => Err(Stop::Records(request.records, fault)),
+        Err(fault) => Err(Stop::Records(request.path, fault)),
     }
 }
 
@@ -93,7 +93,7 @@ pub fn report_file<'w, W: Sink>(
     files: &[Vec<u8>],
     sink: &mut W,
 ) -> Result<(), Stop<'w>>
-    ensures { EndsOverFile request.now.records.now request.now.command request.now.addresses.items
+    ensures { EndsOverFile request.now.path.now request.now.command request.now.addresses.items
         (records_of (contents files.now) (view file.value))
         (W.state sink.old) (W.state sink.new) result }
 {

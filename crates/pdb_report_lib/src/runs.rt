@@ -38,13 +38,13 @@ pub fn run<'w, R: Files + AllocGlobal, W: io::Write>(
     let Some(request) = request else {
         return Err(Stop::Usage);
     };
-    let bytes = read_file(rt, request.records)?;
+    let bytes = read_file(rt, request.path)?;
     let file = match RecordsFile::from_slice(rt.alloc(), &bytes) {
         Ok(file) => file,
-        Err(fault) => return Err(Stop::Records(request.records, fault)),
+        Err(fault) => return Err(Stop::Records(request.path, fault)),
     };
     drop(bytes);
-    let files = read_module_files(rt, request.records, &file)?;
+    let files = read_module_files(rt, request.path, &file)?;
     let ended = report_file(rt.alloc(), &request, file, &files, out);
     match out.flush() {
         Ok(()) => ended,
@@ -66,18 +66,18 @@ fn read_file<'w, R: Files + AllocGlobal>(rt: &R, path: &'w str) -> Result<Vec<u8
 // The bytes of the module files that a records file names, in order.
 fn read_module_files<'w, R: Files + AllocGlobal>(
     rt: &R,
-    records: &'w str,
+    records_path: &'w str,
     file: &RecordsFile,
 ) -> Result<Vec<Vec<u8>>, Stop<'w>>
-    ensures { IfErr result (AreModuleReadStops records.now (view file.now.value)) }
+    ensures { IfErr result (AreModuleReadStops records_path.now (view file.now.value)) }
 {
     let names = match file.module_files() {
         Ok(names) => names,
-        Err(fault) => return Err(Stop::Records(records, fault)),
+        Err(fault) => return Err(Stop::Records(records_path, fault)),
     };
     let mut files = Vec::new(rt.alloc());
     for name in &names {
-        let bytes = read_module_file(rt, records, name.as_str())?;
+        let bytes = read_module_file(rt, records_path, name.as_str())?;
         if files.push(bytes).is_err() {
             return Err(Stop::Refused(Error::OutOfMemory));
         }
@@ -88,12 +88,12 @@ fn read_module_files<'w, R: Files + AllocGlobal>(
 // The bytes of the module file of this name.
 fn read_module_file<'w, R: Files + AllocGlobal>(
     rt: &R,
-    records: &str,
+    records_path: &str,
     name: &str,
 ) -> Result<Vec<u8>, Stop<'w>>
-    ensures { IfErr result (IsModuleReadStop (module_path records.now name.now)) }
+    ensures { IfErr result (IsModuleReadStop (module_path records_path.now name.now)) }
 {
-    let Ok(path) = module_path(rt.alloc(), records, name) else {
+    let Ok(path) = module_path(rt.alloc(), records_path, name) else {
         return Err(Stop::Refused(Error::OutOfMemory));
     };
     match fs::read(rt, path.as_str()) {

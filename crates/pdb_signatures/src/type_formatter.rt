@@ -116,7 +116,7 @@ impl<'a, P: ModuleProvider> TypeFormatter<'a, P> {
         ensures type_inputs { self.new.type_inputs ≡ self.old.type_inputs }
         ensures failed { OnOk result (self.new.failed ≡
             with_met self.old.failed (size_of P.info self.old.type_inputs module_index index.0).met) }
-        ensures unchanged { OnErr result (self.new.failed ≡ self.old.failed) }
+        ensures unchanged_if_refused { OnErr result (self.new.failed ≡ self.old.failed) }
     {
         let found = self
             .type_inputs

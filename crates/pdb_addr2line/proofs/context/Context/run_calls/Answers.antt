@@ -25,4 +25,4 @@ returns-in_err-append_answer-clause-early g c =
     let so_far = c.loop-call.invariant in
     let unmade = c.in_err-append_answer.ensures in
     on_error _ (stops_here info c.args.self.now c.loop-call.self c.append_answer.new.self c.args.calls.now i _ _ _
-    below so_far.state so_far.answers unmade.unchanged unmade.gains)
+    below so_far.state so_far.answers unmade.unchanged_if_refused unmade.gains)

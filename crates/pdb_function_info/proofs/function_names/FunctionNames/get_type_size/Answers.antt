@@ -4,7 +4,7 @@ use Rattle.pdb_function_info.proofs.function_names.FunctionNames.get_type_size.G
 pub invariant_of-self : goal.invariant_of-self
 invariant_of-self g c =
     let more = more_met c.get_type_size.result _ _ _ c.get_type_size.ensures.failed
-    c.get_type_size.ensures.unchanged in
+    c.get_type_size.ensures.unchanged_if_refused in
     record {
       signatures = signatures_later g.P.ModuleProvider.info
           (g.P.ModuleProvider.info c.self.inside.signatures.provider.now) c.self.inside.formatter
