@@ -253,7 +253,7 @@ impl<'a, P: ModuleProvider> TypeFormatter<'a, P> {
         index: IdIndex,
     ) -> Result<Printed, AllocError>
         ensures later { IsLater P.info module_index self.old self.new }
-        ensures printed { IfOk result (λ p.
+        ensures answer { IfOk result (λ p.
             id_run P.info self.old.type_inputs module_index index.0 self.old.failed ≡ record {
               text = string_bytes p.text;
               fault = failure_in p.failure;

@@ -11,8 +11,8 @@ returns-in_err-print-clause-later g c = later-then c.in_ok-signature.ensures.lat
 pub returns-clause-later : goal.returns-clause-later
 returns-clause-later g c = later-then c.in_ok-signature.ensures.later c.in_ok-print.ensures.later
 
-pub returns-clause-printed : goal.returns-clause-printed
-returns-clause-printed g c =
+pub returns-clause-answer : goal.returns-clause-answer
+returns-clause-answer g c =
     let s = c.args.self.now.type_inputs in
     let w = formatter_inputs g.P.ModuleProvider.info s c.args.module_index in
     let ends = rw c.in_ok-signature.ensures.later.type_inputs at c.in_ok-print.ensures.ends in

@@ -5,8 +5,8 @@ use Rattle.pdb_signatures.proofs.LoopLemmas.{begins_task}
 use Rattle.pdb_documents.proofs.UnfoldingLemmas.{formatter-below}
 use Rattle.pdb_signatures.proofs.type_formatter.TypeFormatter.print_id.Goals as goal
 
-pub returns-clause-printed : goal.returns-clause-printed
-returns-clause-printed g c =
+pub returns-clause-answer : goal.returns-clause-answer
+returns-clause-answer g c =
     let s = c.args.self.now.type_inputs in
     let w = formatter_inputs g.P.ModuleProvider.info s c.args.module_index in
     let plan = id_of_index c.args.index.0 in
