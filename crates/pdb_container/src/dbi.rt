@@ -25,6 +25,10 @@ const LONG_CONTRIBUTIONS: u32 = 0xf131_51e4;
 /// What the stream of debug information says of the whole program.
 #[derive(Drop)]
 pub struct DebugHeader<'a> {
+    /// How often the debug information was written.
+    pub age: u32,
+    /// The number of the processor.
+    pub machine: u16,
     /// The stream of the global symbols.
     pub global_symbols: u16,
     pub machine_type: MachineType,
@@ -62,6 +66,8 @@ pub fn read_header(stream: &[u8]) -> Result<DebugHeader<'_>, StreamError> {
     take_substream(&mut bytes, u32_at(front, 52));
     let optional_streams = take_substream(&mut bytes, u32_at(front, 48));
     Ok(DebugHeader {
+        age: u32_at(front, 8),
+        machine: u16_at(front, 58),
         global_symbols: u16_at(front, 20),
         machine_type: machine_type(u16_at(front, 58)),
         modules,

@@ -490,8 +490,9 @@ HAS_IDS = u32(20140508)
 
 
 def info_stream(features=u32(0, 0x4D544F4E) + HAS_IDS, version=20000404):
-    """The stream that names another one: a table of hashes with one entry, and what the file lists that it has."""
-    return u32(version, 0, 1) + bytes(16) + u32(7) + b"/names\0" + u32(1, 1, 1, 1, 0, 0, 5) + features
+    """The stream that names another one: a table of hashes with one entry, and what the file lists that it has. Its age
+    is 3, and its GUID has the bytes 0 to 15."""
+    return u32(version, 0, 3) + bytes(range(16)) + u32(7) + b"/names\0" + u32(1, 1, 1, 1, 0, 0, 5) + features
 
 
 def string_stream():

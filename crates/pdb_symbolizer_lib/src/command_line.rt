@@ -1,9 +1,10 @@
 //! The options and words of the command line of `pdb_symbolizer`, with their help.
 
 use crate::addresses::parse_number;
-use crate::options::{Export, NameStyle, Options, Style};
+use crate::options::{Export, NameStyle, Options, Purpose, Style};
 use crate::stops::Stop;
 use clap::{Arg, ArgAction, ArgMatches, Command};
+use pdb_container::DebugId;
 use std::alloc::{AllocError, Global};
 
 /// An option without a value.
@@ -21,7 +22,7 @@ struct Valued {
     help: &'static str,
 }
 
-static FLAGS: [Flag; 6] = [
+static FLAGS: [Flag; 7] = [
     Flag {
         name: "inlines",
         short: Some('i'),
@@ -51,6 +52,11 @@ static FLAGS: [Flag; 6] = [
         name: "relative-address",
         short: None,
         help: "Take addresses as relative, as is done without this option",
+    },
+    Flag {
+        name: "show-id",
+        short: None,
+        help: "Print of each file its debug id, age and machine, and answer no address",
     },
 ];
 
@@ -107,6 +113,7 @@ fn arguments<'a>(alloc: Global) -> Result<Vec<Arg<'a>>, AllocError> {
     }
     arguments.push(export(alloc)?)?;
     arguments.push(modules(alloc)?)?;
+    arguments.push(expected(alloc))?;
     arguments.push(file(alloc))?;
     arguments.push(addresses(alloc))?;
     Ok(arguments)
@@ -159,6 +166,13 @@ fn modules<'a>(alloc: Global) -> Result<Arg<'a>, AllocError> {
         .requires_arg("export")
 }
 
+fn expected<'a>(alloc: Global) -> Arg<'a> {
+    Arg::new(alloc, "expect-id")
+        .long("expect-id")
+        .value_name("ID")
+        .help("Refuse a file of another build: a debug id, or {GUID}/AGE")
+}
+
 fn file<'a>(alloc: Global) -> Arg<'a> {
     Arg::new(alloc, "FILE")
         .required(true)
@@ -177,6 +191,7 @@ fn options_of<'w>(alloc: Global, matches: &ArgMatches<'w>) -> Result<Options<'w>
     let style = style(matches)?;
     let base = number(matches, "base")?;
     let adjust = number(matches, "adjust")?.wrapping_add(number(matches, "adjust-vma")?);
+    let expected = expected_id(matches)?;
     let addresses = Vec::from_slice(alloc, matches.get_strs("ADDRESS").unwrap_or(&[]))?;
     Ok(Options {
         file: matches.get_str("FILE").unwrap_or(""),
@@ -189,16 +204,30 @@ fn options_of<'w>(alloc: Global, matches: &ArgMatches<'w>) -> Result<Options<'w>
         style,
         base,
         adjust,
-        export: export_of(matches),
+        purpose: purpose_of(matches),
+        expected,
     })
 }
 
-fn export_of<'w>(matches: &ArgMatches<'w>) -> Option<Export<'w>> {
-    let records = matches.get_str("export")?;
-    Some(Export {
-        records,
-        modules: matches.get_str("modules"),
-    })
+fn purpose_of<'w>(matches: &ArgMatches<'w>) -> Purpose<'w> {
+    match matches.get_str("export") {
+        Some(records) => Purpose::Export(Export {
+            records,
+            modules: matches.get_str("modules"),
+        }),
+        None if matches.get_flag("show-id") => Purpose::Identities,
+        None => Purpose::Answers,
+    }
+}
+
+fn expected_id<'w>(matches: &ArgMatches<'w>) -> Result<Option<DebugId>, Stop<'w>> {
+    let Some(text) = matches.get_str("expect-id") else {
+        return Ok(None);
+    };
+    match DebugId::parse(text) {
+        Some(id) => Ok(Some(id)),
+        None => Err(Stop::NoSuchValue("expect-id", text)),
+    }
 }
 
 fn name_style<'w>(matches: &ArgMatches<'w>) -> Result<NameStyle, Stop<'w>> {

@@ -1,5 +1,7 @@
 //! The file that the words name: its bytes, and the records of a PDB file or of a records file with its module files.
 
+use crate::identities::check_identity;
+use crate::options::Options;
 use crate::progress::Progress;
 use crate::stops::Stop;
 use pdb_addr2line::Error;
@@ -23,14 +25,19 @@ pub struct InputFile {
     pub names_only: bool,
 }
 
-/// The records of a file: a PDB file, or else a records file with its module files.
+/// The records of the file that is named: a PDB file, or else a records file with its module files. A file of another
+/// build than is expected is refused before anything else of it is read.
 pub fn read_input_file<'w, R: Files + Eprint + AllocGlobal>(
     rt: &R,
     progress: &Progress,
-    path: &'w str,
+    options: &Options<'w>,
 ) -> Result<InputFile, Stop<'w>> {
+    let path = options.file;
     let bytes = read_file(rt, path)?;
     progress.print_size(rt, path, bytes.len());
+    if let Some(expected) = options.expected {
+        check_identity(rt.alloc(), path, &bytes, expected)?;
+    }
     match other_file(&bytes) {
         ContainerFault::NotAPdbFile if !bytes.starts_with(&PDB_FILE) => {
             read_records_file(rt, path, bytes)
@@ -90,7 +97,8 @@ fn read_module_records<'w, R: Files + AllocGlobal>(
     }
 }
 
-fn read_file<'w, R: Files + AllocGlobal>(rt: &R, path: &'w str) -> Result<Vec<u8>, Stop<'w>> {
+/// The bytes of a file that the words name.
+pub fn read_file<'w, R: Files + AllocGlobal>(rt: &R, path: &'w str) -> Result<Vec<u8>, Stop<'w>> {
     match fs::read(rt, path) {
         Ok(bytes) => Ok(bytes),
         Err(error) if ran_out_of_memory(&error) => Err(Stop::Refused(Error::OutOfMemory)),

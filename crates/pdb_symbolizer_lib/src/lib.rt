@@ -9,6 +9,7 @@ mod addresses;
 mod answers;
 mod command_line;
 mod export_files;
+mod identities;
 mod input_files;
 mod json_text;
 mod options;

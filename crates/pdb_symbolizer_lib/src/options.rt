@@ -2,6 +2,7 @@
 
 use bitflags::Flags;
 use pdb_addr2line::TypeFormatterFlags;
+use pdb_container::DebugId;
 
 /// What is printed of a function's name.
 #[derive(Clone, Copy, PartialEq, Eq)]
@@ -34,6 +35,17 @@ pub struct Export<'w> {
     pub modules: Option<&'w str>,
 }
 
+/// What is done with the file.
+#[derive(Clone, Copy)]
+pub enum Purpose<'w> {
+    /// Addresses are answered.
+    Answers,
+    /// Its records are written.
+    Export(Export<'w>),
+    /// It is shown which build it is of, and the files that the other words name.
+    Identities,
+}
+
 /// What the words of a command line ask for.
 #[derive(Drop)]
 pub struct Options<'w> {
@@ -55,8 +67,9 @@ pub struct Options<'w> {
     pub base: u64,
     /// What else is taken from the addresses.
     pub adjust: u64,
-    /// Where the records are written to, in place of answers.
-    pub export: Option<Export<'w>>,
+    pub purpose: Purpose<'w>,
+    /// The build that the file has to be of, if one is named.
+    pub expected: Option<DebugId>,
 }
 
 impl Options<'_> {

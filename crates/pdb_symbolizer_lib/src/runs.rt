@@ -4,8 +4,9 @@ use crate::addresses::parse_number;
 use crate::answers::{write_answer, write_no_answer};
 use crate::command_line::parse;
 use crate::export_files::write_files;
+use crate::identities::print_identities;
 use crate::input_files::{InputFile, read_input_file};
-use crate::options::{Options, Style};
+use crate::options::{Options, Purpose, Style};
 use crate::progress::Progress;
 use crate::repairs::print_repairs;
 use crate::stops::Stop;
@@ -53,10 +54,16 @@ fn run_over<'w, R: Files + Input + Print + Eprint + Clock + AllocGlobal>(
     progress: &mut Progress,
     options: &Options<'w>,
 ) -> Result<(), Stop<'w>> {
-    let mut file = read_input_file(rt, progress, options.file)?;
-    match options.export {
-        Some(export) => write_files(rt, progress, export, &file.records),
-        None => answer_over(rt, options, &mut file),
+    match options.purpose {
+        Purpose::Identities => print_identities(rt, options),
+        Purpose::Export(export) => {
+            let file = read_input_file(rt, progress, options)?;
+            write_files(rt, progress, export, &file.records)
+        }
+        Purpose::Answers => {
+            let mut file = read_input_file(rt, progress, options)?;
+            answer_over(rt, options, &mut file)
+        }
     }
 }
 

@@ -1,7 +1,7 @@
 //! Why a run ended early, in words, and the exit status that goes with it.
 
 use pdb_addr2line::Error;
-use pdb_container::{ContainerFault, Refusal};
+use pdb_container::{ContainerFault, DebugId, Refusal};
 use pdb_export::ExportFault;
 use pdb_json::RecordFault;
 use std::alloc::{AllocError, AllocFailed};
@@ -30,6 +30,12 @@ pub enum Stop<'w> {
     /// The file is a PDB file over which nothing can be answered.
     #[error("pdb_symbolizer: {0}: {1}")]
     PdbFile(&'w str, Refusal),
+    /// The file is of another build than is expected: first the file's, then the expected one.
+    #[error("pdb_symbolizer: {0}: its id is {1}, not {2}")]
+    OtherBuild(&'w str, DebugId, DebugId),
+    /// The file doesn't say which build it is of.
+    #[error("pdb_symbolizer: {0}: no id")]
+    NoIdentity(&'w str),
     /// The file is a records file that holds no records.
     #[error("pdb_symbolizer: {0}: {1}")]
     Records(&'w str, RecordFault),
@@ -70,7 +76,7 @@ impl Stop<'_> {
         match self {
             Stop::Words(error) if !error.use_stderr() => 0,
             Stop::ClosedPipe => 0,
-            Stop::Refused(_) | Stop::PdbFile(_, _) => 1,
+            Stop::Refused(_) | Stop::PdbFile(..) | Stop::OtherBuild(..) | Stop::NoIdentity(_) => 1,
             _ => 2,
         }
     }

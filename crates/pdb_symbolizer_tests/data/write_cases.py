@@ -149,6 +149,24 @@ def broken_cases():
         "".join(error(f"broken_parts.pdb: {row}") for row in rows) + 2 * "?f@@YAXXZ at ??:0:0\n\n" + ENDED
 
 
+def identity_cases():
+    """Which build a file is of: the GUID of the info stream, of which the first three fields have their lowest byte
+    first, and the age of the debug information."""
+    guid, other = "6B32B94164959A524C4C44205044422E", "{6B32B941-6495-9A52-4C4C-44205044422E}"
+    yield "pdb_symbolizer --show-id shapes.pdb broken_parts.pdb", \
+        f"shapes.pdb {guid}1 1 x86_64\nbroken_parts.pdb 030201000504070608090A0B0C0D0E0F1 1 x86_64\n" + ENDED
+    yield "pdb_symbolizer --show-id shapes.pdb program.exe", \
+        f"shapes.pdb {guid}1 1 x86_64\n" + error("program.exe: a program (EXE or DLL), not its PDB file") + "status 2\n"
+    for same in (guid + "1", guid.lower() + "01", other + "/1", other.lower() + "/1"):
+        yield f"pdb_symbolizer -p --expect-id {same} shapes.pdb 0x1136", STACK
+    for text, shown in ((guid + "10", other + "/16"), (other + "/2", other + "/2"), ("0" + guid[1:] + "1", "{0B" + other[3:] + "/1")):
+        yield f"pdb_symbolizer --expect-id {text} shapes.pdb 0x1136", \
+            error(f"shapes.pdb: its id is {other}/1, not {shown}") + "status 1\n"
+    for text in ("zz", guid, guid + "+1", other, other + "/x", guid + "100000000"):
+        yield f"pdb_symbolizer --expect-id {text} shapes.pdb 0x1136", error(f"--expect-id can't be {text}") + "status 2\n"
+    yield f"pdb_symbolizer --expect-id {guid}1 names.json 1010", error("names.json: not a PDB file") + "status 2\n"
+
+
 def records_cases():
     """Names that JSON escapes, that symbols have and that nobody has, in a records file; and records files that are
     written."""
@@ -172,7 +190,7 @@ def records_cases():
 
 
 def main(words):
-    made = [*llvm_cases(words[0]), *name_cases(), *address_cases(), *broken_cases(), *records_cases()]
+    made = [*llvm_cases(words[0]), *name_cases(), *address_cases(), *broken_cases(), *identity_cases(), *records_cases()]
     (HERE / "cases.txt").write_text("".join(f"{line}\n" for line, _ in made), encoding="utf-8")
     (HERE.parent / "stdout").write_text("".join(f"$ {line}\n{text}" for line, text in made), encoding="utf-8")
     print(f"{len(made)} cases")

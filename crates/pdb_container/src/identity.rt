@@ -1,0 +1,84 @@
+//! Which build a PDB file is of: its GUID, its age, when it was made, and for which processor.
+
+use crate::dbi::read_header;
+use pdb_identity::{DebugId, InfoFront};
+use pdb_msf::faults::{Fault, part_or_fault};
+use pdb_msf::{Container, ContainerFault};
+use std::alloc::Global;
+use std::fmt;
+
+/// The numbers of the streams that say it.
+const INFO: u32 = 1;
+
+const DEBUG: u32 = 3;
+
+/// A processor by the number that files have for it.
+#[derive(Debug, Clone, Copy, PartialEq, Eq)]
+pub struct Machine(pub u16);
+
+/// What says which build a PDB file is of.
+#[derive(Debug, Clone, Copy, PartialEq, Eq)]
+pub struct PdbIdentity {
+    /// The GUID, and the age of the debug information, which is the one that programs have; else that of the file.
+    pub debug_id: DebugId,
+    /// When the file was made, in seconds since 1970, or a hash where the linker was told to make the same file again.
+    pub time_stamp: u32,
+    pub machine: Option<Machine>,
+}
+
+impl fmt::Display for Machine {
+    fn fmt<W: fmt::Write>(&self, f: &mut fmt::Formatter<W>) -> fmt::Result {
+        match self.0 {
+            0x014c => f.write_str("x86"),
+            0x8664 => f.write_str("x86_64"),
+            0x01c4 => f.write_str("arm"),
+            0xaa64 => f.write_str("arm64"),
+            0xa641 => f.write_str("arm64ec"),
+            number => write!(f, "0x{number:04x}"),
+        }
+    }
+}
+
+/// Which build a PDB file is of. Nothing where its info stream can't be read as far as the GUID.
+pub fn read_identity(alloc: Global, bytes: &[u8]) -> Result<Option<PdbIdentity>, ContainerFault> {
+    let mut container = Container::open(alloc, bytes)?;
+    Ok(identity_in(alloc, &mut container)?)
+}
+
+fn identity_in(alloc: Global, container: &mut Container<'_>) -> Result<Option<PdbIdentity>, Fault> {
+    let Ok(info) = part_or_fault(container.stream(alloc, INFO))? else {
+        return Ok(None);
+    };
+    let Some(front) = InfoFront::read(info.as_slice()) else {
+        return Ok(None);
+    };
+    let build = debug_build(alloc, container)?;
+    Ok(Some(PdbIdentity {
+        debug_id: DebugId {
+            guid: front.guid,
+            age: build.map_or(front.age, |build| build.age),
+        },
+        time_stamp: front.time_stamp,
+        machine: build.map(|build| Machine(build.machine)),
+    }))
+}
+
+/// What the header of the debug information says of the build.
+#[derive(Clone, Copy)]
+struct DebugBuild {
+    age: u32,
+    machine: u16,
+}
+
+fn debug_build(alloc: Global, container: &mut Container<'_>) -> Result<Option<DebugBuild>, Fault> {
+    let Ok(stream) = part_or_fault(container.stream(alloc, DEBUG))? else {
+        return Ok(None);
+    };
+    match read_header(stream.as_slice()) {
+        Ok(header) => Ok(Some(DebugBuild {
+            age: header.age,
+            machine: header.machine,
+        })),
+        Err(_) => Ok(None),
+    }
+}
