@@ -9,7 +9,7 @@ ghost use Rattle.pdb_functions.specs.Lookup.{found_function};
 ghost use Rattle.pdb_documents.specs.BrokenParts.{AddsBroken};
 ghost use Rattle.pdb_documents.specs.PrintInputs.{formatter_inputs};
 ghost use Rattle.pdb_frames.specs.CodeCache.{IsCodeCache};
-ghost use Rattle.pdb_frames.specs.CodeCaches.{Records};
+ghost use Rattle.pdb_frames.specs.CodeCaches.{ModuleRecords};
 ghost use Rattle.pdb_frames.specs.CodeParts.{part_to_blame};
 ghost use Rattle.pdb_frames.specs.Origins.{function_module};
 ghost use Rattle.pdb_function_info.specs.Frames.{info_of_frames, failed_by_frames, ButForMemory};
@@ -37,7 +37,7 @@ impl<'a, P: ModuleProvider> Caches<'a, P> {
     // Nothing yet. It takes no memory.
     pub(crate) fn new(alloc: Global, provider: &'a P) -> Self
         ensures infos { result.infos.provider ≡ provider.now }
-        ensures is_cache { (records : Records) → IsCodeCache records result.code }
+        ensures is_cache { (records : ModuleRecords) → IsCodeCache records result.code }
         ensures starts { result.starts ≡ None }
     {
         Caches {
@@ -59,7 +59,7 @@ pub(crate) fn frames_info_by<'a, P: ModuleProvider>(
     function: FoundFunction<'a>,
     offset: u32,
 ) -> Result<Option<FunctionFrames<'a>>>
-    ghost records: { Records }
+    ghost records: { ModuleRecords }
     requires named { GoesBySymbol (P.info names.old.provider) names.old.type_inputs.modules (found_function function) }
     requires is_cache { IsCodeCache records caches.old.code }
     requires module_info { IfSome module_info
@@ -99,7 +99,7 @@ pub(crate) fn part_blamed_by<'a, P: ModuleProvider>(
     modules: &[Module],
     function: FoundFunction<'_>,
 ) -> Result<Option<CodePart>, AllocError>
-    ghost records: { Records }
+    ghost records: { ModuleRecords }
     requires records { records ≡ readable_info (P.info caches.old.infos.provider) modules.now }
     requires is_cache { IsCodeCache records caches.old.code }
     ensures answer { let found = found_function function.entry in

@@ -14,7 +14,7 @@ use Rattle.pdb_types.proofs.TypeCacheLemmas.{is_cache_of_nothing, is_cache_same,
 use Rattle.pdb_types.specs.Outcomes.{Gives}
 use Rattle.pdb_types.specs.declared.error.Error.{Error}
 use Rattle.pdb_inline.specs.declared.inline_ranges.InlineRange.{InlineRange}
-use Rattle.pdb_frames.specs.CodeCaches.{Records, IsExtendedInfoCache, function_cmp, HasProgram, IsEntryCache}
+use Rattle.pdb_frames.specs.CodeCaches.{ModuleRecords, IsExtendedInfoCache, function_cmp, HasProgram, IsEntryCache}
 use Rattle.pdb_frames.specs.CodeCaches.{IsLineCache, procedure_cmp, procedure_ranges, IsRangeCache}
 use Rattle.pdb_frames.specs.ExtendedInfo.{extended_info_view, extended_info}
 use Rattle.pdb_frames.specs.FunctionRows.{row_in}
@@ -66,14 +66,15 @@ gives_same (Ok a) definition same = sym same
 gives_same (Err e) definition same = λ _. sym same
 
 -- nothing is cached of any module's code
-pub infos_new : (records : Records) (m : BTreeMap ℕ ExtendedModuleInfo) → m.entries ≡ [] → IsExtendedInfoCache records m
+pub infos_new : (records : ModuleRecords) (m : BTreeMap ℕ ExtendedModuleInfo) → m.entries ≡ []
+    → IsExtendedInfoCache records m
 unfolding IsExtendedInfoCache
 infos_new records m empty = is_cache_of_nothing nat_cmp
     (λ module_index known. option_map extended_info (records module_index) ≡ Some (Ok (extended_info_view known))) m
     empty
 
 -- what is cached stays
-pub infos_same : (records : Records) (m n : BTreeMap ℕ ExtendedModuleInfo) → n.entries ≡ m.entries
+pub infos_same : (records : ModuleRecords) (m n : BTreeMap ℕ ExtendedModuleInfo) → n.entries ≡ m.entries
     → IsExtendedInfoCache records m → IsExtendedInfoCache records n
 unfolding IsExtendedInfoCache
 infos_same records m n same is_cache =
@@ -81,7 +82,7 @@ infos_same records m n same is_cache =
     (Ok (extended_info_view known))) m n same is_cache
 
 -- one more module
-pub infos_more : (records : Records) (module_index : ℕ) (info : ModuleInfo) (known : ExtendedModuleInfo)
+pub infos_more : (records : ModuleRecords) (module_index : ℕ) (info : ModuleInfo) (known : ExtendedModuleInfo)
     (m n : BTreeMap ℕ ExtendedModuleInfo) → records module_index ≡ Some info
     → extended_info info ≡ Ok (extended_info_view known) → Updates nat_cmp m n module_index (Some known)
     → IsExtendedInfoCache records m → IsExtendedInfoCache records n
@@ -93,7 +94,7 @@ infos_more records module_index info known m n there read updates is_cache =
     (ap (λ o. option_map extended_info o) there ∙ ap (λ r. Some r) read) is_cache
 
 -- what is cached of a module is what is known of its code
-pub infos_found : (records : Records) (module_index : ℕ) (info : ModuleInfo) (known : ExtendedModuleInfo)
+pub infos_found : (records : ModuleRecords) (module_index : ℕ) (info : ModuleInfo) (known : ExtendedModuleInfo)
     (m : BTreeMap ℕ ExtendedModuleInfo) → records module_index ≡ Some info → IsExtendedInfoCache records m
     → get nat_cmp m module_index ≡ Some known → extended_info info ≡ Ok (extended_info_view known)
 unfolding IsExtendedInfoCache
@@ -105,22 +106,22 @@ one_program : (o : Option (Result Lines Error)) (a b : Lines) → o ≡ Some (Ok
 one_program o a b first second = cc
 
 -- a line program fits a module index
-abbrev IsCachedProgram : Records → ℕ → Lines → Type 0
+abbrev IsCachedProgram : ModuleRecords → ℕ → Lines → Type 0
 IsCachedProgram records module_index program = HasProgram records module_index program
 
 -- no line program is cached
-pub entries_new : (records : Records) (m : BTreeMap ℕ Lines) → m.entries ≡ [] → IsEntryCache records m
+pub entries_new : (records : ModuleRecords) (m : BTreeMap ℕ Lines) → m.entries ≡ [] → IsEntryCache records m
 unfolding IsEntryCache
 entries_new records m empty = is_cache_of_nothing nat_cmp (IsCachedProgram records) m empty
 
 -- line programs that are cached stay
-pub entries_same : (records : Records) (m n : BTreeMap ℕ Lines) → n.entries ≡ m.entries → IsEntryCache records m
+pub entries_same : (records : ModuleRecords) (m n : BTreeMap ℕ Lines) → n.entries ≡ m.entries → IsEntryCache records m
     → IsEntryCache records n
 unfolding IsEntryCache
 entries_same records m n same is_cache = is_cache_same nat_cmp (IsCachedProgram records) m n same is_cache
 
 -- one more line program
-pub entries_more : (records : Records) (module_index : ℕ) (program : Lines) (m n : BTreeMap ℕ Lines)
+pub entries_more : (records : ModuleRecords) (module_index : ℕ) (program : Lines) (m n : BTreeMap ℕ Lines)
     → HasProgram records module_index program → Updates nat_cmp m n module_index (Some program)
     → IsEntryCache records m → IsEntryCache records n
 unfolding IsEntryCache
@@ -129,7 +130,7 @@ entries_more records module_index program m n there updates is_cache =
     (IsCachedProgram records) m n module_index program updates there is_cache
 
 -- the line program that is cached of a module is its own
-pub entries_found : (records : Records) (module_index : ℕ) (program cached : Lines) (m : BTreeMap ℕ Lines)
+pub entries_found : (records : ModuleRecords) (module_index : ℕ) (program cached : Lines) (m : BTreeMap ℕ Lines)
     → HasProgram records module_index program → IsEntryCache records m → get nat_cmp m module_index ≡ Some cached
     → cached ≡ program
 unfolding IsEntryCache
@@ -137,24 +138,25 @@ entries_found records module_index program cached m there is_cache got =
     one_program _ cached program (is_cache module_index cached got) there
 
 -- rows fit a function
-abbrev AreCachedRows : Records → FunctionKey → Read LineInfo → Type 0
+abbrev AreCachedRows : ModuleRecords → FunctionKey → Read LineInfo → Type 0
 AreCachedRows records key rows =
     (program : Lines) → HasProgram records key.module_index program
     → (x : ℕ) → row_in rows x ≡ function_row program (record { section = key.section; offset = key.offset }) x
 
 -- no rows are cached
-pub lines_new : (records : Records) (m : BTreeMap FunctionKey (Read LineInfo)) → m.entries ≡ [] → IsLineCache records m
+pub lines_new : (records : ModuleRecords) (m : BTreeMap FunctionKey (Read LineInfo)) → m.entries ≡ []
+    → IsLineCache records m
 unfolding IsLineCache
 lines_new records m empty = is_cache_of_nothing function_cmp (AreCachedRows records) m empty
 
 -- rows that are cached stay
-pub lines_same : (records : Records) (m n : BTreeMap FunctionKey (Read LineInfo)) → n.entries ≡ m.entries
+pub lines_same : (records : ModuleRecords) (m n : BTreeMap FunctionKey (Read LineInfo)) → n.entries ≡ m.entries
     → IsLineCache records m → IsLineCache records n
 unfolding IsLineCache
 lines_same records m n same is_cache = is_cache_same function_cmp (AreCachedRows records) m n same is_cache
 
 -- the rows of one more function
-pub lines_more : (records : Records) (key : FunctionKey) (program : Lines) (rows : Read LineInfo)
+pub lines_more : (records : ModuleRecords) (key : FunctionKey) (program : Lines) (rows : Read LineInfo)
     (m n : BTreeMap FunctionKey (Read LineInfo)) → HasProgram records key.module_index program
     → ((x : ℕ) → row_in rows x ≡ function_row program (record { section = key.section; offset = key.offset }) x)
     → Updates function_cmp m n key (Some rows) → IsLineCache records m → IsLineCache records n
@@ -164,7 +166,7 @@ lines_more records key program rows m n there read updates is_cache =
     (λ other here. let same = one_program _ other program here there in rw same read) is_cache
 
 -- the rows that are cached of a function are its line program's
-pub lines_found : (records : Records) (key : FunctionKey) (program : Lines) (rows : Read LineInfo)
+pub lines_found : (records : ModuleRecords) (key : FunctionKey) (program : Lines) (rows : Read LineInfo)
     (m : BTreeMap FunctionKey (Read LineInfo)) → HasProgram records key.module_index program → IsLineCache records m
     → get function_cmp m key ≡ Some rows → (x : ℕ)
     → row_in rows x ≡ function_row program (record { section = key.section; offset = key.offset }) x
@@ -172,24 +174,24 @@ unfolding IsLineCache
 lines_found records key program rows m there is_cache got = is_cache key rows got program there
 
 -- ranges fit a procedure
-abbrev AreCachedRanges : Records → ProcedureKey → List InlineRange → Type 0
+abbrev AreCachedRanges : ModuleRecords → ProcedureKey → List InlineRange → Type 0
 AreCachedRanges records key ranges = option_map (λ info. procedure_ranges info key.symbol key.end)
     (records key.module_index) ≡ Some (Ok ranges)
 
 -- no ranges are cached
-pub ranges_new : (records : Records) (m : BTreeMap ProcedureKey (List InlineRange)) → m.entries ≡ []
+pub ranges_new : (records : ModuleRecords) (m : BTreeMap ProcedureKey (List InlineRange)) → m.entries ≡ []
     → IsRangeCache records m
 unfolding IsRangeCache
 ranges_new records m empty = is_cache_of_nothing procedure_cmp (AreCachedRanges records) m empty
 
 -- ranges that are cached stay
-pub ranges_same : (records : Records) (m n : BTreeMap ProcedureKey (List InlineRange)) → n.entries ≡ m.entries
+pub ranges_same : (records : ModuleRecords) (m n : BTreeMap ProcedureKey (List InlineRange)) → n.entries ≡ m.entries
     → IsRangeCache records m → IsRangeCache records n
 unfolding IsRangeCache
 ranges_same records m n same is_cache = is_cache_same procedure_cmp (AreCachedRanges records) m n same is_cache
 
 -- the ranges of one more procedure
-pub ranges_more : (records : Records) (key : ProcedureKey) (info : ModuleInfo) (ranges : List InlineRange)
+pub ranges_more : (records : ModuleRecords) (key : ProcedureKey) (info : ModuleInfo) (ranges : List InlineRange)
     (m n : BTreeMap ProcedureKey (List InlineRange)) → records key.module_index ≡ Some info
     → procedure_ranges info key.symbol key.end ≡ Ok ranges → Updates procedure_cmp m n key (Some ranges)
     → IsRangeCache records m → IsRangeCache records n
@@ -199,7 +201,7 @@ ranges_more records key info ranges m n there read updates is_cache =
     (ap (λ o. option_map (λ info. procedure_ranges info key.symbol key.end) o) there ∙ ap (λ r. Some r) read) is_cache
 
 -- the ranges that are cached of a procedure are its own
-pub ranges_found : (records : Records) (key : ProcedureKey) (info : ModuleInfo) (ranges : List InlineRange)
+pub ranges_found : (records : ModuleRecords) (key : ProcedureKey) (info : ModuleInfo) (ranges : List InlineRange)
     (m : BTreeMap ProcedureKey (List InlineRange)) → records key.module_index ≡ Some info → IsRangeCache records m
     → get procedure_cmp m key ≡ Some ranges → procedure_ranges info key.symbol key.end ≡ Ok ranges
 unfolding IsRangeCache

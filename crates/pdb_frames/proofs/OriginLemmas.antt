@@ -15,22 +15,24 @@ use Rattle.pdb_frames.specs.ExtendedInfo.{ExtendedInfo, extended_info}
 use Rattle.pdb_frames.specs.Lines.{function_row}
 use Rattle.pdb_frames.specs.Origins.{Origin, function_start, origin}
 
--- where code comes from, by these parts
-abbrev made : Lines → Option LineInfo → List InlineRange → Origin
-made program row stack = record { line_program = program; row = row; stack = stack }
+-- where code comes from, by its line program, row and stack
+abbrev origin_of : Lines → Option LineInfo → List InlineRange → Origin
+origin_of program row stack = record { line_program = program; row = row; stack = stack }
 
 -- the stack may be made before the origin
 stack_first : (program : Lines) (x : ℕ) (row : Result (Option LineInfo) Error)
     (ranges : Result (List InlineRange) Error)
-    → and_then row (λ row. and_then ranges (λ ranges. Ok (made program row (inline_stack ranges x)))) ≡ and_then row
-    (λ row. and_then (and_then ranges (λ ranges. Ok (inline_stack ranges x))) (λ stack. Ok (made program row stack)))
+    → and_then row (λ row. and_then ranges (λ ranges. Ok (origin_of program row (inline_stack ranges x))))
+    ≡ and_then row (λ row. and_then (and_then ranges (λ ranges. Ok (inline_stack ranges x)))
+    (λ stack. Ok (origin_of program row stack)))
 stack_first program x (Err e) ranges = refl
 stack_first program x (Ok row) (Err e) = refl
 stack_first program x (Ok row) (Ok ranges) = refl
 
 -- a global function has no inlined bodies
 none_in_global : (program : Lines) (x : ℕ) (row : Result (Option LineInfo) Error)
-    → and_then row (λ row. Ok (made program row (inline_stack [] x))) ≡ and_then row (λ row. Ok (made program row []))
+    → and_then row (λ row. Ok (origin_of program row (inline_stack [] x)))
+    ≡ and_then row (λ row. Ok (origin_of program row []))
 none_in_global program x (Err e) = refl
 none_in_global program x (Ok row) = refl
 
@@ -43,20 +45,20 @@ pub origin_by_stack : (info : ModuleInfo) (found : FoundFunction) (x : ℕ)
 origin_by_stack info (found_global m f) x = by_known (extended_info info) where
   by_known : (r : Result ExtendedInfo Error)
       → and_then r (λ known. and_then (function_row known.line_program f.start x)
-      (λ row. Ok (made known.line_program row (inline_stack [] x))))
+      (λ row. Ok (origin_of known.line_program row (inline_stack [] x))))
       ≡ and_then r (λ known. and_then (function_row known.line_program f.start x)
-      (λ row. Ok (made known.line_program row [])))
+      (λ row. Ok (origin_of known.line_program row [])))
   by_known (Err e) = refl
   by_known (Ok known) = none_in_global known.line_program x (function_row known.line_program f.start x)
 origin_by_stack info (found_procedure m p) x = by_known (extended_info info) where
   by_known : (r : Result ExtendedInfo Error)
       → and_then r (λ known. and_then (function_row known.line_program p.offset x)
       (λ row. and_then (procedure_inline_ranges known.inlinees info p.symbol_index.0 p.end_symbol_index.0)
-      (λ ranges. Ok (made known.line_program row (inline_stack ranges x)))))
+      (λ ranges. Ok (origin_of known.line_program row (inline_stack ranges x)))))
       ≡ and_then r (λ known. and_then (function_row known.line_program p.offset x)
       (λ row. and_then (and_then (and_then r
       (λ k. procedure_inline_ranges k.inlinees info p.symbol_index.0 p.end_symbol_index.0))
-      (λ ranges. Ok (inline_stack ranges x))) (λ stack. Ok (made known.line_program row stack))))
+      (λ ranges. Ok (inline_stack ranges x))) (λ stack. Ok (origin_of known.line_program row stack))))
   by_known (Err e) = refl
   by_known (Ok known) = stack_first known.line_program x (function_row known.line_program p.offset x)
       (procedure_inline_ranges known.inlinees info p.symbol_index.0 p.end_symbol_index.0)

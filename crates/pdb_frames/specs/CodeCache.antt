@@ -1,10 +1,10 @@
 -- What was found of modules' code so far.
-use Rattle.pdb_frames.specs.CodeCaches.{Records, IsExtendedInfoCache, IsEntryCache, IsLineCache, IsRangeCache}
+use Rattle.pdb_frames.specs.CodeCaches.{ModuleRecords, IsExtendedInfoCache, IsEntryCache, IsLineCache, IsRangeCache}
 use Rattle.pdb_frames.specs.declared.code_cache.CodeCache.{CodeCache}
 
 -- what was found so far is what the records say
-pub record IsCodeCache (records : Records) (c : CodeCache) : Type 0 where
-  pub infos : IsExtendedInfoCache records c.infos.cached
-  pub entries : IsEntryCache records c.lines.entries.cached
-  pub lines : IsLineCache records c.lines.cached
-  pub ranges : IsRangeCache records c.ranges.cached
+pub record IsCodeCache (records : ModuleRecords) (cache : CodeCache) : Type 0 where
+  pub infos : IsExtendedInfoCache records cache.infos.cached
+  pub entries : IsEntryCache records cache.lines.entries.cached
+  pub lines : IsLineCache records cache.lines.cached
+  pub ranges : IsRangeCache records cache.ranges.cached

@@ -22,11 +22,11 @@ use Rattle.pdb_frames.specs.declared.code_keys.FunctionKey.{FunctionKey}
 use Rattle.pdb_frames.specs.declared.code_keys.ProcedureKey.{ProcedureKey}
 
 -- the records of modules that can be read, by module index
-abbrev pub Records : Type 0
-Records = ℕ → Option ModuleInfo
+abbrev pub ModuleRecords : Type 0
+ModuleRecords = ℕ → Option ModuleInfo
 
 -- what is cached at a module index is what is known of the code of the module there
-unfoldable pub IsExtendedInfoCache : Records → BTreeMap ℕ ExtendedModuleInfo → Type 0
+unfoldable pub IsExtendedInfoCache : ModuleRecords → BTreeMap ℕ ExtendedModuleInfo → Type 0
 IsExtendedInfoCache records cached =
     (module_index : ℕ) (known : ExtendedModuleInfo) → get nat_cmp cached module_index ≡ Some known
     → option_map extended_info (records module_index) ≡ Some (Ok (extended_info_view known))
@@ -38,18 +38,18 @@ function_cmp a b =
     ordering_then (nat_cmp a.section b.section) (nat_cmp a.offset b.offset))
 
 -- the line program of the module at a module index is this one
-abbrev pub HasProgram : Records → ℕ → Lines → Type 0
+abbrev pub HasProgram : ModuleRecords → ℕ → Lines → Type 0
 HasProgram records module_index program =
     option_map (λ info. streamed info.line_program) (records module_index) ≡ Some (Ok program)
 
 -- the line program that is cached at a module index is that of the module there
-unfoldable pub IsEntryCache : Records → BTreeMap ℕ Lines → Type 0
+unfoldable pub IsEntryCache : ModuleRecords → BTreeMap ℕ Lines → Type 0
 IsEntryCache records cached =
     (module_index : ℕ) (program : Lines) → get nat_cmp cached module_index ≡ Some program
     → HasProgram records module_index program
 
 -- the rows that are cached of a function give over each offset what its module's line program gives
-unfoldable pub IsLineCache : Records → BTreeMap FunctionKey (Read LineInfo) → Type 0
+unfoldable pub IsLineCache : ModuleRecords → BTreeMap FunctionKey (Read LineInfo) → Type 0
 IsLineCache records cached =
     (key : FunctionKey) (rows : Read LineInfo) → get function_cmp cached key ≡ Some rows
     → (program : Lines) → HasProgram records key.module_index program
@@ -77,7 +77,7 @@ function_stack info (found_global m f) x = Ok []
 function_stack info (found_procedure m p) x = procedure_stack info p.symbol_index.0 p.end_symbol_index.0 x
 
 -- the ranges that are cached of a procedure are those of its module's records
-unfoldable pub IsRangeCache : Records → BTreeMap ProcedureKey (List InlineRange) → Type 0
+unfoldable pub IsRangeCache : ModuleRecords → BTreeMap ProcedureKey (List InlineRange) → Type 0
 IsRangeCache records cached =
     (key : ProcedureKey) (ranges : List InlineRange) → get procedure_cmp cached key ≡ Some ranges
     → option_map (λ info. procedure_ranges info key.symbol key.end) (records key.module_index) ≡ Some (Ok ranges)

@@ -69,14 +69,14 @@ has_broken_lines program start = is_refused (function_rows program start)
 
 -- the part that is to blame where it is refused where a function's code comes from, once it is known what is known of
 -- the module's code: the function's lines, else its inline ranges
-abbrev pub blame_behind : ℕ → PdbInternalSectionOffset → Result Lines Error → CodePart
-blame_behind m start (Ok program) =
+abbrev pub blame_after_info : ℕ → PdbInternalSectionOffset → Result Lines Error → CodePart
+blame_after_info m start (Ok program) =
     if has_broken_lines program start then part.Lines m start else part.InlineRanges m start
-blame_behind m start (Err e) = part.ExtendedInfo m
+blame_after_info m start (Err e) = part.ExtendedInfo m
 
 -- the part that is to blame where it is refused where a function's code comes from: what is known of the module's code,
 -- then the function's lines, then its inline ranges
 abbrev pub part_to_blame : ModuleInfo → FoundFunction → CodePart
 part_to_blame info found =
     let program = and_then (extended_info info) (λ known. Ok known.line_program) in
-    blame_behind (function_module found) (function_start found) program
+    blame_after_info (function_module found) (function_start found) program

@@ -31,4 +31,4 @@ OffsetsAscend (row ∷ rows) = AllByRecursion (λ other. row.offset < other.offs
 
 -- the row over an offset, of rows that were read; refused for the fault that stands behind them
 abbrev pub row_in : Read LineInfo → ℕ → Result (Option LineInfo) Error
-row_in rows x = and_then (read_whole rows) (λ items. Ok (row_over items x))
+row_in rows x = and_then (read_whole rows) (λ whole. Ok (row_over whole x))

@@ -5,9 +5,9 @@ ghost use Rattle.pdb_types.specs.Outcomes.{Gives, and_then};
 ghost use Rattle.pdb_functions.specs.Lookup.{found_function};
 ghost use Rattle.pdb_frames.specs.ExtendedInfo.{extended_info};
 ghost use Rattle.pdb_frames.specs.Lines.{function_row};
-ghost use Rattle.pdb_frames.specs.CodeCaches.{Records, HasProgram, function_stack};
+ghost use Rattle.pdb_frames.specs.CodeCaches.{ModuleRecords, HasProgram, function_stack};
 ghost use Rattle.pdb_frames.specs.CodeCache.{IsCodeCache};
-ghost use Rattle.pdb_frames.specs.CodeParts.{blame_behind, part_to_blame};
+ghost use Rattle.pdb_frames.specs.CodeParts.{blame_after_info, part_to_blame};
 ghost use Rattle.pdb_frames.specs.Origins.{origin_view, function_module, origin};
 
 use crate::code_parts::CodePart;
@@ -46,7 +46,7 @@ impl Drop for CodeCache<'_> {
 impl<'a> CodeCache<'a> {
     /// Nothing yet. It takes no memory.
     pub fn new(alloc: Global) -> Self
-        ensures { (records : Records) → IsCodeCache records result }
+        ensures { (records : ModuleRecords) → IsCodeCache records result }
     {
         CodeCache {
             alloc,
@@ -69,10 +69,10 @@ impl<'a> CodeCache<'a> {
         function: FoundFunction<'_>,
         offset: u32,
     ) -> Result<Origin<'a>>
-        ghost records: { Records }
+        ghost records: { ModuleRecords }
         requires is_cache { IsCodeCache records self.old }
         requires module_info { records (function_module (found_function function)) ≡ Some module_info.now }
-        ensures origin { Gives origin_view result (origin module_info.now (found_function function.entry) offset) }
+        ensures answer { Gives origin_view result (origin module_info.now (found_function function.entry) offset) }
         ensures is_cache { IsCodeCache records self.new }
     {
         let module_index = function_module(function);
@@ -90,40 +90,39 @@ impl<'a> CodeCache<'a> {
     /// the records of the function's module: what is known of the module's code, then the function's lines, then
     /// its inline ranges. What was found is asked, so nothing is read again.
     ///
-    /// # Errors
-    ///
-    /// [`AllocError`] alone.
+    /// Answers `AllocError` where memory runs out.
     pub fn part_to_blame(
         &mut self,
         module_info: &'a ModuleInfo,
         function: FoundFunction<'_>,
     ) -> Result<CodePart, AllocError>
-        ghost records: { Records }
+        ghost records: { ModuleRecords }
         requires is_cache { IsCodeCache records self.old }
         requires module_info { records (function_module (found_function function)) ≡ Some module_info.now }
-        ensures blamed { IfOk result (λ part. part ≡ part_to_blame module_info.now (found_function function.entry)) }
+        ensures answer { IfOk result (λ part. part ≡ part_to_blame module_info.now (found_function function.entry)) }
         ensures is_cache { IsCodeCache records self.new }
     {
         let module_index = function_module(function);
         let start = function_start(function);
         match self.line_program(module_index, module_info) {
-            Ok(line_program) => self.blame_behind(module_index, line_program, start),
+            Ok(line_program) => self.blame_after_info(module_index, line_program, start),
             Err(Error::OutOfMemory) => Err(AllocError),
             Err(_) => Ok(CodePart::ExtendedInfo(module_index)),
         }
     }
 
-    // The same, once it is known what is known of the module's code.
-    fn blame_behind(
+    // The same, once the line program of the module's code is known: then it is the function's lines, or else its
+    // inline ranges.
+    fn blame_after_info(
         &mut self,
         module_index: usize,
         line_program: &'a LineProgram,
         start: PdbInternalSectionOffset,
     ) -> Result<CodePart, AllocError>
-        ghost records: { Records }
+        ghost records: { ModuleRecords }
         requires is_cache { IsCodeCache records self.old }
         requires line_program { HasProgram records module_index line_program.now }
-        ensures blamed { IfOk result (λ part. part ≡ blame_behind module_index start (Ok line_program.now)) }
+        ensures answer { IfOk result (λ part. part ≡ blame_after_info module_index start (Ok line_program.now)) }
         ensures is_cache { IsCodeCache records self.new }
     {
         match self.row(module_index, line_program, start, 0) {
@@ -139,10 +138,10 @@ impl<'a> CodeCache<'a> {
         module_index: usize,
         module_info: &'a ModuleInfo,
     ) -> Result<&'a LineProgram>
-        ghost records: { Records }
+        ghost records: { ModuleRecords }
         requires is_cache { IsCodeCache records self.old }
         requires module_info { records module_index ≡ Some module_info.now }
-        ensures known { Gives (λ p. p.now) result
+        ensures answer { Gives (λ p. p.now) result
             (and_then (extended_info module_info.now) (λ known. Ok known.line_program)) }
         ensures is_cache { IsCodeCache records self.new }
     {
@@ -158,10 +157,10 @@ impl<'a> CodeCache<'a> {
         start: PdbInternalSectionOffset,
         offset: u32,
     ) -> Result<Option<LineInfo>>
-        ghost records: { Records }
+        ghost records: { ModuleRecords }
         requires is_cache { IsCodeCache records self.old }
         requires line_program { HasProgram records module_index line_program.now }
-        ensures row { Gives (λ row. row) result (function_row line_program.now start offset) }
+        ensures answer { Gives (λ row. row) result (function_row line_program.now start offset) }
         ensures is_cache { IsCodeCache records self.new }
     {
         self.lines.row(module_index, line_program, start, offset)
@@ -175,10 +174,10 @@ impl<'a> CodeCache<'a> {
         function: FoundFunction<'_>,
         offset: u32,
     ) -> Result<Vec<InlineRange>>
-        ghost records: { Records }
+        ghost records: { ModuleRecords }
         requires is_cache { IsCodeCache records self.old }
         requires module_info { records (function_module (found_function function)) ≡ Some module_info.now }
-        ensures stack { Gives (λ v. v.items) result
+        ensures answer { Gives (λ v. v.items) result
             (function_stack module_info.now (found_function function.entry) offset) }
         ensures is_cache { IsCodeCache records self.new }
     {

@@ -5,7 +5,7 @@ ghost use Rattle.pdb_types.specs.Outcomes.{Gives, and_then};
 ghost use Rattle.pdb_types.specs.Resolution.{streamed};
 ghost use Rattle.pdb_inline.specs.InlineRanges.{procedure_inline_ranges};
 ghost use Rattle.pdb_frames.specs.ExtendedInfo.{extended_info};
-ghost use Rattle.pdb_frames.specs.CodeCaches.{Records, IsExtendedInfoCache, procedure_ranges};
+ghost use Rattle.pdb_frames.specs.CodeCaches.{ModuleRecords, IsExtendedInfoCache, procedure_ranges};
 
 use crate::extended_info::{ExtendedModuleInfo, compute_extended_module_info};
 use crate::inline_ranges::compute_procedure_inline_ranges;
@@ -26,7 +26,7 @@ pub struct ExtendedInfos<'a> {
 impl<'a> ExtendedInfos<'a> {
     // Nothing yet. It takes no memory.
     pub fn new(alloc: Global) -> Self
-        ensures { (records : Records) → IsExtendedInfoCache records result.cached }
+        ensures { (records : ModuleRecords) → IsExtendedInfoCache records result.cached }
     {
         ExtendedInfos {
             alloc,
@@ -34,21 +34,17 @@ impl<'a> ExtendedInfos<'a> {
         }
     }
 
-    // The line program of the module at a module index, once all is known of its code that can be.
-    //
-    // # Errors
-    //
-    // [`Error::PdbError`] for a line program that could not be read, and then for the fault of the list of
-    // inlinees.
+    // The line program of the module at a module index, once all is known of its code that can be. Refused for a
+    // line program that could not be read, and then for the fault of the list of inlinees.
     pub fn line_program(
         &mut self,
         module_index: usize,
         module_info: &'a ModuleInfo,
     ) -> Result<&'a LineProgram>
-        ghost records: { Records }
+        ghost records: { ModuleRecords }
         requires is_cache { IsExtendedInfoCache records self.old.cached }
         requires module_info { records module_index ≡ Some module_info.now }
-        ensures known { Gives (λ p. p.now) result
+        ensures answer { Gives (λ p. p.now) result
             (and_then (extended_info module_info.now) (λ known. Ok known.line_program)) }
         ensures is_cache { IsExtendedInfoCache records self.new.cached }
     {
@@ -63,18 +59,15 @@ impl<'a> ExtendedInfos<'a> {
         }
     }
 
-    // The ranges of a procedure's code that came from inlined bodies, by depth and start.
-    //
-    // # Errors
-    //
-    // As of [`ExtendedInfos::line_program`], and then as of [`compute_procedure_inline_ranges`].
+    // The ranges of a procedure's code that came from inlined bodies, by depth and start. Refused as the line program
+    // is, and then for the fault of the module's symbols.
     pub fn inline_ranges(
         &self,
         module_index: usize,
         module_info: &ModuleInfo,
         procedure: &ProcedureSymbolFunction<'_>,
     ) -> Result<Vec<InlineRange>>
-        ghost records: { Records }
+        ghost records: { ModuleRecords }
         requires is_cache { IsExtendedInfoCache records self.now.cached }
         requires module_info { records module_index ≡ Some module_info.now }
         ensures { Gives (λ v. v.items) result (procedure_ranges module_info.now

@@ -86,7 +86,7 @@ impl Drop for FileNames<'_> {
 }
 
 impl<'a> FileNames<'a> {
-    /// A table of all texts of the records, where there is a string table. The error is that memory ran out.
+    /// A table of all texts of the records, where there is a string table. Answers `AllocError` where memory runs out.
     pub fn new(alloc: Global, strings: Option<&'a StringTable>) -> Result<Self, AllocError>
         ensures { IfOk result (λ names. names ≡ option_copied strings.entry) }
     {
@@ -107,8 +107,8 @@ impl<'a> FileNames<'a> {
     }
 
     /// The name of a file of a module. A name in UTF-8 is lent by the records. It is absent where there is no
-    /// string table, where the module has no such file, or where the table has no such string. The error is that
-    /// memory ran out.
+    /// string table, where the module has no such file, or where the table has no such string. Answers `AllocError`
+    /// where memory runs out.
     pub fn name(
         &self,
         line_program: &LineProgram,

@@ -2,7 +2,7 @@
 
 ghost use Rattle.pdb_types.specs.Outcomes.{Gives};
 ghost use Rattle.pdb_frames.specs.Lines.{function_row};
-ghost use Rattle.pdb_frames.specs.CodeCaches.{Records, HasProgram, IsEntryCache, IsLineCache};
+ghost use Rattle.pdb_frames.specs.CodeCaches.{ModuleRecords, HasProgram, IsEntryCache, IsLineCache};
 
 use crate::code_keys::{FunctionKey, function_key};
 use crate::function_rows::FunctionRows;
@@ -24,8 +24,8 @@ pub struct FunctionLines<'a> {
 impl<'a> FunctionLines<'a> {
     // Nothing yet. It takes no memory.
     pub fn new(alloc: Global) -> Self
-        ensures entries { (records : Records) → IsEntryCache records result.entries.cached }
-        ensures is_cache { (records : Records) → IsLineCache records result.cached }
+        ensures entries { (records : ModuleRecords) → IsEntryCache records result.entries.cached }
+        ensures is_cache { (records : ModuleRecords) → IsLineCache records result.cached }
     {
         FunctionLines {
             alloc,
@@ -35,11 +35,7 @@ impl<'a> FunctionLines<'a> {
     }
 
     // The line row over an offset in the function that starts at a section offset, by the line program of the
-    // module at a module index.
-    //
-    // # Errors
-    //
-    // [`Error::PdbError`] for the fault of the function's rows.
+    // module at a module index. Refused for the fault of the function's rows.
     pub fn row(
         &mut self,
         module_index: usize,
@@ -47,11 +43,11 @@ impl<'a> FunctionLines<'a> {
         start: PdbInternalSectionOffset,
         offset: u32,
     ) -> Result<Option<LineInfo>>
-        ghost records: { Records }
+        ghost records: { ModuleRecords }
         requires entries { IsEntryCache records self.old.entries.cached }
         requires is_cache { IsLineCache records self.old.cached }
         requires line_program { HasProgram records module_index line_program.now }
-        ensures row { Gives (λ row. row) result (function_row line_program.now start offset) }
+        ensures answer { Gives (λ row. row) result (function_row line_program.now start offset) }
         ensures entries { IsEntryCache records self.new.entries.cached }
         ensures is_cache { IsLineCache records self.new.cached }
     {

@@ -19,7 +19,7 @@ use std::marker::Model;
 
 // Puts the rows in order of their offsets. Rows of one offset stay in the order that they had.
 fn sort_by_offset(rows: &mut Vec<LineInfo>) -> Result<(), AllocError>
-    ensures ok { OnOk result (rows.new.items ≡ in_order row_before rows.old.items) }
+    ensures state { OnOk result (rows.new.items ≡ in_order row_before rows.old.items) }
 {
     rows.sort_by_key(|row| row.offset)
 }
@@ -55,7 +55,7 @@ fn first_of_each_offset(alloc: Global, rows: &[LineInfo]) -> Result<Vec<LineInfo
 // looked at counts.
 fn position_above(rows: &[LineInfo], offset: u32, probes: &mut Probes) -> usize
     requires { OffsetsAscend rows.now }
-    ensures position { result ≡ position_or_len (λ row. nat_lt offset row.offset) rows.now }
+    ensures answer { result ≡ position_or_len (λ row. nat_lt offset row.offset) rows.now }
     ensures within { result ≤ length rows.now }
     ensures few { probes.new ≤ probes.old + digits (length rows.now) }
 {
@@ -121,7 +121,7 @@ impl FunctionRows {
 
     // The last row at or below an offset. Each row that is looked at counts.
     fn search(&self, offset: u32, probes: &mut Probes) -> Option<LineInfo>
-        ensures over { result ≡ row_over self.now.items offset }
+        ensures answer { result ≡ row_over self.now.items offset }
         ensures few { probes.new ≤ probes.old + digits (length self.now.items) }
     {
         let above = position_above(&self.rows, offset, probes);
@@ -131,11 +131,8 @@ impl FunctionRows {
         Some(self.rows[above - 1])
     }
 
-    // The row over an offset: the last at or below it. It is found by a binary search.
-    //
-    // # Errors
-    //
-    // [`Error::PdbError`] for the fault of the rows.
+    // The row over an offset: the last at or below it. It is found by a binary search. Refused for the fault of the
+    // rows.
     pub(crate) fn row(&self, offset: u32) -> Result<Option<LineInfo>>
         ensures { result ≡ row_in self.now offset }
     {

@@ -1,6 +1,6 @@
 //! What the frames of a function are made of.
 //!
-//! The records of a module show from which line of which file each piece of its code comes, and which bodies
+//! The records of a module show from which line of which file its code comes, and which bodies
 //! were inlined there. Here are the rows over an offset, the names of files, where code comes from, and the
 //! frames themselves.
 #![tactic(auto)]

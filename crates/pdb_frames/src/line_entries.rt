@@ -7,7 +7,7 @@ ghost use Rattle.pdb_records.specs.Addresses.{is_same_section_offset};
 ghost use Rattle.pdb_records.specs.Lines.{lines_at};
 ghost use Rattle.pdb_records.specs.declared.addresses.PdbInternalSectionOffset.{PdbInternalSectionOffset};
 ghost use Rattle.pdb_functions.specs.Starts.{section_offset_cmp};
-ghost use Rattle.pdb_frames.specs.CodeCaches.{Records, HasProgram, IsEntryCache};
+ghost use Rattle.pdb_frames.specs.CodeCaches.{ModuleRecords, HasProgram, IsEntryCache};
 
 use pdb_records::{LineInfo, LineProgram, PdbInternalSectionOffset, Reading};
 use std::alloc::{AllocError, Global};
@@ -96,7 +96,7 @@ pub struct ProgramEntries<'a> {
 impl<'a> ProgramEntries<'a> {
     // Nothing yet. It takes no memory.
     pub(crate) fn new(alloc: Global) -> Self
-        ensures { (records : Records) → IsEntryCache records result.cached }
+        ensures { (records : ModuleRecords) → IsEntryCache records result.cached }
     {
         ProgramEntries {
             alloc,
@@ -111,10 +111,10 @@ impl<'a> ProgramEntries<'a> {
         line_program: &'a LineProgram,
         section_offset: PdbInternalSectionOffset,
     ) -> Result<Option<&'a Reading<LineInfo>>, AllocError>
-        ghost records: { Records }
+        ghost records: { ModuleRecords }
         requires is_cache { IsEntryCache records self.old.cached }
         requires line_program { HasProgram records module_index line_program.now }
-        ensures rows { IfOk result (λ rows. option_copied rows ≡ lines_at section_offset line_program.now.entries) }
+        ensures answer { IfOk result (λ rows. option_copied rows ≡ lines_at section_offset line_program.now.entries) }
         ensures is_cache { IsEntryCache records self.new.cached }
     {
         if let Some(entries) = self.cached.get(&module_index) {

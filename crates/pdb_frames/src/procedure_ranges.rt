@@ -2,7 +2,7 @@
 
 ghost use Rattle.std.specs.Prelude.{◌≡◌, Some};
 ghost use Rattle.pdb_types.specs.Outcomes.{Gives};
-ghost use Rattle.pdb_frames.specs.CodeCaches.{Records, IsExtendedInfoCache, IsRangeCache, procedure_stack};
+ghost use Rattle.pdb_frames.specs.CodeCaches.{ModuleRecords, IsExtendedInfoCache, IsRangeCache, procedure_stack};
 
 use crate::code_keys::{ProcedureKey, procedure_key};
 use crate::extended_infos::ExtendedInfos;
@@ -24,7 +24,7 @@ pub struct ProcedureRanges {
 impl ProcedureRanges {
     // Nothing yet. It takes no memory.
     pub fn new(alloc: Global) -> Self
-        ensures { (records : Records) → IsRangeCache records result.cached }
+        ensures { (records : ModuleRecords) → IsRangeCache records result.cached }
     {
         ProcedureRanges {
             alloc,
@@ -33,11 +33,7 @@ impl ProcedureRanges {
     }
 
     // The inlined bodies over an offset of a procedure, the outermost first, by the records of the module
-    // at a module index.
-    //
-    // # Errors
-    //
-    // As of [`ExtendedInfos::inline_ranges`].
+    // at a module index. Refused as the procedure's inline ranges are.
     pub fn stack(
         &mut self,
         infos: &ExtendedInfos<'_>,
@@ -46,11 +42,11 @@ impl ProcedureRanges {
         procedure: &ProcedureSymbolFunction<'_>,
         offset: u32,
     ) -> Result<Vec<InlineRange>>
-        ghost records: { Records }
+        ghost records: { ModuleRecords }
         requires infos { IsExtendedInfoCache records infos.now.cached }
         requires is_cache { IsRangeCache records self.old.cached }
         requires module_info { records module_index ≡ Some module_info.now }
-        ensures stack { Gives (λ v. v.items) result (procedure_stack module_info.now
+        ensures answer { Gives (λ v. v.items) result (procedure_stack module_info.now
             procedure.now.symbol_index.0 procedure.now.end_symbol_index.0 offset) }
         ensures is_cache { IsRangeCache records self.new.cached }
     {

@@ -16,7 +16,7 @@ ghost use Rattle.pdb_function_info.specs.Frames.{failed_by_ids, bodies_over, fai
 ghost use Rattle.pdb_function_info.specs.Function.{sum_in_32_bits};
 ghost use Rattle.pdb_function_info.specs.Names.{id_name, failed_by_id};
 ghost use Rattle.pdb_frames.specs.CodeCache.{IsCodeCache};
-ghost use Rattle.pdb_frames.specs.CodeCaches.{Records};
+ghost use Rattle.pdb_frames.specs.CodeCaches.{ModuleRecords};
 ghost use Rattle.pdb_frames.specs.Origins.{origin_view, function_module, function_start};
 
 use crate::function_names::FunctionNames;
@@ -165,7 +165,7 @@ fn frames_of_function<'a, P: ModuleProvider>(
     function: FoundFunction<'_>,
     offset: u32,
 ) -> Result<Vec<Frame<'a>>>
-    ghost records: { Records }
+    ghost records: { ModuleRecords }
     requires is_cache { IsCodeCache records code.old }
     requires module_info { IfSome module_info
         (λ info. records (function_module (found_function function)) ≡ Some info.now) }
@@ -254,7 +254,7 @@ pub fn frames_info<'a, P: ModuleProvider>(
     function: FoundFunction<'a>,
     offset: u32,
 ) -> Result<Option<FunctionFrames<'a>>>
-    ghost records: { Records }
+    ghost records: { ModuleRecords }
     requires named { GoesBySymbol (P.info names.old.provider) names.old.type_inputs.modules (found_function function) }
     requires is_cache { IsCodeCache records code.old }
     requires module_info { IfSome module_info

@@ -1,4 +1,4 @@
--- Runs of contributions: their order, and that they are apart.
+-- The order of contributions, and intervals that are apart.
 use Rattle.std.proofs.Common.{◌≡◌, List, [], ◌∷◌, Option, Some, None, refl, inl, inr, arith}
 use Rattle.std.specs.List.{AllByRecursion}
 use Rattle.std.specs.Cmp.{IsTotalOrder, IsStrictWeakOrder}
@@ -21,7 +21,7 @@ contribution_cmp_total =
 pub contributions_rank : IsStrictWeakOrder contribution_before
 contributions_rank = ranks_by contribution_cmp_total (λ m. m)
 
--- what lies before a run lies before what that lies before
+-- what lies before an interval lies before what that lies before
 pub lies_before_all : (a b : ModuleSectionContribution) (ms : List ModuleSectionContribution) → LiesBefore a b
     → IsFilled b → AllByRecursion (LiesBefore b) ms → AllByRecursion (LiesBefore a) ms
 lies_before_all a b [] first filled others = tt

@@ -10,9 +10,9 @@ pub mod OrderLemmas
 pub mod IntervalLemmas
 pub mod IntervalByteLemmas
 pub mod MergedLemmas
-pub mod RunLemmas
-pub mod RunLawLemmas
-pub mod ClearRunLemmas
+pub mod ReadingOrderLemmas
+pub mod ReadingOrderLawLemmas
+pub mod ClearLemmas
 pub mod FirstLemmas
 pub mod ProcedureLemmas
 pub mod ModuleInfoLemmas

@@ -14,37 +14,37 @@ nothing_at : {X : Type 0} (module_index : ℕ) (x : X) → slice_get [] module_i
 nothing_at zero x got = let no : ⊥ = cc in no
 nothing_at (suc module_index) x got = let no : ⊥ = cc in no
 
--- what stands in a list with one more empty place stood there before
-stood_before : {X : Type 0} (section_offsets : List (Option X)) (module_index : ℕ) (x : X)
-    → slice_get (section_offsets ++ None ∷ []) module_index ≡ Some (Some x)
-    → slice_get section_offsets module_index ≡ Some (Some x)
+-- what stands in a list with one more empty slot stood there before
+stood_before : {X : Type 0} (slots : List (Option X)) (module_index : ℕ) (x : X)
+    → slice_get (slots ++ None ∷ []) module_index ≡ Some (Some x)
+    → slice_get slots module_index ≡ Some (Some x)
 stood_before [] zero x got = let no : ⊥ = cc in absurd no
 stood_before [] (suc module_index) x got = absurd (nothing_at module_index (Some x) got)
-stood_before (section_offset ∷ section_offsets) zero x got = got
-stood_before (section_offset ∷ section_offsets) (suc module_index) x got =
-    stood_before section_offsets module_index x got
+stood_before (slot ∷ slots) zero x got = got
+stood_before (slot ∷ slots) (suc module_index) x got =
+    stood_before slots module_index x got
 
--- what is put at a place stands there
-stands_put : {X : Type 0} (section_offsets : List (Option X)) (module_index : ℕ) (x : X)
-    → module_index < length section_offsets
-    → slice_get (slice_set section_offsets module_index (Some x)) module_index ≡ Some (Some x)
+-- what is put into a slot stands there
+stands_put : {X : Type 0} (slots : List (Option X)) (module_index : ℕ) (x : X)
+    → module_index < length slots
+    → slice_get (slice_set slots module_index (Some x)) module_index ≡ Some (Some x)
 stands_put [] module_index x within = absurd (omega arith)
-stands_put (section_offset ∷ section_offsets) zero x within = refl
-stands_put (section_offset ∷ section_offsets) (suc module_index) x within =
-    stands_put section_offsets module_index x (omega arith)
+stands_put (slot ∷ slots) zero x within = refl
+stands_put (slot ∷ slots) (suc module_index) x within =
+    stands_put slots module_index x (omega arith)
 
--- what holds of all that stood somewhere and of what is put at a place holds of all that stands somewhere then
-holds_put : {X : Type 0} (holds : ℕ → X → Type 0) (section_offsets : List (Option X)) (module_index : ℕ) (x : X)
-    → holds module_index x → ((other : ℕ) (y : X) → slice_get section_offsets other ≡ Some (Some y) → holds other y)
-    → (other : ℕ) (y : X) → slice_get (slice_set section_offsets module_index (Some x)) other ≡ Some (Some y)
+-- what holds of all that stood somewhere and of what is put into a slot holds of all that stands somewhere then
+holds_put : {X : Type 0} (holds : ℕ → X → Type 0) (slots : List (Option X)) (module_index : ℕ) (x : X)
+    → holds module_index x → ((other : ℕ) (y : X) → slice_get slots other ≡ Some (Some y) → holds other y)
+    → (other : ℕ) (y : X) → slice_get (slice_set slots module_index (Some x)) other ≡ Some (Some y)
     → holds other y
 holds_put holds [] module_index x here all other y got = all other y got
-holds_put holds (section_offset ∷ section_offsets) zero x here all zero y got = let same : x ≡ y = cc in
+holds_put holds (slot ∷ slots) zero x here all zero y got = let same : x ≡ y = cc in
     subst (λ z. holds zero z) same here
-holds_put holds (section_offset ∷ section_offsets) zero x here all (suc other) y got = all (suc other) y got
-holds_put holds (section_offset ∷ section_offsets) (suc module_index) x here all zero y got = all zero y got
-holds_put holds (section_offset ∷ section_offsets) (suc module_index) x here all (suc other) y got =
-    holds_put (λ p z. holds (suc p) z) section_offsets module_index x here (λ p z at. all (suc p) z at) other y got
+holds_put holds (slot ∷ slots) zero x here all (suc other) y got = all (suc other) y got
+holds_put holds (slot ∷ slots) (suc module_index) x here all zero y got = all zero y got
+holds_put holds (slot ∷ slots) (suc module_index) x here all (suc other) y got =
+    holds_put (λ p z. holds (suc p) z) slots module_index x here (λ p z at. all (suc p) z at) other y got
 
 -- where nothing is cached, that is a cache of any modules
 pub infos_new : (infos : ProviderInfos) (cached : List (Option NamedInfo)) → cached ≡ []
@@ -53,7 +53,7 @@ unfolding IsModuleInfoCache
 infos_new infos cached empty =
     λ module_index entry got modules here. absurd (nothing_at module_index (Some entry) (rw empty at got))
 
--- with one more empty place, it stays a cache of the same modules
+-- with one more empty slot, it stays a cache of the same modules
 pub infos_nowhere : (infos : ProviderInfos) (cached : List (Option NamedInfo)) → IsModuleInfoCache infos cached
     → IsModuleInfoCache infos (cached ++ None ∷ [])
 unfolding IsModuleInfoCache
@@ -82,7 +82,7 @@ infos_put infos modules module_index entry cached there read is_cache =
     cached module_index entry (λ others here. read ∙ readable_same infos module_index modules others
     (there ∙ sym here)) is_cache
 
--- an entry that is put at a place is cached there, with its name
+-- an entry that is put into a slot is cached there, with its name
 pub cached_put : (module_index : ℕ) (entry : NamedInfo) (cached : List (Option NamedInfo))
     → module_index < length cached → IsCachedInfo (slice_set cached module_index (Some entry)) module_index entry.name
 cached_put module_index entry cached within = rw (stands_put cached module_index entry within) refl

@@ -17,21 +17,23 @@ use Rattle.pdb_ranges.proofs.LastLemmas.{pick-last}
 use Rattle.pdb_functions.proofs.PositionLemmas.{is_before_test}
 
 -- what is there, where it passes the test
-abbrev pub where_it : {T : Type 0} → (T → Bool) → Option T → Option T
-where_it q None = None
-where_it q (Some x) = if q x then Some x else None
+abbrev pub where_passes : {T : Type 0} → (T → Bool) → Option T → Option T
+where_passes q None = None
+where_passes q (Some x) = if q x then Some x else None
 
--- it is there, and passes
-pub passes_it : {T : Type 0} (q : T → Bool) (x : T) (o : Option T) → Some x ≡ o → q x ≡ true → Some x ≡ where_it q o
-passes_it q x o is passes = rw (← is, passes) refl
+-- what is there and passes is kept
+pub passing_is_kept : {T : Type 0} (q : T → Bool) (x : T) (o : Option T) → Some x ≡ o → q x ≡ true
+    → Some x ≡ where_passes q o
+passing_is_kept q x o is passes = rw (← is, passes) refl
 
--- it is there, and fails
-pub fails_it : {T : Type 0} (q : T → Bool) (x : T) (o : Option T) → Some x ≡ o → q x ≡ false → None ≡ where_it q o
-fails_it q x o is fails = rw (← is, fails) refl
+-- what is there and fails leaves nothing
+pub failing_is_none : {T : Type 0} (q : T → Bool) (x : T) (o : Option T) → Some x ≡ o → q x ≡ false
+    → None ≡ where_passes q o
+failing_is_none q x o is fails = rw (← is, fails) refl
 
--- it isn't there
-pub none_it : {T : Type 0} (q : T → Bool) (o : Option T) → None ≡ o → None ≡ where_it q o
-none_it q o is = rw (← is) refl
+-- nothing leaves nothing
+pub none_is_none : {T : Type 0} (q : T → Bool) (o : Option T) → None ≡ o → None ≡ where_passes q o
+none_is_none q o is = rw (← is) refl
 
 -- of two numbers that are not one the test fails
 pub not_eqb : (m n : ℕ) → (m ≡ n → ⊥) → (m == n) ≡ false
@@ -55,13 +57,13 @@ module _ {T : Type 0} (start : T → PdbInternalSectionOffset) (section_offset :
 
   clear : (before : Option T) (x : T) (xs : List T) → IsAhead start before (x ∷ xs)
       → is_before section_offset (start x) ≡ false
-      → q (start x) ≡ false → where_it (λ y. q (start y)) before ≡ None
+      → q (start x) ≡ false → where_passes (λ y. q (start y)) before ≡ None
   clear None x xs ahead up_to fails = refl
   clear (Some y) x xs ahead up_to fails = rw (only (start y) (start x) ahead.0 up_to fails) refl
 
   pub last_up_to_passes : (before : Option T) (xs : List T) → IsAhead start before xs → StartsAscend start xs
-      → last_over (λ x. over (start x)) (where_it (λ x. q (start x)) before) xs
-      ≡ where_it (λ x. q (start x)) (last_over (λ x. not (is_before section_offset (start x))) before xs)
+      → last_over (λ x. over (start x)) (where_passes (λ x. q (start x)) before) xs
+      ≡ where_passes (λ x. q (start x)) (last_over (λ x. not (is_before section_offset (start x))) before xs)
   last_up_to_passes before [] ahead up = refl
   last_up_to_passes before (x ∷ xs) ahead up =
       by_test (is_before section_offset (start x)) refl
@@ -69,21 +71,22 @@ module _ {T : Type 0} (start : T → PdbInternalSectionOffset) (section_offset :
       (last_up_to_passes (Some x) xs up.0 up.1)
     where
       here : is_before section_offset (start x) ≡ false → (t : Bool) → q (start x) ≡ t
-          → cond (over (start x)) (Some x) (where_it (λ y. q (start y)) before) ≡ where_it (λ y. q (start y)) (Some x)
+          → cond (over (start x)) (Some x) (where_passes (λ y. q (start y)) before)
+          ≡ where_passes (λ y. q (start y)) (Some x)
       here up_to true is = rw (agree (start x) up_to, is) refl
       here up_to false is = rw (agree (start x) up_to, is) (clear before x xs ahead up_to is)
 
       by_test : (t : Bool) → is_before section_offset (start x) ≡ t
-          → last_over (λ y. over (start y)) (where_it (λ y. q (start y)) before) xs
-          ≡ where_it (λ y. q (start y)) (last_over (λ y. not (is_before section_offset (start y))) before xs)
-          → last_over (λ y. over (start y)) (where_it (λ y. q (start y)) (Some x)) xs
-          ≡ where_it (λ y. q (start y)) (last_over (λ y. not (is_before section_offset (start y))) (Some x) xs)
-          → last_over (λ y. over (start y)) (where_it (λ y. q (start y)) before) (x ∷ xs)
-          ≡ where_it (λ y. q (start y)) (last_over (λ y. not (is_before section_offset (start y))) before (x ∷ xs))
+          → last_over (λ y. over (start y)) (where_passes (λ y. q (start y)) before) xs
+          ≡ where_passes (λ y. q (start y)) (last_over (λ y. not (is_before section_offset (start y))) before xs)
+          → last_over (λ y. over (start y)) (where_passes (λ y. q (start y)) (Some x)) xs
+          ≡ where_passes (λ y. q (start y)) (last_over (λ y. not (is_before section_offset (start y))) (Some x) xs)
+          → last_over (λ y. over (start y)) (where_passes (λ y. q (start y)) before) (x ∷ xs)
+          ≡ where_passes (λ y. q (start y)) (last_over (λ y. not (is_before section_offset (start y))) before (x ∷ xs))
       by_test true is stays next = rw (behind (start x) is, is) stays
       by_test false is stays next =
           ap (λ o. last_over (λ y. over (start y)) o xs) (here is (q (start x)) refl) ∙ next
-          ∙ ap (λ t. where_it (λ y. q (start y))
+          ∙ ap (λ t. where_passes (λ y. q (start y))
           (last_over (λ y. not (is_before section_offset (start y))) (cond (not t) (Some x) before) xs)) (sym is)
 
 -- where no more pass a test, what was there stays
@@ -129,7 +132,7 @@ first_is_last section_offset (f ∷ fs) up = by_test (is_same_section_offset f.s
 -- the function that starts at a section offset is the last one up to it, where that starts there
 pub at_from_last : (section_offset : PdbInternalSectionOffset) (fs : List GlobalFunction)
     → StartsAscend (λ f. f.start) fs
-    → where_it (λ f. is_same_section_offset f.start section_offset)
+    → where_passes (λ f. is_same_section_offset f.start section_offset)
     (last_over (λ f. not (is_before section_offset f.start)) None fs) ≡ global_at section_offset fs
 at_from_last section_offset fs up =
     sym (last_up_to_passes (λ f. f.start) section_offset (λ s. is_same_section_offset s section_offset)
@@ -149,7 +152,7 @@ at_from_last section_offset fs up =
 -- the function over a section offset is the last one up to it, where that starts in the section
 pub over_from_last : (section_offset : PdbInternalSectionOffset) (fs : List GlobalFunction)
     → StartsAscend (λ f. f.start) fs
-    → where_it (λ f. f.start.section == section_offset.section)
+    → where_passes (λ f. f.start.section == section_offset.section)
     (last_over (λ f. not (is_before section_offset f.start)) None fs)
     ≡ pick (global_function_covers section_offset) (λ f. f.start.offset) fs
 over_from_last section_offset fs up =
@@ -181,36 +184,36 @@ over_from_last section_offset fs up =
 -- the next function of the section is the first one behind the section offset, where that starts in the section
 pub next_from_first : (section_offset : PdbInternalSectionOffset) (fs : List GlobalFunction)
     → StartsAscend (λ f. f.start) fs
-    → where_it (λ f. f.start.section == section_offset.section) (find (λ f. is_before section_offset f.start) fs)
+    → where_passes (λ f. f.start.section == section_offset.section) (find (λ f. is_before section_offset f.start) fs)
     ≡ next_global section_offset fs
 next_from_first section_offset [] up = refl
 next_from_first section_offset (f ∷ fs) up =
     by_test (is_before section_offset f.start) refl (f.start.section == section_offset.section) refl
     (next_from_first section_offset fs up.1)
   where
-    after : PdbInternalSectionOffset → Bool
-    after s = (s.section == section_offset.section) && nat_lt section_offset.offset s.offset
+    lies_behind : PdbInternalSectionOffset → Bool
+    lies_behind s = (s.section == section_offset.section) && nat_lt section_offset.offset s.offset
 
     passes : is_before section_offset f.start ≡ true → (f.start.section == section_offset.section) ≡ true
-        → after f.start ≡ true
+        → lies_behind f.start ≡ true
     passes before same = let h = rw (is_before_test section_offset f.start) at before in grind (arith, nat_tests)
 
-    fails : is_before section_offset f.start ≡ false → after f.start ≡ false
+    fails : is_before section_offset f.start ≡ false → lies_behind f.start ≡ false
     fails up_to = let h = rw (is_before_test section_offset f.start) at up_to in grind (arith, nat_tests)
 
     elsewhere : is_before section_offset f.start ≡ true → (f.start.section == section_offset.section) ≡ false
         → (r : PdbInternalSectionOffset)
-        → StandsBefore f.start r → after r ≡ false
+        → StandsBefore f.start r → lies_behind r ≡ false
     elsewhere before other r (inl p) = let h = rw (is_before_test section_offset f.start) at before in
         grind (arith, nat_tests)
     elsewhere before other r (inr p) = let h = rw (is_before_test section_offset f.start) at before in
         grind (arith, nat_tests)
 
-    not_here : (f.start.section == section_offset.section) ≡ false → after f.start ≡ false
+    not_here : (f.start.section == section_offset.section) ≡ false → lies_behind f.start ≡ false
     not_here other = grind (arith, nat_tests)
 
     found : Bool → Option GlobalFunction
-    found t = where_it (λ g. g.start.section == section_offset.section)
+    found t = where_passes (λ g. g.start.section == section_offset.section)
         (cond t (Some f) (find (λ g. is_before section_offset g.start) fs))
 
     next : Bool → Option GlobalFunction
@@ -218,14 +221,15 @@ next_from_first section_offset (f ∷ fs) up =
 
     none : is_before section_offset f.start ≡ true → (f.start.section == section_offset.section) ≡ false
         → next_global section_offset fs ≡ None
-    none before other = find_none (λ g. after g.start) fs
-        (none_behind (λ g. g.start) after f.start (elsewhere before other) fs up.0)
+    none before other = find_none (λ g. lies_behind g.start) fs
+        (none_behind (λ g. g.start) lies_behind f.start (elsewhere before other) fs up.0)
 
     by_test : (t : Bool) → is_before section_offset f.start ≡ t → (u : Bool)
         → (f.start.section == section_offset.section) ≡ u
-        → where_it (λ g. g.start.section == section_offset.section) (find (λ g. is_before section_offset g.start) fs)
+        → where_passes (λ g. g.start.section == section_offset.section)
+        (find (λ g. is_before section_offset g.start) fs)
         ≡ next_global section_offset fs
-        → found (is_before section_offset f.start) ≡ next (after f.start)
+        → found (is_before section_offset f.start) ≡ next (lies_behind f.start)
     by_test true before true same rest =
         ap found before ∙ ap (λ t. cond t (Some f) None) same ∙ sym (ap next (passes before same))
     by_test true before false other rest =

@@ -31,8 +31,8 @@ all_taken {T = T} before P x (y ∷ ys) all = by_test (before y x) all (λ rest.
 pub all_of_order : {T : Type 0} (before : T → T → Bool) (P : T → Type 0) (xs : List T)
     → AllByRecursion P (in_order before xs) → AllByRecursion P xs
 all_of_order before P [] all = tt
-all_of_order before P (x ∷ xs) all = let parts =
-    all_taken before P x (in_order before xs) all in (parts.0, all_of_order before P xs parts.1)
+all_of_order before P (x ∷ xs) all = let taken =
+    all_taken before P x (in_order before xs) all in (taken.0, all_of_order before P xs taken.1)
 
 -- of two tests it does not matter which comes first
 or_swap : (a b c : Bool) → (a || (b || c)) ≡ (b || (a || c))

@@ -46,11 +46,11 @@ behind_last at last (x ∷ xs) symbol =
       first one rest =
           let ps = procedures_from (at + 1) (last_counted last one) xs in
           let same_last = last_of_all last one ps in
-          let same_section_offset : (at + 1) + length xs ≡ at + length (x ∷ xs) = omega arith in
+          let same_position : (at + 1) + length xs ≡ at + length (x ∷ xs) = omega arith in
           ap (λ (zs : List ModuleProcedure). option_to_list one ++ zs)
           (rest ∙ ap (λ l. ps ++ option_to_list (procedure_at ((at + 1) + length xs) l symbol)) same_last ∙ ap
           (λ k. ps ++ option_to_list (procedure_at k
-          (last_counted last (last_procedure (option_to_list one ++ ps))) symbol)) same_section_offset)
+          (last_counted last (last_procedure (option_to_list one ++ ps))) symbol)) same_position)
           ∙ sym (append_assoc (option_to_list one) ps
           (option_to_list (procedure_at (at + length (x ∷ xs))
           (last_counted last (last_procedure (option_to_list one ++ ps))) symbol)))

@@ -159,30 +159,30 @@ differ_in_order before (x ∷ xs) differ =
 
 -- what holds of all holds of the first of each start
 all_firsts : (start : ModuleProcedure → PdbInternalSectionOffset) (P : ModuleProcedure → Type 0)
-    (section_offset : Option PdbInternalSectionOffset) (xs : List ModuleProcedure) → AllByRecursion P xs
-    → AllByRecursion P (firsts_after start section_offset xs)
-all_firsts start P section_offset [] all = tt
-all_firsts start P section_offset (x ∷ xs) all =
-    by_test (is_at section_offset (start x)) (all_firsts start P section_offset xs all.1)
+    (before : Option PdbInternalSectionOffset) (xs : List ModuleProcedure) → AllByRecursion P xs
+    → AllByRecursion P (firsts_after start before xs)
+all_firsts start P before [] all = tt
+all_firsts start P before (x ∷ xs) all =
+    by_test (is_at before (start x)) (all_firsts start P before xs all.1)
     (all_firsts start P (Some (start x)) xs all.1) where
-      by_test : (t : Bool) → AllByRecursion P (firsts_after start section_offset xs)
+      by_test : (t : Bool) → AllByRecursion P (firsts_after start before xs)
           → AllByRecursion P (firsts_after start (Some (start x)) xs)
-          → AllByRecursion P (cond t (firsts_after start section_offset xs)
+          → AllByRecursion P (cond t (firsts_after start before xs)
           (x ∷ firsts_after start (Some (start x)) xs))
       by_test true same other = same
       by_test false same other = (all.0, other)
 
 -- and the first of each start are of different symbols
 differ_firsts : (start : ModuleProcedure → PdbInternalSectionOffset)
-    (section_offset : Option PdbInternalSectionOffset) (xs : List ModuleProcedure) → SymbolsDiffer xs
-    → SymbolsDiffer (firsts_after start section_offset xs)
-differ_firsts start section_offset [] differ = tt
-differ_firsts start section_offset (x ∷ xs) differ =
-    by_test (is_at section_offset (start x)) (differ_firsts start section_offset xs differ.1)
+    (before : Option PdbInternalSectionOffset) (xs : List ModuleProcedure) → SymbolsDiffer xs
+    → SymbolsDiffer (firsts_after start before xs)
+differ_firsts start before [] differ = tt
+differ_firsts start before (x ∷ xs) differ =
+    by_test (is_at before (start x)) (differ_firsts start before xs differ.1)
     (differ_firsts start (Some (start x)) xs differ.1) where
-      by_test : (t : Bool) → SymbolsDiffer (firsts_after start section_offset xs)
+      by_test : (t : Bool) → SymbolsDiffer (firsts_after start before xs)
           → SymbolsDiffer (firsts_after start (Some (start x)) xs)
-          → SymbolsDiffer (cond t (firsts_after start section_offset xs) (x ∷ firsts_after start (Some (start x)) xs))
+          → SymbolsDiffer (cond t (firsts_after start before xs) (x ∷ firsts_after start (Some (start x)) xs))
       by_test true same other = same
       by_test false same other = (
         all_firsts start (λ q. (x.symbol_index.0 == q.symbol_index.0) ≡ false)

@@ -1,4 +1,4 @@
--- Which module each part of the program came from.
+-- Which module the bytes of the program came from.
 use Rattle.std.specs.Prelude.{◌+◌, ◌^◌, Bool, List, [], ◌∷◌, ◌&&◌, ◌==◌, max, nat_lt, Option}
 use Rattle.std.specs.Prelude.{Some, None, Result, Ok, option_map, map, filter, if◌then◌else◌}
 use Rattle.std.specs.Ordering.{nat_cmp, ordering_then, is_lt}
@@ -99,7 +99,7 @@ overlap_after before [] = None
 overlap_after before (interval ∷ intervals) =
     first_refusal (refused_overlap before interval) (overlap_after (Some interval) intervals)
 
--- which module each part of the program came from, or why that has no answer
+-- which module the bytes of the program came from, or why that has no answer
 abbrev pub merged_contributions : List ImageSectionHeader → DebugInformation
     → Result (List ModuleSectionContribution) Error
 merged_contributions sections debug =

@@ -1,6 +1,6 @@
 pub mod Sections
 pub mod Contributions
-pub mod ContributionRuns
+pub mod ReadingOrder
 pub mod Starts
 pub mod GlobalFunctions
 pub mod Procedures

@@ -62,7 +62,7 @@ impl Model for ContributionTable {
 
 impl ContributionTable {
     /// The table of a list of contributions, in whatever order they stand. Its time grows with n log n for n of them.
-    /// The error is that memory ran out.
+    /// Answers `AllocError` where memory runs out.
     pub fn new(
         alloc: Global,
         contributions: Vec<ModuleSectionContribution>,
@@ -84,7 +84,7 @@ impl ContributionTable {
         section_offset: PdbInternalSectionOffset,
         probes: &mut Probes,
     ) -> Option<ModuleSectionContribution>
-        ensures found { result ≡ find (contribution_covers section_offset) self.now }
+        ensures answer { result ≡ find (contribution_covers section_offset) self.now }
         ensures few { probes.new ≤ probes.old + digits (2 * length self.now) }
     {
         find(&self.last_first, &self.segments, section_offset, probes)

@@ -39,7 +39,7 @@ fn counts(sections: &[ImageSectionHeader], contribution: &SectionContribution) -
 // The bytes that a contribution claims, where their end fits 32 bits.
 fn claim_of(contribution: &SectionContribution) -> Result<ModuleSectionContribution>
     ensures refused { Refuses result (refused_end (claimed contribution.now)) }
-    ensures claim { IfOk result (λ claim. claim ≡ claimed contribution.now) }
+    ensures answer { IfOk result (λ claim. claim ≡ claimed contribution.now) }
 {
     let PdbInternalSectionOffset { section, offset } = contribution.offset;
     let Some(end_offset) = offset.checked_add(contribution.size) else {
@@ -59,7 +59,7 @@ fn claims(
     sections: &[ImageSectionHeader],
     contributions: &[SectionContribution],
 ) -> Result<Vec<ModuleSectionContribution>>
-    ensures claims { IfOk result (λ v. v.items ≡ claims sections.now contributions.now) }
+    ensures answer { IfOk result (λ v. v.items ≡ claims sections.now contributions.now) }
     ensures refused { MatchResult result
         (λ _. refused_ends (claims sections.now contributions.now) ≡ None)
         (λ e. e ≢ OutOfMemory → refused_ends (claims sections.now contributions.now) ≡ Some e) }
@@ -154,12 +154,12 @@ fn starts(
     Ok(starts)
 }
 
-/// Which module each part of the program came from, by section and start; and where the contributions
+/// Which module the bytes of the program came from, by section and start; and where the contributions
 /// that count start, in reading order, before any are joined.
 ///
 /// A contribution of no bytes, or in a section that holds no code, does not count. Those that count are
 /// put in order by section, start, end and module. Neighbours of one module and section are then joined,
-/// gaps included, up to the greater end; so the parts of two modules may take turns in a section.
+/// gaps included, up to the greater end; so the bytes of two modules may take turns in a section.
 ///
 /// # Errors
 ///

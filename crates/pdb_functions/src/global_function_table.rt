@@ -63,7 +63,7 @@ impl<'a> GlobalFunctionTable<'a> {
         section_offset: PdbInternalSectionOffset,
         probes: &mut Probes,
     ) -> Option<GlobalFunction<'a>>
-        ensures found { option_map global_function result
+        ensures answer { option_map global_function result
             ≡ last_over (λ f. not (is_before section_offset f.start)) None self.now }
         ensures ascend { StartsAscend (λ f. f.start) self.now }
         ensures few { probes.new ≤ probes.old + digits (length self.now) }
@@ -81,7 +81,7 @@ impl<'a> GlobalFunctionTable<'a> {
         section_offset: PdbInternalSectionOffset,
         probes: &mut Probes,
     ) -> Option<GlobalFunction<'a>>
-        ensures found { option_map global_function result ≡ find (λ f. is_before section_offset f.start) self.now }
+        ensures answer { option_map global_function result ≡ find (λ f. is_before section_offset f.start) self.now }
         ensures ascend { StartsAscend (λ f. f.start) self.now }
         ensures few { probes.new ≤ probes.old + digits (length self.now) }
     {

@@ -23,7 +23,8 @@ ghost use Rattle.pdb_functions.specs.Procedures.{symbol_procedures, info_procedu
 ghost use Rattle.pdb_functions.specs.Lookup.{global_at};
 ghost use Rattle.pdb_ranges.specs.Pick.{pick, IsPicked};
 ghost use Rattle.pdb_functions.specs.Spans.{procedure_covers};
-ghost use Rattle.pdb_functions.specs.ContributionRuns.{runs_after, merged_by_runs, AreOnly, StartsNeverFall};
+ghost use Rattle.pdb_functions.specs.ReadingOrder.{reading_intervals, merged_in_reading_order, AreOnly};
+ghost use Rattle.pdb_functions.specs.ReadingOrder.{StartsNeverFall};
 ghost use Rattle.pdb_functions.specs.Laws.{AreApart, LiesInOneOf, BeginsWithOneOf, EndsWithOneOf};
 ghost use Rattle.pdb_functions.specs.Laws.{IsApartFrom, NeighboursDiffer, IsOverlap};
 ghost use Rattle.pdb_functions.specs.Laws.{procedure_starting_at, last_procedure};
@@ -87,15 +88,15 @@ pub fn contributions_are_refused_for()
 {}
 
 /// Contributions that can be joined in reading order leave their intervals unchanged: where no module comes back
-/// in a section, and in each of its runs neither starts nor ends fall, joining the runs of neighbours
-/// in reading order gives just the merged ones.
+/// in a section, and in each of its intervals neither starts nor ends fall, joining neighbours in reading
+/// order gives just the merged ones.
 ///
 /// Of a module that comes back nothing is said: contributions 0..0x10 of a module, then one of another
-/// section, then 0x30..0x40 of that module are two runs in reading order, and one merged contribution.
+/// section, then 0x30..0x40 of that module are two intervals in reading order, and one merged contribution.
 pub fn contributions_in_reading_order_stay()
     ensures { (sections : List ImageSectionHeader) (debug : DebugInformation) (table : List ModuleSectionContribution)
-        → merged_by_runs sections debug ≡ Ok table
-        → AreOnly (runs_after None (claims sections debug.section_contributions.items))
+        → merged_in_reading_order sections debug ≡ Ok table
+        → AreOnly (reading_intervals None (claims sections debug.section_contributions.items))
         → StartsNeverFall (claims sections debug.section_contributions.items)
         → merged_contributions sections debug ≡ Ok table }
 {}

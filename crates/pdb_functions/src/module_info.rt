@@ -42,7 +42,7 @@ impl<'a> BasicModuleInfo<'a> {
     /// [`Error::PdbError`] where the list of the module's symbols has a fault: what comes behind it may
     /// change which procedures there are.
     pub fn try_from_module_info(alloc: Global, module_info: &'a ModuleInfo) -> Result<Self>
-        ensures read { IfOk result (λ b. b ≡ module_info.now) }
+        ensures answer { IfOk result (λ b. b ≡ module_info.now) }
         ensures refused { MatchResult result
             (λ _. module_info.now.symbols.fault ≡ None)
             (λ e. e ≢ OutOfMemory

@@ -94,11 +94,11 @@ fn serves(cached: &[Option<NamedInfo<'_>>], module_index: usize, name: &RawStrin
     }
 }
 
-// Makes a place for what is cached at a module index.
+// Makes a slot for what is cached at a module index.
 fn make_slot(cached: &mut Vec<Option<NamedInfo<'_>>>, module_index: usize) -> Result<(), AllocError>
     ensures is_cache { (infos : ProviderInfos) → IsModuleInfoCache infos cached.old.items
         → IsModuleInfoCache infos cached.new.items }
-    ensures section_offset { OnOk result (module_index < length cached.new.items) }
+    ensures slot { OnOk result (module_index < length cached.new.items) }
 {
     while cached.len() <= module_index {
         cached.push(None)?;
@@ -207,15 +207,13 @@ impl<'a, P: ModuleProvider> BasicModuleInfoCache<'a, P> {
     /// `None` where the module index is past the list, where the provider has no records of the module or
     /// answers a fault, or where the list of the module's symbols has one.
     ///
-    /// # Errors
-    ///
-    /// [`AllocError`] alone. The same question may find an answer afterwards.
+    /// Answers `AllocError` where memory runs out; the same question may find an answer afterwards.
     pub fn get_basic_module_info(
         &mut self,
         modules: &[Module],
         module_index: usize,
     ) -> Result<Option<&BasicModuleInfo<'a>>, AllocError>
-        ensures info { IfOk result (λ info.
+        ensures answer { IfOk result (λ info.
             option_copied info ≡ readable_info (P.info self.old.provider) modules.now module_index) }
         ensures procedures { IfOk result (λ info.
             option_map_or info_procedures (option_copied info) []

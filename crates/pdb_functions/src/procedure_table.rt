@@ -86,7 +86,7 @@ impl<'a> ProcedureTable<'a> {
         section_offset: PdbInternalSectionOffset,
         probes: &mut Probes,
     ) -> Option<ProcedureSymbolFunction<'a>>
-        ensures found { option_map module_procedure result
+        ensures answer { option_map module_procedure result
             ≡ pick (procedure_covers section_offset) (λ p. p.offset.offset) self.now }
         ensures few { probes.new ≤ probes.old + digits (2 * length self.now) }
     {

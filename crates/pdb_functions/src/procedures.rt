@@ -145,7 +145,7 @@ pub(crate) fn compute_procedures(
     alloc: Global,
     symbols: &[Symbol],
 ) -> Result<Vec<ProcedureSymbolFunction<'_>>, AllocError>
-    ensures counted { IfOk result (λ v. map module_procedure v.items ≡ symbol_procedures symbols.now) }
+    ensures answer { IfOk result (λ v. map module_procedure v.items ≡ symbol_procedures symbols.now) }
     ensures ascend { IfOk result (λ v. StartsAscend (λ p. p.offset) v.items) }
 {
     let procedures = procedures_in_reading_order(alloc, symbols)?;

@@ -77,8 +77,8 @@ impl<'a> Model for SectionTable<'a> {
 }
 
 impl<'a> SectionTable<'a> {
-    /// The table of a program's sections. Its time grows with n log n for n of them. The error is that
-    /// memory ran out.
+    /// The table of a program's sections. Its time grows with n log n for n of them. Answers `AllocError` where
+    /// memory runs out.
     #[tactic(auto, using(crate::proofs::SectionLemmas::count, crate::proofs::SectionLemmas::section_of_painted))]
     pub fn new(alloc: Global, address_map: &'a AddressMap) -> Result<Self, AllocError>
         ensures { IfOk result (λ table. table ≡ address_map.now) }
@@ -95,7 +95,7 @@ impl<'a> SectionTable<'a> {
     // The section offset of an address in the first section that holds it. Each entry of the table that is looked
     // at counts.
     fn search(&self, address: Rva, probes: &mut Probes) -> Option<PdbInternalSectionOffset>
-        ensures found { result ≡ internal_offset self.now address }
+        ensures answer { result ≡ internal_offset self.now address }
         ensures few { probes.new ≤ probes.old + digits (2 * length self.now) }
     {
         let section = self.segments.find(u64::from(address.0), probes)?;

@@ -17,7 +17,7 @@ const ROOM: u64 = 0x4_0000_0000;
 
 // The number of a section offset.
 pub(crate) fn key(section_offset: PdbInternalSectionOffset) -> u64
-    ensures key { result ≡ key section_offset }
+    ensures answer { result ≡ key section_offset }
     ensures offset { section_offset.offset < 2 ^ 32 }
     ensures room { result + 2 ^ 33 < 2 ^ 64 }
 {
@@ -46,10 +46,10 @@ pub(crate) fn segments_of<T: Span>(
     alloc: Global,
     spans: &[T],
 ) -> Result<Segments<usize>, AllocError>
-    ensures values { IfOk result (λ table. (section_offset : PdbInternalSectionOffset) → section_offset.offset < 2 ^ 32
+    ensures answer { IfOk result (λ table. (section_offset : PdbInternalSectionOffset) → section_offset.offset < 2 ^ 32
         → option_and_then (slice_get spans.now) (value_at table (key section_offset))
         ≡ last_over (T.is_over section_offset) None spans.now) }
-    ensures at_most_two_each { IfOk result (λ table. length table ≤ 2 * length spans.now) }
+    ensures few { IfOk result (λ table. length table ≤ 2 * length spans.now) }
 {
     let mut segments = Vec::new(alloc);
     for (position, span) in spans.iter().enumerate() {
@@ -71,7 +71,7 @@ pub(crate) fn find<T: Copy>(
     section_offset: PdbInternalSectionOffset,
     probes: &mut Probes,
 ) -> Option<T>
-    ensures value { result ≡ option_and_then (slice_get spans.now) (value_at table.now (key section_offset)) }
+    ensures answer { result ≡ option_and_then (slice_get spans.now) (value_at table.now (key section_offset)) }
     ensures few { probes.new ≤ probes.old + digits (length table.now) }
 {
     let position = table.find(key(section_offset), probes)?;

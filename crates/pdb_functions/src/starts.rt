@@ -22,8 +22,8 @@ pub(crate) trait HasStart: Copy {
 
 // Puts the entries in order of their starts. Entries with one start stay in the order that they had.
 fn sort_by_start<T: HasStart>(entries: &mut Vec<T>) -> Result<(), AllocError>
-    ensures ok { OnOk result (entries.new.items ≡ in_order (starts_before T.start_of) entries.old.items) }
-    ensures err { OnErr result (entries.new.items ≡ entries.old.items) }
+    ensures state { OnOk result (entries.new.items ≡ in_order (starts_before T.start_of) entries.old.items) }
+    ensures unchanged_if_refused { OnErr result (entries.new.items ≡ entries.old.items) }
 {
     entries.sort_by_key(|entry| entry.start())
 }
@@ -63,7 +63,7 @@ pub(crate) fn position_behind<T: HasStart>(
     probes: &mut Probes,
 ) -> usize
     requires { StartsAscend T.start_of entries.now }
-    ensures position { result ≡ position_or_len (λ entry. is_before section_offset (T.start_of entry)) entries.now }
+    ensures answer { result ≡ position_or_len (λ entry. is_before section_offset (T.start_of entry)) entries.now }
     ensures within { result ≤ length entries.now }
     ensures few { probes.new ≤ probes.old + digits (length entries.now) }
 {

@@ -50,14 +50,14 @@ outer_is_site from outer (site ∷ sites) inner k p rest nested there stands =
       | inr later ↦ elim (outer_is_site (site.position + 1)
           (site.position ∷ site.outer) sites inner k p rest nested.2 later stands) [
             | inl found ↦ inl (found.0, contains_later site found.0 sites found.1, found.2, found.3)
-            | inr before ↦ by_slot before.0 before.1
+            | inr before ↦ by_index before.0 before.1
           ]
     ]
   where
-    by_slot : (n : ℕ) → drop n (site.position ∷ site.outer) ≡ p ∷ rest
+    by_index : (n : ℕ) → drop n (site.position ∷ site.outer) ≡ p ∷ rest
         → SiteAt (site ∷ sites) p rest ⊎ ((m : ℕ) × (drop m outer ≡ p ∷ rest))
-    by_slot zero is = inl (site, contains_first site sites, cc, cc)
-    by_slot (suc n) is = inr (
+    by_index zero is = inl (site, contains_first site sites, cc, cc)
+    by_index (suc n) is = inr (
       nested.1.0 + n,
       sym (drop-drop n nested.1.0 outer) ∙
           (ap (λ (ps : List ℕ). drop n ps) (sym nested.1.1) ∙ is),
@@ -101,33 +101,33 @@ same_site from outer (site ∷ sites) a b nested one other same =
     ]
 
 -- a position that is among others stands at a place of them
-pub slot_among : (q : ℕ) (ps : List ℕ) → is_among q ps ≡ true → (k : ℕ) × (rest : List ℕ) × (drop k ps ≡ q ∷ rest)
-slot_among q [] among = absurd cc
-slot_among q (p ∷ ps) among =
+pub index_among : (q : ℕ) (ps : List ℕ) → is_among q ps ≡ true → (k : ℕ) × (rest : List ℕ) × (drop k ps ≡ q ∷ rest)
+index_among q [] among = absurd cc
+index_among q (p ∷ ps) among =
     elim (or_cases (eqb p q) (is_among q ps) among) [
       | inl here ↦ (zero, ps, ap (λ (n : ℕ). n ∷ ps) (eqb-true p q here))
-      | inr later ↦ let found = slot_among q ps later in (suc found.0, found.1, found.2)
+      | inr later ↦ let found = index_among q ps later in (suc found.0, found.1, found.2)
     ]
 
 -- a position at a place of some is among them, and so is each that is among those behind it
-pub among_from_slot : (q k p : ℕ) (rest ps : List ℕ) → drop k ps ≡ p ∷ rest → is_among q (p ∷ rest) ≡ true
+pub among_from_index : (q k p : ℕ) (rest ps : List ℕ) → drop k ps ≡ p ∷ rest → is_among q (p ∷ rest) ≡ true
     → is_among q ps ≡ true
-among_from_slot q zero p rest ps stands among = rw stands among
-among_from_slot q (suc k) p rest [] stands among = absurd cc
-among_from_slot q (suc k) p rest (n ∷ ps) stands among =
-    or_right (eqb n q) (is_among q ps) (among_from_slot q k p rest ps stands among)
+among_from_index q zero p rest ps stands among = rw stands among
+among_from_index q (suc k) p rest [] stands among = absurd cc
+among_from_index q (suc k) p rest (n ∷ ps) stands among =
+    or_right (eqb n q) (is_among q ps) (among_from_index q k p rest ps stands among)
 
 -- a site inside one that is inside another is inside that
 pub inside_inside : (sites : List Site) (outer middle inner : Site) → AreNested 0 [] sites → Contains sites middle
     → Contains sites inner
     → is_inside outer middle ≡ true → is_inside middle inner ≡ true → is_inside outer inner ≡ true
 inside_inside sites outer middle inner nested one other first second =
-    let slot = slot_among middle.position inner.outer second in
-    let found = site_at_outer sites inner slot.0 middle.position slot.1 nested other slot.2 in
+    let index = index_among middle.position inner.outer second in
+    let found = site_at_outer sites inner index.0 middle.position index.1 nested other index.2 in
     let same : found.0 ≡ middle = same_site 0 [] sites found.0 middle nested found.1 one found.2 in
-    let behind : middle.outer ≡ slot.1 = ap (λ (s : Site). s.outer) (sym same) ∙ found.3 in
-    among_from_slot outer.position slot.0 middle.position slot.1 inner.outer slot.2
-    (or_right (eqb middle.position outer.position) (is_among outer.position slot.1) (rw behind at first))
+    let behind : middle.outer ≡ index.1 = ap (λ (s : Site). s.outer) (sym same) ∙ found.3 in
+    among_from_index outer.position index.0 middle.position index.1 inner.outer index.2
+    (or_right (eqb middle.position outer.position) (is_among outer.position index.1) (rw behind at first))
 
 -- a site has a range over what its rows cover, and over what the rows of sites inside it cover
 pub is_over_is : (inlinees : List IdIndex) (sites : List Site) (x : ℕ) (site : Site)
@@ -316,7 +316,7 @@ directly_inside inlinees sites x outer inner nested sole one other deeper over u
   by_outer [] is = absurd (omega (arith, ap length is))
   by_outer (p ∷ rest) is =
       let found = site_at_outer sites inner 0 p rest nested other is in
-      let inside : is_inside found.0 inner ≡ true = among_from_slot found.0.position 0 p rest inner.outer is
+      let inside : is_inside found.0 inner ≡ true = among_from_index found.0.position 0 p rest inner.outer is
       (or_left (eqb p found.0.position) (is_among found.0.position rest) (eq-eqb p found.0.position (sym found.2))) in
       let also : is_over inlinees sites x found.0 ≡ true =
       over_outer inlinees sites found.0 inner x nested other inside under in

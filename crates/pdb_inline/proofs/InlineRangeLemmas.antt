@@ -44,16 +44,16 @@ unless_met_other {A = A} {B = B} w found same other is = by_fault w.fault is whe
   by_fault None answered = (refl, cc)
   by_fault (Some f) refused = absurd cc
 
--- where the code has the sites of a walk by their depths, their ranges by depth are the walk's answer
+-- where the code has the sites of a walk by their depths, their ranges by depth are the walk's
 pub answered_by_depth : (inlinees : List IdIndex) (symbols : List Symbol) (fault : Option StreamError)
-    (position end : ℕ) (counted : List SiteAtDepth)
+    (position end : ℕ) (sites : List SiteAtDepth)
     (ranges : List InlineRange) → unless_met (walk symbols fault position end)
-    (map at_depth (walk symbols fault position end).sites) ≡ Ok counted
-    → ranges ≡ ranges_by_depth inlinees counted
+    (map at_depth (walk symbols fault position end).sites) ≡ Ok sites
+    → ranges ≡ ranges_by_depth inlinees sites
     → unless_met (walk symbols fault position end) (inline_ranges inlinees (walk symbols fault position end).sites)
     ≡ Ok ranges
-answered_by_depth inlinees symbols fault position end counted ranges found is =
+answered_by_depth inlinees symbols fault position end sites ranges found is =
     let w = walk symbols fault position end in
     let nested = procedure_nested symbols fault position end in
-    let other = unless_met_other w (map at_depth w.sites) counted (inline_ranges inlinees w.sites) found in
+    let other = unless_met_other w (map at_depth w.sites) sites (inline_ranges inlinees w.sites) found in
     rw (is, ← other.1, ranges_by_depth_are inlinees w.sites nested) other.0

@@ -48,10 +48,10 @@ covered_above inlinees (site ∷ sites) d x covered =
     let own = has (row_ranges inlinees site.symbol) x in
     elim (or_cases (leb (d + 1) (depth site) && own) (is_covered inlinees sites (d + 1) x) covered) [
       | inl here ↦
-          let parts = and_parts (leb (d + 1) (depth site)) own here in
-          let deep : d + 1 ≤ depth site = leb-true (d + 1) (depth site) parts.0 in
+          let both = and_parts (leb (d + 1) (depth site)) own here in
+          let deep : d + 1 ≤ depth site = leb-true (d + 1) (depth site) both.0 in
           or_left (leb d (depth site) && own) (is_covered inlinees sites d x)
-          (and_from (leb d (depth site)) own (le-leb d (depth site) (omega arith)) parts.1)
+          (and_from (leb d (depth site)) own (le-leb d (depth site) (omega arith)) both.1)
       | inr later ↦ or_right (leb d (depth site) && own) (is_covered inlinees sites d x)
           (covered_above inlinees sites d x later)
     ]

@@ -81,7 +81,8 @@ stands_in_drop q k n lower outer stands long =
 pub below_from_stands : (q from k : ℕ) (lower outer : List ℕ) → AllBelow from outer → drop k outer ≡ q ∷ lower
     → q < from
 below_from_stands q from k lower outer below stands =
-    let part = subst (λ (ps : List ℕ). AllBelow from ps) stands (AllBelow-drop from k outer below) in part.0
+    let lower_below = subst (λ (ps : List ℕ). AllBelow from ps) stands (AllBelow-drop from k outer below) in
+    lower_below.0
 
 -- the rows inside of a position are those of the sites that follow at once and are deeper than the lower ones are many
 pub inside_by_depth : (inlinees : List IdIndex) (q from k : ℕ) (lower outer : List ℕ) (sites : List Site)

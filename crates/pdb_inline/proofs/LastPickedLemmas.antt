@@ -69,16 +69,16 @@ pick_back-reverse over start (x ∷ xs) =
     rw (reverse_onto xs x [], pick_back-push over start (reverse xs) x, pick_back-reverse over start xs) refl
 
 -- what holds of all holds of the last that passes
-abbrev pub IsSome_of : {T : Type 0} → (T → Type 0) → Option T → Type 0
-IsSome_of P None = ⊤
-IsSome_of P (Some x) = P x
+abbrev pub HoldsIfSome : {T : Type 0} → (T → Type 0) → Option T → Type 0
+HoldsIfSome P None = ⊤
+HoldsIfSome P (Some x) = P x
 
-last_of_all : {T : Type 0} (P : T → Type 0) (over : T → Bool) (before : Option T) (xs : List T) → IsSome_of P before
-    → AllByRecursion P xs → IsSome_of P (last_over over before xs)
+last_of_all : {T : Type 0} (P : T → Type 0) (over : T → Bool) (before : Option T) (xs : List T) → HoldsIfSome P before
+    → AllByRecursion P xs → HoldsIfSome P (last_over over before xs)
 last_of_all P over before [] there all = there
 last_of_all {T = T} P over before (x ∷ xs) there all =
     last_of_all P over (cond (over x) (Some x) before) xs (by_test (over x)) all.1 where
-      by_test : (t : Bool) → IsSome_of P (cond t (Some x) before)
+      by_test : (t : Bool) → HoldsIfSome P (cond t (Some x) before)
       by_test true = all.0
       by_test false = there
 
@@ -109,7 +109,7 @@ last_of_put {T = T} over start x (y ∷ ys) up = by_test (earlier start y x) ref
     by_start true = refl
     by_start false = refl
 
-  ahead : (w : Option T) (t : Bool) → IsSome_of (λ z. start x ≤ start z) w
+  ahead : (w : Option T) (t : Bool) → HoldsIfSome (λ z. start x ≤ start z) w
       → option_or w (cond t (Some x) None) ≡ later_start start w (cond t (Some x) None)
   ahead None t all = refl
   ahead (Some w) true all = rw (le-ltb (start w) (start x) all) refl
@@ -147,19 +147,19 @@ last_is_picked over start xs = last_in_order over start (reverse xs) ∙ pick_ba
 
 -- what holds of all holds of the one that is picked
 pub pick_of_all : {T : Type 0} (P : T → Type 0) (over : T → Bool) (start : T → ℕ) (xs : List T) → AllByRecursion P xs
-    → IsSome_of P (pick over start xs)
+    → HoldsIfSome P (pick over start xs)
 pick_of_all P over start [] all = tt
 pick_of_all {T = T} P over start (x ∷ xs) all = of_both (cond (over x) (Some x) None) (pick over start xs)
     (by_test (over x)) (pick_of_all P over start xs all.1) where
-      by_test : (t : Bool) → IsSome_of P (cond t (Some x) None)
+      by_test : (t : Bool) → HoldsIfSome P (cond t (Some x) None)
       by_test true = all.0
       by_test false = tt
 
-      by_start : (t : Bool) (a b : T) → P a → P b → IsSome_of P (cond t (Some b) (Some a))
+      by_start : (t : Bool) (a b : T) → P a → P b → HoldsIfSome P (cond t (Some b) (Some a))
       by_start true a b of_a of_b = of_b
       by_start false a b of_a of_b = of_a
 
-      of_both : (a b : Option T) → IsSome_of P a → IsSome_of P b → IsSome_of P (later_start start a b)
+      of_both : (a b : Option T) → HoldsIfSome P a → HoldsIfSome P b → HoldsIfSome P (later_start start a b)
       of_both None b of_a of_b = of_b
       of_both (Some a) None of_a of_b = of_a
       of_both (Some a) (Some b) of_a of_b = by_start (nat_lt (start a) (start b)) a b of_a of_b

@@ -1,4 +1,4 @@
--- What is picked at each depth, as places are made and filled.
+-- What is picked at each depth, as slots are made and filled.
 use Rattle.std.proofs.Common.{◌≡◌, ◌∙◌, ℕ, zero, suc, ◌<◌, ◌≤◌, List, [], ◌∷◌, ◌++◌, length, Option, Some, None, refl}
 use Rattle.std.proofs.Common.{sym, inl, inr}
 use Rattle.std.specs.Borrow.{Bor}
@@ -8,12 +8,12 @@ use Rattle.pdb_inline.specs.declared.inline_ranges.InlineRange.{InlineRange}
 use Rattle.pdb_inline.specs.InlineStacks.{lies_over}
 use Rattle.pdb_inline.specs.PickedSlots.{picked_at}
 
--- nothing is picked without places
+-- nothing is picked without slots
 nothing_picked : (depth : ℕ) → picked_at [] depth ≡ None
 nothing_picked zero = refl
 nothing_picked (suc depth) = refl
 
--- with one more empty place the same is picked
+-- with one more empty slot the same is picked
 pub picked_more : (slots : List (Option (Bor InlineRange))) (depth : ℕ)
     → picked_at (slots ++ None ∷ []) depth ≡ picked_at slots depth
 picked_more [] zero = refl
@@ -21,7 +21,7 @@ picked_more [] (suc depth) = nothing_picked depth ∙ sym (nothing_picked (suc d
 picked_more (slot ∷ slots) zero = refl
 picked_more (slot ∷ slots) (suc depth) = picked_more slots depth
 
--- where places have what is picked at each depth that is less than the number of ranges, and nothing behind, what
+-- where slots have what is picked at each depth that is less than the number of ranges, and nothing behind, what
 -- they have is picked
 pub slot_is_picked : (slots : List (Option (Bor InlineRange))) (ranges : List InlineRange) (x depth : ℕ)
     (range : InlineRange)

@@ -47,36 +47,36 @@ contains_flat_map : {A B : Type 0} (f : A → List B) (xs : List A) (y : B) → 
     → (x : A) × Contains xs x × Contains (f x) y
 contains_flat_map f [] y (k, within, is) = absurd (omega arith)
 contains_flat_map {A = A} {B = B} f (x ∷ xs) y there =
-    by_part (Contains-append_cases (f x) (flat_map f xs) y there) (contains_flat_map f xs y)
+    by_list (Contains-append_cases (f x) (flat_map f xs) y there) (contains_flat_map f xs y)
   where
-    by_part : Contains (f x) y ⊎ Contains (flat_map f xs) y
+    by_list : Contains (f x) y ⊎ Contains (flat_map f xs) y
         → (Contains (flat_map f xs) y → (z : A) × Contains xs z × Contains (f z) y)
         → (z : A) × Contains (x ∷ xs) z × Contains (f z) y
-    by_part (inl here) rest = (x, contains_first x xs, here)
-    by_part (inr later) rest = let found = rest later in (found.0, contains_later x found.0 xs found.1, found.2)
+    by_list (inl here) rest = (x, contains_first x xs, here)
+    by_list (inr later) rest = let found = rest later in (found.0, contains_later x found.0 xs found.1, found.2)
 
 -- each of the ranges of sites is a range of one of them
 pub range_of_site : (inlinees : List IdIndex) (sites : List Site) (range : InlineRange)
     → Contains (inline_ranges inlinees sites) range
     → (site : Site) × Contains sites site × Contains (site_ranges inlinees sites site) range
 range_of_site inlinees sites range there =
-    by_part (Contains-append_cases
+    by_list (Contains-append_cases
     (flat_map (λ site. own_ranges inlinees (depth site) site.symbol) sites)
     (flat_map (λ site. added_ranges inlinees (depth site) site.symbol (missing inlinees sites site)) sites)
     range (contains_in_order range_before (read_ranges inlinees sites) range there))
   where
-    by_part : Contains (flat_map (λ site. own_ranges inlinees (depth site) site.symbol) sites) range
+    by_list : Contains (flat_map (λ site. own_ranges inlinees (depth site) site.symbol) sites) range
         ⊎ Contains (flat_map (λ site. added_ranges inlinees (depth site) site.symbol (missing inlinees sites site))
         sites) range
         → (site : Site) × Contains sites site × Contains (site_ranges inlinees sites site) range
-    by_part (inl own) =
+    by_list (inl own) =
         let found = contains_flat_map (λ site. own_ranges inlinees (depth site) site.symbol) sites range own in (
           found.0,
           found.1,
           Contains-append_left (own_ranges inlinees (depth found.0) found.0.symbol)
               (added_ranges inlinees (depth found.0) found.0.symbol (missing inlinees sites found.0)) range found.2,
         )
-    by_part (inr added) =
+    by_list (inr added) =
         let found = contains_flat_map
         (λ site. added_ranges inlinees (depth site) site.symbol (missing inlinees sites site)) sites range added in (
           found.0,

@@ -18,7 +18,7 @@ use Rattle.pdb_inline.specs.InlineStacks.{lies_over, has_range_over, depths, sta
 use Rattle.pdb_inline.specs.ListedRanges.{listed}
 use Rattle.pdb_inline.specs.StackTable.{ranges_at}
 use Rattle.pdb_inline.proofs.InlineStackLemmas.{is_some-pick}
-use Rattle.pdb_inline.proofs.LastPickedLemmas.{IsSome_of, pick_of_all}
+use Rattle.pdb_inline.proofs.LastPickedLemmas.{HoldsIfSome, pick_of_all}
 use Rattle.pdb_inline.proofs.PickedLemmas.{stack_more}
 use Rattle.pdb_inline.proofs.RangeBoundLemmas.{AreAlike, AreNotOver}
 
@@ -184,7 +184,7 @@ positions_of_stack ranges x (suc count) depth all outer =
     (positions_of_stack ranges x count (depth + 1) (omega (arith, all)))
   where
     by_picked : (o : Option ListedRange) → picked_listed ranges x depth ≡ o
-        → IsSome_of (λ l. slice_get ranges l.position ≡ Some l.range) o
+        → HoldsIfSome (λ l. slice_get ranges l.position ≡ Some l.range) o
         → (((d : ℕ) → d < depth + 1 → has_range_over ranges d x ≡ true)
         → map (slice_get ranges) (up_to_gap (picked_positions ranges x count (depth + 1))) ≡ map Some
         (stack_from (depths ranges - (depth + 1)) ranges x (depth + 1)))

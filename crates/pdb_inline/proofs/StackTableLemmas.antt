@@ -14,7 +14,7 @@ use Rattle.pdb_inline.specs.StackTable.{with_stacks, LiesIn, or_empty, stack_ove
 
 -- the stack that stands at a place of a list
 abbrev pub stack_at : List ℕ → ℕ × ℕ → List ℕ
-stack_at positions slot = slice_range positions slot.0 slot.1
+stack_at positions bounds = slice_range positions bounds.0 bounds.1
 
 -- the value of a number is the stack at its place
 pub value_at-with_stacks : (positions : List ℕ) (segments : List (Segment (ℕ × ℕ))) (x : ℕ)
@@ -37,7 +37,7 @@ pub stack_found : (positions : List ℕ) (segments : List (Segment (ℕ × ℕ))
 stack_found positions segments x o is =
     sym (ap or_empty (value_at-with_stacks positions segments x ∙ ap (λ v. option_map (stack_at positions) v) is))
 
--- a part of a list stays where it grows
+-- what a list has between two positions stays where it grows
 range_grown : (from to : ℕ) (old more : List ℕ) → from ≤ to → to ≤ length old
     → slice_range (old ++ more) from to ≡ slice_range old from to
 range_grown from to old more up within =
@@ -45,7 +45,7 @@ range_grown from to old more up within =
     rw (drop-append-le from old more (omega arith))
     (take-append-le (to - from) (drop from old) more (omega (arith, left)))
 
--- what is added to a list is its part from where it ended
+-- what is added to a list is what it has from where it ended
 range_added : (old more : List ℕ) → slice_range (old ++ more) (length old) (length (old ++ more)) ≡ more
 range_added old more =
     let whole : length (old ++ more) - length old ≡ length more =
@@ -68,7 +68,7 @@ painted_stack old more new before after lo hi from to x grown begins ends lies i
         (or_empty (option_map (stack_at old) v))
     by_test true v lies = rw (begins, ends, grown) (range_added old more)
     by_test false None lies = refl
-    by_test false (Some slot) lies = rw grown (range_grown slot.0 slot.1 old more lies.0 lies.1)
+    by_test false (Some bounds) lies = rw grown (range_grown bounds.0 bounds.1 old more lies.0 lies.1)
 
 -- a search in a table of ranges takes no more probes than one in four segments for each range
 pub few_segments : (ranges : List InlineRange) (table : List (Segment (List ℕ))) → IsTableOf ranges table

@@ -179,22 +179,23 @@ first_spans site sites below inside later = (
       sites inside later,
 )
 
--- what is said of open sites and of those found from a position on
-abbrev pub Said : List OpenSite → Walk → Type 0
-Said outer w = SpansOpen outer w.sites × Spans w.sites
+-- the sites that a walk finds are inside of open ones, and of one another, where they begin in them
+abbrev pub WalkSpans : List OpenSite → Walk → Type 0
+WalkSpans outer w = SpansOpen outer w.sites × Spans w.sites
 
--- it is said where the ends nest
-abbrev pub SaidIf : List OpenSite → Walk → Type 0
-SaidIf outer w = EndInOpen outer w.sites → NestWell w.sites → Said outer w
+-- so it is where the ends nest
+abbrev pub WalkSpansIfNested : List OpenSite → Walk → Type 0
+WalkSpansIfNested outer w = EndInOpen outer w.sites → NestWell w.sites → WalkSpans outer w
 
--- it can be said where a symbol closes something
-said_closed : (fault : Option StreamError) (end : ℕ) (symbols : List Symbol) (at through : ℕ) (outer : List OpenSite)
+-- so it is where a symbol closes something
+walk_spans_closed : (fault : Option StreamError) (end : ℕ) (symbols : List Symbol) (at through : ℕ)
+    (outer : List OpenSite)
     → Opened at outer → innermost_end end outer ≤ at
     → ((others : List OpenSite) → Opened (at + 1) others
-    → SaidIf others (walk_from fault end symbols (at + 1) through others))
-    → SaidIf outer (after_close outer (walk_from fault end symbols (at + 1) through (drop 1 outer)))
-said_closed fault end symbols at through [] opened closed rest = λ ends nests. (tt, tt)
-said_closed fault end symbols at through (site ∷ outer) opened closed rest = λ ends nests.
+    → WalkSpansIfNested others (walk_from fault end symbols (at + 1) through others))
+    → WalkSpansIfNested outer (after_close outer (walk_from fault end symbols (at + 1) through (drop 1 outer)))
+walk_spans_closed fault end symbols at through [] opened closed rest = λ ends nests. (tt, tt)
+walk_spans_closed fault end symbols at through (site ∷ outer) opened closed rest = λ ends nests.
     let later = rest outer (opened_later at outer opened.3) ends.1 nests in (
       (
         closed_spans at site outer (walk_from fault end symbols (at + 1) through outer).sites opened closed
@@ -204,15 +205,16 @@ said_closed fault end symbols at through (site ∷ outer) opened closed rest = �
       later.1,
     )
 
--- it can be said where a symbol opens a site, or none
-said_found : (fault : Option StreamError) (end : ℕ) (symbols : List Symbol) (at through : ℕ) (outer : List OpenSite)
+-- so it is where a symbol opens a site, or none
+walk_spans_found : (fault : Option StreamError) (end : ℕ) (symbols : List Symbol) (at through : ℕ)
+    (outer : List OpenSite)
     (symbol : Option InlineSiteSymbol) → Opened at outer → at < innermost_end end outer
     → ((others : List OpenSite) → Opened (at + 1) others
-    → SaidIf others (walk_from fault end symbols (at + 1) through others))
-    → SaidIf outer (found_first (option_map (opened_at at outer) symbol)
+    → WalkSpansIfNested others (walk_from fault end symbols (at + 1) through others))
+    → WalkSpansIfNested outer (found_first (option_map (opened_at at outer) symbol)
     (walk_from fault end symbols (at + 1) through (open_after at symbol outer)))
-said_found fault end symbols at through outer None opened before rest = rest outer (opened_later at outer opened)
-said_found fault end symbols at through outer (Some symbol) opened before rest = λ ends nests.
+walk_spans_found fault end symbols at through outer None opened before rest = rest outer (opened_later at outer opened)
+walk_spans_found fault end symbols at through outer (Some symbol) opened before rest = λ ends nests.
     let below = opened_below at outer opened in
     let open_here : OpenSite = record { position = at; end = symbol.end.0 } in
     let sites = (walk_from fault end symbols (at + 1) through (open_here ∷ outer)).sites in
@@ -229,27 +231,28 @@ said_found fault end symbols at through outer (Some symbol) opened before rest =
       (first.0, first.1, later.1),
     )
 
--- it can be said of a walk, from a position on
-said_from : (fault : Option StreamError) (end : ℕ) (symbols : List Symbol) (at through : ℕ) (outer : List OpenSite)
-    → Opened at outer → SaidIf outer (walk_from fault end symbols at through outer)
-said_from fault end [] at through outer opened = λ ends nests. (nothing outer, tt) where
+-- so it is of a walk from a position on
+walk_spans_from : (fault : Option StreamError) (end : ℕ) (symbols : List Symbol) (at through : ℕ)
+    (outer : List OpenSite)
+    → Opened at outer → WalkSpansIfNested outer (walk_from fault end symbols at through outer)
+walk_spans_from fault end [] at through outer opened = λ ends nests. (nothing outer, tt) where
   nothing : (outer : List OpenSite) → SpansOpen outer []
   nothing [] = tt
   nothing (site ∷ outer) = (tt, nothing outer)
-said_from fault end (symbol ∷ symbols) at through outer opened =
+walk_spans_from fault end (symbol ∷ symbols) at through outer opened =
     elim (cases_lt through at) [
       | inl from ↦ rw (lt-leb at through from) (elim (cases_lt at (innermost_end end outer)) [
         | inl before ↦ rw (lt-leb (innermost_end end outer) at before)
-            (said_found fault end symbols at (through_after at (nested_end symbol) through) outer
+            (walk_spans_found fault end symbols at (through_after at (nested_end symbol) through) outer
             (site_of symbol) opened before
-            (λ others later. said_from fault end symbols (at + 1)
+            (λ others later. walk_spans_from fault end symbols (at + 1)
             (through_after at (nested_end symbol) through) others later))
         | inr closed ↦ rw (le-leb (innermost_end end outer) at closed)
-            (said_closed fault end symbols at through outer opened closed
-            (λ others later. said_from fault end symbols (at + 1) through others later))
+            (walk_spans_closed fault end symbols at through outer opened closed
+            (λ others later. walk_spans_from fault end symbols (at + 1) through others later))
       ])
       | inr passed ↦ rw (le-leb at through passed)
-          (said_from fault end symbols (at + 1) through outer (opened_later at outer opened))
+          (walk_spans_from fault end symbols (at + 1) through outer (opened_later at outer opened))
     ]
 
 -- an element is the first of a list, or one of the others
@@ -263,7 +266,7 @@ all_at P [] y all (k, within, is) = absurd (omega arith)
 all_at P (x ∷ xs) y all there =
     elim (contains_cases x xs y there) [ inl here ↦ subst P here all.0 | inr later ↦ all_at P xs y all.1 later ]
 
--- what is said of any two sites is said of two of them
+-- what holds of any two sites holds of two of them
 spans_at : (sites : List Site) (outer inner : Site) → Spans sites → Contains sites outer → Contains sites inner
     → BeginsIn outer inner
 spans_at [] outer inner spans (k, within, is) there = absurd (omega arith)
@@ -312,7 +315,7 @@ well_nested_spans : (symbols : List Symbol) (fault : Option StreamError) (positi
     → AreWellNested (walk symbols fault position end).sites
     → Spans (walk symbols fault position end).sites
 well_nested_spans symbols fault position end well =
-    (said_from fault end (drop position symbols) position position [] tt tt
+    (walk_spans_from fault end (drop position symbols) position position [] tt tt
     (nest_well 0 [] (walk symbols fault position end).sites (procedure_nested symbols fault position end) well)).1
 
 -- of well nested sites one is inside another exactly where it begins in it
@@ -323,9 +326,9 @@ pub inside_iff_begins_in : (symbols : List Symbol) (fault : Option StreamError) 
 inside_iff_begins_in symbols fault position end outer inner well one other =
     let is = spans_at (walk symbols fault position end).sites outer inner
     (well_nested_spans symbols fault position end well) one other in (
-      λ inside. let parts = and_parts (ltb outer.position inner.position) (ltb inner.position outer.symbol.end.0)
+      λ inside. let both = and_parts (ltb outer.position inner.position) (ltb inner.position outer.symbol.end.0)
           (sym is ∙ inside) in
-          (ltb-true outer.position inner.position parts.0, ltb-true inner.position outer.symbol.end.0 parts.1),
+          (ltb-true outer.position inner.position both.0, ltb-true inner.position outer.symbol.end.0 both.1),
       λ between. is ∙ and_from (ltb outer.position inner.position) (ltb inner.position outer.symbol.end.0)
           (lt-ltb outer.position inner.position between.0) (lt-ltb inner.position outer.symbol.end.0 between.1),
     )

@@ -22,7 +22,7 @@ with_stacks positions segments = map (with_stack positions) segments
 -- from where to where a stack stands, where there is one, lies in the list
 abbrev pub LiesIn : List ℕ → Option (ℕ × ℕ) → Type 0
 LiesIn positions None = ⊤
-LiesIn positions (Some slot) = (slot.0 ≤ slot.1) × (slot.1 ≤ length positions)
+LiesIn positions (Some bounds) = (bounds.0 ≤ bounds.1) × (bounds.1 ≤ length positions)
 
 -- a stack, empty where there is none
 abbrev pub or_empty : Option (List ℕ) → List ℕ

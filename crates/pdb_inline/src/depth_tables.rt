@@ -30,7 +30,7 @@ fn push_at(
     segment: Segment<usize>,
 ) -> Result<(), AllocError>
     requires { depth < length all.old.items }
-    ensures pushed { OnOk result ((other : ℕ) → segments_at all.new.items other
+    ensures state { OnOk result ((other : ℕ) → segments_at all.new.items other
         ≡ (if other == depth then segments_at all.old.items other ++ segment ∷ []
         else segments_at all.old.items other)) }
     ensures count { length all.new.items ≡ length all.old.items }
@@ -102,7 +102,7 @@ pub(crate) fn push_positions(
     tables: &[Segments<usize>],
     x: u64,
 ) -> Result<(), AllocError>
-    ensures positions { OnOk result (positions.new.items ≡ positions.old.items ++ positions_in tables.now x) }
+    ensures state { OnOk result (positions.new.items ≡ positions.old.items ++ positions_in tables.now x) }
     ensures no_fewer { length positions.old.items ≤ length positions.new.items }
 {
     let mut probes = Probes::new();

@@ -20,9 +20,9 @@ fn later<'r>(picked: Option<&'r InlineRange>, range: &'r InlineRange) -> &'r Inl
     }
 }
 
-// Makes a place for what is picked at a depth.
+// Makes a slot for what is picked at a depth.
 fn make_slot(picked: &mut Vec<Option<&InlineRange>>, depth: usize) -> Result<(), AllocError>
-    ensures same { (other : ℕ) → picked_at picked.new.items other ≡ picked_at picked.old.items other }
+    ensures unchanged { (other : ℕ) → picked_at picked.new.items other ≡ picked_at picked.old.items other }
     ensures slot { OnOk result (depth < length picked.new.items) }
 {
     while picked.len() <= depth {
@@ -90,9 +90,7 @@ fn range_at(picked: &[Option<&InlineRange>], depth: usize) -> Option<InlineRange
 /// At each depth it is the range over the offset that starts last, of equal starts the first of the list.
 /// The stack ends before the first depth without a range over the offset.
 ///
-/// # Errors
-///
-/// [`AllocError`] alone.
+/// Answers `AllocError` where memory runs out.
 pub fn inline_stack(
     alloc: Global,
     ranges: &[InlineRange],

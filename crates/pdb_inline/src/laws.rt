@@ -1,5 +1,4 @@
-//! Laws of inline ranges, for every list of symbols, badly nested ones too. They do nothing when they
-//! are called.
+//! Laws of inline ranges, for every list of symbols, badly nested ones too; the functions do nothing.
 
 ghost use Rattle.std.specs.Prelude.{◌≡◌, ℕ, ◌+◌, ◌≤◌, ◌<◌, ◌↔◌, ◌&&◌, not, true, false};
 ghost use Rattle.std.specs.Prelude.{IsTrue, Contains, List, Option, Some, length, slice_get};

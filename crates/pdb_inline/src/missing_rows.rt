@@ -74,9 +74,9 @@ fn missing_in(
     own: &[(u64, u64)],
     stack: &mut Vec<CoveredRun>,
 ) -> Result<RangeSet, AllocError>
-    ensures missing { IfOk result (λ set. (x : ℕ)
+    ensures answer { IfOk result (λ set. (x : ℕ)
         → has set x ≡ (is_on_stack depth stack.old.items x && not (has own.now x))) }
-    ensures covered { OnOk result ((d x : ℕ)
+    ensures state { OnOk result ((d x : ℕ)
         → is_on_stack d stack.new.items x ≡ (nat_lt d depth && (has own.now x || is_on_stack d stack.old.items x))) }
 {
     let deeper = take_deeper(alloc, depth, stack)?;

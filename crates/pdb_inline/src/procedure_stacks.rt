@@ -73,9 +73,7 @@ impl Model for ProcedureStacks {
 impl ProcedureStacks {
     /// The stacks of a list of ranges, in whatever order they stand. Its time grows with n log n for n ranges.
     ///
-    /// # Errors
-    ///
-    /// [`AllocError`] alone.
+    /// Answers `AllocError` where memory runs out.
     pub fn new(alloc: Global, ranges: Vec<InlineRange>) -> Result<Self, AllocError>
         ensures { IfOk result (λ stacks. stacks ≡ ranges.items) }
     {
@@ -91,7 +89,7 @@ impl ProcedureStacks {
     // looked at counts.
     #[tactic(auto, using(crate::proofs::StackTableLemmas::few_segments))]
     fn search(&self, offset: u64, probes: &mut Probes) -> Option<&[usize]>
-        ensures found { IfSome result (λ positions.
+        ensures answer { IfSome result (λ positions.
             map (slice_get self.now) positions.now ≡ map Some (inline_stack self.now offset)) }
         ensures few { probes.new ≤ probes.old + digits (4 * length self.now) }
     {
@@ -103,9 +101,7 @@ impl ProcedureStacks {
 
     /// The inlined bodies over an offset, the outermost first, as [`inline_stack`] has them.
     ///
-    /// # Errors
-    ///
-    /// [`AllocError`] alone.
+    /// Answers `AllocError` where memory runs out.
     #[tactic(auto, using(crate::proofs::StackLemmas::ranges_at_are))]
     pub fn stack(&self, alloc: Global, offset: u64) -> Result<Vec<InlineRange>, AllocError>
         ensures { IfOk result (λ v. v.items ≡ inline_stack self.now offset) }

@@ -97,8 +97,8 @@ fn open_at<'a>(
 // Closes the innermost of what is open. `false` where no site is: that closes the procedure.
 #[tactic(auto, using(crate::proofs::SiteLemmas::closed_rest))]
 fn close_innermost(outer: &mut Vec<Site<'_>>) -> bool
-    ensures open { result ≡ nat_lt 0 (length outer.old.items) }
-    ensures rest { reverse (map open_site outer.new.items) ≡ drop 1 (reverse (map open_site outer.old.items)) }
+    ensures answer { result ≡ nat_lt 0 (length outer.old.items) }
+    ensures state { reverse (map open_site outer.new.items) ≡ drop 1 (reverse (map open_site outer.old.items)) }
 {
     outer.pop().is_some()
 }

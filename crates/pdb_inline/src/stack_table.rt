@@ -16,7 +16,7 @@ use std::marker::Model;
 
 /// A table of the inlined bodies over each offset, by their positions in a list of ranges.
 ///
-/// It holds a whole stack of positions for each piece of code that has one stack.
+/// It holds a whole stack of positions for each segment of code that has one stack.
 #[derive(Drop)]
 pub struct StackTable {
     // Where the stack of a number begins and ends among the positions.
@@ -44,13 +44,11 @@ impl StackTable {
     /// Its time grows with (n + s) log n for n ranges and stacks of s positions in all. For ranges that nest in one
     /// another s may grow with the square of n; [`ProcedureStacks`](crate::ProcedureStacks) has a bound on it.
     ///
-    /// # Errors
-    ///
-    /// [`AllocError`] alone.
+    /// Answers `AllocError` where memory runs out.
     pub fn new(alloc: Global, ranges: &[InlineRange]) -> Result<Self, AllocError>
         ensures stacks { IfOk result (λ table. HasStacks ranges.now table) }
         ensures positions { IfOk result (λ table. (x : ℕ) → stack_over table x ≡ inline_positions ranges.now x) }
-        ensures at_most_four_each { IfOk result (λ table. length table ≤ 4 * length ranges.now) }
+        ensures few { IfOk result (λ table. length table ≤ 4 * length ranges.now) }
     {
         let tables = depth_tables(alloc, ranges)?;
         let bounds = sorted_bounds(alloc, ranges)?;
@@ -68,7 +66,7 @@ impl StackTable {
     /// The positions of the ranges over an offset that [`inline_stack`](crate::inline_stack) picks, the outermost
     /// first. It is a binary search that takes no memory, and counts each segment that it looks at.
     pub fn find(&self, offset: u64, probes: &mut Probes) -> &[usize]
-        ensures stack { result.now ≡ stack_over self.now offset }
+        ensures answer { result.now ≡ stack_over self.now offset }
         ensures no_fewer { probes.old ≤ probes.new }
         ensures few { probes.new ≤ probes.old + digits (length self.now) }
     {
@@ -80,9 +78,9 @@ impl StackTable {
 
     // Gives the numbers from `lo` up to the one before `hi` the positions that the tables have for `lo`.
     fn paint(&mut self, tables: &[Segments<usize>], lo: u64, hi: u64) -> Result<(), AllocError>
-        ensures stack { OnOk result ((x : ℕ) → stack_over self.new x
+        ensures state { OnOk result ((x : ℕ) → stack_over self.new x
             ≡ (if is_within lo hi x then positions_in tables.now lo else stack_over self.old x)) }
-        ensures at_most_two_more { length self.new ≤ length self.old + 2 }
+        ensures few { length self.new ≤ length self.old + 2 }
     {
         let from = self.positions.len();
         push_positions(&mut self.positions, tables, lo)?;
@@ -97,8 +95,8 @@ fn stacks_between(
     bounds: &[u64],
 ) -> Result<StackTable, AllocError>
     requires { ChangesAt (positions_in tables.now) 0 bounds.now }
-    ensures stacks { IfOk result (λ table. (x : ℕ) → stack_over table x ≡ positions_in tables.now x) }
-    ensures at_most_two_each { IfOk result (λ table. length table ≤ 2 * length bounds.now) }
+    ensures answer { IfOk result (λ table. (x : ℕ) → stack_over table x ≡ positions_in tables.now x) }
+    ensures few { IfOk result (λ table. length table ≤ 2 * length bounds.now) }
 {
     let mut table = StackTable {
         segments: Segments::new(alloc),

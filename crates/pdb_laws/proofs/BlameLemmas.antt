@@ -9,7 +9,7 @@ use Rattle.pdb_inline.specs.declared.inline_ranges.InlineRange.{InlineRange}
 use Rattle.pdb_inline.specs.InlineStacks.{inline_stack}
 use Rattle.pdb_frames.specs.declared.code_parts.CodePart.{CodePart}
 use Rattle.pdb_frames.specs.declared.code_parts.CodePart.TheVariants as part
-use Rattle.pdb_frames.specs.CodeParts.{is_refused, blame_behind, part_to_blame}
+use Rattle.pdb_frames.specs.CodeParts.{is_refused, blame_after_info, part_to_blame}
 use Rattle.pdb_frames.specs.ExtendedInfo.{ExtendedInfo, extended_info}
 use Rattle.pdb_frames.specs.Lines.{function_rows, row_over}
 use Rattle.pdb_frames.specs.Origins.{Origin, origin, function_module, function_start, function_ranges}
@@ -20,7 +20,7 @@ pub blamed : (info : ModuleInfo) (found : FoundFunction) (x : ℕ) (e : Error) �
     → own_error info found (part_to_blame info found) ≡ Some e
 blamed info found x e = by_info (extended_info info) where
   part_of : Result ExtendedInfo Error → CodePart
-  part_of r = blame_behind (function_module found) (function_start found) (and_then r (λ known. Ok known.line_program))
+  part_of r = blame_after_info (function_module found) (function_start found) (and_then r (λ known. Ok known.line_program))
 
   own : Result ExtendedInfo Error → CodePart → Option Error
   own r (part.ExtendedInfo m) = error_of r

@@ -89,7 +89,7 @@ impl<'a, P: ModuleProvider> TypeFormatter<'a, P> {
             string_table,
             flags,
         )?;
-        let cache = type_inputs.no_cache();
+        let cache = type_inputs.empty_cache();
         Ok(TypeFormatter { type_inputs, cache })
     }
 

@@ -31,7 +31,7 @@ fn hint<T: Numbered>(entries: &[T], number: u32) -> Option<&T>
 
 // The entry with this number, among entries whose numbers ascend. It takes no memory.
 //
-// Lists that linkers write end in entries with no number left out, so a hint from the end comes ahead of a binary
+// Lists that linkers write end in entries with no number left out, so a hint from the end comes before a binary
 // search.
 pub(crate) fn find_ascending<T: Numbered>(entries: &[T], number: u32) -> Option<&T>
     requires { Ascends T.number_of entries.now }

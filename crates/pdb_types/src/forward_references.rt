@@ -77,6 +77,6 @@ impl TypeSizeCache {
             (λ e. e ≡ OutOfMemory) }
         ensures unchanged { types.new ≡ types.old }
     {
-        Ok(size_behind(&types.records().items, resolved, name))
+        Ok(size_behind(&types.list().items, resolved, name))
     }
 }

@@ -123,7 +123,7 @@ impl<'a, I: ItemIndex, D> ItemMap<'a, I, D> {
     }
 
     // The list itself.
-    pub(crate) fn records(&self) -> &'a Reading<Item<I, D>>
+    pub(crate) fn list(&self) -> &'a Reading<Item<I, D>>
         ensures { result.now ≡ self.now }
     {
         &self.information.items

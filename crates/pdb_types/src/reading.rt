@@ -20,7 +20,7 @@ fn entry<'a, I: ItemIndex, D>(map: &mut ItemMap<'a, I, D>, index: I) -> Result<&
     ensures unchanged { map.new ≡ map.old }
 {
     let number = index.number();
-    let fault = map.records().fault;
+    let fault = map.list().fault;
     match map.find(index)? {
         Some(item) => match &item.content {
             Ok(content) => Ok(content),

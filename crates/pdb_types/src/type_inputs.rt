@@ -148,8 +148,8 @@ impl<'a, P: ModuleProvider> TypeInputs<'a, P> {
         self.flags
     }
 
-    /// Nothing found yet. It takes no memory.
-    pub fn no_cache(&self) -> TypeCache<'a>
+    /// The type cache in which nothing was found yet. It takes no memory.
+    pub fn empty_cache(&self) -> TypeCache<'a>
         ensures is_cache { IsCacheOf P.info self.now result }
         ensures failed { result.failed ≡ [] }
     {

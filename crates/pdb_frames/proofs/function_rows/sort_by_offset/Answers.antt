@@ -10,7 +10,7 @@ pub returns : goal.returns
 returns c =
     let offset = λ (row : LineInfo). row.offset in
     record {
-      ok = on_ok_weaker c.sort_by_key.result (λ sorted.
+      state = on_ok_weaker c.sort_by_key.result (λ sorted.
           sorted_is_in_order rows_rank c.args.rows.now.items c.sort_by_key.new.self.items
           (sorted offset (always_returns_same _ _ _ (λ a r q k. search rules)))
           (c.sort_by_key.ensures.stable offset (always_returns_same _ _ _ (λ a r q k. search rules))))

@@ -1,4 +1,4 @@
-use Rattle.pdb_functions.proofs.RunLawLemmas.{in_reading_order_stay}
+use Rattle.pdb_functions.proofs.ReadingOrderLawLemmas.{in_reading_order_stay}
 use Rattle.pdb_functions.proofs.laws.contributions_in_reading_order_stay.Goals as goal
 
 pub returns : goal.returns

@@ -9,4 +9,4 @@ returns-clause-is_cache g c =
 
 pub returns-clause-cached : goal.returns-clause-cached
 returns-clause-cached g c = cached_put c.args.module_index c.args.entry c.make_slot.new.cached.items
-    c.in_ok-make_slot.ensures.section_offset
+    c.in_ok-make_slot.ensures.slot

@@ -5,8 +5,8 @@ use Rattle.pdb_functions.proofs.AscendLemmas.{firsts_ascend}
 use Rattle.pdb_functions.proofs.StartLemmas.{map-first_of_each_start}
 use Rattle.pdb_functions.proofs.procedures.compute_procedures.Goals as goal
 
-pub returns-clause-counted : goal.returns-clause-counted
-returns-clause-counted c = rw c.in_ok-counted.ensures
+pub returns-clause-answer : goal.returns-clause-answer
+returns-clause-answer c = rw c.in_ok-counted.ensures
     (map-first_of_each_start module_procedure (λ p. p.offset) c.in_ok-procedures.procedures.items
     ∙ ap (λ (ps : List ModuleProcedure). first_of_each_start (λ p. p.offset) ps) c.in_ok-procedures.ensures)
 

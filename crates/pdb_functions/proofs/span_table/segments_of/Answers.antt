@@ -27,8 +27,8 @@ loop-position-preserved g c =
       count = rw (c.in_ok-push.ensures.items, length-append) (omega arith);
     }
 
-pub returns-clause-values : goal.returns-clause-values
-returns-clause-values g c = λ section_offset fits.
+pub returns-clause-answer : goal.returns-clause-answer
+returns-clause-answer g c = λ section_offset fits.
     let done = drop_of_length-le c.args.spans.now {i = c.loop-position.position} (omega arith) in
-    rw (c.in_ok-table.ensures.values (key section_offset), c.deref.ensures.value)
+    rw (c.in_ok-table.ensures.answer (key section_offset), c.deref.ensures.value)
     (rw done at (c.loop-position.invariant.values section_offset fits))

@@ -5,8 +5,8 @@ use Rattle.pdb_ranges.proofs.SortLemmas.{sorted_is_in_order}
 use Rattle.pdb_functions.proofs.SectionOffsetLemmas.{starts_rank}
 use Rattle.pdb_functions.proofs.starts.sort_by_start.Goals as goal
 
-pub returns-clause-ok : goal.returns-clause-ok
-returns-clause-ok g c =
+pub returns-clause-state : goal.returns-clause-state
+returns-clause-state g c =
     let start = g.T.HasStart.start_of in
     on_ok_weaker c.sort_by_key.result (λ sorted.
     sorted_is_in_order (starts_rank start) c.args.entries.now.items c.sort_by_key.new.self.items

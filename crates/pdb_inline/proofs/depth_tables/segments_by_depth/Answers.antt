@@ -9,7 +9,7 @@ loop-listed-preserved c = elim c.if-range-depths.branch [
     count = rw w.all-is (w.in_ok-push_at.ensures.count ∙ c.loop-listed.invariant.count);
     last = λ depth x below. rw w.all-is
         (painted_step c.args.ranges.now c.loop-listed.listed-index depth x _ c.loop-listed.all.items
-        w.push_at.new.all.items _ c.loop-listed-test.true w.in_ok-push_at.ensures.pushed
+        w.push_at.new.all.items _ c.loop-listed-test.true w.in_ok-push_at.ensures.state
         (c.loop-listed.invariant.last depth x below));
   }
   | else-range-depths w ↦ record {

@@ -7,24 +7,24 @@ use Rattle.pdb_inline.proofs.inline_stacks.inline_stack.Goals as goal
 
 pub loop-range-smaller : goal.loop-range-smaller
 loop-range-smaller c =
-    let counted = c.in_ok-picked in
-    let there : picked_at counted.picked.items c.len-in-loop-range.result ≡ Some c.in-Some.range =
+    let by_depth = c.in_ok-picked in
+    let there : picked_at by_depth.picked.items c.len-in-loop-range.result ≡ Some c.in-Some.range =
     sym (ap (λ slots. picked_at slots c.len-in-loop-range.result) c.deref.ensures.value) ∙ sym c.range_at.ensures
     ∙ c.in-Some.is in
-    let picked = slot_is_picked counted.picked.items c.args.ranges.now c.args.offset c.len-in-loop-range.result
-    c.in-Some.range counted.ensures.picked counted.ensures.none there in
+    let picked = slot_is_picked by_depth.picked.items c.args.ranges.now c.args.offset c.len-in-loop-range.result
+    c.in-Some.range by_depth.ensures.picked by_depth.ensures.none there in
     let below = picked_below c.args.ranges.now c.len-in-loop-range.result c.args.offset c.in-Some.range picked in
     omega (arith, below, c.len-in-loop-range.ensures, c.in_ok-push.ensures.len)
 
 pub loop-range-preserved : goal.loop-range-preserved
 loop-range-preserved c =
-    let counted = c.in_ok-picked in
-    let there : picked_at counted.picked.items c.len-in-loop-range.result ≡ Some c.in-Some.range =
+    let by_depth = c.in_ok-picked in
+    let there : picked_at by_depth.picked.items c.len-in-loop-range.result ≡ Some c.in-Some.range =
     sym (ap (λ slots. picked_at slots c.len-in-loop-range.result) c.deref.ensures.value) ∙ sym c.range_at.ensures
     ∙ c.in-Some.is in
     let picked = rw c.len-in-loop-range.ensures
-    at (slot_is_picked counted.picked.items c.args.ranges.now c.args.offset c.len-in-loop-range.result c.in-Some.range
-    counted.ensures.picked counted.ensures.none there) in
+    at (slot_is_picked by_depth.picked.items c.args.ranges.now c.args.offset c.len-in-loop-range.result c.in-Some.range
+    by_depth.ensures.picked by_depth.ensures.none there) in
     rw c.in_ok-push.ensures.len (record {
       whole = stack_step c.args.ranges.now
           (vec_len c.loop-range.stack) c.args.offset c.in-Some.range c.loop-range.stack.items c.push.new.self.items _
@@ -35,11 +35,11 @@ loop-range-preserved c =
 
 pub returns : goal.returns
 returns c =
-    let counted = c.in_ok-picked in
-    let none : picked_at counted.picked.items (vec_len c.loop-range.stack) ≡ None =
+    let by_depth = c.in_ok-picked in
+    let none : picked_at by_depth.picked.items (vec_len c.loop-range.stack) ≡ None =
     rw c.len-in-loop-range.ensures at (sym
     (ap (λ slots. picked_at slots c.len-in-loop-range.result) c.deref.ensures.value) ∙ sym c.range_at.ensures
     ∙ c.in_default.is) in
     let over = stack_is_over c.args.ranges.now c.args.offset (vec_len c.loop-range.stack) c.loop-range.invariant.over
-    (λ within. sym (counted.ensures.picked (vec_len c.loop-range.stack) within) ∙ none) in
+    (λ within. sym (by_depth.ensures.picked (vec_len c.loop-range.stack) within) ∙ none) in
     sym (append-nil c.loop-range.stack.items) ∙ rw over at c.loop-range.invariant.whole

@@ -2,7 +2,7 @@ use Rattle.std.proofs.Common.{◌≡◌, ◌+◌, ◌-◌, ℕ, length}
 use Rattle.pdb_inline.specs.PickedSlots.{picked_at}
 use Rattle.pdb_inline.proofs.inline_stacks.make_slot.Given as goal
 
--- with the places made so far the same is picked
+-- with the slots made so far the same is picked
 abbrev pub invariant-loop-picked : goal.invariant-loop-picked
 invariant-loop-picked l = (other : ℕ) → picked_at l.picked.items other ≡ picked_at l.initial.picked.items other
 

@@ -13,7 +13,7 @@ returns-clause-added c = on_ok_weaker c.push_added.result (λ pushed. λ inner s
     let runs : c.runs.result.now ≡ missing_runs inner (row_ranges c.args.inlinees.now.keys c.args.site.symbol.now) =
     rw c.runs.ensures.answer (missing_runs_are inner
     (row_ranges c.args.inlinees.now.keys c.args.site.symbol.now) c.in_ok-missing.missing c.runs.ensures.maximal
-    (λ x. rw (c.in_ok-missing.ensures.missing x, same x, c.deref-2.ensures.value, own) refl)) in
+    (λ x. rw (c.in_ok-missing.ensures.answer x, same x, c.deref-2.ensures.value, own) refl)) in
     let file : c.first_file.result ≡ first_file c.args.inlinees.now.keys c.args.site.symbol.now =
     rw (c.first_file.ensures, c.deref-3.ensures.value, c.in_ok-rows.ensures) refl in
     rw (← runs, ← file) pushed) c.push_added.ensures

@@ -33,7 +33,7 @@ loop-at-preserved-then-first_end-at c =
     let same = turn_closed c.args.fault c.args.end c.args.symbols.now c.loop-at.at 0
     (reverse (map open_site c.loop-at.outer.items)) (omega arith) c.loop-at.invariant.begun ends in
     let some : 0 < length c.loop-at.outer.items = grind (arith, nat_tests) in
-    let next = rw (same, closed_site c.loop-at.outer.items _ some, ← c.close_innermost.ensures.rest)
+    let next = rw (same, closed_site c.loop-at.outer.items _ some, ← c.close_innermost.ensures.state)
     at c.loop-at.invariant in
     record { begun = omega arith; sites = next.sites; fault = next.fault }
 

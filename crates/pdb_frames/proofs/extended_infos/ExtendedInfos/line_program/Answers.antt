@@ -2,8 +2,8 @@ use Rattle.std.proofs.Common.{sym, refl}
 use Rattle.pdb_frames.proofs.CodeCacheLemmas.{infos_same, infos_more, infos_found}
 use Rattle.pdb_frames.proofs.extended_infos.ExtendedInfos.line_program.Goals as goal
 
-pub returns-in-Some-clause-known : goal.returns-in-Some-clause-known
-returns-in-Some-clause-known g c =
+pub returns-in-Some-clause-answer : goal.returns-in-Some-clause-answer
+returns-in-Some-clause-answer g c =
     rw (infos_found g.records c.args.module_index c.args.module_info.now c.in-Some.known.now c.args.self.now.cached
     c.requires.1 c.requires.0 (sym c.in-Some.ensures.value)) refl
 

@@ -4,8 +4,8 @@ use Rattle.pdb_records.specs.Lines.{lines_at}
 use Rattle.pdb_frames.proofs.CodeCacheLemmas.{entries_same, entries_more, entries_found}
 use Rattle.pdb_frames.proofs.line_entries.ProgramEntries.rows_at.Goals as goal
 
-pub returns-in-Some-clause-rows : goal.returns-in-Some-clause-rows
-returns-in-Some-clause-rows g c =
+pub returns-in-Some-clause-answer : goal.returns-in-Some-clause-answer
+returns-in-Some-clause-answer g c =
     let same = entries_found g.records c.args.module_index c.args.line_program.now c.in-Some.entries.now
     c.args.self.now.cached c.requires.1 c.requires.0 (sym c.in-Some.ensures.value) in
     c.rows_at.ensures ∙ ap (λ (program : Lines). lines_at c.args.section_offset program.entries) same

@@ -3,8 +3,8 @@ use Rattle.std.specs.Prelude.{Ok}
 use Rattle.pdb_frames.proofs.CodeCacheLemmas.{procedure_key, ranges_same, ranges_more, ranges_found}
 use Rattle.pdb_frames.proofs.procedure_ranges.ProcedureRanges.stack.Goals as goal
 
-pub returns-in-Some-clause-stack : goal.returns-in-Some-clause-stack
-returns-in-Some-clause-stack g c =
+pub returns-in-Some-clause-answer : goal.returns-in-Some-clause-answer
+returns-in-Some-clause-answer g c =
     rw (ranges_found g.records (procedure_key c.args.module_index c.args.procedure.now.symbol_index.0
     c.args.procedure.now.end_symbol_index.0) c.args.module_info.now c.in-Some.stacks.now c.args.self.now.cached
     c.requires.1.1 c.requires.1.0 (rw c.procedure_key-key.ensures at (sym c.in-Some.ensures.value)))

@@ -10,8 +10,8 @@ invariant_of-result c =
     let last_first = c.reverse.new.self.items in
     record {
       firsts = λ section_offset fits.
-          rw c.deref.ensures.value at (c.in_ok-segments.ensures.values section_offset fits)
+          rw c.deref.ensures.value at (c.in_ok-segments.ensures.answer section_offset fits)
           ∙ ap (λ spans. last_over (contribution_covers section_offset) None spans) (sym (reverse-reverse last_first))
           ∙ last_over-reverse (contribution_covers section_offset) (reverse last_first);
-      at_most_two_each = rw (← c.deref.ensures.value) c.in_ok-segments.ensures.at_most_two_each;
+      at_most_two_each = rw (← c.deref.ensures.value) c.in_ok-segments.ensures.few;
     }

@@ -5,5 +5,5 @@ use Rattle.pdb_functions.proofs.contribution_table.ModuleSectionContributionSpan
 pub returns : goal.returns
 returns c =
     let span = c.args.self.now in
-    section_offsets_have_keys _ _ span.section_index span.start_offset span.end_offset c.key.ensures.key
-    c.key-2.ensures.key (omega arith)
+    section_offsets_have_keys _ _ span.section_index span.start_offset span.end_offset c.key.ensures.answer
+    c.key-2.ensures.answer (omega arith)

@@ -7,12 +7,12 @@ use Rattle.pdb_functions.proofs.PositionLemmas.{map-StartsAscend}
 use Rattle.pdb_functions.proofs.TableLemmas.{first_function_behind}
 use Rattle.pdb_functions.proofs.global_function_table.GlobalFunctionTable.first_behind.Goals as goal
 
-pub returns-clause-found : goal.returns-clause-found
-returns-clause-found c =
+pub returns-clause-answer : goal.returns-clause-answer
+returns-clause-answer c =
     let fs = c.self.inside.functions.items in
     let position : c.position_behind-behind.result ≡ position_or_len
     (λ f. is_before c.args.section_offset f.start_offset) fs =
-    rw (← c.deref.ensures.value) c.position_behind-behind.ensures.position in
+    rw (← c.deref.ensures.value) c.position_behind-behind.ensures.answer in
     let got = c.copied.ensures ∙ got_at c.get.result _ _ c.get.ensures.lookup.0 c.get.ensures.lookup.1 in
     rw (← c.self.view_is) (rw (got, c.deref-2.ensures.value, position) (first_function_behind c.args.section_offset fs))
 

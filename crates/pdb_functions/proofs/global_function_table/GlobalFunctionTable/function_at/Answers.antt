@@ -1,7 +1,7 @@
 use Rattle.std.proofs.Common.{◌∙◌, sym}
 use Rattle.pdb_records.specs.Addresses.{is_same_section_offset}
 use Rattle.pdb_functions.specs.GlobalFunctions.{GlobalFunction, global_function}
-use Rattle.pdb_functions.proofs.NeighbourLemmas.{passes_it, fails_it, none_it, at_from_last}
+use Rattle.pdb_functions.proofs.NeighbourLemmas.{passing_is_kept, failing_is_none, none_is_none, at_from_last}
 use Rattle.pdb_functions.proofs.global_function_table.GlobalFunctionTable.function_at.Goals as goal
 use Rattle.pdb_functions.proofs.global_function_table.GlobalFunctionTable.function_at.Goals.{
   in_default-via-in-Some+else-eq,
@@ -11,7 +11,8 @@ use Rattle.pdb_functions.proofs.global_function_table.GlobalFunctionTable.functi
 pub returns-in-Some : goal.returns-in-Some
 returns-in-Some c =
     let here = λ (f : GlobalFunction). is_same_section_offset f.start c.args.start in
-    passes_it here (global_function c.in-Some.function) _ c.in-Some.ensures.found (sym c.eq.ensures ∙ c.if-eq.true)
+    passing_is_kept here (global_function c.in-Some.function) _ c.in-Some.ensures.answer
+    (sym c.eq.ensures ∙ c.if-eq.true)
     ∙ at_from_last c.args.start c.args.self.now c.last_up_to.ensures.ascend
 
 pub returns-in_default : goal.returns-in_default
@@ -19,10 +20,10 @@ returns-in_default c =
     let here = λ (f : GlobalFunction). is_same_section_offset f.start c.args.start in
     elim c.in_default.branch [
       | in_default-via-in-Some+else-eq w ↦
-          fails_it here (global_function w.in-Some.function) _ w.in-Some.ensures.found
+          failing_is_none here (global_function w.in-Some.function) _ w.in-Some.ensures.answer
           (sym w.eq.ensures ∙ w.if-eq.false)
           ∙ at_from_last c.args.start c.args.self.now c.last_up_to.ensures.ascend
       | in_default-via-in_default w ↦
-          none_it here _ w.in_default.ensures.found
+          none_is_none here _ w.in_default.ensures.answer
           ∙ at_from_last c.args.start c.args.self.now c.last_up_to.ensures.ascend
     ]

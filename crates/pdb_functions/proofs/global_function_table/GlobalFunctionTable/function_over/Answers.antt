@@ -1,7 +1,8 @@
 use Rattle.std.proofs.Common.{◌∙◌, eq-eqb}
 use Rattle.std.specs.Prelude.{◌==◌}
 use Rattle.pdb_functions.specs.GlobalFunctions.{GlobalFunction, global_function}
-use Rattle.pdb_functions.proofs.NeighbourLemmas.{passes_it, fails_it, none_it, not_eqb, over_from_last}
+use Rattle.pdb_functions.proofs.NeighbourLemmas.{passing_is_kept, failing_is_none, none_is_none, not_eqb}
+use Rattle.pdb_functions.proofs.NeighbourLemmas.{over_from_last}
 use Rattle.pdb_functions.proofs.global_function_table.GlobalFunctionTable.function_over.Goals as goal
 use Rattle.pdb_functions.proofs.global_function_table.GlobalFunctionTable.function_over.Goals.{
   in_default-via-in-Some+else-function-section_offset,
@@ -13,7 +14,7 @@ use Rattle.pdb_functions.proofs.global_function_table.GlobalFunctionTable.functi
 pub returns-in-Some : goal.returns-in-Some
 returns-in-Some c =
     let here = λ (f : GlobalFunction). f.start.section == c.args.section_offset.section in
-    passes_it here (global_function c.in-Some.function) _ c.in-Some.ensures.found
+    passing_is_kept here (global_function c.in-Some.function) _ c.in-Some.ensures.answer
     (eq-eqb _ _ c.if-function-section_offset.true)
     ∙ over_from_last c.args.section_offset c.args.self.now c.last_up_to.ensures.ascend
 
@@ -22,10 +23,10 @@ returns-in_default c =
     let here = λ (f : GlobalFunction). f.start.section == c.args.section_offset.section in
     elim c.in_default.branch [
       | in_default-via-in-Some+else-function-section_offset w ↦
-          fails_it here (global_function w.in-Some.function) _ w.in-Some.ensures.found
+          failing_is_none here (global_function w.in-Some.function) _ w.in-Some.ensures.answer
           (not_eqb _ _ w.if-function-section_offset.false)
           ∙ over_from_last c.args.section_offset c.args.self.now c.last_up_to.ensures.ascend
       | in_default-via-in_default w ↦
-          none_it here _ w.in_default.ensures.found
+          none_is_none here _ w.in_default.ensures.answer
           ∙ over_from_last c.args.section_offset c.args.self.now c.last_up_to.ensures.ascend
     ]

@@ -8,12 +8,12 @@ use Rattle.pdb_functions.proofs.PositionLemmas.{map-StartsAscend}
 use Rattle.pdb_functions.proofs.TableLemmas.{no_function_up_to, last_function_up_to}
 use Rattle.pdb_functions.proofs.global_function_table.GlobalFunctionTable.last_up_to.Goals as goal
 
-pub returns-then-behind-eq0-clause-found : goal.returns-then-behind-eq0-clause-found
-returns-then-behind-eq0-clause-found c =
+pub returns-then-behind-eq0-clause-answer : goal.returns-then-behind-eq0-clause-answer
+returns-then-behind-eq0-clause-answer c =
     let fs = c.self.inside.functions.items in
     let position : c.position_behind-behind.result ≡ position_or_len
     (λ f. is_before c.args.section_offset f.start_offset) fs =
-    rw (← c.deref.ensures.value) c.position_behind-behind.ensures.position in
+    rw (← c.deref.ensures.value) c.position_behind-behind.ensures.answer in
     rw (← c.self.view_is) (no_function_up_to c.args.section_offset fs c.self.invariant
     (sym position ∙ c.if-behind-eq0.true))
 
@@ -26,13 +26,13 @@ pub index-requires : goal.index-requires
 index-requires c =
     omega (arith, c.position_behind-behind.ensures.within, c.deref.ensures.len)
 
-pub returns-clause-found : goal.returns-clause-found
-returns-clause-found c =
+pub returns-clause-answer : goal.returns-clause-answer
+returns-clause-answer c =
     let fs = c.self.inside.functions.items in
     let last = c.position_behind-behind.result - 1 in
     let position : c.position_behind-behind.result ≡ position_or_len
     (λ f. is_before c.args.section_offset f.start_offset) fs =
-    rw (← c.deref.ensures.value) c.position_behind-behind.ensures.position in
+    rw (← c.deref.ensures.value) c.position_behind-behind.ensures.answer in
     let one_more : c.position_behind-behind.result ≡ suc last = omega arith in
     let within : last < length fs =
     omega (arith, ap length c.deref.ensures.value, c.position_behind-behind.ensures.within) in

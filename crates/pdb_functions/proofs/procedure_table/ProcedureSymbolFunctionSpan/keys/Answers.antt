@@ -5,5 +5,5 @@ use Rattle.pdb_functions.proofs.procedure_table.ProcedureSymbolFunctionSpan.keys
 pub returns : goal.returns
 returns c =
     let at = c.args.self.now.offset in
-    section_offsets_have_keys _ _ at.section at.offset (at.offset + c.args.self.now.len) c.key-start.ensures.key
+    section_offsets_have_keys _ _ at.section at.offset (at.offset + c.args.self.now.len) c.key-start.ensures.answer
     (omega arith) (omega arith)

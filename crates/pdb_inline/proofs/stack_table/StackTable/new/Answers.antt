@@ -20,14 +20,14 @@ returns-clause-stacks c = λ x.
     let ranges = c.args.ranges.now in
     let values : positions_in c.deref.result.now x ≡ up_to_gap (picked_positions ranges x (length ranges) 0) =
     rw c.deref.ensures.value (ap up_to_gap (c.in_ok-tables.ensures x)) in
-    rw (c.in_ok-table.ensures.stacks x, values) (positions_are ranges x)
+    rw (c.in_ok-table.ensures.answer x, values) (positions_are ranges x)
 
 pub returns-clause-positions : goal.returns-clause-positions
 returns-clause-positions c = λ x.
-    rw (c.in_ok-table.ensures.stacks x, c.deref.ensures.value) (ap up_to_gap (c.in_ok-tables.ensures x))
+    rw (c.in_ok-table.ensures.answer x, c.deref.ensures.value) (ap up_to_gap (c.in_ok-tables.ensures x))
 
-pub returns-clause-at_most_four_each : goal.returns-clause-at_most_four_each
-returns-clause-at_most_four_each c =
+pub returns-clause-few : goal.returns-clause-few
+returns-clause-few c =
     let count : length c.deref-2.result.now ≡ 2 * length c.args.ranges.now =
     rw c.deref-2.ensures.value (length_permutation _ _ c.in_ok-bounds.ensures.all ∙ length-bounds c.args.ranges.now) in
-    omega (arith, count, c.in_ok-table.ensures.at_most_two_each)
+    omega (arith, count, c.in_ok-table.ensures.few)

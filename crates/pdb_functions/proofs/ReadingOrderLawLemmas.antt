@@ -13,23 +13,24 @@ use Rattle.pdb_functions.specs.declared.contributions.ModuleSectionContribution.
 use Rattle.pdb_ranges.specs.InOrder.{put, in_order}
 use Rattle.pdb_functions.specs.Contributions.{claims, is_same_module, refused_ends, contribution_before, intervals_with}
 use Rattle.pdb_functions.specs.Contributions.{intervals_of, overlap_after, merged_contributions}
-use Rattle.pdb_functions.specs.ContributionRuns.{AreOnly, StartsNeverFall, runs_after, refusal_after, run_refusal}
-use Rattle.pdb_functions.specs.ContributionRuns.{merged_by_runs}
+use Rattle.pdb_functions.specs.ReadingOrder.{AreOnly, StartsNeverFall, reading_intervals, refusal_after}
+use Rattle.pdb_functions.specs.ReadingOrder.{joining_refusal}
+use Rattle.pdb_functions.specs.ReadingOrder.{merged_in_reading_order}
 use Rattle.pdb_functions.specs.Laws.{IsFilled, LiesBefore}
 use Rattle.pdb_ranges.proofs.SortLemmas.{Rises, rises_in_order}
 use Rattle.pdb_functions.proofs.ContributionLemmas.{contributions_rank, both_accepted}
 use Rattle.pdb_functions.proofs.OrderLemmas.{all_weaker, all_in_order}
 use Rattle.pdb_functions.proofs.IntervalLemmas.{same_fields, starts_rise, apart_from_starts, intervals_filled}
 use Rattle.pdb_functions.proofs.MergedLemmas.{claims_filled, unless_accepted}
-use Rattle.pdb_functions.proofs.RunLemmas.{same_of_alike, all_runs_are_intervals}
-use Rattle.pdb_functions.proofs.RunLemmas.{neither_refused, ends_accepted_by_runs, IsNoEarlier}
-use Rattle.pdb_functions.proofs.RunLemmas.{never_fall}
-use Rattle.pdb_functions.proofs.ClearRunLemmas.{starts_before, not_before, before_when_lies, behind_when_lies}
-use Rattle.pdb_functions.proofs.ClearRunLemmas.{starts_behind, IsOther, StartsBehind, IsClear, IsClearOfOther, AreClear}
-use Rattle.pdb_functions.proofs.ClearRunLemmas.{NoneFalls, other_back, joined, second_lies, lies_before_second}
-use Rattle.pdb_functions.proofs.ClearRunLemmas.{joined_filled, only_behind, none_falls, intervals_behind}
-use Rattle.pdb_functions.proofs.ClearRunLemmas.{clear_of_apart, clear_of_order, clear_behind, clear_of_others}
-use Rattle.pdb_functions.proofs.ClearRunLemmas.{clear_of_others_behind}
+use Rattle.pdb_functions.proofs.ReadingOrderLemmas.{same_of_alike, reading_intervals_are}
+use Rattle.pdb_functions.proofs.ReadingOrderLemmas.{neither_refused, ends_accepted_in_reading, IsNoEarlier}
+use Rattle.pdb_functions.proofs.ReadingOrderLemmas.{never_fall}
+use Rattle.pdb_functions.proofs.ClearLemmas.{starts_before, not_before, before_when_lies, behind_when_lies}
+use Rattle.pdb_functions.proofs.ClearLemmas.{starts_behind, IsOther, StartsBehind, IsClear, IsClearOfOther, AreClear}
+use Rattle.pdb_functions.proofs.ClearLemmas.{NoneFalls, other_back, joined, second_lies, lies_before_second}
+use Rattle.pdb_functions.proofs.ClearLemmas.{joined_filled, only_behind, none_falls, intervals_behind}
+use Rattle.pdb_functions.proofs.ClearLemmas.{clear_of_apart, clear_of_order, clear_behind, clear_of_others}
+use Rattle.pdb_functions.proofs.ClearLemmas.{clear_of_others_behind}
 
 -- intervals in order with a claim: joined with the first one of its module and section, or else put in its place
 abbrev pub with_claim : ModuleSectionContribution → List ModuleSectionContribution → List ModuleSectionContribution
@@ -219,7 +220,7 @@ intervals_in_order (m ∷ ms) filled up only clear =
         ∙ (ap (with_claim m) rest
         ∙ sym (in_order_with m (intervals_of ms) filled.0 (intervals_filled ms filled.1) behind only clear))
 
--- runs in order of which none overlaps the next lie each before or behind the others
+-- intervals in order of which none overlaps the next lie each before or behind the others
 pub clear_of_accepted : (ms : List ModuleSectionContribution) → AllByRecursion IsFilled ms
     → overlap_after None (in_order contribution_before ms) ≡ None → AreClear ms
 clear_of_accepted ms filled accepted =
@@ -242,22 +243,24 @@ same_answer refusal xs ys table none same is = rw (none, same) is
 -- where joining in reading order refuses nothing, no module comes back in a section and starts never fall, the merged
 -- contributions are the same
 pub in_reading_order_stay : (sections : List ImageSectionHeader) (debug : DebugInformation)
-    (table : List ModuleSectionContribution) → merged_by_runs sections debug ≡ Ok table
-    → AreOnly (runs_after None (claims sections debug.section_contributions.items))
+    (table : List ModuleSectionContribution) → merged_in_reading_order sections debug ≡ Ok table
+    → AreOnly (reading_intervals None (claims sections debug.section_contributions.items))
     → StartsNeverFall (claims sections debug.section_contributions.items)
     → merged_contributions sections debug ≡ Ok table
 in_reading_order_stay sections debug table is only starts =
     let cs = claims sections debug.section_contributions.items in
-    let runs = in_order contribution_before (runs_after None cs) in
+    let intervals = in_order contribution_before (reading_intervals None cs) in
     let fault : Option Error = option_map (λ fault. PdbError (Stream fault)) debug.section_contributions.fault in
-    let reading = unless_accepted (run_refusal sections debug) (unless (overlap_after None runs) (Ok runs)) table is in
-    let overlap = unless_accepted (overlap_after None runs) (Ok runs) table reading.1 in
-    let parts = both_accepted (refusal_after None cs) fault reading.0 in
-    let are : runs_after None cs ≡ intervals_of cs = all_runs_are_intervals cs parts.0 in
+    let reading = unless_accepted (joining_refusal sections debug)
+    (unless (overlap_after None intervals) (Ok intervals)) table is in
+    let overlap = unless_accepted (overlap_after None intervals) (Ok intervals) table reading.1 in
+    let accepted = both_accepted (refusal_after None cs) fault reading.0 in
+    let are : reading_intervals None cs ≡ intervals_of cs = reading_intervals_are cs accepted.0 in
     let filled = claims_filled sections debug.section_contributions.items in
     let only_intervals : AreOnly (intervals_of cs) = rw (← are) only in
-    let falls = none_falls cs only_intervals (never_fall cs parts.0 starts) in
+    let falls = none_falls cs only_intervals (never_fall cs accepted.0 starts) in
     let clear = clear_of_accepted (intervals_of cs) (intervals_filled cs filled) (rw (← are) overlap.0) in
-    same_answer (first_refusal (refused_ends cs) fault) (intervals_of (in_order contribution_before cs)) runs table (
-    neither_refused (refused_ends cs) fault (ends_accepted_by_runs cs parts.0) parts.1) (
+    same_answer
+    (first_refusal (refused_ends cs) fault) (intervals_of (in_order contribution_before cs)) intervals table (
+    neither_refused (refused_ends cs) fault (ends_accepted_in_reading cs accepted.0) accepted.1) (
     intervals_in_order cs filled falls only_intervals clear ∙ ap (in_order contribution_before) (sym are)) reading.1

@@ -1,6 +1,6 @@
 use Rattle.std.proofs.Common.{◌∙◌, ap}
 use Rattle.pdb_types.proofs.TypeCacheLemmas.{is_cache_new}
-use Rattle.pdb_types.proofs.type_inputs.TypeInputs.no_cache.Goals as goal
+use Rattle.pdb_types.proofs.type_inputs.TypeInputs.empty_cache.Goals as goal
 
 pub returns-clause-is_cache : goal.returns-clause-is_cache
 returns-clause-is_cache g c =

@@ -14,28 +14,31 @@ use Rattle.pdb_ranges.specs.InOrder.{in_order}
 use Rattle.pdb_types.specs.Outcomes.{first_refusal, unless}
 use Rattle.pdb_functions.specs.Contributions.{claims, is_same_module, refused_end, overlap_after, contribution_before}
 
--- the run that a claim stands in, behind what came before: the first start stays, and the end is the claim's
-abbrev pub run_with : Option ModuleSectionContribution → ModuleSectionContribution → ModuleSectionContribution
-run_with None claim = claim
-run_with (Some run) claim = if is_same_module run claim then record run { end_offset = claim.end_offset } else claim
+-- the interval that a claim stands in, behind what came before: the first start stays, and the end is the claim's
+abbrev pub interval_after : Option ModuleSectionContribution → ModuleSectionContribution → ModuleSectionContribution
+interval_after None claim = claim
+interval_after (Some interval) claim =
+    if is_same_module interval claim then record interval { end_offset = claim.end_offset } else claim
 
--- the run that ends before a claim of another module or section
-abbrev pub run_ended : Option ModuleSectionContribution → ModuleSectionContribution → List ModuleSectionContribution
-run_ended None claim = []
-run_ended (Some run) claim = if is_same_module run claim then [] else run ∷ []
-
--- the runs of neighbours of one module and section, behind what came before
-abbrev pub runs_after : Option ModuleSectionContribution → List ModuleSectionContribution
+-- the interval that ends before a claim of another module or section
+abbrev pub interval_ended : Option ModuleSectionContribution → ModuleSectionContribution
     → List ModuleSectionContribution
-runs_after None [] = []
-runs_after (Some run) [] = run ∷ []
-runs_after before (claim ∷ claims) = run_ended before claim ++ runs_after (Some (run_with before claim)) claims
+interval_ended None claim = []
+interval_ended (Some interval) claim = if is_same_module interval claim then [] else interval ∷ []
 
--- a claim that ends below the end before it in its run
+-- the intervals of neighbours of one module and section, in reading order, behind what came before
+abbrev pub reading_intervals : Option ModuleSectionContribution → List ModuleSectionContribution
+    → List ModuleSectionContribution
+reading_intervals None [] = []
+reading_intervals (Some interval) [] = interval ∷ []
+reading_intervals before (claim ∷ claims) =
+    interval_ended before claim ++ reading_intervals (Some (interval_after before claim)) claims
+
+-- a claim that ends below the end before it in its interval
 abbrev pub refused_order : Option ModuleSectionContribution → ModuleSectionContribution → Option Error
 refused_order None claim = None
-refused_order (Some run) claim =
-    if is_same_module run claim && nat_lt claim.end_offset run.end_offset
+refused_order (Some interval) claim =
+    if is_same_module interval claim && nat_lt claim.end_offset interval.end_offset
     then Some (UnorderedSectionContributions claim.module_index claim.section_index)
     else None
 
@@ -45,29 +48,30 @@ refusal_after before [] = None
 refusal_after before (claim ∷ claims) =
     first_refusal (refused_end claim) (
     first_refusal (refused_order before claim) (
-    refusal_after (Some (run_with before claim)) claims))
+    refusal_after (Some (interval_after before claim)) claims))
 
 -- the first refusal in reading order: of a contribution, or of the fault behind them
-abbrev pub run_refusal : List ImageSectionHeader → DebugInformation → Option Error
-run_refusal sections debug =
+abbrev pub joining_refusal : List ImageSectionHeader → DebugInformation → Option Error
+joining_refusal sections debug =
     first_refusal (refusal_after None (claims sections debug.section_contributions.items)) (
     option_map (λ fault. PdbError (Stream fault)) debug.section_contributions.fault)
 
--- the runs by section, start, end and module
-abbrev pub ordered_runs : List ImageSectionHeader → List SectionContribution → List ModuleSectionContribution
-ordered_runs sections cs = in_order contribution_before (runs_after None (claims sections cs))
+-- these intervals by section, start, end and module
+abbrev pub ordered_intervals : List ImageSectionHeader → List SectionContribution → List ModuleSectionContribution
+ordered_intervals sections cs = in_order contribution_before (reading_intervals None (claims sections cs))
 
--- which module each part of the program came from, where runs are joined in reading order, or why that has no answer
-abbrev pub merged_by_runs : List ImageSectionHeader → DebugInformation
+-- which module the bytes of the program came from, where claims are joined in reading order, or why that has no answer
+abbrev pub merged_in_reading_order : List ImageSectionHeader → DebugInformation
     → Result (List ModuleSectionContribution) Error
-merged_by_runs sections debug =
-    let runs = ordered_runs sections debug.section_contributions.items in
-    unless (run_refusal sections debug) (unless (overlap_after None runs) (Ok runs))
+merged_in_reading_order sections debug =
+    let intervals = ordered_intervals sections debug.section_contributions.items in
+    unless (joining_refusal sections debug) (unless (overlap_after None intervals) (Ok intervals))
 
--- each run is the only one of its module and section
+-- each interval is the only one of its module and section
 abbrev pub AreOnly : List ModuleSectionContribution → Type 0
 AreOnly [] = ⊤
-AreOnly (run ∷ runs) = AllByRecursion (λ other. is_same_module run other ≡ false) runs × AreOnly runs
+AreOnly (interval ∷ intervals) =
+    AllByRecursion (λ other. is_same_module interval other ≡ false) intervals × AreOnly intervals
 
 -- of neighbours of one module and section the second starts no earlier
 abbrev pub StartsNeverFall : List ModuleSectionContribution → Type 0

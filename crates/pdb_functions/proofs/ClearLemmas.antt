@@ -1,4 +1,4 @@
--- Which of two runs comes before the other, and runs of which each lies before or behind the others.
+-- Which of two intervals comes before the other, and intervals of which each lies before or behind the others.
 use Rattle.std.proofs.Common.{◌≡◌, ◌∙◌, ◌<◌, ◌≤◌, ℕ, Bool, true, false, cond, List, [], ◌∷◌, refl}
 use Rattle.std.proofs.Common.{sym, inl, inr, arith}
 use Rattle.std.specs.Prelude.{◌⊎◌, ⊤, nat_lt, max}
@@ -12,14 +12,14 @@ use Rattle.pdb_functions.specs.declared.contributions.ModuleSectionContribution.
 use Rattle.pdb_ranges.specs.InOrder.{put, in_order}
 use Rattle.pdb_functions.specs.Contributions.{is_same_module, contribution_before, intervals_with}
 use Rattle.pdb_functions.specs.Contributions.{intervals_of}
-use Rattle.pdb_functions.specs.ContributionRuns.{AreOnly}
+use Rattle.pdb_functions.specs.ReadingOrder.{AreOnly}
 use Rattle.pdb_functions.specs.Laws.{IsFilled, LiesBefore, AreApart}
 use Rattle.pdb_ranges.proofs.NumberLemmas.{cases_lt}
 use Rattle.pdb_functions.proofs.ContributionLemmas.{contributions_rank}
 use Rattle.pdb_functions.proofs.OrderLemmas.{all_weaker, all_taken, all_of_order}
 use Rattle.pdb_functions.proofs.IntervalLemmas.{same_fields}
-use Rattle.pdb_functions.proofs.RunLemmas.{same_alike, same_of_alike, same_back, joins_other}
-use Rattle.pdb_functions.proofs.RunLemmas.{IsNoEarlier, NeighboursNeverFall}
+use Rattle.pdb_functions.proofs.ReadingOrderLemmas.{same_alike, same_of_alike, same_back, joins_other}
+use Rattle.pdb_functions.proofs.ReadingOrderLemmas.{IsNoEarlier, NeighboursNeverFall}
 
 -- a number is not below one that is no greater
 not_below : (x y : ℕ) → y ≤ x → is_lt (nat_cmp x y) ≡ false
@@ -49,9 +49,9 @@ then_not_less Greater p first second = refl
 pub not_before : (a b : ModuleSectionContribution) → is_same_module a b ≡ true → a.start_offset ≤ b.start_offset
     → a.end_offset ≤ b.end_offset → contribution_before b a ≡ false
 not_before a b same start end =
-    let parts = same_fields a b same in
-    let section : a.section_index ≤ b.section_index = omega (arith, parts.0) in
-    let module_index : a.module_index ≤ b.module_index = omega (arith, parts.1) in
+    let fields = same_fields a b same in
+    let section : a.section_index ≤ b.section_index = omega (arith, fields.0) in
+    let module_index : a.module_index ≤ b.module_index = omega (arith, fields.1) in
     then_not_less (nat_cmp b.section_index a.section_index) _ (not_below b.section_index a.section_index section) (
     then_not_less (nat_cmp b.start_offset a.start_offset) _ (not_below b.start_offset a.start_offset start) (
     then_not_less (nat_cmp b.end_offset a.end_offset) _ (not_below b.end_offset a.end_offset end) (
@@ -168,8 +168,8 @@ pub other_of_claims : (c : ModuleSectionContribution) (ms : List ModuleSectionCo
     → AllByRecursion (IsOther c) (intervals_of ms) → AllByRecursion (IsOther c) ms
 other_of_claims c [] others = tt
 other_of_claims c (m ∷ ms) others =
-    let parts = other_with c m (intervals_of ms) others in
-    (parts.0, other_of_claims c ms parts.1)
+    let apart = other_with c m (intervals_of ms) others in
+    (apart.0, other_of_claims c ms apart.1)
 
 -- where each interval is the only one of its module and section, so is each behind the first claim
 pub only_behind : (m : ModuleSectionContribution) (xs : List ModuleSectionContribution) → AreOnly (intervals_with m xs)
@@ -217,7 +217,7 @@ intervals_behind c (m ∷ ms) up = behind_with (intervals_of ms) (intervals_behi
     by_test true = (up.0, rest.1)
     by_test false = (up.0, rest)
 
--- runs that are apart lie each before or behind the others
+-- intervals that are apart lie each before or behind the others
 pub clear_of_apart : (ms : List ModuleSectionContribution) → AreApart ms → AreClear ms
 clear_of_apart [] apart = tt
 clear_of_apart (m ∷ ms) apart =
@@ -232,17 +232,17 @@ clear_of_put x (y ∷ ys) clear = by_test (contribution_before y x) (clear_of_pu
       → AreClear (cond t (y ∷ put contribution_before x ys) (x ∷ y ∷ ys))
       → AllByRecursion (IsClear x) (y ∷ ys) × AreClear (y ∷ ys)
   by_test true rest here =
-      let parts = all_taken contribution_before (IsClear y) x ys here.0 in
+      let taken = all_taken contribution_before (IsClear y) x ys here.0 in
       let behind = rest here.1 in
-      ((clear_back y x parts.0, behind.0), (parts.1, behind.1))
+      ((clear_back y x taken.0, behind.0), (taken.1, behind.1))
   by_test false rest here = here
 
 -- what lies each before or behind the others in order does so in any order
 pub clear_of_order : (xs : List ModuleSectionContribution) → AreClear (in_order contribution_before xs) → AreClear xs
 clear_of_order [] clear = tt
 clear_of_order (x ∷ xs) clear =
-    let parts = clear_of_put x (in_order contribution_before xs) clear in
-    (all_of_order contribution_before (IsClear x) xs parts.0, clear_of_order xs parts.1)
+    let taken = clear_of_put x (in_order contribution_before xs) clear in
+    (all_of_order contribution_before (IsClear x) xs taken.0, clear_of_order xs taken.1)
 
 -- intervals behind a claim are clear where those with it are
 pub clear_behind : (c : ModuleSectionContribution) (xs : List ModuleSectionContribution)

@@ -1,4 +1,0 @@
-use Rattle.pdb_frames.proofs.code_cache.CodeCache.blame_behind.Given as goal
-
-abbrev pub ghost-row : goal.ghost-row
-ghost-row g a = g.records
