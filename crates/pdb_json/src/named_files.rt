@@ -82,7 +82,10 @@ impl FromJson for ModuleFileNames {
 
 // Reads the names of the module files that a file of the reader's version wants.
 #[tactic(auto, unfolding(crate::specs::ModuleFiles::module_file_names_in_version))]
-pub(crate) fn module_file_names(reader: Reader, file: &Value) -> Result<ModuleFileNames, RecordFault>
+pub(crate) fn module_file_names(
+    reader: Reader,
+    file: &Value,
+) -> Result<ModuleFileNames, RecordFault>
     ensures { Agrees result (module_file_names_in_version reader.version (view file.now)) }
 {
     if reader.has_module_files() {

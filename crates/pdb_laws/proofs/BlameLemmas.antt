@@ -20,7 +20,8 @@ pub blamed : (info : ModuleInfo) (found : FoundFunction) (x : ℕ) (e : Error) �
     → own_error info found (part_to_blame info found) ≡ Some e
 blamed info found x e = by_info (extended_info info) where
   part_of : Result ExtendedInfo Error → CodePart
-  part_of r = blame_after_info (function_module found) (function_start found) (and_then r (λ known. Ok known.line_program))
+  part_of r = blame_after_info (function_module found) (function_start found)
+      (and_then r (λ known. Ok known.line_program))
 
   own : Result ExtendedInfo Error → CodePart → Option Error
   own r (part.ExtendedInfo m) = error_of r
