@@ -17,7 +17,11 @@ fn folder(alloc: Global, path: &str) -> Result<String, AllocError>
 
 // The path of the module file that a records file names: the name itself where it begins with a slash, and
 // else that of a file in the folder of the records file.
-pub(crate) fn module_path(alloc: Global, records_path: &str, name: &str) -> Result<String, AllocError>
+pub(crate) fn module_path(
+    alloc: Global,
+    records_path: &str,
+    name: &str,
+) -> Result<String, AllocError>
     ensures { IfOk result (λ path. string_bytes path ≡ module_path records_path.now name.now) }
 {
     match name.as_bytes() {

@@ -13,6 +13,6 @@ returns-in_err-context_data c =
 
 pub returns : goal.returns
 returns c =
-    let data = c.in_ok-context_data.ensures in
-    rw (opened-accepted c.args.records c.in_ok-context_data.context_data _ data.answer
-    data.refused refl) c.text_over.ensures
+    let made = c.in_ok-context_data.ensures in
+    rw (opened-accepted c.args.records c.in_ok-context_data.context_data _ made.answer
+    made.refused refl) c.text_over.ensures
