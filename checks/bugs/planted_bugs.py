@@ -20,7 +20,7 @@ import tempfile
 HERE = pathlib.Path(__file__).resolve().parent
 ROOT = HERE.parents[1]
 # The tests that run what a crate has; those of the readers are of all others.
-RUNS = {"pdb_symbolizer_lib": "pdb_symbolizer_tests"}
+RUNS = {"pdb_symbolizer_lib": "pdb_symbolizer_tests", "identity.rt": "pdb_symbolizer_tests"}
 READERS = "pdb_container_tests"
 
 
@@ -47,7 +47,7 @@ def outcome(bug):
         if text.count(bug["old"]) != 1:
             return f"can't be planted: its text stands {text.count(bug['old'])} times in the file"
         file.write_text(text.replace(bug["old"], bug["new"]), encoding="utf-8")
-        folder = pathlib.Path(room) / "crates" / RUNS.get(file.parts[-3], READERS)
+        folder = pathlib.Path(room) / "crates" / RUNS.get(file.name, RUNS.get(file.parts[-3], READERS))
         words = (folder / "args").read_text().split() if (folder / "args").exists() else []
         data = [word for path in (folder / "data").iterdir() for word in ("--data", f"{path.name}=data/{path.name}")]
         run = subprocess.run(["rt", "try", *data, "--", *words], cwd=folder, capture_output=True)

@@ -19,8 +19,10 @@ MARK = re.compile(r"<!-- definitions of (\w+) -->")
 
 
 def comment_above(lines, at):
-    """The comment that ends right above a line, as one text."""
+    """The comment that ends right above a line, or above how an operator binds, as one text."""
     found = []
+    if at > 0 and lines[at - 1].startswith("infix"):
+        at -= 1
     while at > 0 and lines[at - 1].startswith("-- "):
         at -= 1
         found.append(lines[at][3:].strip())
