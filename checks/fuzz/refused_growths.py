@@ -5,7 +5,7 @@ Usage: refused_growths.py PROGRAM [CALLS_PROGRAM]
 
 PROGRAM is a built pdb_report. An allocator is compiled with gcc (or $CC) and preloaded, which refuses the Nth growth
 alone, or each from the Nth on. N goes over all growths of each case; where there are very many, over the first, the
-last, and some between. A case is a run of crates/pdb_report_tests/data/runs.txt with what is wanted of it. It may end
+last, and some between. A case is a run of crates/pdb_report_tests/data/cases.txt with what is wanted of it. It may end
 
 - as wanted: what was refused wasn't needed, or it was asked for again;
 - with status 1 and `Out of memory`, behind no text or that of the first addresses: memory ran out anywhere but while
@@ -39,7 +39,7 @@ HERE = pathlib.Path(__file__).resolve().parent
 CRATES = HERE.parent / "crates"
 SECONDS = 10
 WORKERS = max(1, (os.cpu_count() or 1) // 2)
-# What a run of runs.txt begins with; the first such run is the case.
+# What a run of cases.txt begins with; the first such run is the case.
 RUNS = [
     "public_symbol.json names 1005",
     "public_symbol.json frames 1005",
@@ -87,7 +87,7 @@ Run = namedtuple("Run", "status stdout stderr")
 
 def cases():
     """The cases, in order."""
-    text = (CRATES / "pdb_report_tests" / "data" / "runs.txt").read_text()
+    text = (CRATES / "pdb_report_tests" / "data" / "cases.txt").read_text()
     runs = [run.split("\n", 1) for run in re.split(r"(?m)^\$ pdb_report ", text)[1:]]
     for start in RUNS:
         yield next(case(words, rest) for words, rest in runs if f"{words} ".startswith(f"{start} "))

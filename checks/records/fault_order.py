@@ -6,7 +6,7 @@ Usage: fault_order.py FOLDER
 The objects and the order of their members are those of the tables in docs/FORMAT.md. For each object and each two
 members that follow one another there, FOLDER gets a records file in which both have a value of a wrong sort, and a run
 is printed whose fault is that of the first. One file more, unknown_members.json, has members that the format doesn't
-know in every object. crates/pdb_report_tests/data/faults is such a folder, and runs.txt beside it has the runs.
+know in every object. crates/pdb_report_tests/data/faults is such a folder, and cases.txt beside it has the runs.
 """
 import copy
 import json

@@ -1,30 +1,30 @@
 //! Runs the report over the records files beside it, and compares what it writes with what is wanted.
 //!
-//! `runs.txt` has a line `$ pdb_report WORD ..` for each run, then the lines that are wanted on standard
-//! output and on standard error, and a line `status N`. A run that ends well is made again into writers that
+//! `cases.txt` has a line `$ pdb_report WORD ..` for each case, then the lines that are wanted on standard
+//! output and on standard error, and a line `status N`. A case that ends well is run again into writers that
 //! refuse: one for each room that is too small for its text, and one that doesn't hand on what it took. Reports are
 //! written into such writers by `report` itself too.
 #![tactic(auto)]
 
+mod cases;
 mod reports;
-mod runs;
 mod writers;
 
+use cases::{Case, next_case};
 use pdb_report_lib::{Out, run};
-use runs::{Run, next_run};
 use std::alloc::{AllocError, Global};
 use std::process::ExitCode;
 use std::rt::Files;
 use std::{fs, io};
 
-/// The file with the runs.
-const RUNS: &str = "runs.txt";
+/// The file with the cases.
+const CASES: &str = "cases.txt";
 
 /// A records file without sections, so that each address has a short line.
 const NO_SECTIONS: &str = "null_sections.json";
 
 fn main(rt: HostRuntime) -> io::Result<ExitCode> {
-    let text = fs::read_to_string(&rt, RUNS)?;
+    let text = fs::read_to_string(&rt, CASES)?;
     let differing = compare(&rt, text.as_str())?;
     Ok(if are_reported(&rt)? && differing == 0 {
         ExitCode::SUCCESS
@@ -43,46 +43,49 @@ fn are_reported<R: Files + Print + AllocGlobal>(rt: &R) -> io::Result<bool> {
     Ok(false)
 }
 
-/// Compares each run, prints those that differ and how many there are, and counts those that differ.
+/// Compares each case, prints those that differ and how many there are, and counts those that differ.
 fn compare<R: Files + Print + AllocGlobal>(rt: &R, text: &str) -> io::Result<u64> {
     let mut rest = text;
-    let mut runs: u64 = 0;
+    let mut cases: u64 = 0;
     let mut differing: u64 = 0;
     for _ in 0..text.len() {
-        let Some((run, others)) = next_run(rest) else {
+        let Some((case, others)) = next_case(rest) else {
             break;
         };
         rest = others;
-        runs = runs.saturating_add(1);
-        if !is_as_wanted(rt, &run)? {
+        cases = cases.saturating_add(1);
+        if !is_as_wanted(rt, &case)? {
             differing = differing.saturating_add(1);
         }
     }
-    println!(rt; "{runs} runs, {differing} differ")?;
+    println!(rt; "{cases} cases, {differing} differ")?;
     Ok(differing)
 }
 
-/// Whether a run writes what is wanted. One that differs is printed.
-fn is_as_wanted<R: Files + Print + AllocGlobal>(rt: &R, run: &Run<'_>) -> io::Result<bool> {
-    let (text, status) = outcome(rt, run.command)?;
-    if text.as_str() == run.wanted && status == run.status {
-        return is_refused_as_wanted(rt, run);
+/// Whether a case writes what is wanted. One that differs is printed.
+fn is_as_wanted<R: Files + Print + AllocGlobal>(rt: &R, case: &Case<'_>) -> io::Result<bool> {
+    let (text, status) = outcome(rt, case.command)?;
+    if text.as_str() == case.wanted && status == case.status {
+        return is_refused_as_wanted(rt, case);
     }
-    println!(rt; "{}", run.command)?;
+    println!(rt; "{}", case.command)?;
     println!(rt; "{text}status {status}")?;
     Ok(false)
 }
 
-/// Whether a run ends as it should in writers that refuse. One that differs is printed.
-fn is_refused_as_wanted<R: Files + Print + AllocGlobal>(rt: &R, run: &Run<'_>) -> io::Result<bool> {
-    if writers::end_as_they_should(rt, run)? {
+/// Whether a case ends as it should in writers that refuse. One that differs is printed.
+fn is_refused_as_wanted<R: Files + Print + AllocGlobal>(
+    rt: &R,
+    case: &Case<'_>,
+) -> io::Result<bool> {
+    if writers::end_as_they_should(rt, case)? {
         return Ok(true);
     }
-    println!(rt; "{} differs where it can't write", run.command)?;
+    println!(rt; "{} differs where it can't write", case.command)?;
     Ok(false)
 }
 
-/// What a run writes on standard output and then on standard error, and its status.
+/// What a command line writes on standard output and then on standard error, and its status.
 fn outcome<R: Files + AllocGlobal>(rt: &R, command: &str) -> io::Result<(String, u64)> {
     let alloc = rt.alloc();
     let words = words_of(alloc, command)?;

@@ -1,6 +1,6 @@
 //! Writers that refuse: with too little room, or what they took isn't handed on.
 
-use crate::runs::Run;
+use crate::cases::Case;
 use crate::words_of;
 use pdb_report_lib::{Out, Stop, run};
 use std::alloc::Global;
@@ -55,64 +55,65 @@ impl io::Write for Narrow {
     }
 }
 
-/// Whether a run that ends well, and has a text that isn't long, ends as it should in writers that refuse: with
+/// Whether a case that ends well, and has a text that isn't long, ends as it should in writers that refuse: with
 /// each room that is too small, and where what was written can't be handed on. A writer that takes a byte at a
 /// time takes the whole text.
 pub(crate) fn end_as_they_should<R: Files + AllocGlobal>(
     rt: &R,
-    run: &Run<'_>,
+    case: &Case<'_>,
 ) -> io::Result<bool> {
-    if run.status != 0 || run.wanted.len() > LONGEST {
+    if case.status != 0 || case.wanted.len() > LONGEST {
         return Ok(true);
     }
     Ok(
-        is_refused_at_each_room(rt, run)?
-            && is_refused_at_flush(rt, run)?
-            && is_taken_bytewise(rt, run)?,
+        is_refused_at_each_room(rt, case)?
+            && is_refused_at_flush(rt, case)?
+            && is_taken_bytewise(rt, case)?,
     )
 }
 
-/// Whether a run is refused by each writer with too little room.
-fn is_refused_at_each_room<R: Files + AllocGlobal>(rt: &R, run: &Run<'_>) -> io::Result<bool> {
-    for room in 0..run.wanted.len() {
-        if !is_refused_at(rt, run, room)? {
+/// Whether a case is refused by each writer with too little room.
+fn is_refused_at_each_room<R: Files + AllocGlobal>(rt: &R, case: &Case<'_>) -> io::Result<bool> {
+    for room in 0..case.wanted.len() {
+        if !is_refused_at(rt, case, room)? {
             return Ok(false);
         }
     }
     Ok(true)
 }
 
-/// Whether a run into a writer with too little room fills that, hands on nothing more, and says that it can't write.
-fn is_refused_at<R: Files + AllocGlobal>(rt: &R, run: &Run<'_>, room: usize) -> io::Result<bool> {
+/// Whether a case, run into a writer with too little room, fills that, hands on nothing more, and says that it can't
+/// write.
+fn is_refused_at<R: Files + AllocGlobal>(rt: &R, case: &Case<'_>, room: usize) -> io::Result<bool> {
     let mut out = Out::new(Narrow::new(rt.alloc(), room));
-    let refused = is_refused(rt, run.command, &mut out)?;
+    let refused = is_refused(rt, case.command, &mut out)?;
     let writer = out.into_inner();
     Ok(
         refused
             && writer.refusals == 1
-            && run.wanted.as_bytes().get(..room) == Some(writer.held.as_slice()),
+            && case.wanted.as_bytes().get(..room) == Some(writer.held.as_slice()),
     )
 }
 
-/// Whether a run says that it can't write where its writer doesn't hand on what it took.
-fn is_refused_at_flush<R: Files + AllocGlobal>(rt: &R, run: &Run<'_>) -> io::Result<bool> {
+/// Whether a case says that it can't write where its writer doesn't hand on what it took.
+fn is_refused_at_flush<R: Files + AllocGlobal>(rt: &R, case: &Case<'_>) -> io::Result<bool> {
     let mut writer = Narrow::new(rt.alloc(), usize::MAX);
     writer.holds_back = true;
     let mut out = Out::new(writer);
-    let refused = is_refused(rt, run.command, &mut out)?;
-    Ok(refused && run.wanted.as_bytes() == out.into_inner().held.as_slice())
+    let refused = is_refused(rt, case.command, &mut out)?;
+    Ok(refused && case.wanted.as_bytes() == out.into_inner().held.as_slice())
 }
 
-/// Whether a run into a writer that takes a byte at a time writes its whole text.
-fn is_taken_bytewise<R: Files + AllocGlobal>(rt: &R, run: &Run<'_>) -> io::Result<bool> {
+/// Whether a case, run into a writer that takes a byte at a time, writes its whole text.
+fn is_taken_bytewise<R: Files + AllocGlobal>(rt: &R, case: &Case<'_>) -> io::Result<bool> {
     let mut writer = Narrow::new(rt.alloc(), usize::MAX);
     writer.at_once = 1;
     let mut out = Out::new(writer);
-    let refused = is_refused(rt, run.command, &mut out)?;
-    Ok(!refused && run.wanted.as_bytes() == out.into_inner().held.as_slice())
+    let refused = is_refused(rt, case.command, &mut out)?;
+    Ok(!refused && case.wanted.as_bytes() == out.into_inner().held.as_slice())
 }
 
-/// Whether a run says that it can't write.
+/// Whether a case says that it can't write.
 fn is_refused<R: Files + AllocGlobal>(
     rt: &R,
     command: &str,

@@ -6,7 +6,7 @@
 //! read as a records file.
 #![tactic(auto)]
 
-use pdb_symbolizer_lib::{Progress, Stop, run_words};
+use pdb_symbolizer_lib::{StatusLine, Stop, run_words};
 use std::env;
 use std::io::IsTerminal;
 use std::process::ExitCode;
@@ -15,8 +15,8 @@ use std::rt::Env;
 fn main(rt: HostRuntime) -> ExitCode {
     let status = match words(&rt) {
         Ok(words) => {
-            let mut progress = Progress::new(&rt, rt.stderr().is_terminal());
-            run_words(&rt, &mut progress, &words)
+            let mut status_line = StatusLine::new(&rt, rt.stderr().is_terminal());
+            run_words(&rt, &mut status_line, &words)
         }
         Err(stop) => stop.print(&rt),
     };

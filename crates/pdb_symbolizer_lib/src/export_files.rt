@@ -2,7 +2,7 @@
 
 use crate::input_files::{beside, ran_out_of_memory};
 use crate::options::Export;
-use crate::progress::{Progress, Watched};
+use crate::status_line::{StatusLine, Watched};
 use crate::stops::Stop;
 use pdb_addr2line::Error;
 use pdb_addr2line::pdb::{ModuleInfo, PDB};
@@ -15,26 +15,26 @@ use std::{fs, io};
 /// Writes the records to the files that were asked for, those of modules first.
 pub fn write_files<'w, R: Files + Eprint + Clock + AllocGlobal>(
     rt: &R,
-    progress: &mut Progress,
+    status_line: &mut StatusLine,
     export: Export<'w>,
     records: &PDB,
 ) -> Result<(), Stop<'w>> {
     let names = match export.modules {
-        Some(folder) => write_modules(rt, progress, export.records, folder, records)?,
+        Some(folder) => write_modules(rt, status_line, export.records, folder, records)?,
         None => Vec::new(rt.alloc()),
     };
-    let outcome = write_records_file(rt, progress, export.records, records, &names);
+    let outcome = write_records_file(rt, status_line, export.records, records, &names);
     written_to(rt.alloc(), export.records, outcome)
 }
 
 fn write_records_file<R: Files + Eprint + Clock + AllocGlobal>(
     rt: &R,
-    progress: &mut Progress,
+    status_line: &mut StatusLine,
     path: &str,
     records: &PDB,
     names: &[String],
 ) -> Result<(), ExportFault> {
-    let mut file = create(rt, progress, path)?;
+    let mut file = create(rt, status_line, path)?;
     write_records(rt.alloc(), &mut file, records, names)
 }
 
@@ -42,7 +42,7 @@ fn write_records_file<R: Files + Eprint + Clock + AllocGlobal>(
 /// records file at this path has them.
 fn write_modules<'w, R: Files + Eprint + Clock + AllocGlobal>(
     rt: &R,
-    progress: &mut Progress,
+    status_line: &mut StatusLine,
     path: &str,
     folder: &str,
     records: &PDB,
@@ -52,7 +52,7 @@ fn write_modules<'w, R: Files + Eprint + Clock + AllocGlobal>(
     for (position, info) in records.module_infos.iter().enumerate() {
         let name = format!(in rt.alloc(); "{folder}/{position}.json")?;
         if let Ok(Some(info)) = info {
-            write_beside(rt, progress, path, name.as_str(), info)?;
+            write_beside(rt, status_line, path, name.as_str(), info)?;
         }
         names.push(name)?;
     }
@@ -74,36 +74,36 @@ fn make_folder<'w, R: Files + AllocGlobal>(
 
 fn write_beside<'w, R: Files + Eprint + Clock + AllocGlobal>(
     rt: &R,
-    progress: &mut Progress,
+    status_line: &mut StatusLine,
     path: &str,
     name: &str,
     info: &ModuleInfo,
 ) -> Result<(), Stop<'w>> {
     let path = beside(rt.alloc(), path, name)?;
-    let outcome = write_module_file(rt, progress, path.as_str(), info);
+    let outcome = write_module_file(rt, status_line, path.as_str(), info);
     written_to(rt.alloc(), path.as_str(), outcome)
 }
 
 fn write_module_file<R: Files + Eprint + Clock + AllocGlobal>(
     rt: &R,
-    progress: &mut Progress,
+    status_line: &mut StatusLine,
     path: &str,
     info: &ModuleInfo,
 ) -> Result<(), ExportFault> {
-    let mut file = create(rt, progress, path)?;
+    let mut file = create(rt, status_line, path)?;
     write_module(rt.alloc(), &mut file, info)
 }
 
 /// A new file at this path, empty where there was one.
 fn create<'p, R: Files>(
     rt: &'p R,
-    progress: &'p mut Progress,
+    status_line: &'p mut StatusLine,
     path: &str,
 ) -> Result<Watched<'p, R, R::File>, ExportFault> {
     match fs::create(rt, path) {
         Ok(writer) => Ok(Watched {
             rt,
-            progress,
+            status_line,
             writer,
         }),
         Err(error) => Err(fault_of(&error)),

@@ -2,7 +2,7 @@
 
 use crate::identities::check_identity;
 use crate::options::Options;
-use crate::progress::Progress;
+use crate::status_line::StatusLine;
 use crate::stops::Stop;
 use pdb_addr2line::Error;
 use pdb_addr2line::pdb::PDB;
@@ -29,12 +29,12 @@ pub struct InputFile {
 /// build than is expected is refused before anything else of it is read.
 pub fn read_input_file<'w, R: Files + Eprint + AllocGlobal>(
     rt: &R,
-    progress: &Progress,
+    status_line: &StatusLine,
     options: &Options<'w>,
 ) -> Result<InputFile, Stop<'w>> {
     let path = options.file;
     let bytes = read_file(rt, path)?;
-    progress.print_size(rt, path, bytes.len());
+    status_line.print_size(rt, path, bytes.len());
     if let Some(expected) = options.expected {
         check_identity(rt.alloc(), path, &bytes, expected)?;
     }

@@ -13,12 +13,12 @@ mod identities;
 mod input_files;
 mod json_text;
 mod options;
-mod progress;
 mod repairs;
 mod runs;
+mod status_line;
 mod stops;
 mod symbol_names;
 
-pub use progress::Progress;
 pub use runs::run_words;
+pub use status_line::StatusLine;
 pub use stops::Stop;

@@ -7,8 +7,8 @@ use crate::export_files::write_files;
 use crate::identities::print_identities;
 use crate::input_files::{InputFile, read_input_file};
 use crate::options::{Options, Purpose, Style};
-use crate::progress::Progress;
 use crate::repairs::print_repairs;
+use crate::status_line::StatusLine;
 use crate::stops::Stop;
 use crate::symbol_names::SymbolNames;
 use pdb_addr2line::pdb::PDB;
@@ -31,10 +31,10 @@ struct Questions<'q, 'w, 'p> {
 /// Does what the words of a command line ask for, prints why where that ends early, and answers the exit status.
 pub fn run_words<R: Files + Input + Print + Eprint + Clock + AllocGlobal>(
     rt: &R,
-    progress: &mut Progress,
+    status_line: &mut StatusLine,
     words: &[String],
 ) -> u8 {
-    match run(rt, progress, words) {
+    match run(rt, status_line, words) {
         Ok(()) => 0,
         Err(stop) => stop.print(rt),
     }
@@ -42,26 +42,26 @@ pub fn run_words<R: Files + Input + Print + Eprint + Clock + AllocGlobal>(
 
 fn run<'w, R: Files + Input + Print + Eprint + Clock + AllocGlobal>(
     rt: &R,
-    progress: &mut Progress,
+    status_line: &mut StatusLine,
     words: &'w [String],
 ) -> Result<(), Stop<'w>> {
     let options = parse(rt.alloc(), words)?;
-    run_over(rt, progress, &options)
+    run_over(rt, status_line, &options)
 }
 
 fn run_over<'w, R: Files + Input + Print + Eprint + Clock + AllocGlobal>(
     rt: &R,
-    progress: &mut Progress,
+    status_line: &mut StatusLine,
     options: &Options<'w>,
 ) -> Result<(), Stop<'w>> {
     match options.purpose {
         Purpose::Identities => print_identities(rt, options),
         Purpose::Export(export) => {
-            let file = read_input_file(rt, progress, options)?;
-            write_files(rt, progress, export, &file.records)
+            let file = read_input_file(rt, status_line, options)?;
+            write_files(rt, status_line, export, &file.records)
         }
         Purpose::Answers => {
-            let mut file = read_input_file(rt, progress, options)?;
+            let mut file = read_input_file(rt, status_line, options)?;
             answer_over(rt, options, &mut file)
         }
     }

@@ -10,7 +10,7 @@ mod cases;
 mod terminal;
 
 use cases::{Case, case_of};
-use pdb_symbolizer_lib::{Progress, run_words};
+use pdb_symbolizer_lib::{StatusLine, run_words};
 use std::fs;
 use std::rt::Files;
 use std::time::Clock;
@@ -40,7 +40,7 @@ fn run_case<R: Files + Print + Clock + AllocGlobal>(rt: &R, case: &Case) -> anyh
         rt,
         input: case.input.as_bytes(),
     };
-    let status = run_words(&terminal, &mut Progress::new(rt, false), &case.words);
+    let status = run_words(&terminal, &mut StatusLine::new(rt, false), &case.words);
     println!(rt; "status {status}")?;
     Ok(())
 }

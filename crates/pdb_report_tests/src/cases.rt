@@ -1,8 +1,8 @@
-//! The lines of `runs.txt`: a command line, what it writes, and its status.
+//! The lines of `cases.txt`: a command line, what it writes, and its status.
 
-/// One run of the program.
+/// A command line of the program, and what is wanted of it.
 #[derive(Clone, Copy)]
-pub(crate) struct Run<'t> {
+pub(crate) struct Case<'t> {
     /// The words of its command line.
     pub command: &'t str,
     /// What it is to write.
@@ -17,17 +17,17 @@ const PROMPT: &str = "$ ";
 /// What stands before a status.
 const STATUS: &str = "status ";
 
-/// The first run of a text, and what follows it.
-pub(crate) fn next_run(text: &str) -> Option<(Run<'_>, &str)> {
-    let (_, run) = text.split_once(PROMPT)?;
-    let (command, rest) = run.split_once("\n")?;
+/// The first case of a text, and what follows it.
+pub(crate) fn next_case(text: &str) -> Option<(Case<'_>, &str)> {
+    let (_, case) = text.split_once(PROMPT)?;
+    let (command, rest) = case.split_once("\n")?;
     let (wanted, rest) = rest.split_once(STATUS)?;
     let (status, rest) = rest.split_once("\n")?;
     let status = status.parse::<u64>().ok()?;
-    let run = Run {
+    let case = Case {
         command,
         wanted,
         status,
     };
-    Some((run, rest))
+    Some((case, rest))
 }

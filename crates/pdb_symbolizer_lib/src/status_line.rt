@@ -11,7 +11,7 @@ const LONG: usize = 1 << 26;
 
 /// What is shown of long work on standard error, where somebody watches.
 #[derive(Drop)]
-pub struct Progress {
+pub struct StatusLine {
     watched: bool,
     /// When something was shown last, or the work began.
     shown: Option<Instant>,
@@ -19,10 +19,10 @@ pub struct Progress {
     written: usize,
 }
 
-impl Progress {
+impl StatusLine {
     /// Work that begins now.
-    pub fn new<R: Clock>(rt: &R, watched: bool) -> Progress {
-        Progress {
+    pub fn new<R: Clock>(rt: &R, watched: bool) -> StatusLine {
+        StatusLine {
             watched,
             shown: Instant::now(rt).ok(),
             written: 0,
@@ -60,14 +60,14 @@ impl Progress {
 #[derive(Drop)]
 pub struct Watched<'p, R, W> {
     pub rt: &'p R,
-    pub progress: &'p mut Progress,
+    pub status_line: &'p mut StatusLine,
     pub writer: W,
 }
 
 impl<R: Clock + Eprint, W: io::Write> io::Write for Watched<'_, R, W> {
     fn write(&mut self, bytes: &[u8]) -> io::Result<usize> {
         let written = self.writer.write(bytes)?;
-        self.progress.count(self.rt, written);
+        self.status_line.count(self.rt, written);
         Ok(written)
     }
 
