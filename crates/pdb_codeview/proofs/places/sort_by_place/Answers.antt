@@ -11,7 +11,7 @@ pub returns : goal.returns
 returns g c =
     let place_of = g.T.HasPlace.place_of in
     record {
-      ok = on_ok_weaker c.sort_by_key.result (λ sorted.
+      state = on_ok_weaker c.sort_by_key.result (λ sorted.
           sorted_is_in_order (ranks_by nat_cmp_total place_of) c.args.items.now.items c.sort_by_key.new.self.items
           (sorted place_of (always_returns_same _ _ _ (λ a r q k. search rules)))
           (c.sort_by_key.ensures.stable place_of (always_returns_same _ _ _ (λ a r q k. search rules))))
