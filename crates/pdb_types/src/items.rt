@@ -150,7 +150,7 @@ impl<'a, I: ItemIndex, D> ItemMap<'a, I, D> {
     /// # Errors
     ///
     /// [`Error::PdbError`] where no entry has the index: with the list's fault where it has one, or else
-    /// with the index. After [`Error::OutOfMemory`] the same question may find an answer.
+    /// with the index. Answers `OutOfMemory` where memory runs out; the same question may find an answer afterwards.
     pub fn try_get(&mut self, index: I) -> Result<&'a Item<I, D>>
         ensures answer { Gives (λ item. item.now) result (item_of I.number_of self.old (I.number_of index)) }
         ensures unchanged { self.new ≡ self.old }

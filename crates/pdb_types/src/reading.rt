@@ -41,7 +41,7 @@ impl<'a, P: ModuleProvider> TypeInputs<'a, P> {
         requires is_cache { IsCacheOf P.info self.now cache.old }
         ensures answer { Matches (λ read. (read.0.0, read.1.now)) result
             (reading (λ i. i.0) (link_inputs P.info self.now) self.now.types module_index index.0) }
-        ensures cached { IsCacheAfter P.info self.now cache.old cache.new }
+        ensures state { IsCacheAfter P.info self.now cache.old cache.new }
     {
         let resolved = TypeIndex(self.resolve(cache, module_index, index.0)?);
         let type_data = entry(&mut cache.types, resolved)?;
@@ -58,7 +58,7 @@ impl<'a, P: ModuleProvider> TypeInputs<'a, P> {
         requires is_cache { IsCacheOf P.info self.now cache.old }
         ensures answer { Matches (λ read. (read.0.0, read.1.now)) result
             (reading (λ i. i.0) (link_inputs P.info self.now) self.now.ids module_index index.0) }
-        ensures cached { IsCacheAfter P.info self.now cache.old cache.new }
+        ensures state { IsCacheAfter P.info self.now cache.old cache.new }
     {
         let resolved = IdIndex(self.resolve(cache, module_index, index.0)?);
         let id_data = entry(&mut cache.ids, resolved)?;

@@ -95,7 +95,7 @@ impl<'a, P: ModuleProvider> TypeInputs<'a, P> {
         requires strings { self.now.strings ≡ Some strings.now }
         ensures answer { Matches (λ module_index. module_index) result
             (module_under self.now.modules strings.now reference) }
-        ensures cached { IsCacheAfter P.info self.now cache.old cache.new }
+        ensures state { IsCacheAfter P.info self.now cache.old cache.new }
     {
         if let Some(module_index) = cache.named.get(&reference.0) {
             return Ok(*module_index);
@@ -119,7 +119,7 @@ impl<'a, P: ModuleProvider> TypeInputs<'a, P> {
     ) -> Result<u32, ReadError>
         requires is_cache { IsCacheOf P.info self.now cache.old }
         ensures answer { Matches (λ index. index) result (export_of (link_inputs P.info self.now) local module_index) }
-        ensures cached { IsCacheAfter P.info self.now cache.old cache.new }
+        ensures state { IsCacheAfter P.info self.now cache.old cache.new }
     {
         if let Some(table) = cache.exports.get(&module_index) {
             return found_export(local, table.get(local));
@@ -147,7 +147,7 @@ impl<'a, P: ModuleProvider> TypeInputs<'a, P> {
         requires strings { self.now.strings ≡ Some strings.now }
         ensures answer { Matches (λ index. index) result
             (import_target (link_inputs P.info self.now) strings.now target) }
-        ensures cached { IsCacheAfter P.info self.now cache.old cache.new }
+        ensures state { IsCacheAfter P.info self.now cache.old cache.new }
     {
         let (reference, local) = target;
         let module_index = self.module_under(cache, strings, reference)?;
@@ -163,7 +163,7 @@ impl<'a, P: ModuleProvider> TypeInputs<'a, P> {
     ) -> Result<u32, ReadError>
         requires is_cache { IsCacheOf P.info self.now cache.old }
         ensures answer { Matches (λ index. index) result (across (link_inputs P.info self.now) module_index index) }
-        ensures cached { IsCacheAfter P.info self.now cache.old cache.new }
+        ensures state { IsCacheAfter P.info self.now cache.old cache.new }
     {
         let Some(strings) = &self.strings else {
             let refusal = Error::CantResolveCrossModuleRefWithoutStringTable;
@@ -188,7 +188,7 @@ impl<'a, P: ModuleProvider> TypeInputs<'a, P> {
     ) -> Result<u32, ReadError>
         requires is_cache { IsCacheOf P.info self.now cache.old }
         ensures answer { Matches (λ index. index) result (resolved (link_inputs P.info self.now) module_index index) }
-        ensures cached { IsCacheAfter P.info self.now cache.old cache.new }
+        ensures state { IsCacheAfter P.info self.now cache.old cache.new }
     {
         if index < CROSS_MODULE {
             return Ok(index);

@@ -50,7 +50,7 @@ impl<'a, P: ModuleProvider> TypeInputs<'a, P> {
         ensures answer { MatchResult result
             (λ size. size ≡ forward_size resolved.0 self.now.types.items)
             (λ e. e ≡ OutOfMemory) }
-        ensures cached { IsCacheAfter P.info self.now cache.old cache.new }
+        ensures state { IsCacheAfter P.info self.now cache.old cache.new }
     {
         if let Some(sizes) = &cache.forward_sizes {
             return Ok(size_at(sizes, resolved.0));
@@ -75,7 +75,7 @@ impl<'a, P: ModuleProvider> TypeInputs<'a, P> {
         ensures answer { MatchResult result
             (λ size. size ≡ end_size self.now.pointer_size self.now.types.items resolved.0 type_data.now)
             (λ e. e ≡ OutOfMemory) }
-        ensures cached { IsCacheAfter P.info self.now cache.old cache.new }
+        ensures state { IsCacheAfter P.info self.now cache.old cache.new }
     {
         let own = own_size(self.pointer_size, type_data);
         match aggregate_of(type_data) {
@@ -93,7 +93,7 @@ impl<'a, P: ModuleProvider> TypeInputs<'a, P> {
         ensures answer { MatchResult result
             (λ s. s ≡ step (link_inputs P.info self.now) self.now.types self.now.pointer_size module_index index.0)
             (λ e. e ≡ OutOfMemory) }
-        ensures cached { IsCacheAfter P.info self.now cache.old cache.new }
+        ensures state { IsCacheAfter P.info self.now cache.old cache.new }
     {
         let (resolved, type_data) = match self.read_type(cache, module_index, index) {
             Ok(read) => read,
@@ -131,7 +131,7 @@ impl<'a, P: ModuleProvider> TypeInputs<'a, P> {
         ensures passed { IfOk result
             (λ size. (other : ℕ) → contains nat_cmp passed.new other ≡ true
             → size_of P.info self.now module_index other ≡ size) }
-        ensures cached { IsCacheAfter P.info self.now cache.old cache.new }
+        ensures state { IsCacheAfter P.info self.now cache.old cache.new }
     {
         let mut index = index;
         'chain: loop {
@@ -158,7 +158,7 @@ impl<'a, P: ModuleProvider> TypeInputs<'a, P> {
         requires is_cache { IsCacheOf P.info self.now cache.old }
         requires size { size_of P.info self.now asked.module_index asked.index ≡ size }
         ensures memory { IfErr result (λ e. e ≡ OutOfMemory) }
-        ensures cached { IsCacheAfter P.info self.now cache.old cache.new }
+        ensures state { IsCacheAfter P.info self.now cache.old cache.new }
     {
         match cache.sizes.insert(asked, size) {
             Ok(_) => Ok(()),
@@ -177,7 +177,7 @@ impl<'a, P: ModuleProvider> TypeInputs<'a, P> {
         requires is_cache { IsCacheOf P.info self.now cache.old }
         requires sizes { AllByRecursion (λ index. size_of P.info self.now module_index index ≡ size) passed.now.keys }
         ensures memory { IfErr result (λ e. e ≡ OutOfMemory) }
-        ensures cached { IsCacheAfter P.info self.now cache.old cache.new }
+        ensures state { IsCacheAfter P.info self.now cache.old cache.new }
     {
         for index in passed {
             let asked = Asked {
@@ -204,7 +204,7 @@ impl<'a, P: ModuleProvider> TypeInputs<'a, P> {
         ensures answer { MatchResult result
             (λ size. size ≡ size_of P.info self.now module_index index.0)
             (λ e. e ≡ OutOfMemory) }
-        ensures cached { IsCacheAfter P.info self.now cache.old cache.new }
+        ensures state { IsCacheAfter P.info self.now cache.old cache.new }
     {
         let mut passed = BTreeSet::new(self.alloc);
         let size = self.chain_size(cache, &mut passed, module_index, index)?;

@@ -11,21 +11,21 @@ returns-in_err-first-clause-later g c =
     let w = formatter_inputs g.P.ModuleProvider.info c.self.inside.type_inputs c.args.module_index in
     let met = sym (ap (λ t. t.met) c.in-Ok.ensures.answer) in
     let adds = adds_met w c.args.index.0 _ met c.in_ok-remember.ensures.failed in
-    rw (← c.self.view_is) (record { type_inputs = refl; broken = rw c.in-Ok.ensures.cached.failed at adds })
+    rw (← c.self.view_is) (record { type_inputs = refl; broken = rw c.in-Ok.ensures.state.failed at adds })
 
 pub returns-clause-later : goal.returns-clause-later
 returns-clause-later g c =
     let w = formatter_inputs g.P.ModuleProvider.info c.self.inside.type_inputs c.args.module_index in
     let met = sym (ap (λ t. t.met) c.in-Ok.ensures.answer) in
     let adds = adds_met w c.args.index.0 _ met c.in_ok-remember.ensures.failed in
-    rw (← c.self.view_is) (record { type_inputs = refl; broken = rw c.in-Ok.ensures.cached.failed at adds })
+    rw (← c.self.view_is) (record { type_inputs = refl; broken = rw c.in-Ok.ensures.state.failed at adds })
 
 pub returns-clause-advances : goal.returns-clause-advances
 returns-clause-advances g c = rw (← c.self.view_is) (on_ok_weaker c.first-2.result (λ put.
     let w = formatter_inputs g.P.ModuleProvider.info c.self.inside.type_inputs c.args.module_index in
     let last = stands_first w _ _ _ c.in_ok-first.ensures in
     let row = stands_fewer 0 (omega arith) (stands_before w _ _ _ _ _ _ last put) in
-    let remembered = rw c.in-Ok.ensures.cached.failed at c.in_ok-remember.ensures.failed in
+    let remembered = rw c.in-Ok.ensures.state.failed at c.in_ok-remember.ensures.failed in
     rw (← c.in-Ok.ensures.answer)
     (advances_met w _ _ c.args.progress.now _ c.self.inside.cache.failed _ c.requires.no_failure remembered row))
     c.first-2.ensures)

@@ -7,7 +7,7 @@ use Rattle.pdb_types.proofs.type_inputs.TypeInputs.cache_sizes.Given as goal
 -- the type cache is what the records say, and the size is that of each index that is left
 abbrev pub invariant-loop-index : goal.invariant-loop-index
 invariant-loop-index g l = record {
-  cached : IsCacheAfter g.P.ModuleProvider.info l.self l.fn.cache l.cache;
+  state : IsCacheAfter g.P.ModuleProvider.info l.self l.fn.cache l.cache;
   left : AllByRecursion (λ index. size_of g.P.ModuleProvider.info l.self l.module_index index ≡ l.size)
       l.index-iterator;
 }

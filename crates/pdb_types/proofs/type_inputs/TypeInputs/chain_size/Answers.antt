@@ -17,7 +17,7 @@ returns-in-Some-clause-answer g c =
     let info = g.P.ModuleProvider.info in
     let found = sizes_found info inputs
     (record { module_index = c.args.module_index; index = c.chain.index.0 }) c.in-Some.size.now c.chain.cache.sizes
-    c.chain.invariant.cached.is_cache.sizes (sym c.in-Some.ensures.value) in
+    c.chain.invariant.state.is_cache.sizes (sym c.in-Some.ensures.value) in
     sym (type_size-leads (link_inputs info inputs) inputs.types inputs.pointer_size c.args.module_index c.args.index.0
     c.chain.index.0 c.chain.invariant.led.0 c.chain.invariant.led.1 ∙ found)
 
@@ -27,7 +27,7 @@ returns-in-Some-clause-passed g c = λ other there.
     let info = g.P.ModuleProvider.info in
     let found = sizes_found info inputs
     (record { module_index = c.args.module_index; index = c.chain.index.0 }) c.in-Some.size.now c.chain.cache.sizes
-    c.chain.invariant.cached.is_cache.sizes (sym c.in-Some.ensures.value) in
+    c.chain.invariant.state.is_cache.sizes (sym c.in-Some.ensures.value) in
     let led = c.chain.invariant.passed other there in
     type_size-leads (link_inputs info inputs) inputs.types inputs.pointer_size c.args.module_index other c.chain.index.0
     (suc led.0) led.1 ∙ found
@@ -99,10 +99,10 @@ chain-preserved g c =
     let next = step (link_inputs g.P.ModuleProvider.info inputs) inputs.types inputs.pointer_size c.args.module_index in
     let on = sym c.in_ok-size.ensures.answer ∙ c.in-Next.is in
     record {
-      cached = record {
-        is_cache = c.step.ensures.cached.is_cache;
+      state = record {
+        is_cache = c.step.ensures.state.is_cache;
         failed =
-            c.step.ensures.cached.failed ∙ c.chain.invariant.cached.failed;
+            c.step.ensures.state.failed ∙ c.chain.invariant.state.failed;
       };
       led = (
         suc c.chain.invariant.led.0,

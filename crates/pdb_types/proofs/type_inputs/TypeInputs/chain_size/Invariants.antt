@@ -14,7 +14,7 @@ invariant-chain g l =
     let next : ℕ → _ = step (link_inputs g.P.ModuleProvider.info l.self) l.self.types l.self.pointer_size
     l.module_index in
     record {
-      cached : IsCacheAfter g.P.ModuleProvider.info l.self l.fn.cache l.cache;
+      state : IsCacheAfter g.P.ModuleProvider.info l.self l.fn.cache l.cache;
       led : (steps : ℕ) × Leads next steps l.fn.index.0 l.index.0;
       passed : (other : ℕ) → contains nat_cmp l.passed other ≡ true
           → (steps : ℕ) × Leads next (suc steps) other l.index.0;

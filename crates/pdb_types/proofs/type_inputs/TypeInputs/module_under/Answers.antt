@@ -11,8 +11,8 @@ returns-in-Some-clause-answer g c =
     c.in-Some.module_index.now c.args.cache.now.named c.requires.strings c.requires.is_cache.named
     (sym c.in-Some.ensures.value)
 
-pub returns-in-Ok-clause-cached : goal.returns-in-Ok-clause-cached
-returns-in-Ok-clause-cached g c =
+pub returns-in-Ok-clause-state : goal.returns-in-Ok-clause-state
+returns-in-Ok-clause-state g c =
     let found = ap (λ text. and_then (found_text c.args.reference text)
     (λ name. module_named c.args.self.now.modules name)) (sym c.in-Some-get.ensures) ∙ c.in_ok-module_index.ensures in
     caches_named g.P.ModuleProvider.info c.args.self.now c.args.cache.now c.insert.new.self c.requires.is_cache
@@ -20,8 +20,8 @@ returns-in-Ok-clause-cached g c =
     c.in_ok-module_index.module_index c.args.cache.now.named c.insert.new.self c.requires.strings found
     c.in-Ok.ensures.updates c.requires.is_cache.named)
 
-pub returns-in-Err-clause-cached : goal.returns-in-Err-clause-cached
-returns-in-Err-clause-cached g c =
+pub returns-in-Err-clause-state : goal.returns-in-Err-clause-state
+returns-in-Err-clause-state g c =
     caches_named g.P.ModuleProvider.info c.args.self.now c.args.cache.now c.insert.new.self c.requires.is_cache
     (names_same (link_inputs g.P.ModuleProvider.info c.args.self.now) c.args.cache.now.named c.insert.new.self
     c.in-Err.ensures.err c.requires.is_cache.named)
