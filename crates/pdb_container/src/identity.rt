@@ -1,20 +1,15 @@
 //! Which build a PDB file is of: its GUID, its age, when it was made, and for which processor.
 
 use crate::dbi::read_header;
-use pdb_identity::{DebugId, InfoFront};
+use pdb_identity::{DebugId, InfoFront, Machine};
 use pdb_msf::faults::{Fault, part_or_fault};
 use pdb_msf::{Container, ContainerFault};
 use std::alloc::Global;
-use std::fmt;
 
 /// The numbers of the streams that say it.
 const INFO: u32 = 1;
 
 const DEBUG: u32 = 3;
-
-/// A processor by the number that files have for it.
-#[derive(Debug, Clone, Copy, PartialEq, Eq)]
-pub struct Machine(pub u16);
 
 /// What says which build a PDB file is of.
 #[derive(Debug, Clone, Copy, PartialEq, Eq)]
@@ -24,19 +19,6 @@ pub struct PdbIdentity {
     /// When the file was made, in seconds since 1970, or a hash where the linker was told to make the same file again.
     pub time_stamp: u32,
     pub machine: Option<Machine>,
-}
-
-impl fmt::Display for Machine {
-    fn fmt<W: fmt::Write>(&self, f: &mut fmt::Formatter<W>) -> fmt::Result {
-        match self.0 {
-            0x014c => f.write_str("x86"),
-            0x8664 => f.write_str("x86_64"),
-            0x01c4 => f.write_str("arm"),
-            0xaa64 => f.write_str("arm64"),
-            0xa641 => f.write_str("arm64ec"),
-            number => write!(f, "0x{number:04x}"),
-        }
-    }
 }
 
 /// Which build a PDB file is of. Nothing where its info stream can't be read as far as the GUID.

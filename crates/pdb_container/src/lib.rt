@@ -23,8 +23,8 @@ mod type_records;
 mod types;
 mod unnamed_code;
 
-pub use identity::{Machine, PdbIdentity, read_identity};
-pub use pdb_identity::{CompactDebugId, DebugId};
+pub use identity::{PdbIdentity, read_identity};
+pub use pdb_identity::{CompactDebugId, DebugId, Machine};
 pub use pdb_msf::{ContainerFault, faults, other_file};
 pub use records::{PdbFile, read_pdb, read_pdb_file};
 pub use refusals::Refusal;

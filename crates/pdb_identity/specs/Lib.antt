@@ -1,1 +1,3 @@
 pub mod InfoFront
+pub mod BytesAt
+pub mod CodeView

@@ -1,7 +1,7 @@
 //! The text of an answer: frames with names, files and lines, in the styles of LLVM, GNU and JSON.
 
 use crate::json_text::write_quoted;
-use crate::options::{NameStyle, Options, Style};
+use crate::options::{Detail, NameStyle, Options, Style};
 use pdb_addr2line::Frame;
 use std::alloc::AllocError;
 
@@ -15,34 +15,54 @@ const INLINED_INTO: &str = " (inlined by) ";
 pub fn write_answer(
     out: &mut String,
     options: &Options<'_>,
+    file: &str,
     given: u64,
     frames: &[Frame<'_>],
 ) -> Result<(), AllocError> {
     match options.style {
-        Style::Json => write_json(out, options, given, frames),
+        Style::Json => write_json(out, options, file, given, frames),
         _ => write_plain(out, options, given, frames),
     }
 }
 
-/// Appends the answer of what is no address.
+/// Appends the answer of what is no request: the text as it is, or in JSON an error.
 pub fn write_no_answer(
     out: &mut String,
     options: &Options<'_>,
+    file: &str,
     given: &str,
 ) -> Result<(), AllocError> {
     match options.style {
         Style::Json => {
             out.push_str("{\"Error\":{\"Message\":")?;
-            write_quoted(out, "no address")?;
-            out.push_str("},\"Input\":")?;
-            write_quoted(out, given)?;
-            out.push_str(",\"ModuleName\":")?;
-            write_quoted(out, options.file)?;
+            let message = format!(in *out.allocator(); "unable to parse arguments: {given}")?;
+            write_quoted(out, message.as_str())?;
+            out.push_str("},\"ModuleName\":")?;
+            write_quoted(out, file)?;
             out.push('}')
         }
-        Style::Llvm => out.push('\n'),
-        Style::Gnu => write_unknown(out, options),
+        _ => write!(out, "{given}\n"),
     }
+}
+
+/// Appends the answer of an address of data, of which no name is known here.
+pub fn write_no_data(
+    out: &mut String,
+    options: &Options<'_>,
+    file: &str,
+    given: u64,
+) -> Result<(), AllocError> {
+    if options.style == Style::Json {
+        write!(
+            out,
+            "{{\"Address\":\"0x{given:x}\",\"Data\":{{\"Name\":\"\",\"Size\":\"0x0\",\"Start\":\"0x0\"}},\"ModuleName\":"
+        )?;
+        write_quoted(out, file)?;
+        return out.push('}');
+    }
+    write_address(out, options, given)?;
+    write!(out, "{UNKNOWN}\n0 0\n")?;
+    end_answer(out, options)
 }
 
 fn write_plain(
@@ -51,10 +71,7 @@ fn write_plain(
     given: u64,
     frames: &[Frame<'_>],
 ) -> Result<(), AllocError> {
-    if options.address_shown {
-        let end = if options.pretty { ": " } else { "\n" };
-        write!(out, "0x{given:x}{end}")?;
-    }
+    write_address(out, options, given)?;
     if frames.is_empty() {
         write_unknown(out, options)?;
     }
@@ -66,6 +83,19 @@ fn write_plain(
         };
         write_frame(out, options, start, frame)?;
     }
+    end_answer(out, options)
+}
+
+fn write_address(out: &mut String, options: &Options<'_>, given: u64) -> Result<(), AllocError> {
+    if !options.address_shown {
+        return Ok(());
+    }
+    let end = if options.pretty { ": " } else { "\n" };
+    write!(out, "0x{given:x}{end}")
+}
+
+// What stands behind an answer.
+fn end_answer(out: &mut String, options: &Options<'_>) -> Result<(), AllocError> {
     match options.style {
         Style::Llvm => out.push('\n'),
         _ => Ok(()),
@@ -112,9 +142,10 @@ fn write_location(
     file: &str,
     line: u32,
 ) -> Result<(), AllocError> {
-    match options.style {
-        Style::Gnu => write!(out, "{file}:{line}\n"),
-        _ => write!(out, "{file}:{line}:0\n"),
+    match (options.detail, options.style) {
+        (Detail::Verbose, _) => { write!(out, "  Filename: {file}\n  Line: {line}\n  Column: 0\n") }
+        (Detail::Brief, Style::Gnu) => write!(out, "{file}:{line}\n"),
+        (Detail::Brief, _) => write!(out, "{file}:{line}:0\n"),
     }
 }
 
@@ -148,11 +179,12 @@ fn base_name(file: &str) -> &str {
 fn write_json(
     out: &mut String,
     options: &Options<'_>,
+    file: &str,
     given: u64,
     frames: &[Frame<'_>],
 ) -> Result<(), AllocError> {
     write!(out, "{{\"Address\":\"0x{given:x}\",\"ModuleName\":")?;
-    write_quoted(out, options.file)?;
+    write_quoted(out, file)?;
     out.push_str(",\"Symbol\":[")?;
     if frames.is_empty() {
         write_json_location(out, "", "", 0)?;

@@ -1,33 +1,51 @@
-//! Which build PDB files are of: the lines of `--show-id`, and the check of `--expect-id`.
+//! Which build files are of: the lines of `--show-id`, and the check of `--expect-id`.
 
 use crate::input_files::read_file;
 use crate::options::Options;
 use crate::stops::Stop;
 use pdb_addr2line::Error;
-use pdb_container::{ContainerFault, DebugId, PdbIdentity, read_identity};
+use pdb_container::{ContainerFault, DebugId, Machine, PdbIdentity, read_identity};
+use pdb_identity::read_program;
 use std::alloc::Global;
 use std::rt::Files;
 
-/// Prints a line for each file that the words name: its path, its debug id, its age and its machine.
+/// Prints a line for each file that the words name, PDB files and programs: its path, its debug id, its age and its
+/// machine.
 pub fn print_identities<'w, R: Files + Print + AllocGlobal>(
     rt: &R,
     options: &Options<'w>,
 ) -> Result<(), Stop<'w>> {
-    print_identity(rt, options.file)?;
+    let Some(file) = options.file else {
+        return Err(Stop::NoFile);
+    };
+    print_identity(rt, file)?;
     for &file in &options.addresses {
         print_identity(rt, file)?;
     }
     Ok(())
 }
 
-fn print_identity<'w, R: Files + Print + AllocGlobal>(
-    rt: &R,
-    file: &'w str,
-) -> Result<(), Stop<'w>> {
+fn print_identity<'w, R: Files + Print + AllocGlobal>(rt: &R, file: &str) -> Result<(), Stop<'w>> {
     let bytes = read_file(rt, file)?;
-    let identity = identity_of(rt.alloc(), file, &bytes)?;
-    let id = identity.debug_id;
-    let printed = match identity.machine {
+    match read_program(&bytes) {
+        Some(program) => match program.code_view {
+            Some(code_view) => print_line(rt, file, code_view.debug_id, Some(program.machine)),
+            None => Err(Stop::NoIdentity(String::from_str(rt.alloc(), file)?)),
+        },
+        None => {
+            let identity = identity_of(rt.alloc(), file, &bytes)?;
+            print_line(rt, file, identity.debug_id, identity.machine)
+        }
+    }
+}
+
+fn print_line<'w, R: Print>(
+    rt: &R,
+    file: &str,
+    id: DebugId,
+    machine: Option<Machine>,
+) -> Result<(), Stop<'w>> {
+    let printed = match machine {
         Some(machine) => println!(rt; "{file} {} {} {machine}", id.compact(), id.age),
         None => println!(rt; "{file} {} {} ??", id.compact(), id.age),
     };
@@ -37,25 +55,28 @@ fn print_identity<'w, R: Files + Print + AllocGlobal>(
     }
 }
 
-/// Refuses a file of another build than is expected.
+/// Refuses a PDB file of another build than is expected, if one is.
 pub fn check_identity<'w>(
     alloc: Global,
-    file: &'w str,
+    options: &Options<'_>,
+    file: &str,
     bytes: &[u8],
-    expected: DebugId,
 ) -> Result<(), Stop<'w>> {
+    let Some(expected) = options.expected else {
+        return Ok(());
+    };
     let found = identity_of(alloc, file, bytes)?.debug_id;
     if found == expected {
         return Ok(());
     }
-    Err(Stop::OtherBuild(file, found, expected))
+    Err(Stop::OtherBuild(String::from_str(alloc, file)?, found, expected))
 }
 
-fn identity_of<'w>(alloc: Global, file: &'w str, bytes: &[u8]) -> Result<PdbIdentity, Stop<'w>> {
+fn identity_of<'w>(alloc: Global, file: &str, bytes: &[u8]) -> Result<PdbIdentity, Stop<'w>> {
     match read_identity(alloc, bytes) {
         Ok(Some(identity)) => Ok(identity),
-        Ok(None) => Err(Stop::NoIdentity(file)),
+        Ok(None) => Err(Stop::NoIdentity(String::from_str(alloc, file)?)),
         Err(ContainerFault::OutOfMemory) => Err(Stop::Refused(Error::OutOfMemory)),
-        Err(fault) => Err(Stop::Container(file, fault)),
+        Err(fault) => Err(Stop::Container(String::from_str(alloc, file)?, fault)),
     }
 }

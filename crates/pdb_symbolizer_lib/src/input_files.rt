@@ -2,11 +2,13 @@
 
 use crate::identities::check_identity;
 use crate::options::Options;
+use crate::programs::find_pdb;
 use crate::status_line::StatusLine;
 use crate::stops::Stop;
 use pdb_addr2line::Error;
 use pdb_addr2line::pdb::PDB;
 use pdb_container::{ContainerFault, PdbFile, Refusal, other_file, read_pdb_file};
+use pdb_identity::{ProgramFile, read_program};
 use pdb_json::RecordsFile;
 use std::alloc::{AllocError, Global};
 use std::rt::Files;
@@ -18,26 +20,56 @@ const PDB_FILE: [u8; 14] = *b"Microsoft C/C+";
 /// The records of a file, and what a reader of them wants to be told.
 #[derive(Drop)]
 pub struct InputFile {
+    /// The path of the file that the records are of: a PDB file that was found for a program, or the one that was named.
+    pub path: String,
     pub records: PDB,
     /// Why nothing can be answered over the records, where the file is a PDB file that shows why.
     pub refusal: Option<Refusal>,
     /// Whether the file is a PDB file that has names alone.
     pub names_only: bool,
+    /// Where the program wants to be loaded, if one was named.
+    pub image_base: Option<u64>,
 }
 
-/// The records of the file that is named: a PDB file, or else a records file with its module files. A file of another
-/// build than is expected is refused before anything else of it is read.
+/// The records of a file: a PDB file, a records file with its module files, or a program, whose PDB file is looked for.
+/// A file of another build than is expected is refused before anything else of it is read.
 pub fn read_input_file<'w, R: Files + Eprint + AllocGlobal>(
     rt: &R,
     status_line: &StatusLine,
     options: &Options<'w>,
+    path: &str,
 ) -> Result<InputFile, Stop<'w>> {
-    let path = options.file;
     let bytes = read_file(rt, path)?;
     status_line.print_size(rt, path, bytes.len());
-    if let Some(expected) = options.expected {
-        check_identity(rt.alloc(), path, &bytes, expected)?;
+    match read_program(&bytes) {
+        Some(program) => read_program_file(rt, options, path, &program),
+        None => read_records_of(rt, options, path, bytes),
     }
+}
+
+fn read_program_file<'w, R: Files + Eprint + AllocGlobal>(
+    rt: &R,
+    options: &Options<'w>,
+    path: &str,
+    program: &ProgramFile<'_>,
+) -> Result<InputFile, Stop<'w>> {
+    let Some(code_view) = &program.code_view else {
+        return Err(Stop::NoPdbFile(format!(in rt.alloc(); "{path}: it names no PDB file")?));
+    };
+    let found = find_pdb(rt, path, code_view, options)?;
+    check_identity(rt.alloc(), options, found.path.as_str(), &found.bytes)?;
+    let mut file = read_container(rt.alloc(), found.path.as_str(), &found.bytes)?;
+    file.image_base = Some(program.image_base);
+    Ok(file)
+}
+
+fn read_records_of<'w, R: Files + Eprint + AllocGlobal>(
+    rt: &R,
+    options: &Options<'w>,
+    path: &str,
+    bytes: Vec<u8>,
+) -> Result<InputFile, Stop<'w>> {
+    check_identity(rt.alloc(), options, path, &bytes)?;
     match other_file(&bytes) {
         ContainerFault::NotAPdbFile if !bytes.starts_with(&PDB_FILE) => {
             read_records_file(rt, path, bytes)
@@ -46,75 +78,84 @@ pub fn read_input_file<'w, R: Files + Eprint + AllocGlobal>(
     }
 }
 
-fn read_container<'w>(alloc: Global, path: &'w str, bytes: &[u8]) -> Result<InputFile, Stop<'w>> {
+fn read_container<'w>(alloc: Global, path: &str, bytes: &[u8]) -> Result<InputFile, Stop<'w>> {
     match read_pdb_file(alloc, bytes) {
-        Ok(file) => Ok(of_pdb_file(file)),
+        Ok(file) => of_pdb_file(alloc, path, file),
         Err(ContainerFault::OutOfMemory) => Err(Stop::Refused(Error::OutOfMemory)),
-        Err(fault) => Err(Stop::Container(path, fault)),
+        Err(fault) => Err(Stop::Container(String::from_str(alloc, path)?, fault)),
     }
 }
 
-fn of_pdb_file(file: PdbFile) -> InputFile {
+fn of_pdb_file<'w>(alloc: Global, path: &str, file: PdbFile) -> Result<InputFile, Stop<'w>> {
     let PdbFile {
         records,
         refusal,
         names_only,
     } = file;
-    InputFile {
+    Ok(InputFile {
+        path: String::from_str(alloc, path)?,
         records,
         refusal,
         names_only,
-    }
+        image_base: None,
+    })
 }
 
 /// The records of a records file and of its module files.
 fn read_records_file<'w, R: Files + AllocGlobal>(
     rt: &R,
-    path: &'w str,
+    path: &str,
     bytes: Vec<u8>,
 ) -> Result<InputFile, Stop<'w>> {
     let value = RecordsFile::from_slice(rt.alloc(), &bytes);
     drop(bytes);
     match value {
         Ok(file) => read_module_records(rt, path, file),
-        Err(fault) => Err(Stop::Records(path, fault)),
+        Err(fault) => Err(Stop::Records(String::from_str(rt.alloc(), path)?, fault)),
     }
 }
 
 fn read_module_records<'w, R: Files + AllocGlobal>(
     rt: &R,
-    path: &'w str,
+    path: &str,
     file: RecordsFile,
 ) -> Result<InputFile, Stop<'w>> {
     let files = read_module_files(rt, path, &file)?;
     match file.read_records(&files) {
         Ok(records) => Ok(InputFile {
+            path: String::from_str(rt.alloc(), path)?,
             records,
             refusal: None,
             names_only: false,
+            image_base: None,
         }),
-        Err(fault) => Err(Stop::Records(path, fault)),
+        Err(fault) => Err(Stop::Records(String::from_str(rt.alloc(), path)?, fault)),
     }
 }
 
 /// The bytes of a file that the words name.
-pub fn read_file<'w, R: Files + AllocGlobal>(rt: &R, path: &'w str) -> Result<Vec<u8>, Stop<'w>> {
-    match fs::read(rt, path) {
+pub fn read_file<'w, R: Files + AllocGlobal>(rt: &R, path: &str) -> Result<Vec<u8>, Stop<'w>> {
+    match read_bytes(rt, path) {
         Ok(bytes) => Ok(bytes),
         Err(error) if ran_out_of_memory(&error) => Err(Stop::Refused(Error::OutOfMemory)),
-        Err(_) => Err(Stop::CannotRead(path)),
+        Err(_) => Err(Stop::CannotRead(String::from_str(rt.alloc(), path)?)),
     }
+}
+
+/// The bytes of a file.
+pub fn read_bytes<R: Files + AllocGlobal>(rt: &R, path: &str) -> io::Result<Vec<u8>> {
+    fs::read(rt, path)
 }
 
 /// The bytes of the module files that a records file names, in order.
 fn read_module_files<'w, R: Files + AllocGlobal>(
     rt: &R,
-    path: &'w str,
+    path: &str,
     file: &RecordsFile,
 ) -> Result<Vec<Vec<u8>>, Stop<'w>> {
     let names = match file.module_files() {
         Ok(names) => names,
-        Err(fault) => return Err(Stop::Records(path, fault)),
+        Err(fault) => return Err(Stop::Records(String::from_str(rt.alloc(), path)?, fault)),
     };
     read_named_files(rt, path, &names)
 }
@@ -140,7 +181,7 @@ fn read_module_file<'w, R: Files + AllocGlobal>(
     match fs::read(rt, path.as_str()) {
         Ok(bytes) => Ok(bytes),
         Err(error) if ran_out_of_memory(&error) => Err(Stop::Refused(Error::OutOfMemory)),
-        Err(_) => Err(Stop::CannotReadModule(path)),
+        Err(_) => Err(Stop::CannotRead(path)),
     }
 }
 

@@ -7,13 +7,18 @@
 
 mod addresses;
 mod answers;
+mod base_hints;
 mod command_line;
 mod export_files;
+mod file_answers;
 mod identities;
 mod input_files;
 mod json_text;
+mod named_files;
 mod options;
+mod programs;
 mod repairs;
+mod requests;
 mod runs;
 mod status_line;
 mod stops;

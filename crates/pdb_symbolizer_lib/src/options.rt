@@ -46,11 +46,42 @@ pub enum Purpose<'w> {
     Identities,
 }
 
+/// Where the program is loaded that addresses are of.
+#[derive(Clone, Copy, PartialEq, Eq)]
+pub enum Base {
+    /// Where a program wants to be loaded; at 0 where a PDB file or a records file is given.
+    Preferred,
+    /// At 0.
+    Relative,
+    /// At this address.
+    At(u64),
+}
+
+/// How digits are read that say nothing of it.
+#[derive(Clone, Copy, PartialEq, Eq)]
+pub enum Digits {
+    /// As hexadecimal ones.
+    Hexadecimal,
+    /// As decimal ones, but behind `0x`, `0b`, `0o` or a zero.
+    ByPrefix,
+}
+
+/// How much is printed of where a frame's code came from.
+#[derive(Clone, Copy, PartialEq, Eq)]
+pub enum Detail {
+    /// File, line and column in one line.
+    Brief,
+    /// Each on a line of its own.
+    Verbose,
+}
+
 /// What the words of a command line ask for.
 #[derive(Drop)]
 pub struct Options<'w> {
-    /// The file with the records.
-    pub file: &'w str,
+    /// The file with the records, or the program that it is of. Without one each line of standard input names its own.
+    pub file: Option<&'w str>,
+    /// The folders in which the PDB file of a program is looked for.
+    pub pdb_dirs: Vec<&'w str>,
     /// The addresses, as they were given. Where there are none they come from standard input.
     pub addresses: Vec<&'w str>,
     pub names: NameStyle,
@@ -63,8 +94,9 @@ pub struct Options<'w> {
     /// Whether folders are left out of the names of files.
     pub basenames: bool,
     pub style: Style,
-    /// Where the program is loaded that the addresses are of.
-    pub base: u64,
+    pub detail: Detail,
+    pub digits: Digits,
+    pub base: Base,
     /// What else is taken from the addresses.
     pub adjust: u64,
     pub purpose: Purpose<'w>,
@@ -73,15 +105,6 @@ pub struct Options<'w> {
 }
 
 impl Options<'_> {
-    /// The address relative to where the program is loaded, where it can lie in the program.
-    pub fn relative(&self, given: u64) -> Option<u32> {
-        let address = given.wrapping_sub(self.base).wrapping_sub(self.adjust);
-        match u32::try_from(address) {
-            Ok(address) => Some(address),
-            Err(_) => None,
-        }
-    }
-
     /// How names are printed.
     pub fn flags(&self) -> TypeFormatterFlags {
         let flags = TypeFormatterFlags::default();

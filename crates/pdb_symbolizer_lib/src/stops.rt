@@ -20,25 +20,31 @@ pub enum Stop<'w> {
     NoSuchValue(&'static str, &'w str),
     /// The file could not be read.
     #[error("pdb_symbolizer: cannot read {0}")]
-    CannotRead(&'w str),
-    /// The module file at this path could not be read.
-    #[error("pdb_symbolizer: cannot read {0}")]
-    CannotReadModule(String),
+    CannotRead(String),
+    /// No file is named.
+    #[error("pdb_symbolizer: no FILE")]
+    NoFile,
+    /// Records are written and addresses asked for at once.
+    #[error("pdb_symbolizer: --export answers no address")]
+    ExportAnswersNone,
+    /// The PDB file of a program was not found: where it was looked for.
+    #[error("pdb_symbolizer: {0}")]
+    NoPdbFile(String),
     /// The file is a PDB file that can't be read.
     #[error("pdb_symbolizer: {0}: {1}")]
-    Container(&'w str, ContainerFault),
+    Container(String, ContainerFault),
     /// The file is a PDB file over which nothing can be answered.
     #[error("pdb_symbolizer: {0}: {1}")]
-    PdbFile(&'w str, Refusal),
+    PdbFile(String, Refusal),
     /// The file is of another build than is expected: first the file's, then the expected one.
     #[error("pdb_symbolizer: {0}: its id is {1}, not {2}")]
-    OtherBuild(&'w str, DebugId, DebugId),
+    OtherBuild(String, DebugId, DebugId),
     /// The file doesn't say which build it is of.
     #[error("pdb_symbolizer: {0}: no id")]
-    NoIdentity(&'w str),
+    NoIdentity(String),
     /// The file is a records file that holds no records.
     #[error("pdb_symbolizer: {0}: {1}")]
-    Records(&'w str, RecordFault),
+    Records(String, RecordFault),
     /// The file at this path could not be written.
     #[error("pdb_symbolizer: {0}: {1}")]
     Export(String, ExportFault),
@@ -76,7 +82,11 @@ impl Stop<'_> {
         match self {
             Stop::Words(error) if !error.use_stderr() => 0,
             Stop::ClosedPipe => 0,
-            Stop::Refused(_) | Stop::PdbFile(..) | Stop::OtherBuild(..) | Stop::NoIdentity(_) => 1,
+            Stop::Refused(_)
+            | Stop::PdbFile(..)
+            | Stop::NoPdbFile(_)
+            | Stop::OtherBuild(..)
+            | Stop::NoIdentity(_) => 1,
             _ => 2,
         }
     }

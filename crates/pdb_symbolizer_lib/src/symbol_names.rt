@@ -32,6 +32,14 @@ impl SymbolNames {
         })
     }
 
+    /// Whether an address that is relative to where the program is loaded lies in a section.
+    pub fn lies_in_section(&self, address: u64) -> bool {
+        match u32::try_from(address) {
+            Ok(address) => Rva(address).to_internal_offset(&self.address_map).is_some(),
+            Err(_) => false,
+        }
+    }
+
     /// Has the function of these frames go by its symbol's name where it has none, since its type can't be printed.
     pub fn name_function<P: ModuleProvider>(
         &self,

@@ -1,12 +1,13 @@
 #!/usr/bin/env python3
 """Writes cases.txt, and what is wanted of its cases into ../stdout.
 
-Usage: write_cases.py EXE     EXE is the program of shapes.pdb, with its PDB file beside it, as
-                              crates/pdb_symbolizer/data/program/build.sh builds it
+Usage: write_cases.py FOLDER     FOLDER has shapes.exe with its PDB file, as crates/pdb_symbolizer/data/program/build.sh
+                                 builds them
 
-Where `llvm-symbolizer` has an answer of the same form, that is what is wanted, with the PDB file's name in place of the
-program's. All else is written here by hand, from docs/CONTAINER.md: what its tables of differences name, what LLVM's
-program doesn't have, and files that are broken.
+Where `llvm-symbolizer` has an answer to the same words, that is what is wanted. All else is written here by hand, from
+docs/CONTAINER.md: what its tables of differences name, what LLVM's program doesn't have, and files that are broken.
+shapes.exe beside this is the program with the GUID of shapes.pdb here, and other.exe is it as it was built, whose PDB
+file stands under `symbols`: clang writes the name of its folder into a PDB file, by which the GUID is made.
 """
 import itertools
 import json
@@ -29,29 +30,41 @@ def sets_of_options():
                 yield [f"--output-style={style}", *options]
 
 
-def of_llvm(exe, options, addresses, lines):
-    """What llvm-symbolizer prints of the addresses, as words or as lines."""
-    words = ["llvm-symbolizer", f"--obj={exe}", "--relative-address", *options]
-    text = "\n".join(addresses) + "\n" if lines else None
-    printed = subprocess.run(words + ([] if lines else addresses), input=text, capture_output=True, text=True, check=True)
-    return printed.stdout.replace(f'"ModuleName":"{exe}"', '"ModuleName":"shapes.pdb"')
+# What llvm-symbolizer takes for an address, and what it doesn't
+LINES = ["0x1136", "4406", "0X1136", "0o10466", "010466", "0b1000100110110", "CODE 0x1136", "DATA 0x1136", "0x1136 tail",
+         "zz", "", "CODE zz", "-5", "0x", "+4406", "CODE", "08"]
 
 
-def llvm_cases(exe):
+def of_llvm(folder, words, lines=None):
+    """What llvm-symbolizer prints for these words, and these lines of standard input."""
+    text = None if lines is None else "".join(f"{line}\n" for line in lines)
+    printed = subprocess.run(["llvm-symbolizer", *words], input=text, capture_output=True, text=True, check=True, cwd=folder)
+    return printed.stdout + "status 0\n"
+
+
+def llvm_cases(folder):
     """Cases whose wanted text is LLVM's."""
     for options in sets_of_options():
-        for lines in (False, True):
-            asked = ["--functions=short", *options]
-            # `-p` in JSON by LLVM is another layout of the same
-            if "--output-style=JSON" in options and "-p" in options:
-                continue
-            words = " ".join(["pdb_symbolizer", *asked, "shapes.pdb"])
-            given = " < " + "|".join(ADDRESSES) if lines else " " + " ".join(ADDRESSES)
-            yield words + given, of_llvm(exe, asked, ADDRESSES, lines) + "status 0\n"
+        # `-p` in JSON by LLVM is another layout of the same
+        if "--output-style=JSON" in options and "-p" in options:
+            continue
+        words = ["--obj=shapes.exe", "--relative-address", "--functions=short", *options]
+        yield " ".join(["pdb_symbolizer", *words, *ADDRESSES]), of_llvm(folder, [*words, *ADDRESSES])
+        yield " ".join(["pdb_symbolizer", *words]) + " < " + "|".join(ADDRESSES), of_llvm(folder, words, ADDRESSES)
     for style in ("LLVM", "GNU"):
-        asked = ["--functions=none", f"--output-style={style}"]
-        yield " ".join(["pdb_symbolizer", *asked, "shapes.pdb", *ADDRESSES]), of_llvm(exe, asked, ADDRESSES, False) + \
-            "status 0\n"
+        for options in (["--functions=none"], ["--functions=short", "--verbose"], ["--functions=short", "--verbose", "-p", "-a"],
+                        ["--functions=short", "-C"], ["--functions=short", "--no-demangle"]):
+            words = ["--obj=shapes.exe", "--relative-address", f"--output-style={style}", *options, *ADDRESSES]
+            yield " ".join(["pdb_symbolizer", *words]), of_llvm(folder, words)
+    for style in STYLES:
+        words = ["--relative-address", "--functions=short", f"--output-style={style}", "-e", "shapes.exe"]
+        yield " ".join(["pdb_symbolizer", *words]) + " < " + "|".join(LINES), of_llvm(folder, words, LINES)
+    high = ["0x140001136", "5368713526"]
+    for options in (["--obj", "shapes.exe"], ["--exe=shapes.exe"], ["-e", "shapes.exe", "--default-arch=x86_64"],
+                    ["--obj=shapes.exe", "--adjust-vma=0x1000"]):
+        words = ["--functions=short", *options, *([address.replace("1136", "2136") for address in high[:1]]
+                                                  if "--adjust-vma=0x1000" in options else high)]
+        yield " ".join(["pdb_symbolizer", *words]), of_llvm(folder, words)
 
 
 INNER = r"shapes::Point::length() const at C:\shapes\shapes.h:10:0"
@@ -104,17 +117,71 @@ def address_cases():
     yield "pdb_symbolizer --output-style=GNU shapes.pdb 0x10", "??\n??:0\n" + ENDED
     yield "pdb_symbolizer --output-style=JSON shapes.pdb 0x10", \
         f"[{json_answer('0x10', 'shapes.pdb', [json_frame('', '', 0)])}]\n" + ENDED
-    for style, text in (("LLVM", "\n"), ("GNU", "??\n??:0\n")):
-        yield f"pdb_symbolizer --output-style={style} shapes.pdb zz", error("zz is no address") + text + ENDED
+    for style in ("LLVM", "GNU"):
+        yield f"pdb_symbolizer --output-style={style} shapes.pdb zz", "zz\n" + ENDED
     yield "pdb_symbolizer --output-style=JSON shapes.pdb z\"\\z", \
-        "[" + error("z\"\\z is no address") + '{"Error":{"Message":"no address"},"Input":"z\\"\\\\z","ModuleName":"shapes.pdb"}]\n' \
-        + ENDED
-    words = ["0X1136", "+1136", "0x", "0x0x1", "1_0", "10000000000000000", "-1", "CODE 0x1136", "0x1136 0x1000"]
-    yield "pdb_symbolizer shapes.pdb < " + "|".join(words), \
-        "".join(error(f"{word} is no address") + "\n" for word in words) + ENDED
+        '[{"Error":{"Message":"unable to parse arguments: z\\"\\\\z"},"ModuleName":"shapes.pdb"}]\n' + ENDED
+    words = ["0X1136", "+1136", "0x", "0x0x1", "1_0", "10000000000000000", "-1", "CODE", "FILE 0x1136"]
+    yield "pdb_symbolizer shapes.pdb < " + "|".join(words), "".join(word + "\n" for word in words) + ENDED
+    for line in ("CODE 0x1136", "0x1136 0x1000", "  1136"):
+        yield f"pdb_symbolizer -p shapes.pdb < {line}", STACK
     yield "pdb_symbolizer -p shapes.pdb <  0x1136 ", STACK
     yield "pdb_symbolizer --output-style=GNU -p shapes.pdb < |1000000000000136", \
-        error(" is no address") + "?? at ??:0\n?? at ??:0\n" + ENDED
+        "\n?? at ??:0\n" + ENDED
+
+
+def program_cases():
+    """Programs, whose PDB file is looked for, and the base that they have."""
+    shapes, other = "{6B32B941-6495-9A52-4C4C-44205044422E}/1", "{A9D98A29-E7C1-86D0-4C4C-44205044422E}/1"
+    yield "pdb_symbolizer -p shapes.exe 140001136", STACK
+    yield "pdb_symbolizer -p --relative-address shapes.exe 1136", STACK
+    yield "pdb_symbolizer -p --base 7ff600000000 shapes.exe 0x7ff600001136", STACK
+    yield "pdb_symbolizer -p --adjust 1 shapes.exe 0x140001137", STACK
+    yield "pdb_symbolizer -p ./shapes.exe 140001136", STACK
+    yield "pdb_symbolizer shapes.exe 0x1136", NO_NAME + ENDED
+    places = ["shapes.pdb", "shapes.pdb"]
+    yield "pdb_symbolizer other.exe 0x140001136", error(f"other.exe: no PDB file of {other}" + "".join(
+        f"\n    {place}: its id is {shapes}" for place in places)) + "status 1\n"
+    yield "pdb_symbolizer -p --pdb-dir symbols other.exe 0x140001136", STACK
+    yield "pdb_symbolizer -p --pdb-dir nowhere --pdb-dir symbols other.exe 0x140001136", STACK
+    places = [f"nowhere/{name}" for name in ("shapes.pdb", "shapes.pdb/A9D98A29E7C186D04C4C44205044422E1/shapes.pdb")]
+    yield "pdb_symbolizer --pdb-dir nowhere other.exe 0x140001136", error(f"other.exe: no PDB file of {other}" + "".join(
+        f"\n    shapes.pdb: its id is {shapes}" for _ in range(2)) + "".join(
+        f"\n    {place}: can't be read" for place in places)) + "status 1\n"
+    yield "pdb_symbolizer --show-id shapes.exe other.exe", "shapes.exe 6B32B94164959A524C4C44205044422E1 1 x86_64\n" \
+        "other.exe A9D98A29E7C186D04C4C44205044422E1 1 x86_64\n" + ENDED
+    yield "pdb_symbolizer --pdb-dir symbols --expect-id 6B32B94164959A524C4C44205044422E1 other.exe 0x140001136", \
+        error("symbols/shapes.pdb/A9D98A29E7C186D04C4C44205044422E1/shapes.pdb: "
+              f"its id is {other}, not {shapes}") + "status 1\n"
+    hint = error("shapes.pdb: 0x140001136 lies in no section: for addresses with the base in them say --base 0x140000000")
+    yield "pdb_symbolizer shapes.pdb 0x140001136 0x140001137 0x1c0000000", hint + 3 * NO_NAME + ENDED
+    yield "pdb_symbolizer --base 0 shapes.pdb 0x140001136", NO_NAME + ENDED
+
+
+def habit_cases(folder):
+    """Lines that name their files, and the program under other names."""
+    lines = ["shapes.exe 0x140001136", '"shapes.exe" 0x140001136', "CODE shapes.exe 5368713526", "'shapes.exe' 0x140001000",
+             "DATA shapes.exe 0x140001136", "zz", "CODE zz", "", "shapes.exe zz", "shapes.exe"]
+    for style in STYLES:
+        words = ["--functions=short", f"--output-style={style}"]
+        wanted = of_llvm(folder, words, lines)
+        # LLVM's names the file in an error, too, if there is one
+        yield " ".join(["pdb_symbolizer", *words]) + " < " + "|".join(lines[:5]), of_llvm(folder, words, lines[:5])
+        if style != "JSON":
+            yield " ".join(["pdb_symbolizer", *words]) + " < " + "|".join(lines), wanted
+    yield "pdb_symbolizer -p < shapes.pdb 0x1136|shapes.exe 0x140001136|names.json 0x1010|nowhere.pdb 0x1|shapes.pdb 4406", \
+        2 * STACK.replace(ENDED, "") + "typed at C:\\b/c.h:7:0\n\n" + error("cannot read nowhere.pdb") + \
+        "?? at ??:0:0\n\n" + STACK
+    stack = STACK.replace(":0\n", "\n").replace("\n\n", "\n").replace("\nstatus", "\nstatus")
+    yield "addr2line -e shapes.exe 140001136", "C:\\shapes\\shapes.h:10\n" + ENDED
+    yield "addr2line -e shapes.exe -i 140001136", "C:\\shapes\\shapes.h:10\nC:\\shapes\\main.cpp:29\nC:\\shapes\\main.cpp:36\n" + ENDED
+    yield "llvm-addr2line -e shapes.exe -fipC 0x140001136", stack
+    yield "addr2line -e shapes.exe -f -s -a < 140001136|zz", \
+        "0x140001136\nshapes::Point::length() const\nshapes.h:10\nzz\n" + ENDED
+    yield "llvm-symbolizer -p --obj=shapes.exe 5368713526", STACK
+    yield "llvm-symbolizer -p < shapes.exe 5368713526", STACK
+    yield "llvm-symbolizer --obj shapes.exe --pretty-print --print-address 0x140001136", \
+        "0x140001136: " + STACK
 
 
 def broken_cases():
@@ -126,6 +193,9 @@ def broken_cases():
     yield "pdb_symbolizer --output-style=XML shapes.pdb 0x1136", error("--output-style can't be XML") + "status 2\n"
     yield "pdb_symbolizer --functions=long shapes.pdb 0x1136", error("--functions can't be long") + "status 2\n"
     yield "pdb_symbolizer --base zz shapes.pdb 0x1136", error("--base can't be zz") + "status 2\n"
+    yield "pdb_symbolizer --export written.json shapes.pdb 0x1136", error("--export answers no address") + "status 2\n"
+    yield "pdb_symbolizer --export written.json", error("no FILE") + "status 2\n"
+    yield "pdb_symbolizer --show-id", error("no FILE") + "status 2\n"
     yield "pdb_symbolizer --adjust=-1 shapes.pdb 0x1136", error("--adjust can't be -1") + "status 2\n"
     cut, length = "the bytes end before what is said to stand there", "a length that can't stand there"
     claimed = "code that another module claims too is left out"
@@ -190,7 +260,7 @@ def records_cases():
 
 
 def main(words):
-    made = [*llvm_cases(words[0]), *name_cases(), *address_cases(), *broken_cases(), *identity_cases(), *records_cases()]
+    made = [*llvm_cases(words[0]), *habit_cases(words[0]), *name_cases(), *address_cases(), *program_cases(), *broken_cases(), *identity_cases(), *records_cases()]
     (HERE / "cases.txt").write_text("".join(f"{line}\n" for line, _ in made), encoding="utf-8")
     (HERE.parent / "stdout").write_text("".join(f"$ {line}\n{text}" for line, text in made), encoding="utf-8")
     print(f"{len(made)} cases")

@@ -1,0 +1,265 @@
+//! Answers over a file: the file is read, what is broken is taken out, and a context over it answers words or lines.
+
+use crate::addresses::Origin;
+use crate::answers::{write_answer, write_no_answer, write_no_data};
+use crate::base_hints::BaseHint;
+use crate::input_files::{InputFile, read_input_file};
+use crate::options::{Base, Options, Style};
+use crate::repairs::print_repairs;
+use crate::requests::{Naming, Request, Sort, parse_request};
+use crate::status_line::StatusLine;
+use crate::stops::Stop;
+use crate::symbol_names::SymbolNames;
+use pdb_addr2line::{Context, ContextPdbData, Error, Frame, FunctionFrames};
+use std::io::{self, BufRead, BufReader, Write};
+use std::rt::Files;
+
+/// A context over the records of a file.
+pub type FileContext<'a, 'p> = Context<'a, ContextPdbData<'p>>;
+
+/// What is asked, of which file, and what is had from beside the context.
+#[derive(Clone, Copy)]
+pub struct Questions<'q, 'w, 'p> {
+    pub options: &'q Options<'w>,
+    /// The file as it was named.
+    pub file: &'q str,
+    pub origin: Origin,
+    pub names: &'q SymbolNames,
+    pub data: &'q ContextPdbData<'p>,
+}
+
+/// Answers the addresses of the command line, or else the lines of standard input, over one file.
+pub fn answer_file<'w, R: Files + Input + Print + Eprint + AllocGlobal>(
+    rt: &R,
+    status_line: &StatusLine,
+    options: &Options<'w>,
+    path: &str,
+) -> Result<(), Stop<'w>> {
+    let mut input = open_file(rt, status_line, options, path)?;
+    answer_over(rt, options, path, &mut input)
+}
+
+fn answer_over<'w, R: Input + Print + Eprint + AllocGlobal>(
+    rt: &R,
+    options: &Options<'w>,
+    path: &str,
+    input: &mut InputFile,
+) -> Result<(), Stop<'w>> {
+    let mut hint = hint_for(options, input);
+    let origin = Origin::new(options.base, input.image_base, options.adjust);
+    let names = SymbolNames::new(rt.alloc(), &input.records)?;
+    let data = ContextPdbData::try_from_pdb_ref(rt.alloc(), &mut input.records)?;
+    let questions = Questions {
+        options,
+        file: path,
+        origin,
+        names: &names,
+        data: &data,
+    };
+    answer_all(rt, &questions, &mut hint)
+}
+
+fn answer_all<'w, R: Input + Print + Eprint + AllocGlobal>(
+    rt: &R,
+    questions: &Questions<'_, '_, '_>,
+    hint: &mut BaseHint,
+) -> Result<(), Stop<'w>> {
+    let flags = questions.options.flags();
+    let mut context = questions.data.make_context_with_formatter_flags(flags)?;
+    if questions.options.addresses.is_empty() {
+        answer_lines(rt, questions, &mut context, hint)
+    } else {
+        answer_words(rt, questions, &mut context, hint)
+    }
+}
+
+/// Whether it is to be said how a base is given: of a file that is no program, where no base is.
+pub fn hint_for(options: &Options<'_>, input: &InputFile) -> BaseHint {
+    match (options.base, input.image_base) {
+        (Base::Preferred, None) => BaseHint::ToBePrinted,
+        _ => BaseHint::Printed,
+    }
+}
+
+/// Reads a file, takes out of its records what is broken, and prints that on standard error. An error where nothing can
+/// be answered over it.
+pub fn open_file<'w, R: Files + Eprint + AllocGlobal>(
+    rt: &R,
+    status_line: &StatusLine,
+    options: &Options<'w>,
+    path: &str,
+) -> Result<InputFile, Stop<'w>> {
+    let mut input = read_input_file(rt, status_line, options, path)?;
+    repair(rt, &mut input)?;
+    Ok(input)
+}
+
+fn repair<'w, R: Eprint + AllocGlobal>(rt: &R, input: &mut InputFile) -> Result<(), Stop<'w>> {
+    if let Some(refusal) = input.refusal {
+        return Err(Stop::PdbFile(String::from_str(rt.alloc(), input.path.as_str())?, refusal));
+    }
+    if input.names_only {
+        let _ = eprintln!(rt;
+            "pdb_symbolizer: {}: made with /DEBUG:FASTLINK: names but no lines",
+            input.path
+        );
+    }
+    print_repairs(rt, input.path.as_str(), &mut input.records)
+}
+
+/// Answers the addresses of the command line. In JSON the answers are one array.
+fn answer_words<'w, R: Print + Eprint + AllocGlobal>(
+    rt: &R,
+    questions: &Questions<'_, '_, '_>,
+    context: &mut FileContext<'_, '_>,
+    hint: &mut BaseHint,
+) -> Result<(), Stop<'w>> {
+    let json = questions.options.style == Style::Json;
+    if json {
+        write_out(rt, "[")?;
+    }
+    for (position, given) in questions.options.addresses.iter().enumerate() {
+        if json && position > 0 {
+            write_out(rt, ",")?;
+        }
+        let text = answer_text(rt, questions, context, hint, given)?;
+        write_out(rt, text.as_str())?;
+    }
+    if json {
+        write_out(rt, "]\n")?;
+    }
+    Ok(())
+}
+
+/// Answers the lines of standard input, each before the next is read.
+fn answer_lines<'w, R: Input + Print + Eprint + AllocGlobal>(
+    rt: &R,
+    questions: &Questions<'_, '_, '_>,
+    context: &mut FileContext<'_, '_>,
+    hint: &mut BaseHint,
+) -> Result<(), Stop<'w>> {
+    let Ok(reader) = BufReader::new(rt.alloc(), rt.reader()) else {
+        return Err(Stop::Refused(Error::OutOfMemory));
+    };
+    for line in reader.lines(rt.alloc()) {
+        match line {
+            Ok(line) => answer_line(rt, questions, context, hint, line.as_str().trim())?,
+            Err(error) if matches!(error.kind(), io::ErrorKind::InvalidData) => {
+                answer_line(rt, questions, context, hint, "?")?;
+            }
+            Err(_) => return Err(Stop::CannotReadInput),
+        }
+    }
+    Ok(())
+}
+
+fn answer_line<'w, R: Print + Eprint + AllocGlobal>(
+    rt: &R,
+    questions: &Questions<'_, '_, '_>,
+    context: &mut FileContext<'_, '_>,
+    hint: &mut BaseHint,
+    given: &str,
+) -> Result<(), Stop<'w>> {
+    let mut text = answer_text(rt, questions, context, hint, given)?;
+    if questions.options.style == Style::Json {
+        text.push('\n')?;
+    }
+    write_out(rt, text.as_str())
+}
+
+/// The answer of what was given as an address.
+fn answer_text<'w, R: Eprint + AllocGlobal>(
+    rt: &R,
+    questions: &Questions<'_, '_, '_>,
+    context: &mut FileContext<'_, '_>,
+    hint: &mut BaseHint,
+    given: &str,
+) -> Result<String, Stop<'w>> {
+    let options = questions.options;
+    match parse_request(given, Naming::ByCommandLine, options.digits) {
+        Some(request) => request_text(rt, questions, context, hint, request),
+        None => {
+            let mut text = String::new(rt.alloc());
+            write_no_answer(&mut text, options, questions.file, given)?;
+            Ok(text)
+        }
+    }
+}
+
+/// The answer of a request.
+pub fn request_text<'w, R: Eprint + AllocGlobal>(
+    rt: &R,
+    questions: &Questions<'_, '_, '_>,
+    context: &mut FileContext<'_, '_>,
+    hint: &mut BaseHint,
+    request: Request<'_>,
+) -> Result<String, Stop<'w>> {
+    let options = questions.options;
+    let mut text = String::new(rt.alloc());
+    match request.sort {
+        Sort::Data => write_no_data(&mut text, options, questions.file, request.address)?,
+        Sort::Code => {
+            hint.print(rt, questions.file, questions.names, request.address);
+            let found = frames_at(rt, questions, context, request.address)?;
+            let frames = shown(options, &found);
+            write_answer(&mut text, options, questions.file, request.address, frames)?;
+        }
+    }
+    Ok(text)
+}
+
+/// The frames of an address, of which the last has a name wherever its symbol has one. Where the records of its module
+/// can't be read that is shown on standard error.
+fn frames_at<'a, 'w, R: Eprint + AllocGlobal>(
+    rt: &R,
+    questions: &Questions<'_, '_, '_>,
+    context: &mut FileContext<'a, '_>,
+    given: u64,
+) -> Result<Option<FunctionFrames<'a>>, Stop<'w>> {
+    let Some(address) = questions.origin.relative(given) else {
+        return Ok(None);
+    };
+    match context.find_frames(address) {
+        Ok(mut found) => {
+            if let Some(frames) = &mut found {
+                questions
+                    .names
+                    .name_function(rt.alloc(), questions.data, frames)?;
+            }
+            Ok(found)
+        }
+        Err(Error::OutOfMemory) => Err(Stop::Refused(Error::OutOfMemory)),
+        Err(error) => {
+            let _ = eprintln!(rt; "pdb_symbolizer: 0x{given:x}: {error}");
+            Ok(None)
+        }
+    }
+}
+
+/// The frames that are printed: without inlined functions one alone, in GNU's form the innermost, and else the
+/// function itself.
+fn shown<'f, 'a>(options: &Options<'_>, found: &'f Option<FunctionFrames<'a>>) -> &'f [Frame<'a>] {
+    let Some(found) = found else {
+        return &[];
+    };
+    let frames = found.frames.as_slice();
+    if options.inlines || frames.is_empty() {
+        return frames;
+    }
+    match options.style {
+        Style::Gnu => &frames[..1],
+        _ => &frames[frames.len() - 1..],
+    }
+}
+
+/// Writes a text whole.
+pub fn write_out<'w, R: Print>(rt: &R, text: &str) -> Result<(), Stop<'w>> {
+    let mut writer = io::writer(rt);
+    let written = writer.write_all(text.as_bytes());
+    let flushed = writer.flush();
+    match written.and(flushed) {
+        Ok(()) => Ok(()),
+        Err(error) if matches!(error.kind(), io::ErrorKind::BrokenPipe) => Err(Stop::ClosedPipe),
+        Err(_) => Err(Stop::CannotWrite),
+    }
+}

@@ -1,0 +1,116 @@
+//! The PDB file of a program or a DLL: it is looked for where the program names it, beside the program, and in folders.
+
+use crate::input_files::{ran_out_of_memory, read_bytes};
+use crate::options::Options;
+use crate::stops::Stop;
+use pdb_addr2line::Error;
+use pdb_container::{ContainerFault, DebugId, read_identity};
+use pdb_identity::CodeView;
+use std::alloc::{AllocError, Global};
+use std::rt::Files;
+use std::str;
+
+/// A file that was found, with its bytes.
+#[derive(Drop)]
+pub struct FoundFile {
+    pub path: String,
+    pub bytes: Vec<u8>,
+}
+
+/// The PDB file of a program: the first of these places with one of its GUID and age. One of another build is passed
+/// over, and where none is left the refusal names each place that was looked at, and why it was passed over.
+pub fn find_pdb<'w, R: Files + AllocGlobal>(
+    rt: &R,
+    program: &str,
+    code_view: &CodeView<'_>,
+    options: &Options<'w>,
+) -> Result<FoundFile, Stop<'w>> {
+    let places = places(rt.alloc(), program, code_view, options)?;
+    let mut looked = String::new(rt.alloc());
+    for path in places {
+        match look_at(rt, path.as_str(), code_view.debug_id)? {
+            Look::Found(bytes) => return Ok(FoundFile { path, bytes }),
+            Look::PassedOver(why) => write!(looked, "\n    {path}: {why}")?,
+        }
+    }
+    let id = code_view.debug_id;
+    Err(Stop::NoPdbFile(format!(in rt.alloc(); "{program}: no PDB file of {id}{looked}")?))
+}
+
+/// What a look at a place came to.
+#[derive(Drop)]
+enum Look {
+    Found(Vec<u8>),
+    /// Why it is none that is looked for.
+    PassedOver(String),
+}
+
+fn look_at<'w, R: Files + AllocGlobal>(
+    rt: &R,
+    path: &str,
+    wanted: DebugId,
+) -> Result<Look, Stop<'w>> {
+    let alloc = rt.alloc();
+    let bytes = match read_bytes(rt, path) {
+        Ok(bytes) => bytes,
+        Err(error) if ran_out_of_memory(&error) => return Err(Stop::Refused(Error::OutOfMemory)),
+        Err(_) => return passed_over(alloc, "can't be read"),
+    };
+    match read_identity(alloc, &bytes) {
+        Ok(Some(identity)) if identity.debug_id == wanted => Ok(Look::Found(bytes)),
+        Ok(Some(identity)) => Ok(Look::PassedOver(format!(in alloc;
+            "its id is {}",
+            identity.debug_id
+        )?)),
+        Ok(None) => passed_over(alloc, "no id"),
+        Err(ContainerFault::OutOfMemory) => Err(Stop::Refused(Error::OutOfMemory)),
+        Err(fault) => Ok(Look::PassedOver(format!(in alloc; "{fault}")?)),
+    }
+}
+
+fn passed_over<'w>(alloc: Global, why: &str) -> Result<Look, Stop<'w>> {
+    Ok(Look::PassedOver(String::from_str(alloc, why)?))
+}
+
+// Where the PDB file is looked for: at the path that the program names; under that path's last part beside the program;
+// and under it in each folder, and in the folder that a symbol store has for it there.
+fn places(
+    alloc: Global,
+    program: &str,
+    code_view: &CodeView<'_>,
+    options: &Options<'_>,
+) -> Result<Vec<String>, AllocError> {
+    let mut places = Vec::new(alloc);
+    let Ok(written) = str::from_utf8(code_view.path) else {
+        return Ok(places);
+    };
+    places.push(String::from_str(alloc, written)?)?;
+    let Some(name) = last_part(written) else {
+        return Ok(places);
+    };
+    places.push(beside(alloc, program, name)?)?;
+    for dir in &options.pdb_dirs {
+        places.push(format!(in alloc; "{dir}/{name}")?)?;
+        places.push(format!(in alloc; "{dir}/{name}/{}/{name}", code_view.debug_id.compact())?)?;
+    }
+    Ok(places)
+}
+
+// What stands behind the last slash of either kind, if that can be the name of a file.
+fn last_part(path: &str) -> Option<&str> {
+    let name = match path.rsplit_once(['/', '\\']) {
+        Some((_, name)) => name,
+        None => path,
+    };
+    match name {
+        "" | "." | ".." => None,
+        _ => Some(name),
+    }
+}
+
+fn beside(alloc: Global, program: &str, name: &str) -> Result<String, AllocError> {
+    match program.rsplit_once('/') {
+        Some((folder, _)) => format!(in alloc; "{folder}/{name}"),
+        None => String::from_str(alloc, name),
+    }
+}
