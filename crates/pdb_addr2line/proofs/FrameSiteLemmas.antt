@@ -30,7 +30,7 @@ use Rattle.pdb_function_info.specs.Frames.{Strings, own_frame, inlined_frame, fu
 use Rattle.pdb_addr2line.specs.Lookups.{found_at, frames_at, records_of}
 use Rattle.pdb_function_info.specs.Names.{function_name, id_name}
 use Rattle.pdb_addr2line.specs.ContextInputs.{ContextInputs, global_functions_of}
-use Rattle.pdb_addr2line.proofs.FrameLawLemmas.{shown_at}
+use Rattle.pdb_addr2line.proofs.FrameLawLemmas.{frames_info_at}
 use Rattle.pdb_addr2line.proofs.FrameLevelLemmas.{and_then-ok, unless-ok, known_inlinees, known_with}
 
 -- the stack and the line program of where code comes from, where that is known
