@@ -20,7 +20,7 @@ import tempfile
 HERE = pathlib.Path(__file__).resolve().parent
 ROOT = HERE.parents[1]
 # The tests that run what a crate has; those of the readers are of all others.
-RUNS = {"pdb_symbolizer_lib": "pdb_symbolizer_tests", "identity.rt": "pdb_symbolizer_tests"}
+RUNS = {"pdb_symbolizer_lib": "pdb_symbolizer_tests", "pdb_identity": "pdb_symbolizer_tests", "identity.rt": "pdb_symbolizer_tests"}
 READERS = "pdb_container_tests"
 
 
@@ -49,7 +49,8 @@ def outcome(bug):
         file.write_text(text.replace(bug["old"], bug["new"]), encoding="utf-8")
         folder = pathlib.Path(room) / "crates" / RUNS.get(file.name, RUNS.get(file.parts[-3], READERS))
         words = (folder / "args").read_text().split() if (folder / "args").exists() else []
-        data = [word for path in (folder / "data").iterdir() for word in ("--data", f"{path.name}=data/{path.name}")]
+        files = [path.relative_to(folder / "data") for path in (folder / "data").rglob("*") if path.is_file()]
+        data = [word for path in files for word in ("--data", f"{path}=data/{path}")]
         run = subprocess.run(["rt", "try", *data, "--", *words], cwd=folder, capture_output=True)
         if b"checked: " not in run.stderr:
             return "can't be planted: " + run.stderr.decode(errors="replace").strip()[-300:]

@@ -4,7 +4,7 @@
 Usage: files.py            looks whether the list is that of the files, and says where it isn't
        files.py --write    writes the list into the page
 
-The first line of each file in a crate's `src` is a comment, `//!` or `//`, with one sentence on what the file holds.
+The first line of each file in a crate's `src` is a comment, `//!` or `//`, with one whole sentence on what the file holds.
 The list stands between two marks in the page, a crate a paragraph, those that stand on others above them. The script
 fails where the page has another list, where a file has no such line, and where a crate has no row in the page's table.
 """
@@ -15,7 +15,7 @@ import sys
 ROOT = pathlib.Path(__file__).resolve().parents[2]
 PAGE = ROOT / "docs" / "ARCHITECTURE.md"
 BEGIN, END = "<!-- files: made by checks/pages/files.py -->", "<!-- end of files -->"
-FIRST_LINE = re.compile(r"//!? (\S.*)")
+FIRST_LINE = re.compile(r"//!? (\S.*\.)")
 
 
 def crates():

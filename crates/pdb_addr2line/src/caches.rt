@@ -1,4 +1,4 @@
-//! What a context read of the records so far, so that it is read once, and the calls that go by it.
+//! What a context read of the records so far, so that it is read once: procedures, code, and where functions start.
 
 ghost use Rattle.std.specs.Prelude.{◌≡◌, Some, None, option_map, IfOk, IfSome};
 ghost use Rattle.std.specs.Option.{option_copied};

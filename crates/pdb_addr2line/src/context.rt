@@ -1,4 +1,4 @@
-//! `Context`, which answers questions about the functions of a program, and the tables that it searches.
+//! `Context`, which answers questions about the functions of a program, and how the tables are made that it searches.
 
 ghost use Rattle.std.specs.Prelude.{◌≡◌, [], Ok, length, IfOk};
 ghost use Rattle.std.specs.Option.{option_copied};

@@ -1,4 +1,4 @@
-//! Look-ups of an address: the function over it, and the frames of the calls that were inlined there.
+//! Look-ups of an address: the procedure of its module over it, or else the global function, and its frames.
 
 ghost use Rattle.std.specs.Prelude.{◌≡◌, ◌≢◌, Ok, None, find, option_map, IfOk, OnOk, IfErr, MatchResult};
 ghost use Rattle.std.specs.Option.{option_copied};

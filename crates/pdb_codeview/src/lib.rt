@@ -1,5 +1,4 @@
-//! What CodeView has of a module's code beside its symbols: files, lines, inlined functions with their rows, and the
-//! indices that modules take from one another.
+//! What CodeView has of a module's code beside its symbols: files, lines, inlined functions, imports, exports.
 //!
 //! Each call reads one list, by its bytes. A list that is broken ends early, with one of the numbers of
 //! `pdb_msf::faults`.

@@ -1,4 +1,4 @@
-//! All records of a PDB file: which streams are read, in which order, and which failed.
+//! All records of a PDB file: which streams are read, which failed, and whether addresses were rearranged.
 
 use crate::dbi::{
     DebugHeader, ModuleStream, optional_stream, read_contributions, read_header, read_modules,

@@ -1,4 +1,4 @@
-//! The headers of the sections, and where they are loaded.
+//! The headers of the sections, and the map of addresses that they make.
 
 use pdb_msf::faults::Fault;
 use pdb_msf::{Bytes, u32_at};

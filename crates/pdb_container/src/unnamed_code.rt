@@ -1,5 +1,7 @@
-//! Code without a name of its own: further chunks of a function, and the jumps of incremental links. Each jump, and each
-//! chunk that the list has elsewhere than behind its function, becomes a procedure that goes by the function's name.
+//! Code without a name of its own, chunks and jumps: it becomes procedures that go by their function's name.
+//!
+//! Further chunks of a function and the jumps of incremental links: each jump, and each chunk that the list has
+//! elsewhere than behind its function, becomes such a procedure.
 
 use pdb_msf::copy_name;
 use pdb_msf::faults::Fault;

@@ -1,6 +1,7 @@
-//! Reads the PDB files that its words name, and writes of each what was read: why nothing can be answered over it, or
-//! else its records as a records file, and what of them is broken. `data/kinds.py` writes the files, by their bytes,
-//! and what is wanted of them.
+//! Reads the PDB files that its words name, and writes the records of each, or why nothing can be answered.
+//!
+//! What of a file is broken is written too. `data/write_files.py` writes the files, by their bytes, and what is wanted
+//! of them.
 #![tactic(auto)]
 
 use anyhow::Result;

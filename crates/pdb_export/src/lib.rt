@@ -1,5 +1,4 @@
-//! Writes the records of a program as a records file of version 2, with what is known of a module in the file or
-//! in a file of its own.
+//! Writes the records of a program as a records file of version 2, with modules in it or in files of their own.
 //!
 //! Each record of `pdb_records` has an `impl` of `ToJson` here, in a file of its subject. Text is made for the
 //! records that all modules share, and then for each module, and is handed to the writer before the next is made.

@@ -1,5 +1,6 @@
-//! Reads a records file from standard input and writes what was read as a records file to standard output: a file
-//! in the writer's own form comes out as it went in.
+//! Reads a records file from standard input, and writes it again to standard output.
+//!
+//! A file in the writer's own form comes out as it went in.
 #![tactic(auto)]
 
 use anyhow::Result;

@@ -1,4 +1,4 @@
-//! Frames: the function, file and line of what was called or inlined at an address.
+//! Frames: the function, file and line of what was called or inlined at an address, and copies of them.
 
 ghost use Rattle.std.specs.Prelude.{◌≡◌, option_map, string_bytes, IfOk};
 ghost use Rattle.std.specs.Cow.{cow_str_bytes};

@@ -1,5 +1,4 @@
-//! The numbers by which the reader says why a part of a file could not be read, and the two ways in
-//! which reading a part ends early.
+//! Why a part of a file could not be read, by number, and the two ways in which reading a part ends early.
 
 use pdb_records::StreamError;
 use std::alloc::{AllocError, AllocFailed};

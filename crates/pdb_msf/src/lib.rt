@@ -1,5 +1,6 @@
-//! The streams of a PDB file, and their bytes. A PDB file is a container of the format MSF 7.00: blocks of one size,
-//! of which a directory says which ones make each stream.
+//! The streams of a PDB file, which is a container of the format MSF 7.00, and their bytes.
+//!
+//! A container has blocks of one size, of which a directory says which ones make each stream.
 //!
 //! [`Container::open`] answers an error where the file as a whole can't be read, and [`Container::stream`] where a
 //! stream can't be, with one of the numbers of [`faults`]. [`Bytes`] is what is read off the front of a stream.

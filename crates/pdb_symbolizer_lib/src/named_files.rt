@@ -1,5 +1,6 @@
-//! Lines of standard input that each name a file and an address in it. Those that follow one another and name the same
-//! file are answered by one context.
+//! Lines of standard input that each name a file and an address in it.
+//!
+//! Those that follow one another and name the same file are answered by one context.
 
 use crate::addresses::Origin;
 use crate::answers::{write_answer, write_no_answer};

@@ -1,5 +1,6 @@
-//! What a line of standard input or a word asks for: an address of code or of data, in the file that it names or in
-//! that of the command line.
+//! What a line of standard input or a word asks for: an address of code or of data, in a file.
+//!
+//! The file is the one that the line names, or that of the command line.
 
 use crate::addresses::parse_address;
 use crate::options::Digits;
