@@ -13,5 +13,5 @@ done
 lld-link /debug /nodefaultlib /entry:entry /subsystem:console /out:shapes.exe /pdb:shapes.pdb \
     /pdbaltpath:shapes.pdb /pdbsourcepath:'C:\\shapes' /timestamp:0 main.obj shapes.obj
 cp shapes.pdb "$here/../shapes.pdb"
-cp shapes.exe "$here/shapes.exe"
+cp shapes.exe "$here/../shapes.exe"
 rm -rf "$work"

@@ -12,4 +12,4 @@ llvm-pdbutil dump --symbols shapes.pdb |
         seq $((4096 + ${offset:-0})) $((4096 + ${offset:-0} + size - 1))
     done | while read -r address; do printf '0x%x\n' "$address"; done |
     grep -v -x -F -f program/differences.txt > ../stdin
-llvm-symbolizer --obj=program/shapes.exe --relative-address --functions=short < ../stdin > ../stdout
+llvm-symbolizer --obj=shapes.exe --relative-address --functions=short < ../stdin > ../stdout
