@@ -13,12 +13,12 @@ use std::time::Clock;
 use std::{fs, io};
 
 /// Writes the records to the files that were asked for, those of modules first.
-pub fn write_files<'w, R: Files + Eprint + Clock + AllocGlobal>(
+pub fn write_files<R: Files + Eprint + Clock + AllocGlobal>(
     rt: &R,
     status_line: &mut StatusLine,
-    export: Export<'w>,
+    export: Export<'_>,
     records: &PDB,
-) -> Result<(), Stop<'w>> {
+) -> Result<(), Stop> {
     let names = match export.modules {
         Some(folder) => write_modules(rt, status_line, export.records, folder, records)?,
         None => Vec::new(rt.alloc()),
@@ -40,13 +40,13 @@ fn write_records_file<R: Files + Eprint + Clock + AllocGlobal>(
 
 /// Writes a file for each module of which anything is known. Gives the names of the files of all modules, as the
 /// records file at this path has them.
-fn write_modules<'w, R: Files + Eprint + Clock + AllocGlobal>(
+fn write_modules<R: Files + Eprint + Clock + AllocGlobal>(
     rt: &R,
     status_line: &mut StatusLine,
     path: &str,
     folder: &str,
     records: &PDB,
-) -> Result<Vec<String>, Stop<'w>> {
+) -> Result<Vec<String>, Stop> {
     make_folder(rt, path, folder)?;
     let mut names = Vec::new(rt.alloc());
     for (position, info) in records.module_infos.iter().enumerate() {
@@ -59,11 +59,7 @@ fn write_modules<'w, R: Files + Eprint + Clock + AllocGlobal>(
     Ok(names)
 }
 
-fn make_folder<'w, R: Files + AllocGlobal>(
-    rt: &R,
-    path: &str,
-    folder: &str,
-) -> Result<(), Stop<'w>> {
+fn make_folder<R: Files + AllocGlobal>(rt: &R, path: &str, folder: &str) -> Result<(), Stop> {
     let folder = beside(rt.alloc(), path, folder)?;
     let outcome = match fs::create_dir_all(rt, folder.as_str()) {
         Ok(()) => Ok(()),
@@ -72,13 +68,13 @@ fn make_folder<'w, R: Files + AllocGlobal>(
     written_to(rt.alloc(), folder.as_str(), outcome)
 }
 
-fn write_beside<'w, R: Files + Eprint + Clock + AllocGlobal>(
+fn write_beside<R: Files + Eprint + Clock + AllocGlobal>(
     rt: &R,
     status_line: &mut StatusLine,
     path: &str,
     name: &str,
     info: &ModuleInfo,
-) -> Result<(), Stop<'w>> {
+) -> Result<(), Stop> {
     let path = beside(rt.alloc(), path, name)?;
     let outcome = write_module_file(rt, status_line, path.as_str(), info);
     written_to(rt.alloc(), path.as_str(), outcome)
@@ -119,11 +115,7 @@ fn fault_of(error: &io::Error) -> ExportFault {
 }
 
 /// What the outcome of writing to this path means for the run.
-fn written_to<'w>(
-    alloc: Global,
-    path: &str,
-    outcome: Result<(), ExportFault>,
-) -> Result<(), Stop<'w>> {
+fn written_to(alloc: Global, path: &str, outcome: Result<(), ExportFault>) -> Result<(), Stop> {
     match outcome {
         Ok(()) => Ok(()),
         Err(ExportFault::OutOfMemory) => Err(Stop::Refused(Error::OutOfMemory)),

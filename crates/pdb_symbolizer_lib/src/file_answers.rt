@@ -29,22 +29,22 @@ pub struct Questions<'q, 'w, 'p> {
 }
 
 /// Answers the addresses of the command line, or else the lines of standard input, over one file.
-pub fn answer_file<'w, R: Files + Input + Print + Eprint + AllocGlobal>(
+pub fn answer_file<R: Files + Input + Print + Eprint + AllocGlobal>(
     rt: &R,
     status_line: &StatusLine,
-    options: &Options<'w>,
+    options: &Options<'_>,
     path: &str,
-) -> Result<(), Stop<'w>> {
+) -> Result<(), Stop> {
     let mut input = open_file(rt, status_line, options, path)?;
     answer_over(rt, options, path, &mut input)
 }
 
-fn answer_over<'w, R: Input + Print + Eprint + AllocGlobal>(
+fn answer_over<R: Input + Print + Eprint + AllocGlobal>(
     rt: &R,
-    options: &Options<'w>,
+    options: &Options<'_>,
     path: &str,
     input: &mut InputFile,
-) -> Result<(), Stop<'w>> {
+) -> Result<(), Stop> {
     let mut hint = hint_for(options, input);
     let origin = Origin::new(options.base, input.image_base, options.adjust);
     let names = SymbolNames::new(rt.alloc(), &input.records)?;
@@ -59,11 +59,11 @@ fn answer_over<'w, R: Input + Print + Eprint + AllocGlobal>(
     answer_all(rt, &questions, &mut hint)
 }
 
-fn answer_all<'w, R: Input + Print + Eprint + AllocGlobal>(
+fn answer_all<R: Input + Print + Eprint + AllocGlobal>(
     rt: &R,
     questions: &Questions<'_, '_, '_>,
     hint: &mut BaseHint,
-) -> Result<(), Stop<'w>> {
+) -> Result<(), Stop> {
     let flags = questions.options.flags();
     let mut context = questions.data.make_context_with_formatter_flags(flags)?;
     if questions.options.addresses.is_empty() {
@@ -83,18 +83,18 @@ pub fn hint_for(options: &Options<'_>, input: &InputFile) -> BaseHint {
 
 /// Reads a file, takes out of its records what is broken, and prints that on standard error. An error where nothing can
 /// be answered over it.
-pub fn open_file<'w, R: Files + Eprint + AllocGlobal>(
+pub fn open_file<R: Files + Eprint + AllocGlobal>(
     rt: &R,
     status_line: &StatusLine,
-    options: &Options<'w>,
+    options: &Options<'_>,
     path: &str,
-) -> Result<InputFile, Stop<'w>> {
+) -> Result<InputFile, Stop> {
     let mut input = read_input_file(rt, status_line, options, path)?;
     repair(rt, &mut input)?;
     Ok(input)
 }
 
-fn repair<'w, R: Eprint + AllocGlobal>(rt: &R, input: &mut InputFile) -> Result<(), Stop<'w>> {
+fn repair<R: Eprint + AllocGlobal>(rt: &R, input: &mut InputFile) -> Result<(), Stop> {
     if let Some(refusal) = input.refusal {
         return Err(Stop::PdbFile(String::from_str(rt.alloc(), input.path.as_str())?, refusal));
     }
@@ -108,12 +108,12 @@ fn repair<'w, R: Eprint + AllocGlobal>(rt: &R, input: &mut InputFile) -> Result<
 }
 
 /// Answers the addresses of the command line. In JSON the answers are one array.
-fn answer_words<'w, R: Print + Eprint + AllocGlobal>(
+fn answer_words<R: Print + Eprint + AllocGlobal>(
     rt: &R,
     questions: &Questions<'_, '_, '_>,
     context: &mut FileContext<'_, '_>,
     hint: &mut BaseHint,
-) -> Result<(), Stop<'w>> {
+) -> Result<(), Stop> {
     let json = questions.options.style == Style::Json;
     if json {
         write_out(rt, "[")?;
@@ -132,12 +132,12 @@ fn answer_words<'w, R: Print + Eprint + AllocGlobal>(
 }
 
 /// Answers the lines of standard input, each before the next is read.
-fn answer_lines<'w, R: Input + Print + Eprint + AllocGlobal>(
+fn answer_lines<R: Input + Print + Eprint + AllocGlobal>(
     rt: &R,
     questions: &Questions<'_, '_, '_>,
     context: &mut FileContext<'_, '_>,
     hint: &mut BaseHint,
-) -> Result<(), Stop<'w>> {
+) -> Result<(), Stop> {
     let Ok(reader) = BufReader::new(rt.alloc(), rt.reader()) else {
         return Err(Stop::Refused(Error::OutOfMemory));
     };
@@ -153,13 +153,13 @@ fn answer_lines<'w, R: Input + Print + Eprint + AllocGlobal>(
     Ok(())
 }
 
-fn answer_line<'w, R: Print + Eprint + AllocGlobal>(
+fn answer_line<R: Print + Eprint + AllocGlobal>(
     rt: &R,
     questions: &Questions<'_, '_, '_>,
     context: &mut FileContext<'_, '_>,
     hint: &mut BaseHint,
     given: &str,
-) -> Result<(), Stop<'w>> {
+) -> Result<(), Stop> {
     let mut text = answer_text(rt, questions, context, hint, given)?;
     if questions.options.style == Style::Json {
         text.push('\n')?;
@@ -168,13 +168,13 @@ fn answer_line<'w, R: Print + Eprint + AllocGlobal>(
 }
 
 /// The answer of what was given as an address.
-fn answer_text<'w, R: Eprint + AllocGlobal>(
+fn answer_text<R: Eprint + AllocGlobal>(
     rt: &R,
     questions: &Questions<'_, '_, '_>,
     context: &mut FileContext<'_, '_>,
     hint: &mut BaseHint,
     given: &str,
-) -> Result<String, Stop<'w>> {
+) -> Result<String, Stop> {
     let options = questions.options;
     match parse_request(given, Naming::ByCommandLine, options.digits) {
         Some(request) => request_text(rt, questions, context, hint, request),
@@ -187,13 +187,13 @@ fn answer_text<'w, R: Eprint + AllocGlobal>(
 }
 
 /// The answer of a request.
-pub fn request_text<'w, R: Eprint + AllocGlobal>(
+pub fn request_text<R: Eprint + AllocGlobal>(
     rt: &R,
     questions: &Questions<'_, '_, '_>,
     context: &mut FileContext<'_, '_>,
     hint: &mut BaseHint,
     request: Request<'_>,
-) -> Result<String, Stop<'w>> {
+) -> Result<String, Stop> {
     let options = questions.options;
     let mut text = String::new(rt.alloc());
     match request.sort {
@@ -210,12 +210,12 @@ pub fn request_text<'w, R: Eprint + AllocGlobal>(
 
 /// The frames of an address, of which the last has a name wherever its symbol has one. Where the records of its module
 /// can't be read that is shown on standard error.
-fn frames_at<'a, 'w, R: Eprint + AllocGlobal>(
+fn frames_at<'a, R: Eprint + AllocGlobal>(
     rt: &R,
     questions: &Questions<'_, '_, '_>,
     context: &mut FileContext<'a, '_>,
     given: u64,
-) -> Result<Option<FunctionFrames<'a>>, Stop<'w>> {
+) -> Result<Option<FunctionFrames<'a>>, Stop> {
     let Some(address) = questions.origin.relative(given) else {
         return Ok(None);
     };
@@ -253,7 +253,7 @@ fn shown<'f, 'a>(options: &Options<'_>, found: &'f Option<FunctionFrames<'a>>) -
 }
 
 /// Writes a text whole.
-pub fn write_out<'w, R: Print>(rt: &R, text: &str) -> Result<(), Stop<'w>> {
+pub fn write_out<R: Print>(rt: &R, text: &str) -> Result<(), Stop> {
     let mut writer = io::writer(rt);
     let written = writer.write_all(text.as_bytes());
     let flushed = writer.flush();

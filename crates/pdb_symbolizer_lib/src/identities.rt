@@ -11,10 +11,10 @@ use std::rt::Files;
 
 /// Prints a line for each file that the words name, PDB files and programs: its path, its debug id, its age and its
 /// machine.
-pub fn print_identities<'w, R: Files + Print + AllocGlobal>(
+pub fn print_identities<R: Files + Print + AllocGlobal>(
     rt: &R,
-    options: &Options<'w>,
-) -> Result<(), Stop<'w>> {
+    options: &Options<'_>,
+) -> Result<(), Stop> {
     let Some(file) = options.file else {
         return Err(Stop::NoFile);
     };
@@ -25,7 +25,7 @@ pub fn print_identities<'w, R: Files + Print + AllocGlobal>(
     Ok(())
 }
 
-fn print_identity<'w, R: Files + Print + AllocGlobal>(rt: &R, file: &str) -> Result<(), Stop<'w>> {
+fn print_identity<R: Files + Print + AllocGlobal>(rt: &R, file: &str) -> Result<(), Stop> {
     let bytes = read_file(rt, file)?;
     match read_program(&bytes) {
         Some(program) => match program.code_view {
@@ -39,12 +39,12 @@ fn print_identity<'w, R: Files + Print + AllocGlobal>(rt: &R, file: &str) -> Res
     }
 }
 
-fn print_line<'w, R: Print>(
+fn print_line<R: Print>(
     rt: &R,
     file: &str,
     id: DebugId,
     machine: Option<Machine>,
-) -> Result<(), Stop<'w>> {
+) -> Result<(), Stop> {
     let printed = match machine {
         Some(machine) => println!(rt; "{file} {} {} {machine}", id.compact(), id.age),
         None => println!(rt; "{file} {} {} ??", id.compact(), id.age),
@@ -56,12 +56,12 @@ fn print_line<'w, R: Print>(
 }
 
 /// Refuses a PDB file of another build than is expected, if one is.
-pub fn check_identity<'w>(
+pub fn check_identity(
     alloc: Global,
     options: &Options<'_>,
     file: &str,
     bytes: &[u8],
-) -> Result<(), Stop<'w>> {
+) -> Result<(), Stop> {
     let Some(expected) = options.expected else {
         return Ok(());
     };
@@ -72,7 +72,7 @@ pub fn check_identity<'w>(
     Err(Stop::OtherBuild(String::from_str(alloc, file)?, found, expected))
 }
 
-fn identity_of<'w>(alloc: Global, file: &str, bytes: &[u8]) -> Result<PdbIdentity, Stop<'w>> {
+fn identity_of(alloc: Global, file: &str, bytes: &[u8]) -> Result<PdbIdentity, Stop> {
     match read_identity(alloc, bytes) {
         Ok(Some(identity)) => Ok(identity),
         Ok(None) => Err(Stop::NoIdentity(String::from_str(alloc, file)?)),

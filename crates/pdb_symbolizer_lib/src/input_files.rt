@@ -33,12 +33,12 @@ pub struct InputFile {
 
 /// The records of a file: a PDB file, a records file with its module files, or a program, whose PDB file is looked for.
 /// A file of another build than is expected is refused before anything else of it is read.
-pub fn read_input_file<'w, R: Files + Eprint + AllocGlobal>(
+pub fn read_input_file<R: Files + Eprint + AllocGlobal>(
     rt: &R,
     status_line: &StatusLine,
-    options: &Options<'w>,
+    options: &Options<'_>,
     path: &str,
-) -> Result<InputFile, Stop<'w>> {
+) -> Result<InputFile, Stop> {
     let bytes = read_file(rt, path)?;
     status_line.print_size(rt, path, bytes.len());
     match read_program(&bytes) {
@@ -47,12 +47,12 @@ pub fn read_input_file<'w, R: Files + Eprint + AllocGlobal>(
     }
 }
 
-fn read_program_file<'w, R: Files + Eprint + AllocGlobal>(
+fn read_program_file<R: Files + Eprint + AllocGlobal>(
     rt: &R,
-    options: &Options<'w>,
+    options: &Options<'_>,
     path: &str,
     program: &ProgramFile<'_>,
-) -> Result<InputFile, Stop<'w>> {
+) -> Result<InputFile, Stop> {
     let Some(code_view) = &program.code_view else {
         return Err(Stop::NoPdbFile(format!(in rt.alloc(); "{path}: it names no PDB file")?));
     };
@@ -63,12 +63,12 @@ fn read_program_file<'w, R: Files + Eprint + AllocGlobal>(
     Ok(file)
 }
 
-fn read_records_of<'w, R: Files + Eprint + AllocGlobal>(
+fn read_records_of<R: Files + Eprint + AllocGlobal>(
     rt: &R,
-    options: &Options<'w>,
+    options: &Options<'_>,
     path: &str,
     bytes: Vec<u8>,
-) -> Result<InputFile, Stop<'w>> {
+) -> Result<InputFile, Stop> {
     check_identity(rt.alloc(), options, path, &bytes)?;
     match other_file(&bytes) {
         ContainerFault::NotAPdbFile if !bytes.starts_with(&PDB_FILE) => {
@@ -78,7 +78,7 @@ fn read_records_of<'w, R: Files + Eprint + AllocGlobal>(
     }
 }
 
-fn read_container<'w>(alloc: Global, path: &str, bytes: &[u8]) -> Result<InputFile, Stop<'w>> {
+fn read_container(alloc: Global, path: &str, bytes: &[u8]) -> Result<InputFile, Stop> {
     match read_pdb_file(alloc, bytes) {
         Ok(file) => of_pdb_file(alloc, path, file),
         Err(ContainerFault::OutOfMemory) => Err(Stop::Refused(Error::OutOfMemory)),
@@ -86,7 +86,7 @@ fn read_container<'w>(alloc: Global, path: &str, bytes: &[u8]) -> Result<InputFi
     }
 }
 
-fn of_pdb_file<'w>(alloc: Global, path: &str, file: PdbFile) -> Result<InputFile, Stop<'w>> {
+fn of_pdb_file(alloc: Global, path: &str, file: PdbFile) -> Result<InputFile, Stop> {
     let PdbFile {
         records,
         refusal,
@@ -102,11 +102,11 @@ fn of_pdb_file<'w>(alloc: Global, path: &str, file: PdbFile) -> Result<InputFile
 }
 
 /// The records of a records file and of its module files.
-fn read_records_file<'w, R: Files + AllocGlobal>(
+fn read_records_file<R: Files + AllocGlobal>(
     rt: &R,
     path: &str,
     bytes: Vec<u8>,
-) -> Result<InputFile, Stop<'w>> {
+) -> Result<InputFile, Stop> {
     let value = RecordsFile::from_slice(rt.alloc(), &bytes);
     drop(bytes);
     match value {
@@ -115,11 +115,11 @@ fn read_records_file<'w, R: Files + AllocGlobal>(
     }
 }
 
-fn read_module_records<'w, R: Files + AllocGlobal>(
+fn read_module_records<R: Files + AllocGlobal>(
     rt: &R,
     path: &str,
     file: RecordsFile,
-) -> Result<InputFile, Stop<'w>> {
+) -> Result<InputFile, Stop> {
     let files = read_module_files(rt, path, &file)?;
     match file.read_records(&files) {
         Ok(records) => Ok(InputFile {
@@ -134,7 +134,7 @@ fn read_module_records<'w, R: Files + AllocGlobal>(
 }
 
 /// The bytes of a file that the words name.
-pub fn read_file<'w, R: Files + AllocGlobal>(rt: &R, path: &str) -> Result<Vec<u8>, Stop<'w>> {
+pub fn read_file<R: Files + AllocGlobal>(rt: &R, path: &str) -> Result<Vec<u8>, Stop> {
     match read_bytes(rt, path) {
         Ok(bytes) => Ok(bytes),
         Err(error) if ran_out_of_memory(&error) => Err(Stop::Refused(Error::OutOfMemory)),
@@ -148,11 +148,11 @@ pub fn read_bytes<R: Files + AllocGlobal>(rt: &R, path: &str) -> io::Result<Vec<
 }
 
 /// The bytes of the module files that a records file names, in order.
-fn read_module_files<'w, R: Files + AllocGlobal>(
+fn read_module_files<R: Files + AllocGlobal>(
     rt: &R,
     path: &str,
     file: &RecordsFile,
-) -> Result<Vec<Vec<u8>>, Stop<'w>> {
+) -> Result<Vec<Vec<u8>>, Stop> {
     let names = match file.module_files() {
         Ok(names) => names,
         Err(fault) => return Err(Stop::Records(String::from_str(rt.alloc(), path)?, fault)),
@@ -160,11 +160,11 @@ fn read_module_files<'w, R: Files + AllocGlobal>(
     read_named_files(rt, path, &names)
 }
 
-fn read_named_files<'w, R: Files + AllocGlobal>(
+fn read_named_files<R: Files + AllocGlobal>(
     rt: &R,
     path: &str,
     names: &[String],
-) -> Result<Vec<Vec<u8>>, Stop<'w>> {
+) -> Result<Vec<Vec<u8>>, Stop> {
     let mut files = Vec::new(rt.alloc());
     for name in names {
         files.push(read_module_file(rt, path, name.as_str())?)?;
@@ -172,11 +172,11 @@ fn read_named_files<'w, R: Files + AllocGlobal>(
     Ok(files)
 }
 
-fn read_module_file<'w, R: Files + AllocGlobal>(
+fn read_module_file<R: Files + AllocGlobal>(
     rt: &R,
     records: &str,
     name: &str,
-) -> Result<Vec<u8>, Stop<'w>> {
+) -> Result<Vec<u8>, Stop> {
     let path = beside(rt.alloc(), records, name)?;
     match fs::read(rt, path.as_str()) {
         Ok(bytes) => Ok(bytes),

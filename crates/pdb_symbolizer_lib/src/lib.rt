@@ -7,6 +7,7 @@
 
 mod addresses;
 mod answers;
+mod arguments;
 mod base_hints;
 mod command_line;
 mod export_files;
@@ -19,6 +20,7 @@ mod options;
 mod programs;
 mod repairs;
 mod requests;
+mod response_files;
 mod runs;
 mod status_line;
 mod stops;

@@ -17,11 +17,11 @@ use std::io::{self, BufRead, BufReader};
 use std::rt::Files;
 
 /// Answers the lines of standard input, of which each names its file.
-pub fn answer_named_files<'w, R: Files + Input + Print + Eprint + AllocGlobal>(
+pub fn answer_named_files<R: Files + Input + Print + Eprint + AllocGlobal>(
     rt: &R,
     status_line: &StatusLine,
-    options: &Options<'w>,
-) -> Result<(), Stop<'w>> {
+    options: &Options<'_>,
+) -> Result<(), Stop> {
     let Ok(mut reader) = BufReader::new(rt.alloc(), rt.reader()) else {
         return Err(Stop::Refused(Error::OutOfMemory));
     };
@@ -37,7 +37,7 @@ pub fn answer_named_files<'w, R: Files + Input + Print + Eprint + AllocGlobal>(
 }
 
 // Reads the next line. Answers whether there is one. What is no text is a line with a question mark.
-fn read_line<'w, B: BufRead>(reader: &mut B, line: &mut String) -> Result<bool, Stop<'w>> {
+fn read_line<B: BufRead>(reader: &mut B, line: &mut String) -> Result<bool, Stop> {
     line.clear();
     match reader.read_line(line) {
         Ok(length) => Ok(length > 0),
@@ -51,13 +51,13 @@ fn read_line<'w, B: BufRead>(reader: &mut B, line: &mut String) -> Result<bool, 
 }
 
 // Answers the line that was read, and those behind it that name the same file. Answers whether another line was read.
-fn answer_next_lines<'w, R: Files + Print + Eprint + AllocGlobal, B: BufRead>(
+fn answer_next_lines<R: Files + Print + Eprint + AllocGlobal, B: BufRead>(
     rt: &R,
     status_line: &StatusLine,
-    options: &Options<'w>,
+    options: &Options<'_>,
     reader: &mut B,
     line: &mut String,
-) -> Result<bool, Stop<'w>> {
+) -> Result<bool, Stop> {
     let Some(request) = parse_request(line.as_str().trim(), Naming::ByEach, options.digits) else {
         answer_none(rt, options, line.as_str().trim())?;
         return read_line(reader, line);
@@ -75,46 +75,42 @@ fn answer_next_lines<'w, R: Files + Print + Eprint + AllocGlobal, B: BufRead>(
 }
 
 // Shows a line that is no request as it is.
-fn answer_none<'w, R: Print + AllocGlobal>(
+fn answer_none<R: Print + AllocGlobal>(
     rt: &R,
     options: &Options<'_>,
     line: &str,
-) -> Result<(), Stop<'w>> {
+) -> Result<(), Stop> {
     let mut text = String::new(rt.alloc());
     write_no_answer(&mut text, options, "", line)?;
     print_answer(rt, options, text)
 }
 
 // The answer of a request for a file over which nothing can be answered.
-fn answer_unopened<'w, R: Print + AllocGlobal>(
+fn answer_unopened<R: Print + AllocGlobal>(
     rt: &R,
     options: &Options<'_>,
     request: &Request<'_>,
-) -> Result<(), Stop<'w>> {
+) -> Result<(), Stop> {
     let mut text = String::new(rt.alloc());
     write_answer(&mut text, options, request.file, request.address, &[])?;
     print_answer(rt, options, text)
 }
 
-fn print_answer<'w, R: Print>(
-    rt: &R,
-    options: &Options<'_>,
-    mut text: String,
-) -> Result<(), Stop<'w>> {
+fn print_answer<R: Print>(rt: &R, options: &Options<'_>, mut text: String) -> Result<(), Stop> {
     if options.style == Style::Json {
         text.push('\n')?;
     }
     write_out(rt, text.as_str())
 }
 
-fn answer_lines_of<'w, R: Print + Eprint + AllocGlobal, B: BufRead>(
+fn answer_lines_of<R: Print + Eprint + AllocGlobal, B: BufRead>(
     rt: &R,
-    options: &Options<'w>,
+    options: &Options<'_>,
     path: &str,
     input: &mut InputFile,
     reader: &mut B,
     line: &mut String,
-) -> Result<bool, Stop<'w>> {
+) -> Result<bool, Stop> {
     let mut hint = hint_for(options, input);
     let origin = Origin::new(options.base, input.image_base, options.adjust);
     let names = SymbolNames::new(rt.alloc(), &input.records)?;
@@ -129,13 +125,13 @@ fn answer_lines_of<'w, R: Print + Eprint + AllocGlobal, B: BufRead>(
     answer_same_file(rt, &questions, &mut hint, reader, line)
 }
 
-fn answer_same_file<'w, R: Print + Eprint + AllocGlobal, B: BufRead>(
+fn answer_same_file<R: Print + Eprint + AllocGlobal, B: BufRead>(
     rt: &R,
     questions: &Questions<'_, '_, '_>,
     hint: &mut BaseHint,
     reader: &mut B,
     line: &mut String,
-) -> Result<bool, Stop<'w>> {
+) -> Result<bool, Stop> {
     let options = questions.options;
     let mut context = questions
         .data

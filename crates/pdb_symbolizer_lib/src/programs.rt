@@ -19,12 +19,12 @@ pub struct FoundFile {
 
 /// The PDB file of a program: the first of these places with one of its GUID and age. One of another build is passed
 /// over, and where none is left the refusal names each place that was looked at, and why it was passed over.
-pub fn find_pdb<'w, R: Files + AllocGlobal>(
+pub fn find_pdb<R: Files + AllocGlobal>(
     rt: &R,
     program: &str,
     code_view: &CodeView<'_>,
-    options: &Options<'w>,
-) -> Result<FoundFile, Stop<'w>> {
+    options: &Options<'_>,
+) -> Result<FoundFile, Stop> {
     let places = places(rt.alloc(), program, code_view, options)?;
     let mut looked = String::new(rt.alloc());
     for path in places {
@@ -45,11 +45,7 @@ enum Look {
     PassedOver(String),
 }
 
-fn look_at<'w, R: Files + AllocGlobal>(
-    rt: &R,
-    path: &str,
-    wanted: DebugId,
-) -> Result<Look, Stop<'w>> {
+fn look_at<R: Files + AllocGlobal>(rt: &R, path: &str, wanted: DebugId) -> Result<Look, Stop> {
     let alloc = rt.alloc();
     let bytes = match read_bytes(rt, path) {
         Ok(bytes) => bytes,
@@ -68,7 +64,7 @@ fn look_at<'w, R: Files + AllocGlobal>(
     }
 }
 
-fn passed_over<'w>(alloc: Global, why: &str) -> Result<Look, Stop<'w>> {
+fn passed_over(alloc: Global, why: &str) -> Result<Look, Stop> {
     Ok(Look::PassedOver(String::from_str(alloc, why)?))
 }
 

@@ -7,11 +7,11 @@ use pdb_repairs::{Repair, repair_records};
 use std::alloc::{AllocError, Global};
 
 /// Takes out of the records of a file what is broken, and prints a line of each on standard error.
-pub fn print_repairs<'w, R: Eprint + AllocGlobal>(
+pub fn print_repairs<R: Eprint + AllocGlobal>(
     rt: &R,
     file: &str,
     records: &mut PDB,
-) -> Result<(), Stop<'w>> {
+) -> Result<(), Stop> {
     let repairs = repair_records(rt.alloc(), records)?;
     for &repair in &repairs {
         let text = repair_text(rt.alloc(), records, repair)?;

@@ -7,6 +7,7 @@ use crate::identities::print_identities;
 use crate::input_files::read_input_file;
 use crate::named_files::answer_named_files;
 use crate::options::{Export, Options, Purpose};
+use crate::response_files::expand_words;
 use crate::status_line::StatusLine;
 use crate::stops::Stop;
 use std::rt::Files;
@@ -24,20 +25,21 @@ pub fn run_words<R: Files + Input + Print + Eprint + Clock + AllocGlobal>(
     }
 }
 
-fn run<'w, R: Files + Input + Print + Eprint + Clock + AllocGlobal>(
+fn run<R: Files + Input + Print + Eprint + Clock + AllocGlobal>(
     rt: &R,
     status_line: &mut StatusLine,
-    words: &'w [String],
-) -> Result<(), Stop<'w>> {
-    let options = parse(rt.alloc(), words)?;
+    words: &[String],
+) -> Result<(), Stop> {
+    let words = expand_words(rt, words)?;
+    let options = parse(rt.alloc(), &words)?;
     run_over(rt, status_line, &options)
 }
 
-fn run_over<'w, R: Files + Input + Print + Eprint + Clock + AllocGlobal>(
+fn run_over<R: Files + Input + Print + Eprint + Clock + AllocGlobal>(
     rt: &R,
     status_line: &mut StatusLine,
-    options: &Options<'w>,
-) -> Result<(), Stop<'w>> {
+    options: &Options<'_>,
+) -> Result<(), Stop> {
     match (options.purpose, options.file) {
         (Purpose::Identities, _) => print_identities(rt, options),
         (Purpose::Export(export), Some(file)) => {
@@ -49,13 +51,13 @@ fn run_over<'w, R: Files + Input + Print + Eprint + Clock + AllocGlobal>(
     }
 }
 
-fn export_file<'w, R: Files + Eprint + Clock + AllocGlobal>(
+fn export_file<R: Files + Eprint + Clock + AllocGlobal>(
     rt: &R,
     status_line: &mut StatusLine,
-    options: &Options<'w>,
-    export: Export<'w>,
+    options: &Options<'_>,
+    export: Export<'_>,
     file: &str,
-) -> Result<(), Stop<'w>> {
+) -> Result<(), Stop> {
     if !options.addresses.is_empty() {
         return Err(Stop::ExportAnswersNone);
     }

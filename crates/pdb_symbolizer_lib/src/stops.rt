@@ -1,5 +1,7 @@
 //! Why a run ended early, in words, and the exit status that goes with it.
 
+use crate::arguments::EXAMPLES;
+use clap::error::ErrorKind;
 use pdb_addr2line::Error;
 use pdb_container::{ContainerFault, DebugId, Refusal};
 use pdb_export::ExportFault;
@@ -8,7 +10,7 @@ use std::alloc::{AllocError, AllocFailed};
 
 /// Why a run of the program ended early. Its text is the line that the program prints.
 #[derive(Debug, Drop, thiserror::Error)]
-pub enum Stop<'w> {
+pub enum Stop {
     /// The words ask for help or for the version, or for nothing that is known.
     #[error("{0}")]
     Words(clap::Error),
@@ -17,7 +19,7 @@ pub enum Stop<'w> {
     NoText,
     /// The value of an option is none that it takes.
     #[error("pdb_symbolizer: --{0} can't be {1}")]
-    NoSuchValue(&'static str, &'w str),
+    NoSuchValue(&'static str, String),
     /// The file could not be read.
     #[error("pdb_symbolizer: cannot read {0}")]
     CannotRead(String),
@@ -62,11 +64,14 @@ pub enum Stop<'w> {
     ClosedPipe,
 }
 
-impl Stop<'_> {
+impl Stop {
     /// Prints why the run ended, which is on standard error but for the help and the version, and answers its status.
     pub fn print<R: Print + Eprint>(&self, rt: &R) -> u8 {
         match self {
             Stop::Words(error) => {
+                if error.kind() == ErrorKind::DisplayHelp {
+                    let _ = rt.print(EXAMPLES);
+                }
                 let _ = error.print(rt);
             }
             Stop::ClosedPipe => {}
@@ -92,26 +97,26 @@ impl Stop<'_> {
     }
 }
 
-impl<'w> From<clap::Error> for Stop<'w> {
-    fn from(error: clap::Error) -> Stop<'w> {
+impl From<clap::Error> for Stop {
+    fn from(error: clap::Error) -> Stop {
         Stop::Words(error)
     }
 }
 
-impl<'w> From<Error> for Stop<'w> {
-    fn from(error: Error) -> Stop<'w> {
+impl From<Error> for Stop {
+    fn from(error: Error) -> Stop {
         Stop::Refused(error)
     }
 }
 
-impl<'w> From<AllocError> for Stop<'w> {
-    fn from(_error: AllocError) -> Stop<'w> {
+impl From<AllocError> for Stop {
+    fn from(_error: AllocError) -> Stop {
         Stop::Refused(Error::OutOfMemory)
     }
 }
 
-impl<'w, T: Drop> From<AllocFailed<T>> for Stop<'w> {
-    fn from(_error: AllocFailed<T>) -> Stop<'w> {
+impl<T: Drop> From<AllocFailed<T>> for Stop {
+    fn from(_error: AllocFailed<T>) -> Stop {
         Stop::Refused(Error::OutOfMemory)
     }
 }

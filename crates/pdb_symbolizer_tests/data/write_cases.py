@@ -179,6 +179,10 @@ def habit_cases(folder):
     yield "addr2line -e shapes.exe -f -s -a < 140001136|zz", \
         "0x140001136\nshapes::Point::length() const\nshapes.h:10\nzz\n" + ENDED
     yield "llvm-symbolizer -p --obj=shapes.exe 5368713526", STACK
+    yield "pdb_symbolizer -p @words.txt 0x140001136", STACK
+    yield "pdb_symbolizer @nowhere.txt", error("cannot read nowhere.txt") + "status 2\n"
+    yield "llvm-symbolizer --functions=short -piC --obj=shapes.exe 0x140001136", of_llvm(
+        folder, ["--functions=short", "-piC", "--obj=shapes.exe", "0x140001136"])
     yield "llvm-symbolizer -p < shapes.exe 5368713526", STACK
     yield "llvm-symbolizer --obj shapes.exe --pretty-print --print-address 0x140001136", \
         "0x140001136: " + STACK

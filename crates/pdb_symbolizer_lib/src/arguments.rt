@@ -1,0 +1,248 @@
+//! The options and words that the command line of `pdb_symbolizer` takes, with their help.
+
+use clap::{Arg, ArgAction, Command};
+use std::alloc::{AllocError, Global};
+
+/// What stands before the help.
+pub const EXAMPLES: &str = "\
+Examples:
+  pdb_symbolizer -p app.exe 0x140001136        the functions, files and lines of an address
+  pdb_symbolizer -p app.pdb 1136               of one that is relative to where the program is loaded
+  pdb_symbolizer -p --base 0x7ff6a0000000 app.pdb <addresses    of addresses in memory, a line each
+  pdb_symbolizer --output-style=JSON --obj=app.exe 0x140001136  as llvm-symbolizer is asked
+  pdb_symbolizer --show-id app.exe app.pdb     which build they are of
+Addresses are hexadecimal, and come from standard input, a line each, where no word gives one. docs/CONTAINER.md says more.
+
+";
+
+/// An option without a value.
+struct Flag {
+    name: &'static str,
+    short: Option<char>,
+    /// Another name for it.
+    alias: Option<&'static str>,
+    help: &'static str,
+}
+
+/// An option with a value.
+struct Valued {
+    name: &'static str,
+    value_name: &'static str,
+    default: &'static str,
+    help: &'static str,
+}
+
+static FLAGS: [Flag; 9] = [
+    Flag {
+        name: "inlines",
+        short: Some('i'),
+        alias: None,
+        help: "Print inlined functions too, as without this option",
+    },
+    Flag {
+        name: "no-inlines",
+        short: None,
+        alias: None,
+        help: "Print the function itself alone",
+    },
+    Flag {
+        name: "addresses",
+        short: Some('a'),
+        alias: Some("print-address"),
+        help: "Print the address before its answer",
+    },
+    Flag {
+        name: "pretty-print",
+        short: Some('p'),
+        alias: None,
+        help: "Print name and place on one line",
+    },
+    Flag {
+        name: "basenames",
+        short: Some('s'),
+        alias: None,
+        help: "Leave folders out of the names of files",
+    },
+    Flag {
+        name: "relative-address",
+        short: None,
+        alias: None,
+        help: "Addresses are relative to where the program is loaded",
+    },
+    Flag {
+        name: "verbose",
+        short: None,
+        alias: None,
+        help: "Print file, line and column on lines of their own",
+    },
+    Flag {
+        name: "demangle",
+        short: Some('C'),
+        alias: None,
+        help: "Changes nothing: names of records need no demangling",
+    },
+    Flag {
+        name: "show-id",
+        short: None,
+        alias: None,
+        help: "Print debug id, age and machine of each file",
+    },
+];
+
+/// Options of `llvm-symbolizer` that are taken and change nothing, and are not in the help.
+static IGNORED: [&str; 3] = ["no-demangle", "no-untag-addresses", "skip-line-zero"];
+
+static VALUED: [Valued; 4] = [
+    Valued {
+        name: "output-style",
+        value_name: "LLVM|GNU|JSON",
+        default: "",
+        help: "The form of the answers",
+    },
+    Valued {
+        name: "base",
+        value_name: "ADDRESS",
+        default: "",
+        help: "Where the program is loaded; else its image base, or 0",
+    },
+    Valued {
+        name: "adjust",
+        value_name: "OFFSET",
+        default: "0",
+        help: "Take this from each address",
+    },
+    Valued {
+        name: "adjust-vma",
+        value_name: "OFFSET",
+        default: "0",
+        help: "Take this from each address too",
+    },
+];
+
+/// The command line with all that it takes.
+pub fn command<'a>(alloc: Global) -> Result<Command<'a>, AllocError> {
+    let arguments = arguments(alloc)?;
+    Command::new(alloc, "pdb_symbolizer")
+        .version("0.1.0")
+        .about("Prints the functions, files and lines of addresses of a Windows program")
+        .args(arguments)
+}
+
+fn arguments<'a>(alloc: Global) -> Result<Vec<Arg<'a>>, AllocError> {
+    let mut arguments = Vec::new(alloc);
+    arguments.push(functions(alloc))?;
+    for flag in &FLAGS {
+        arguments.push(flag_argument(alloc, flag)?)?;
+    }
+    for valued in &VALUED {
+        arguments.push(valued_argument(alloc, valued))?;
+    }
+    for name in IGNORED {
+        arguments.push(ignored_argument(alloc, name))?;
+    }
+    arguments.push(default_arch(alloc))?;
+    arguments.push(export(alloc))?;
+    arguments.push(modules(alloc)?)?;
+    arguments.push(expected(alloc))?;
+    arguments.push(object(alloc)?)?;
+    arguments.push(pdb_dirs(alloc))?;
+    arguments.push(words(alloc))?;
+    Ok(arguments)
+}
+
+fn flag_argument<'a>(alloc: Global, flag: &Flag) -> Result<Arg<'a>, AllocError> {
+    let argument = Arg::new(alloc, flag.name)
+        .long(flag.name)
+        .action(ArgAction::SetTrue)
+        .help(flag.help);
+    let argument = match flag.short {
+        Some(short) => argument.short(short),
+        None => argument,
+    };
+    match flag.alias {
+        Some(alias) => argument.alias(alias),
+        None => Ok(argument),
+    }
+}
+
+fn ignored_argument<'a>(alloc: Global, name: &'static str) -> Arg<'a> {
+    Arg::new(alloc, name)
+        .long(name)
+        .action(ArgAction::SetTrue)
+        .hide(true)
+}
+
+fn default_arch<'a>(alloc: Global) -> Arg<'a> {
+    Arg::new(alloc, "default-arch")
+        .long("default-arch")
+        .value_name("ARCH")
+        .hide(true)
+}
+
+fn valued_argument<'a>(alloc: Global, valued: &Valued) -> Arg<'a> {
+    Arg::new(alloc, valued.name)
+        .long(valued.name)
+        .value_name(valued.value_name)
+        .default_value(valued.default)
+        .hide_default_value(true)
+        .help(valued.help)
+}
+
+fn functions<'a>(alloc: Global) -> Arg<'a> {
+    Arg::new(alloc, "functions")
+        .short('f')
+        .long("functions")
+        .value_name("none|short|signature")
+        .num_args(0..=1)
+        .require_equals(true)
+        .default_value("")
+        .hide_default_value(true)
+        .default_missing_value("signature")
+        .help("What to print of a function's name")
+}
+
+fn export<'a>(alloc: Global) -> Arg<'a> {
+    Arg::new(alloc, "export")
+        .long("export")
+        .value_name("RECORDS")
+        .help("Write the records to this records file")
+}
+
+fn modules<'a>(alloc: Global) -> Result<Arg<'a>, AllocError> {
+    Arg::new(alloc, "modules")
+        .long("modules")
+        .value_name("FOLDER")
+        .help("With it: a file for each module in this folder")
+        .requires_arg("export")
+}
+
+fn expected<'a>(alloc: Global) -> Arg<'a> {
+    Arg::new(alloc, "expect-id")
+        .long("expect-id")
+        .value_name("ID")
+        .help("Refuse a file of another build")
+}
+
+fn object<'a>(alloc: Global) -> Result<Arg<'a>, AllocError> {
+    Arg::new(alloc, "obj")
+        .short('e')
+        .long("obj")
+        .value_name("FILE")
+        .help("FILE, in place of the first word; bare digits are decimal")
+        .alias("exe")
+}
+
+fn pdb_dirs<'a>(alloc: Global) -> Arg<'a> {
+    Arg::new(alloc, "pdb-dir")
+        .long("pdb-dir")
+        .value_name("DIR")
+        .action(ArgAction::Append)
+        .help("Look for a program's PDB file here too; may be repeated")
+}
+
+fn words<'a>(alloc: Global) -> Arg<'a> {
+    Arg::new(alloc, "WORD")
+        .num_args(0..)
+        .action(ArgAction::Append)
+        .help("FILE (program, PDB file or records file), and addresses")
+}

@@ -1,0 +1,67 @@
+//! Response files: the words of a file, which a word names behind an `@`, stand in that word's place.
+
+use crate::input_files::read_file;
+use crate::stops::Stop;
+use std::alloc::{AllocError, Global};
+use std::rt::Files;
+
+/// What stands before the name of a response file.
+const RESPONSE_FILE: char = '@';
+
+/// The words, with those of a file in the place of each word that names one.
+pub fn expand_words<R: Files + AllocGlobal>(rt: &R, words: &[String]) -> Result<Vec<String>, Stop> {
+    let alloc = rt.alloc();
+    let mut expanded = Vec::new(alloc);
+    for word in words {
+        match word.as_str().strip_prefix(RESPONSE_FILE) {
+            Some(path) => push_words_of(alloc, &read_file(rt, path)?, &mut expanded)?,
+            None => expanded.push(String::from_str(alloc, word.as_str())?)?,
+        }
+    }
+    Ok(expanded)
+}
+
+// Appends the words in the bytes of a file.
+fn push_words_of(alloc: Global, bytes: &[u8], words: &mut Vec<String>) -> Result<(), AllocError> {
+    let text = String::from_utf8_lossy(alloc, bytes)?;
+    push_words(alloc, text.as_str(), words)
+}
+
+/// Where the splitting of a text stands.
+#[derive(Clone, Copy, PartialEq, Eq)]
+enum Place {
+    BetweenWords,
+    InWord,
+    /// In quotation marks of this kind, where space is a part of the word.
+    Quoted(char),
+}
+
+// Appends the words of a text, between which white space stands.
+fn push_words(alloc: Global, text: &str, words: &mut Vec<String>) -> Result<(), AllocError> {
+    let mut word = String::new(alloc);
+    let mut place = Place::BetweenWords;
+    for character in text.chars() {
+        place = match (place, character) {
+            (Place::Quoted(mark), _) if mark == character => Place::InWord,
+            (Place::Quoted(_), _) => {
+                word.push(character)?;
+                place
+            }
+            (_, '"' | '\'') => Place::Quoted(character),
+            (Place::BetweenWords, _) if character.is_whitespace() => Place::BetweenWords,
+            (_, _) if character.is_whitespace() => {
+                words.push(word)?;
+                word = String::new(alloc);
+                Place::BetweenWords
+            }
+            _ => {
+                word.push(character)?;
+                Place::InWord
+            }
+        };
+    }
+    if place != Place::BetweenWords {
+        words.push(word)?;
+    }
+    Ok(())
+}
