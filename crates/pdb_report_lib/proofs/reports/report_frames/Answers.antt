@@ -16,9 +16,9 @@ loop-address-preserved g c =
     record {
       inputs = c.put_frames.ensures.inputs ∙ c.loop-address.invariant.inputs;
       code_failed = c.in_ok-put_frames.ensures.code_failed ∙ c.loop-address.invariant.code_failed;
-      state = after_frames_more g.P.ModuleProvider.info c.args.context.now c.loop-address.context
+      context = after_frames_more g.P.ModuleProvider.info c.args.context.now c.loop-address.context
           c.put_frames.new.context c.args.addresses.now c.loop-address.address-index below
-          c.loop-address.invariant.state c.in_ok-put_frames.ensures.state;
+          c.loop-address.invariant.context c.in_ok-put_frames.ensures.state;
       taken = takes_one_more text_of c.args.addresses.now c.loop-address.address-index (state c.args.sink.now)
           (state c.loop-address.sink) (state c.put_frames.new.sink) below c.loop-address.invariant.taken text;
     }
@@ -47,6 +47,6 @@ returns-in_err-put_frames-clause-early g c =
     let fault = c.in_err-put_frames.field-0.0 in
     let below : i < length addresses = omega arith in
     let left = left_at_address info c.args.context.now c.loop-address.context c.put_frames.new.context addresses i
-    fault below c.loop-address.invariant.state c.in_err-put_frames.ensures.early in
+    fault below c.loop-address.invariant.context c.in_err-put_frames.ensures.early in
     fails_with _ fault (IsLeftAmid info c.args.context.now c.put_frames.new.context addresses)
     c.from_residual.ensures.1 left

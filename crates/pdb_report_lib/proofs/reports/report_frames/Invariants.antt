@@ -12,7 +12,7 @@ invariant-loop-address g l =
     record {
       inputs : l.context.inputs ≡ l.initial.context.inputs;
       code_failed : l.context.code_failed ≡ l.initial.context.code_failed;
-      state : l.context ≡ after_calls g.P.ModuleProvider.info l.initial.context
+      context : l.context ≡ after_calls g.P.ModuleProvider.info l.initial.context
           (map FindFrames (take l.address-index l.addresses));
       taken : TakesText (addresses_text text_of (take l.address-index l.addresses)) (state l.initial.sink)
           (state l.sink);

@@ -23,8 +23,8 @@ loop-start-preserved g c =
     rw c.loop-start.invariant.inputs at c.in_ok-put_listed.ensures.text in
     record {
       inputs = c.put_listed.ensures.inputs ∙ c.loop-start.invariant.inputs;
-      state = after_one_more info c.args.context.now c.loop-start.context c.put_listed.new.context starts i below
-          c.loop-start.invariant.state c.in_ok-put_listed.ensures.state;
+      context = after_one_more info c.args.context.now c.loop-start.context c.put_listed.new.context starts i below
+          c.loop-start.invariant.context c.in_ok-put_listed.ensures.state;
       taken = takes_one_listed info inputs starts i (state c.args.sink.now) (state c.loop-start.sink)
           (state c.put_listed.new.sink) below c.loop-start.invariant.taken next;
     }
@@ -51,7 +51,7 @@ pub returns-clause-state : goal.returns-clause-state
 returns-clause-state g c =
     let info = g.P.ModuleProvider.info in
     let whole = take_all c.loop-start.start-index c.deref-start-items.result.now c.loop-start-test.false in
-    c.loop-start.invariant.state
+    c.loop-start.invariant.context
     ∙ ap (after_functions info c.args.context.now)
     (whole ∙ (c.deref-start-items.ensures.value ∙ c.in_ok-starts.ensures.answer))
 
@@ -62,5 +62,5 @@ returns-in_err-put_listed-clause-early g c =
     let is : starts ≡ start_addresses info c.args.context.now.inputs =
     c.deref-start-items.ensures.value ∙ c.in_ok-starts.ensures.answer in
     let cut = cut_at_address info c.args.context.now c.loop-start.context c.put_listed.new.context starts
-    c.loop-start.start-index c.loop-start.invariant.state c.put_listed.ensures.gains in
+    c.loop-start.start-index c.loop-start.invariant.context c.put_listed.ensures.gains in
     on_error _ (subst (λ xs. IsCutShort info c.args.context.now c.put_listed.new.context xs) is cut)

@@ -11,6 +11,6 @@ invariant-loop-start g l =
     let functions = functions_at g.P.ModuleProvider.info l.fn.context.inputs (take l.start-index l.start-items) in
     record {
       inputs : l.context.inputs ≡ l.fn.context.inputs;
-      state : l.context ≡ after_functions g.P.ModuleProvider.info l.fn.context (take l.start-index l.start-items);
+      context : l.context ≡ after_functions g.P.ModuleProvider.info l.fn.context (take l.start-index l.start-items);
       taken : Takes (state l.initial.sink) (state l.sink) (list_text functions);
     }

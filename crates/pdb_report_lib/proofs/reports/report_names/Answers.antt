@@ -15,9 +15,9 @@ loop-address-preserved g c =
     rw c.loop-address.invariant.inputs at c.in_ok-put_function.ensures.text in
     record {
       inputs = c.put_function.ensures.inputs ∙ c.loop-address.invariant.inputs;
-      state = after_one_more g.P.ModuleProvider.info c.args.context.now c.loop-address.context
+      context = after_one_more g.P.ModuleProvider.info c.args.context.now c.loop-address.context
           c.put_function.new.context c.args.addresses.now c.loop-address.address-index below
-          c.loop-address.invariant.state c.in_ok-put_function.ensures.state;
+          c.loop-address.invariant.context c.in_ok-put_function.ensures.state;
       taken = takes_one_more text_of c.args.addresses.now c.loop-address.address-index (state c.args.sink.now)
           (state c.loop-address.sink) (state c.put_function.new.sink) below c.loop-address.invariant.taken text;
     }
@@ -25,5 +25,5 @@ loop-address-preserved g c =
 pub returns-in_err-put_function-clause-early : goal.returns-in_err-put_function-clause-early
 returns-in_err-put_function-clause-early g c =
     on_error _ (cut_at_address g.P.ModuleProvider.info c.args.context.now c.loop-address.context
-    c.put_function.new.context c.args.addresses.now c.loop-address.address-index c.loop-address.invariant.state
+    c.put_function.new.context c.args.addresses.now c.loop-address.address-index c.loop-address.invariant.context
     c.put_function.ensures.gains)

@@ -10,7 +10,8 @@ invariant-loop-address g l =
     let text_of = function_text g.P.ModuleProvider.info l.initial.context.inputs in
     record {
       inputs : l.context.inputs ≡ l.initial.context.inputs;
-      state : l.context ≡ after_functions g.P.ModuleProvider.info l.initial.context (take l.address-index l.addresses);
+      context : l.context ≡ after_functions g.P.ModuleProvider.info l.initial.context
+          (take l.address-index l.addresses);
       taken : TakesText (addresses_text text_of (take l.address-index l.addresses)) (state l.initial.sink)
           (state l.sink);
     }
