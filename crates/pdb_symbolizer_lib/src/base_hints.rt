@@ -8,6 +8,9 @@ const BASES: [u64; 4] = [0x40_0000, 0x1000_0000, 0x1_4000_0000, 0x1_8000_0000];
 /// The lowest address that is taken for one with a base in it.
 const LOWEST: u64 = 0x1000_0000;
 
+/// What stands before the option.
+const HINT: &str = "for addresses with the base in them say";
+
 /// Whether it was said already how a base is given.
 #[derive(Clone, Copy, PartialEq, Eq)]
 pub enum BaseHint {
@@ -25,7 +28,7 @@ impl BaseHint {
             if base <= given && names.lies_in_section(given - base) {
                 *self = BaseHint::Printed;
                 let _ = eprintln!(rt;
-                    "pdb_symbolizer: {file}: 0x{given:x} lies in no section: for addresses with the base in them say --base 0x{base:x}"
+                    "pdb_symbolizer: {file}: 0x{given:x} lies in no section: {HINT} --base 0x{base:x}"
                 );
                 return;
             }
