@@ -1,9 +1,10 @@
 #!/usr/bin/env python3
 """Compares what the built pdb_symbolizer and llvm-symbolizer print, in each style and with each option.
 
-Usage: symbolizer.py PROGRAM PDB EXE ADDRESSES [SHOWN [OPTION..]]
+Usage: symbolizer.py PROGRAM EXE ADDRESSES [SHOWN [OPTION..]]
 
-ADDRESSES is a file with an address a line, relative to where the program is loaded. Each style (LLVM, GNU, JSON) is
+EXE is a program with its PDB file beside it, and both are asked with the same words, `--obj=EXE --relative-address` and
+the options. ADDRESSES is a file with an address a line, relative to where the program is loaded. Each style (LLVM, GNU, JSON) is
 asked for with each set of options over all of them, and the answers are compared address by address. A line is printed
 for each run, with how many answers are the same and how many differ by kind, and the first SHOWN of each kind. With
 OPTIONs this one set of options is tried.
@@ -54,7 +55,6 @@ def json_answers(text):
     while at < len(text):
         answer, at = decoder.raw_decode(text, at)
         at = SPACE.match(text, at).end()
-        answer.pop("ModuleName", None)
         answers.append(answer)
     return answers
 
@@ -126,16 +126,14 @@ def plain_kind(ours, theirs):
 class Comparison:
     """Two programs, asked the same."""
 
-    def __init__(self, program, pdb, exe, addresses):
+    def __init__(self, program, exe, addresses):
         self.addresses = addresses
-        self.ours = [program]
-        self.pdb = pdb
-        self.theirs = ["llvm-symbolizer", f"--obj={exe}", "--relative-address"]
+        self.programs = [program, "llvm-symbolizer"]
+        self.words = [f"--obj={exe}", "--relative-address"]
 
     def texts(self, options, addresses):
         """What both print."""
-        ours = asked([*self.ours, *options, self.pdb], addresses)
-        return ours, asked([*self.theirs, *options], addresses)
+        return [asked([program, *self.words, *options], addresses) for program in self.programs]
 
     def json(self, options):
         """The answers of both in JSON."""
@@ -174,9 +172,9 @@ def whole(comparison, options):
                for bare, text in zip(plain, marked))
 
 
-def main(program, pdb, exe, path, shown, *only):
+def main(program, exe, path, shown, *only):
     addresses = open(path).read().split()
-    comparison = Comparison(program, pdb, exe, addresses)
+    comparison = Comparison(program, exe, addresses)
     total = collections.Counter()
     for style in STYLES:
         for options in [only] if only else option_sets():
@@ -194,6 +192,6 @@ def main(program, pdb, exe, path, shown, *only):
 
 
 if __name__ == "__main__":
-    if len(sys.argv) < 5:
+    if len(sys.argv) < 4:
         sys.exit(__doc__)
-    main(*sys.argv[1:5], int(sys.argv[5]) if len(sys.argv) > 5 else 0, *sys.argv[6:])
+    main(*sys.argv[1:4], int(sys.argv[4]) if len(sys.argv) > 4 else 0, *sys.argv[5:])
