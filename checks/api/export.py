@@ -25,7 +25,7 @@ def run(*words, text=None):
     return subprocess.run(words, input=text, capture_output=True, text=True, check=True).stdout
 
 
-def line_of(frame):
+def frame_line(frame):
     """A frame as pdb_report prints it. A row may have the line 0; that of a frame without a file is not known."""
     known = {"Line": "0"} if frame["FileName"] else {}
     return FRAME.format(**{key: frame[key] or unknown for key, unknown in (UNKNOWN | known).items()})
@@ -36,7 +36,7 @@ def report_of(answer):
     frames = answer["Symbol"]
     if not frames:
         return ""
-    return f"{answer['Address']} - {len(frames)} frames:\n" + "".join(map(line_of, frames))
+    return f"{answer['Address']} - {len(frames)} frames:\n" + "".join(map(frame_line, frames))
 
 
 def answers(program, file, addresses):
