@@ -1,5 +1,8 @@
 //! What is broken among the records of one module.
 
+ghost use Rattle.std.specs.Prelude.{◌≡◌, OnOk};
+ghost use Rattle.pdb_repairs.specs.Repairs.{without_fault};
+
 use crate::repairs::{Repair, take_fault};
 use pdb_records::{LineProgram, ModuleInfo, StreamError};
 use std::alloc::{AllocError, Global};
@@ -10,7 +13,12 @@ pub fn repair_module(
     module_index: usize,
     info: &mut ModuleInfo,
     repairs: &mut Vec<Repair>,
-) -> Result<(), AllocError> {
+) -> Result<(), AllocError>
+    ensures symbols { OnOk result (info.new.symbols ≡ without_fault info.old.symbols) }
+    ensures inlinees { OnOk result (info.new.inlinees ≡ without_fault info.old.inlinees) }
+    ensures imports { OnOk result (info.new.imports ≡ info.old.imports) }
+    ensures exports { OnOk result (info.new.exports ≡ info.old.exports) }
+{
     if let Some(fault) = take_fault(&mut info.symbols) {
         repairs.push(Repair::Symbols {
             module_index,

@@ -1,5 +1,8 @@
 //! What is taken out of the records of a program, each with its fault.
 
+ghost use Rattle.std.specs.Prelude.{◌≡◌};
+ghost use Rattle.pdb_repairs.specs.Repairs.{without_fault};
+
 use crate::claims::retain_claims;
 use crate::module_records::repair_module;
 use pdb_records::{DebugInformation, ModuleInfo, PDB, Reading, StreamError, SymbolTable};
@@ -100,6 +103,9 @@ fn repair_read_module(
 }
 
 /// Has a reading end behind what was read, and answers why it ended there, if it was for a fault.
-pub fn take_fault<T>(reading: &mut Reading<T>) -> Option<StreamError> {
+pub fn take_fault<T>(reading: &mut Reading<T>) -> Option<StreamError>
+    ensures answer { result ≡ reading.old.fault }
+    ensures state { reading.new ≡ without_fault reading.old }
+{
     reading.fault.take()
 }
