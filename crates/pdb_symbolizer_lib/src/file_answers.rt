@@ -223,12 +223,12 @@ pub fn request_text<R: Eprint + AllocGlobal>(
 
 /// The frames of an address, of which the last has a name wherever its symbol has one. Where the records of its module
 /// can't be read that is shown on standard error.
-fn frames_at<'a, R: Eprint + AllocGlobal>(
+pub fn frames_at<'a, R: Eprint + AllocGlobal>(
     rt: &R,
     questions: &Questions<'_, '_, '_>,
     context: &mut FileContext<'a, '_>,
     given: u64,
-) -> Result<Option<FunctionFrames<'a>>, Stop> {
+) -> Result<Option<FunctionFrames<'a>>, Error> {
     let Some(address) = questions.origin.relative(given) else {
         return Ok(None);
     };
@@ -241,7 +241,7 @@ fn frames_at<'a, R: Eprint + AllocGlobal>(
             }
             Ok(found)
         }
-        Err(Error::OutOfMemory) => Err(Stop::Refused(Error::OutOfMemory)),
+        Err(Error::OutOfMemory) => Err(Error::OutOfMemory),
         Err(error) => {
             let _ = eprintln!(rt; "pdb_symbolizer: 0x{given:x}: {error}");
             Ok(None)
