@@ -7,11 +7,13 @@ Usage: write_cases.py FOLDER     FOLDER has shapes.exe with its PDB file, as cra
 Where `llvm-symbolizer` has an answer to the same words, that is what is wanted. All else is written here by hand, from
 docs/CONTAINER.md: what its tables of differences name, what LLVM's program doesn't have, and files that are broken.
 shapes.exe beside this is the program with the GUID of shapes.pdb here, and other.exe is it as it was built, whose PDB
-file stands under `symbols`: clang writes the name of its folder into a PDB file, by which the GUID is made.
+file stands under `symbols`: clang writes the name of its folder into a PDB file, by which the GUID is made. high.pdb is written
+here too: broken_parts.pdb with its section at the end of all addresses, and its public symbol in the last function.
 """
 import itertools
 import json
 import pathlib
+import struct
 import subprocess
 import sys
 
@@ -363,9 +365,26 @@ def symbol_file(front, found):
     return "".join(f"{row}\n" for row in rows) + ENDED
 
 
+def write_high():
+    """Writes high.pdb. The end of its last function, which is the end of the section, doesn't fit 32 bits."""
+    data = (HERE / "broken_parts.pdb").read_bytes()
+    for old, new in ((struct.pack("<II", 0x800, 0x1000), struct.pack("<II", 0x800, 0xfffff800)),
+                     (struct.pack("<IIH", 2, 0x20, 1) + b"?f@@", struct.pack("<IIH", 2, 0x428, 1) + b"?f@@")):
+        assert data.count(old) == 1
+        data = data.replace(old, new)
+    (HERE / "high.pdb").write_bytes(data)
+
+
+def broken_symbols(file, *functions):
+    """The symbol file of a file with broken parts."""
+    rows = ["MODULE windows x86_64 030201000504070608090A0B0C0D0E0F1 " + file, *functions, ENDED]
+    return "".join(error(f"{file}: {row}") for row in BROKEN_ROWS) + "\n".join(rows)
+
+
 def symbol_file_cases(folder):
     """Symbol files: of the stacks that LLVM answers; of broken parts, whose functions are the public symbol and what lies
     between starts of contributions, each with no line; and words and files of which none is written."""
+    write_high()
     module = "MODULE windows x86_64 6B32B94164959A524C4C44205044422E1 shapes.pdb"
     # the scripts link with `/timestamp:0`, and the image ends with the last of its six pages
     program = "INFO CODE_ID 000000006000 shapes.exe"
@@ -376,10 +395,13 @@ def symbol_file_cases(folder):
     yield "pdb_symbolizer --dump-syms --base 140000000 --adjust 1 -s -p --pdb-dir symbols -e other.exe", symbol_file(
         [module.replace("6B32B94164959A524C4C44205044422E", "A9D98A29E7C186D04C4C44205044422E"),
          program.replace("shapes", "other")], whole)
-    yield "pdb_symbolizer --dump-syms broken_parts.pdb", "".join(error(f"broken_parts.pdb: {row}") for row in BROKEN_ROWS) + "\n".join(
-        ["MODULE windows x86_64 030201000504070608090A0B0C0D0E0F1 broken_parts.pdb", "FUNC 1000 20 0 <name omitted>",
-         "FUNC 1020 60 0 ?f@@YAXXZ", "FUNC 1200 10 0 <name omitted>", "FUNC 1304 40 0 <name omitted>",
-         "FUNC 1420 4 0 <name omitted>", "FUNC 1424 8 0 <name omitted>", ENDED])
+    yield "pdb_symbolizer --dump-syms broken_parts.pdb", broken_symbols(
+        "broken_parts.pdb", "FUNC 1000 20 0 <name omitted>", "FUNC 1020 60 0 ?f@@YAXXZ", "FUNC 1200 10 0 <name omitted>",
+        "FUNC 1304 40 0 <name omitted>", "FUNC 1420 4 0 <name omitted>", "FUNC 1424 8 0 <name omitted>")
+    yield "pdb_symbolizer --dump-syms high.pdb", broken_symbols(
+        "high.pdb", "FUNC fffff800 80 0 <name omitted>", "FUNC fffffa00 10 0 <name omitted>",
+        "FUNC fffffb04 40 0 <name omitted>", "FUNC fffffc20 4 0 <name omitted>", "FUNC fffffc24 4 0 <name omitted>",
+        "PUBLIC fffffc28 0 ?f@@YAXXZ")
     yield "pdb_symbolizer --dump-syms names.json", error("names.json: no id") + "status 1\n"
     yield "pdb_symbolizer --dump-syms stripped.pdb", error("stripped.pdb: no section headers (stripped)") + "status 1\n"
     yield "pdb_symbolizer --dump-syms --expect-id 6B32B94164959A524C4C44205044422E2 shapes.pdb", error(
