@@ -61,10 +61,10 @@ class Function:
         """The functions at an address with file and line, the innermost first."""
         frames, name = [], self.name
         for file, line, origin in self.calls(address):
-            frames.append((name, files[file], line))
-            name = origins[origin]
+            frames.append((name, files.get(file), line))
+            name = origins.get(origin)
         place = self.place(address)
-        file, line = (files[place[0]], place[1]) if place else ("", 0)
+        file, line = (files.get(place[0]), place[1]) if place else ("", 0)
         return [(name, file, line), *reversed(frames)]
 
 
@@ -98,9 +98,11 @@ class SymbolFile:
             self.functions.append(Function(int(found[2], 16), int(found[3], 16), found[5]))
         elif keyword == "PUBLIC":
             self.publics.append((int(found[2], 16), found[4]))
+        elif keyword != "INFO" and not self.functions:
+            self.faults.append(f"before all functions: {line}")
         elif keyword == "INLINE":
             self.inline(line, found)
-        elif keyword not in RECORDS:
+        elif keyword != "INFO":
             self.line(line, found)
 
     def inline(self, line, found):
