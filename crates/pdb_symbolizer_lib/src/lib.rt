@@ -12,6 +12,7 @@ mod base_hints;
 mod command_line;
 mod export_files;
 mod file_answers;
+mod file_frames;
 mod identities;
 mod input_files;
 mod json_text;

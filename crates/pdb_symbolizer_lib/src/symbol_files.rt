@@ -1,14 +1,14 @@
 //! The Breakpad symbol file that `--dump-syms` writes on standard output.
 
-use crate::addresses::Origin;
-use crate::file_answers::{FileContext, Questions, frames_at, open_file};
+use crate::file_answers::open_file;
+use crate::file_frames::FileFrames;
 use crate::input_files::InputFile;
-use crate::options::{Base, Options};
+use crate::options::Options;
 use crate::status_line::StatusLine;
 use crate::stops::Stop;
 use crate::symbol_names::SymbolNames;
-use pdb_addr2line::{ContextPdbData, Error, FunctionFrames};
-use pdb_breakpad::{FrameSource, ModuleIdentity, ProgramIdentity, write_symbol_file};
+use pdb_addr2line::ContextPdbData;
+use pdb_breakpad::{ModuleIdentity, ProgramIdentity, write_symbol_file};
 use pdb_container::PdbIdentity;
 use std::io;
 use std::rt::Files;
@@ -48,29 +48,19 @@ fn dump_over<R: Print + Eprint + AllocGlobal>(
     };
     let names = SymbolNames::new(rt.alloc(), &input.records)?;
     let data = ContextPdbData::try_from_pdb_ref(rt.alloc(), &mut input.records)?;
-    let questions = Questions {
-        options,
-        file: path,
-        origin: Origin::new(Base::Relative, None, 0),
-        names: &names,
-        data: &data,
-    };
-    dump_all(rt, &questions, &module)
+    dump_all(rt, options, &module, &names, &data)
 }
 
 fn dump_all<R: Print + Eprint + AllocGlobal>(
     rt: &R,
-    questions: &Questions<'_, '_, '_>,
+    options: &Options<'_>,
     module: &ModuleIdentity<'_>,
+    names: &SymbolNames,
+    data: &ContextPdbData<'_>,
 ) -> Result<(), Stop> {
-    let flags = questions.options.flags();
-    let mut context = questions.data.make_context_with_formatter_flags(flags)?;
-    let mut source = FileFrames {
-        rt,
-        questions,
-        context: &mut context,
-    };
-    write_symbol_file(rt.alloc(), &mut io::writer(rt), module, &mut source)?;
+    let mut context = data.make_context_with_formatter_flags(options.flags())?;
+    let mut frames = FileFrames::new(rt, &mut context, names, data);
+    write_symbol_file(rt.alloc(), &mut io::writer(rt), module, &mut frames)?;
     Ok(())
 }
 
@@ -79,23 +69,5 @@ fn last_part(path: &str) -> &str {
     match path.rsplit_once(['/', '\\']) {
         Some((_, name)) => name,
         None => path,
-    }
-}
-
-/// The frames of a file, with the names that answers have.
-#[derive(Drop)]
-struct FileFrames<'q, 'w, 'a, 'p, R> {
-    rt: &'q R,
-    questions: &'q Questions<'q, 'w, 'p>,
-    context: &'q mut FileContext<'a, 'p>,
-}
-
-impl<'a, R: Eprint + AllocGlobal> FrameSource<'a> for FileFrames<'_, '_, 'a, '_, R> {
-    fn start_addresses(&mut self) -> Result<Vec<u32>, Error> {
-        self.context.start_addresses()
-    }
-
-    fn find_frames(&mut self, address: u32) -> Result<Option<FunctionFrames<'a>>, Error> {
-        frames_at(self.rt, self.questions, self.context, u64::from(address))
     }
 }
