@@ -2,12 +2,14 @@
 #![tactic(auto)]
 
 mod bytes_at;
+mod code_id;
 mod code_view;
 mod debug_id;
 mod info_front;
 mod machine;
 mod program;
 
+pub use code_id::CodeId;
 pub use code_view::CodeView;
 pub use debug_id::{CompactDebugId, DebugId};
 pub use info_front::InfoFront;

@@ -1,6 +1,7 @@
-//! A program or a DLL (PE32 or PE32+): its machine, its image base, and what it says of its PDB file.
+//! A program or a DLL (PE32 or PE32+): its build, its machine, its image base, and its PDB file.
 
 use crate::bytes_at::{bytes_at, bytes_from, u16_at, u32_at, u64_at};
+use crate::code_id::CodeId;
 use crate::code_view::{CodeView, read_code_view};
 use crate::machine::Machine;
 
@@ -36,6 +37,7 @@ enum OptionalForm {
 #[derive(Clone, Copy)]
 struct Headers<'a> {
     machine: Machine,
+    time_stamp: u32,
     form: OptionalForm,
     /// The file from the optional header on.
     optional_header: &'a [u8],
@@ -48,6 +50,7 @@ struct Headers<'a> {
 #[derive(Debug, Clone, Copy)]
 pub struct ProgramFile<'a> {
     pub machine: Machine,
+    pub code_id: CodeId,
     /// Where the program wants to be loaded.
     pub image_base: u64,
     /// What it says of its PDB file, where it was linked with one.
@@ -67,6 +70,7 @@ pub fn read_program(file: &[u8]) -> Option<ProgramFile<'_>> {
     let headers = headers_of(file)?;
     Some(ProgramFile {
         machine: headers.machine,
+        code_id: code_id(headers)?,
         image_base: image_base(headers)?,
         code_view: code_view_of(file, headers),
     })
@@ -86,10 +90,19 @@ fn headers_of(file: &[u8]) -> Option<Headers<'_>> {
     };
     Some(Headers {
         machine: Machine(u16_at(file_header, 0)?),
+        time_stamp: u32_at(file_header, 4)?,
         form,
         optional_header,
         sections: bytes_from(optional_header, usize::from(u16_at(file_header, 16)?))?,
         section_count: u16_at(file_header, 2)?,
+    })
+}
+
+// The size stands at the same place in both forms.
+fn code_id(headers: Headers<'_>) -> Option<CodeId> {
+    Some(CodeId {
+        time_stamp: headers.time_stamp,
+        image_size: u32_at(headers.optional_header, 56)?,
     })
 }
 

@@ -11,6 +11,7 @@ Examples:
   pdb_symbolizer -p --base 0x7ff6a0000000 app.pdb <addresses    of addresses in memory, a line each
   pdb_symbolizer --output-style=JSON --obj=app.exe 0x140001136  as llvm-symbolizer is asked
   pdb_symbolizer --show-id app.exe app.pdb     which build they are of
+  pdb_symbolizer --dump-syms app.exe >app.sym  a symbol file for readers of Breakpad's format
 Addresses are hexadecimal, and come from standard input, a line each, where no word gives one. docs/CONTAINER.md says more.
 
 ";
@@ -32,7 +33,7 @@ struct Valued {
     help: &'static str,
 }
 
-static FLAGS: [Flag; 9] = [
+static FLAGS: [Flag; 10] = [
     Flag {
         name: "inlines",
         short: Some('i'),
@@ -86,6 +87,12 @@ static FLAGS: [Flag; 9] = [
         short: None,
         alias: None,
         help: "Print debug id, age and machine of each file",
+    },
+    Flag {
+        name: "dump-syms",
+        short: None,
+        alias: None,
+        help: "Write a Breakpad symbol file of all functions",
     },
 ];
 

@@ -138,6 +138,7 @@ fn purpose_of<'w>(matches: &ArgMatches<'w>) -> Purpose<'w> {
             records,
             modules: matches.get_str("modules"),
         }),
+        None if matches.get_flag("dump-syms") => Purpose::SymbolFile,
         None if matches.get_flag("show-id") => Purpose::Identities,
         None => Purpose::Answers,
     }

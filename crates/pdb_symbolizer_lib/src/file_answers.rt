@@ -221,27 +221,36 @@ pub fn request_text<R: Eprint + AllocGlobal>(
     Ok(text)
 }
 
-/// The frames of an address, of which the last has a name wherever its symbol has one. Where the records of its module
-/// can't be read that is shown on standard error.
+/// The frames of an address, of which the last has a name wherever its symbol has one.
 fn frames_at<'a, R: Eprint + AllocGlobal>(
     rt: &R,
     questions: &Questions<'_, '_, '_>,
     context: &mut FileContext<'a, '_>,
     given: u64,
-) -> Result<Option<FunctionFrames<'a>>, Stop> {
+) -> Result<Option<FunctionFrames<'a>>, Error> {
     let Some(address) = questions.origin.relative(given) else {
         return Ok(None);
     };
+    let mut found = readable_frames(rt, context, given, address)?;
+    if let Some(frames) = &mut found {
+        questions
+            .names
+            .name_function(rt.alloc(), questions.data, frames)?;
+    }
+    Ok(found)
+}
+
+/// The frames of an address. Where the records of its module can't be read that is shown on standard error, with the
+/// address as it was given.
+pub fn readable_frames<'a, R: Eprint>(
+    rt: &R,
+    context: &mut FileContext<'a, '_>,
+    given: u64,
+    address: u32,
+) -> Result<Option<FunctionFrames<'a>>, Error> {
     match context.find_frames(address) {
-        Ok(mut found) => {
-            if let Some(frames) = &mut found {
-                questions
-                    .names
-                    .name_function(rt.alloc(), questions.data, frames)?;
-            }
-            Ok(found)
-        }
-        Err(Error::OutOfMemory) => Err(Stop::Refused(Error::OutOfMemory)),
+        Ok(found) => Ok(found),
+        Err(Error::OutOfMemory) => Err(Error::OutOfMemory),
         Err(error) => {
             let _ = eprintln!(rt; "pdb_symbolizer: 0x{given:x}: {error}");
             Ok(None)

@@ -7,8 +7,10 @@ use crate::status_line::StatusLine;
 use crate::stops::Stop;
 use pdb_addr2line::Error;
 use pdb_addr2line::pdb::PDB;
-use pdb_container::{ContainerFault, PdbFile, Refusal, other_file, read_pdb_file};
-use pdb_identity::{ProgramFile, read_program};
+use pdb_container::{
+    ContainerFault, PdbFile, PdbIdentity, Refusal, other_file, read_identity, read_pdb_file,
+};
+use pdb_identity::{CodeId, ProgramFile, read_program};
 use pdb_json::RecordsFile;
 use std::alloc::{AllocError, Global};
 use std::rt::Files;
@@ -27,8 +29,11 @@ pub struct InputFile {
     pub refusal: Option<Refusal>,
     /// Whether the file is a PDB file that has names alone.
     pub names_only: bool,
-    /// Where the program wants to be loaded, if one was named.
+    /// Which build a PDB file is of, if it says so.
+    pub identity: Option<PdbIdentity>,
+    /// Where the program wants to be loaded, if one was named, and which build it is of.
     pub image_base: Option<u64>,
+    pub code_id: Option<CodeId>,
 }
 
 /// The records of a file: a PDB file, a records file with its module files, or a program, whose PDB file is looked for.
@@ -60,6 +65,7 @@ fn read_program_file<R: Files + Eprint + AllocGlobal>(
     check_identity(rt.alloc(), options, found.path.as_str(), &found.bytes)?;
     let mut file = read_container(rt.alloc(), found.path.as_str(), &found.bytes)?;
     file.image_base = Some(program.image_base);
+    file.code_id = Some(program.code_id);
     Ok(file)
 }
 
@@ -79,14 +85,28 @@ fn read_records_of<R: Files + Eprint + AllocGlobal>(
 }
 
 fn read_container(alloc: Global, path: &str, bytes: &[u8]) -> Result<InputFile, Stop> {
-    match read_pdb_file(alloc, bytes) {
-        Ok(file) => of_pdb_file(alloc, path, file),
+    match read_file_and_identity(alloc, bytes) {
+        Ok((file, identity)) => of_pdb_file(alloc, path, file, identity),
         Err(ContainerFault::OutOfMemory) => Err(Stop::Refused(Error::OutOfMemory)),
         Err(fault) => Err(Stop::Container(String::from_str(alloc, path)?, fault)),
     }
 }
 
-fn of_pdb_file(alloc: Global, path: &str, file: PdbFile) -> Result<InputFile, Stop> {
+fn read_file_and_identity(
+    alloc: Global,
+    bytes: &[u8],
+) -> Result<(PdbFile, Option<PdbIdentity>), ContainerFault> {
+    let file = read_pdb_file(alloc, bytes)?;
+    let identity = read_identity(alloc, bytes)?;
+    Ok((file, identity))
+}
+
+fn of_pdb_file(
+    alloc: Global,
+    path: &str,
+    file: PdbFile,
+    identity: Option<PdbIdentity>,
+) -> Result<InputFile, Stop> {
     let PdbFile {
         records,
         refusal,
@@ -97,7 +117,9 @@ fn of_pdb_file(alloc: Global, path: &str, file: PdbFile) -> Result<InputFile, St
         records,
         refusal,
         names_only,
+        identity,
         image_base: None,
+        code_id: None,
     })
 }
 
@@ -127,7 +149,9 @@ fn read_module_records<R: Files + AllocGlobal>(
             records,
             refusal: None,
             names_only: false,
+            identity: None,
             image_base: None,
+            code_id: None,
         }),
         Err(fault) => Err(Stop::Records(String::from_str(rt.alloc(), path)?, fault)),
     }

@@ -1,8 +1,8 @@
 //! What `pdb_symbolizer` does: functions, files and lines of a Windows program's addresses, by its PDB file.
 //!
 //! [`run_words`] takes the words of a command line, reads the file that they name, and prints an answer for each
-//! address in the styles of `llvm-symbolizer`; or it writes the records of the file as a records file. The program
-//! hands in the words, and standard input and output by its runtime.
+//! address in the styles of `llvm-symbolizer`; or it writes the records of the file as a records file, or its functions
+//! as a Breakpad symbol file. The program hands in the words, and standard input and output by its runtime.
 #![tactic(auto)]
 
 mod addresses;
@@ -12,6 +12,7 @@ mod base_hints;
 mod command_line;
 mod export_files;
 mod file_answers;
+mod file_frames;
 mod identities;
 mod input_files;
 mod json_text;
@@ -24,6 +25,7 @@ mod response_files;
 mod runs;
 mod status_line;
 mod stops;
+mod symbol_files;
 mod symbol_names;
 
 pub use runs::run_words;

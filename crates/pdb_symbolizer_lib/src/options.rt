@@ -42,6 +42,8 @@ pub enum Purpose<'w> {
     Answers,
     /// Its records are written.
     Export(Export<'w>),
+    /// Its functions are written as a Breakpad symbol file.
+    SymbolFile,
     /// It is shown which build it is of, and the files that the other words name.
     Identities,
 }

@@ -10,6 +10,7 @@ use crate::options::{Export, Options, Purpose};
 use crate::response_files::expand_words;
 use crate::status_line::StatusLine;
 use crate::stops::Stop;
+use crate::symbol_files::dump_symbols;
 use std::rt::Files;
 use std::time::Clock;
 
@@ -45,7 +46,8 @@ fn run_over<R: Files + Input + Print + Eprint + Clock + AllocGlobal>(
         (Purpose::Export(export), Some(file)) => {
             export_file(rt, status_line, options, export, file)
         }
-        (Purpose::Export(_), None) => Err(Stop::NoFile),
+        (Purpose::SymbolFile, Some(file)) => dump_symbols(rt, status_line, options, file),
+        (Purpose::Export(_) | Purpose::SymbolFile, None) => Err(Stop::NoFile),
         (Purpose::Answers, Some(file)) => answer_file(rt, status_line, options, file),
         (Purpose::Answers, None) => answer_named_files(rt, status_line, options),
     }
@@ -59,7 +61,7 @@ fn export_file<R: Files + Eprint + Clock + AllocGlobal>(
     file: &str,
 ) -> Result<(), Stop> {
     if !options.addresses.is_empty() {
-        return Err(Stop::ExportAnswersNone);
+        return Err(Stop::AnswersNone("export"));
     }
     let file = read_input_file(rt, status_line, options, file)?;
     write_files(rt, status_line, export, &file.records)

@@ -3,6 +3,7 @@
 use crate::arguments::EXAMPLES;
 use clap::error::ErrorKind;
 use pdb_addr2line::Error;
+use pdb_breakpad::SymbolFileFault;
 use pdb_container::{ContainerFault, DebugId, Refusal};
 use pdb_export::ExportFault;
 use pdb_json::RecordFault;
@@ -26,9 +27,9 @@ pub enum Stop {
     /// No file is named.
     #[error("pdb_symbolizer: no FILE")]
     NoFile,
-    /// Records are written and addresses asked for at once.
-    #[error("pdb_symbolizer: --export answers no address")]
-    ExportAnswersNone,
+    /// Something is written by this option, and addresses asked for at once.
+    #[error("pdb_symbolizer: --{0} answers no address")]
+    AnswersNone(&'static str),
     /// The PDB file of a program was not found: where it was looked for.
     #[error("pdb_symbolizer: {0}")]
     NoPdbFile(String),
@@ -106,6 +107,16 @@ impl From<clap::Error> for Stop {
 impl From<Error> for Stop {
     fn from(error: Error) -> Stop {
         Stop::Refused(error)
+    }
+}
+
+impl From<SymbolFileFault> for Stop {
+    fn from(fault: SymbolFileFault) -> Stop {
+        match fault {
+            SymbolFileFault::Refused(error) => Stop::Refused(error),
+            SymbolFileFault::CannotWrite => Stop::CannotWrite,
+            SymbolFileFault::ClosedPipe => Stop::ClosedPipe,
+        }
     }
 }
 

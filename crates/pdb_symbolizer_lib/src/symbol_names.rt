@@ -56,7 +56,8 @@ impl SymbolNames {
         Ok(())
     }
 
-    fn name_at<P: ModuleProvider>(
+    /// The name of the symbol of the procedure that starts at an address.
+    pub fn name_at<P: ModuleProvider>(
         &self,
         alloc: Global,
         provider: &P,

@@ -7,11 +7,13 @@ Usage: write_cases.py FOLDER     FOLDER has shapes.exe with its PDB file, as cra
 Where `llvm-symbolizer` has an answer to the same words, that is what is wanted. All else is written here by hand, from
 docs/CONTAINER.md: what its tables of differences name, what LLVM's program doesn't have, and files that are broken.
 shapes.exe beside this is the program with the GUID of shapes.pdb here, and other.exe is it as it was built, whose PDB
-file stands under `symbols`: clang writes the name of its folder into a PDB file, by which the GUID is made.
+file stands under `symbols`: clang writes the name of its folder into a PDB file, by which the GUID is made. high.pdb is written
+here too: broken_parts.pdb with its section at the end of all addresses, and its public symbol in the last function.
 """
 import itertools
 import json
 import pathlib
+import struct
 import subprocess
 import sys
 
@@ -188,6 +190,26 @@ def habit_cases(folder):
         "0x140001136: " + STACK
 
 
+CUT, LENGTH = "the bytes end before what is said to stand there", "a length that can't stand there"
+CLAIMED = "code that another module claims too is left out"
+BROKEN_ROWS = ["public symbols end early: " + LENGTH, "the list of modules ends early: " + CUT,
+               "the list of contributions ends early: " + CUT,
+               f"module a symbol that ends too late: {CLAIMED}", f"module an older form: {CLAIMED}", f"module whole: {CLAIMED}",
+               f"module a part that ends too late: {CLAIMED}",
+               "module more symbols than there are: symbols end early: " + CUT,
+               "module a symbol that ends too late: symbols end early: " + CUT,
+               "module a symbol too short for its kind: symbols end early: " + LENGTH,
+               "module an older form: symbols end early: a signature or a version that isn't known",
+               "module more parts than there are: lines are left out: " + CUT,
+               "module more parts than there are: inlined functions end early: " + CUT,
+               "module a part that ends too late: lines are left out: " + CUT,
+               "module a part that ends too late: inlined functions end early: " + CUT,
+               "module a file that ends too late: lines are left out: " + CUT,
+               "module rows that say less than their own front: lines are left out: " + LENGTH,
+               "module an inlinee that ends too late: inlined functions end early: " + CUT,
+               "module inlinees of another form: inlined functions end early: a signature or a version that isn't known"]
+
+
 def broken_cases():
     """Files that can't be read, of which nothing is answered, or in which something is broken."""
     yield "pdb_symbolizer nowhere.pdb 0x1136", error("cannot read nowhere.pdb") + "status 2\n"
@@ -201,26 +223,8 @@ def broken_cases():
     yield "pdb_symbolizer --export written.json", error("no FILE") + "status 2\n"
     yield "pdb_symbolizer --show-id", error("no FILE") + "status 2\n"
     yield "pdb_symbolizer --adjust=-1 shapes.pdb 0x1136", error("--adjust can't be -1") + "status 2\n"
-    cut, length = "the bytes end before what is said to stand there", "a length that can't stand there"
-    claimed = "code that another module claims too is left out"
-    rows = ["public symbols end early: " + length, "the list of modules ends early: " + cut,
-            "the list of contributions ends early: " + cut,
-            f"module a symbol that ends too late: {claimed}", f"module an older form: {claimed}", f"module whole: {claimed}",
-            f"module a part that ends too late: {claimed}",
-            "module more symbols than there are: symbols end early: " + cut,
-            "module a symbol that ends too late: symbols end early: " + cut,
-            "module a symbol too short for its kind: symbols end early: " + length,
-            "module an older form: symbols end early: a signature or a version that isn't known",
-            "module more parts than there are: lines are left out: " + cut,
-            "module more parts than there are: inlined functions end early: " + cut,
-            "module a part that ends too late: lines are left out: " + cut,
-            "module a part that ends too late: inlined functions end early: " + cut,
-            "module a file that ends too late: lines are left out: " + cut,
-            "module rows that say less than their own front: lines are left out: " + length,
-            "module an inlinee that ends too late: inlined functions end early: " + cut,
-            "module inlinees of another form: inlined functions end early: a signature or a version that isn't known"]
     yield "pdb_symbolizer -p broken_parts.pdb 0x1020 0x1050", \
-        "".join(error(f"broken_parts.pdb: {row}") for row in rows) + 2 * "?f@@YAXXZ at ??:0:0\n\n" + ENDED
+        "".join(error(f"broken_parts.pdb: {row}") for row in BROKEN_ROWS) + 2 * "?f@@YAXXZ at ??:0:0\n\n" + ENDED
 
 
 def identity_cases():
@@ -263,8 +267,152 @@ def records_cases():
         error("nowhere/written.json: cannot write") + "status 2\n"
 
 
+# The procedures of shapes.exe by their starts, with their lengths and their arguments, as its sources and
+# `llvm-pdbutil dump --symbols` have them
+PROCEDURES = {0x1000: (29, "(char const*)"), 0x1020: (186, "()"), 0x10e0: (35, "(Colour, Bits)"), 0x1110: (62, "(int)"),
+              0x1150: (50, "(int)"), 0x1190: (198, "(shapes::Point const*, int)"),
+              0x1260: (45, "(shapes::Point const&, unsigned char)")}
+# Those of the functions that are inlined
+ARGUMENTS = {"Framed::Framed": "()", "Picture::Picture": "()", "Picture::draw": "(int)", "shapes::Point::length": "() const",
+             "shapes::Point::moved": "(int) const", "`anonymous namespace'::Walker::walk": "(shapes::Point const&)",
+             "`anonymous namespace'::doubled": "(int)", "shapes::Counter<int>::add": "(int)",
+             "shapes::Counter<int>::mean": "() const", "shapes::Counter<long long>::add": "(long long)",
+             "shapes::Counter<long long>::mean": "() const"}
+# The bytes behind procedures up to the next one of their contribution: the last public symbol before them, and its last
+# row. `paint` is static and has none, so what stands behind it is of `entry`
+BETWEEN = [(0x101d, 0x1020, "?count@Picture@@SAHPEBD@Z", "main.cpp", 44), (0x10da, 0x10e0, "entry", "main.cpp", 57),
+           (0x1103, 0x1110, "entry", "main.cpp", 57), (0x114e, 0x1150, "?draw@Framed@@UEAAHH@Z", "main.cpp", 36),
+           (0x1256, 0x1260, "?area@shapes@@YAHPEBUPoint@1@H@Z", "shapes.cpp", 31)]
+# Where LLVM answers another line, and why: docs/CONTAINER.md, "Against LLVM"
+DIFFERENCES = HERE.parents[1] / "pdb_symbolizer" / "data" / "program" / "differences.txt"
+TWO_ROWS = 0x10e0
+
+
+def stacks(folder):
+    """The stack of each address of shapes.exe, the function itself first: that of LLVM, but for the lines that it has
+    otherwise. Inside of a row of an inlined body it answers the line of the row behind it, where here a body that goes on
+    has the line of the address before; and of two rows at one offset the first, where here the second has all bytes."""
+    addresses = [address for start, (length, _) in PROCEDURES.items() for address in range(start, start + length)]
+    words = ["--obj=shapes.exe", "--relative-address", "--functions=short", "--output-style=JSON"]
+    printed = subprocess.run(["llvm-symbolizer", *words], input="".join(f"{address}\n" for address in addresses),
+                             capture_output=True, text=True, check=True, cwd=folder).stdout
+    found = {address: [(frame["FunctionName"], frame["FileName"], frame["Line"]) for frame in reversed(json.loads(line)["Symbol"])]
+             for address, line in zip(addresses, printed.splitlines(), strict=True)}
+    for address in sorted(int(line, 16) for line in DIFFERENCES.read_text(encoding="utf-8").split()):
+        own, *inlined = found[address]
+        if address == TWO_ROWS:
+            own = found[address + 1][0]
+        before = found[address - 1][1:] if inlined else []
+        going_on = [old for old, new in itertools.takewhile(lambda pair: pair[0][0] == pair[1][0], zip(before, inlined))]
+        found[address] = [own, *going_on, *inlined[len(going_on):]]
+    for start, end, name, file, line in BETWEEN:
+        found.update({address: [(name, f"C:\\shapes\\{file}", line)] for address in range(start, end)})
+    return dict(sorted(found.items()))
+
+
+def with_arguments(found):
+    """The same stacks with the names that have arguments."""
+    for address, [(name, *place), *inlined] in found.items():
+        _, arguments = PROCEDURES.get(procedure_at(address), (0, ""))
+        yield address, [(name + arguments, *place), *((name + ARGUMENTS[name], *rest) for name, *rest in inlined)]
+
+
+def procedure_at(address):
+    """Where the procedure starts that an address lies in, or None where it lies in none."""
+    return next((start for start, (length, _) in PROCEDURES.items() if start <= address < start + length), None)
+
+
+def runs(found, key):
+    """The runs of consecutive addresses of one key, with the key: first address, how many, key."""
+    grouped = itertools.groupby(enumerate(found), lambda pair: (pair[1] - pair[0], key(pair[1])))
+    for (_, value), members in grouped:
+        addresses = [address for _, address in members]
+        yield addresses[0], len(addresses), value
+
+
+def calls(stack, level, files, origins):
+    """The calls of a stack down to a level, each with its line, its file and the function's name; nothing where it has
+    none at that level."""
+    pairs = list(zip(stack, stack[1:]))
+    return tuple((outer[2], files[outer[1]], origins[inner[0]]) for outer, inner in pairs[:level + 1]) if len(pairs) > level else None
+
+
+def numbers(names):
+    """Numbers of names by where they come first."""
+    return {name: number for number, name in enumerate(dict.fromkeys(names))}
+
+
+def function_records(start, found, files, origins):
+    """The records of one function."""
+    yield f"FUNC {start:x} {len(found):x} 0 {found[start][0][0]}"
+    deepest = max(map(len, found.values())) - 1
+    inlines = [(first, level, count, chain[-1]) for level in range(deepest)
+               for first, count, chain in runs(found, lambda address: calls(found[address], level, files, origins)) if chain]
+    for first, level, count, (line, file, origin) in sorted(inlines):
+        yield f"INLINE {level} {line} {file} {origin} {first:x} {count:x}"
+    for first, count, stack in runs(found, found.get):
+        yield f"{first:x} {count:x} {stack[-1][2]} {files[stack[-1][1]]}"
+
+
+def symbol_file(front, found):
+    """The symbol file of these stacks, behind the records in front."""
+    files = numbers(frame[1] for stack in found.values() for frame in stack)
+    origins = numbers(frame[0] for stack in found.values() for frame in stack[1:])
+    rows = [*front, *(f"FILE {number} {name}" for name, number in files.items()),
+            *(f"INLINE_ORIGIN {number} {name}" for name, number in origins.items())]
+    for start, count, _ in runs(found, lambda address: (procedure_at(address), found[address][0][0])):
+        rows += function_records(start, {address: found[address] for address in range(start, start + count)}, files, origins)
+    return "".join(f"{row}\n" for row in rows) + ENDED
+
+
+def write_high():
+    """Writes high.pdb. The end of its last function, which is the end of the section, doesn't fit 32 bits."""
+    data = (HERE / "broken_parts.pdb").read_bytes()
+    for old, new in ((struct.pack("<II", 0x800, 0x1000), struct.pack("<II", 0x800, 0xfffff800)),
+                     (struct.pack("<IIH", 2, 0x20, 1) + b"?f@@", struct.pack("<IIH", 2, 0x428, 1) + b"?f@@")):
+        assert data.count(old) == 1
+        data = data.replace(old, new)
+    (HERE / "high.pdb").write_bytes(data)
+
+
+def broken_symbols(file, *functions):
+    """The symbol file of a file with broken parts."""
+    rows = ["MODULE windows x86_64 030201000504070608090A0B0C0D0E0F1 " + file, *functions, ENDED]
+    return "".join(error(f"{file}: {row}") for row in BROKEN_ROWS) + "\n".join(rows)
+
+
+def symbol_file_cases(folder):
+    """Symbol files: of the stacks that LLVM answers; of broken parts, whose functions are the public symbol and what lies
+    between starts of contributions, each with no line; and words and files of which none is written."""
+    write_high()
+    module = "MODULE windows x86_64 6B32B94164959A524C4C44205044422E1 shapes.pdb"
+    # the scripts link with `/timestamp:0`, and the image ends with the last of its six pages
+    program = "INFO CODE_ID 000000006000 shapes.exe"
+    short = stacks(folder)
+    whole = dict(with_arguments(short))
+    yield "pdb_symbolizer --dump-syms shapes.exe", symbol_file([module, program], whole)
+    yield "pdb_symbolizer --dump-syms --functions=short ./shapes.pdb", symbol_file([module], short)
+    yield "pdb_symbolizer --dump-syms --base 140000000 --adjust 1 -s -p --pdb-dir symbols -e other.exe", symbol_file(
+        [module.replace("6B32B94164959A524C4C44205044422E", "A9D98A29E7C186D04C4C44205044422E"),
+         program.replace("shapes", "other")], whole)
+    yield "pdb_symbolizer --dump-syms broken_parts.pdb", broken_symbols(
+        "broken_parts.pdb", "FUNC 1000 20 0 <name omitted>", "FUNC 1020 60 0 ?f@@YAXXZ", "FUNC 1200 10 0 <name omitted>",
+        "FUNC 1304 40 0 <name omitted>", "FUNC 1420 4 0 <name omitted>", "FUNC 1424 8 0 <name omitted>")
+    yield "pdb_symbolizer --dump-syms high.pdb", broken_symbols(
+        "high.pdb", "FUNC fffff800 80 0 <name omitted>", "FUNC fffffa00 10 0 <name omitted>",
+        "FUNC fffffb04 40 0 <name omitted>", "FUNC fffffc20 4 0 <name omitted>", "FUNC fffffc24 4 0 <name omitted>",
+        "PUBLIC fffffc28 0 ?f@@YAXXZ")
+    yield "pdb_symbolizer --dump-syms names.json", error("names.json: no id") + "status 1\n"
+    yield "pdb_symbolizer --dump-syms stripped.pdb", error("stripped.pdb: no section headers (stripped)") + "status 1\n"
+    yield "pdb_symbolizer --dump-syms --expect-id 6B32B94164959A524C4C44205044422E2 shapes.pdb", error(
+        "shapes.pdb: its id is {6B32B941-6495-9A52-4C4C-44205044422E}/1, not {6B32B941-6495-9A52-4C4C-44205044422E}/2") + "status 1\n"
+    yield "pdb_symbolizer --dump-syms shapes.pdb 0x1136", error("--dump-syms answers no address") + "status 2\n"
+    yield "pdb_symbolizer --dump-syms", error("no FILE") + "status 2\n"
+
+
 def main(words):
-    made = [*llvm_cases(words[0]), *habit_cases(words[0]), *name_cases(), *address_cases(), *program_cases(), *broken_cases(), *identity_cases(), *records_cases()]
+    made = [*llvm_cases(words[0]), *habit_cases(words[0]), *name_cases(), *address_cases(), *program_cases(), *broken_cases(),
+            *identity_cases(), *records_cases(), *symbol_file_cases(words[0])]
     (HERE / "cases.txt").write_text("".join(f"{line}\n" for line, _ in made), encoding="utf-8")
     (HERE.parent / "stdout").write_text("".join(f"$ {line}\n{text}" for line, text in made), encoding="utf-8")
     print(f"{len(made)} cases")

@@ -1,0 +1,73 @@
+//! The Breakpad symbol file that `--dump-syms` writes on standard output.
+
+use crate::file_answers::open_file;
+use crate::file_frames::FileFrames;
+use crate::input_files::InputFile;
+use crate::options::Options;
+use crate::status_line::StatusLine;
+use crate::stops::Stop;
+use crate::symbol_names::SymbolNames;
+use pdb_addr2line::ContextPdbData;
+use pdb_breakpad::{ModuleIdentity, ProgramIdentity, write_symbol_file};
+use pdb_container::PdbIdentity;
+use std::io;
+use std::rt::Files;
+
+/// Writes the functions of a file as a symbol file. It has to be a PDB file, or a program with one.
+pub fn dump_symbols<R: Files + Print + Eprint + AllocGlobal>(
+    rt: &R,
+    status_line: &StatusLine,
+    options: &Options<'_>,
+    path: &str,
+) -> Result<(), Stop> {
+    if !options.addresses.is_empty() {
+        return Err(Stop::AnswersNone("dump-syms"));
+    }
+    let mut input = open_file(rt, status_line, options, path)?;
+    match input.identity {
+        Some(identity) => dump_over(rt, options, path, &mut input, identity),
+        None => Err(Stop::NoIdentity(input.path)),
+    }
+}
+
+fn dump_over<R: Print + Eprint + AllocGlobal>(
+    rt: &R,
+    options: &Options<'_>,
+    path: &str,
+    input: &mut InputFile,
+    identity: PdbIdentity,
+) -> Result<(), Stop> {
+    let module = ModuleIdentity {
+        machine: identity.machine,
+        debug_id: identity.debug_id,
+        pdb_name: last_part(input.path.as_str()),
+        program: input.code_id.map(|code_id| ProgramIdentity {
+            code_id,
+            name: last_part(path),
+        }),
+    };
+    let names = SymbolNames::new(rt.alloc(), &input.records)?;
+    let data = ContextPdbData::try_from_pdb_ref(rt.alloc(), &mut input.records)?;
+    dump_all(rt, options, &module, &names, &data)
+}
+
+fn dump_all<R: Print + Eprint + AllocGlobal>(
+    rt: &R,
+    options: &Options<'_>,
+    module: &ModuleIdentity<'_>,
+    names: &SymbolNames,
+    data: &ContextPdbData<'_>,
+) -> Result<(), Stop> {
+    let mut context = data.make_context_with_formatter_flags(options.flags())?;
+    let mut frames = FileFrames::new(rt, &mut context, names, data);
+    write_symbol_file(rt.alloc(), &mut io::writer(rt), module, &mut frames)?;
+    Ok(())
+}
+
+// What stands behind the last slash of either kind.
+fn last_part(path: &str) -> &str {
+    match path.rsplit_once(['/', '\\']) {
+        Some((_, name)) => name,
+        None => path,
+    }
+}
