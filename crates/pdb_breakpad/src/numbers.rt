@@ -4,20 +4,36 @@ use crate::name_text::push_name;
 use std::alloc::{AllocError, Global};
 use std::collections::BTreeMap;
 
+/// What names are of.
+#[derive(Clone, Copy)]
+enum NameKind {
+    File,
+    InlineOrigin,
+}
+
+impl NameKind {
+    /// What the record of such a name begins with.
+    fn keyword(self) -> &'static str {
+        match self {
+            NameKind::File => "FILE",
+            NameKind::InlineOrigin => "INLINE_ORIGIN",
+        }
+    }
+}
+
 /// Names with their numbers.
 #[derive(Drop)]
 pub(crate) struct NumberedNames {
-    /// What a record begins with.
-    keyword: &'static str,
+    kind: NameKind,
     numbers: BTreeMap<String, usize>,
     /// A record of each name, in the order of their numbers.
     records: String,
 }
 
 impl NumberedNames {
-    fn new(alloc: Global, keyword: &'static str) -> NumberedNames {
+    fn new(alloc: Global, kind: NameKind) -> NumberedNames {
         NumberedNames {
-            keyword,
+            kind,
             numbers: BTreeMap::new(alloc),
             records: String::new(alloc),
         }
@@ -29,7 +45,7 @@ impl NumberedNames {
             return Ok(number);
         }
         let number = self.numbers.len();
-        write!(self.records, "{} {number} ", self.keyword)?;
+        write!(self.records, "{} {number} ", self.kind.keyword())?;
         push_name(&mut self.records, name)?;
         let name = String::from_str(*self.records.allocator(), name)?;
         self.numbers.insert(name, number)?;
@@ -53,8 +69,8 @@ pub(crate) struct Numbers {
 impl Numbers {
     pub(crate) fn new(alloc: Global) -> Numbers {
         Numbers {
-            files: NumberedNames::new(alloc, "FILE"),
-            origins: NumberedNames::new(alloc, "INLINE_ORIGIN"),
+            files: NumberedNames::new(alloc, NameKind::File),
+            origins: NumberedNames::new(alloc, NameKind::InlineOrigin),
         }
     }
 }

@@ -5,7 +5,7 @@ use crate::options::Options;
 use crate::stops::Stop;
 use pdb_addr2line::Error;
 use pdb_container::{ContainerFault, DebugId, Machine, PdbIdentity, read_identity};
-use pdb_identity::read_program;
+use pdb_identity::{ProgramFile, read_program};
 use std::alloc::Global;
 use std::rt::Files;
 
@@ -28,14 +28,22 @@ pub fn print_identities<R: Files + Print + AllocGlobal>(
 fn print_identity<R: Files + Print + AllocGlobal>(rt: &R, file: &str) -> Result<(), Stop> {
     let bytes = read_file(rt, file)?;
     match read_program(&bytes) {
-        Some(program) => match program.code_view {
-            Some(code_view) => print_line(rt, file, code_view.debug_id, Some(program.machine)),
-            None => Err(Stop::NoIdentity(String::from_str(rt.alloc(), file)?)),
-        },
+        Some(program) => print_program(rt, file, &program),
         None => {
             let identity = identity_of(rt.alloc(), file, &bytes)?;
             print_line(rt, file, identity.debug_id, identity.machine)
         }
+    }
+}
+
+fn print_program<R: Print + AllocGlobal>(
+    rt: &R,
+    file: &str,
+    program: &ProgramFile<'_>,
+) -> Result<(), Stop> {
+    match &program.code_view {
+        Some(code_view) => print_line(rt, file, code_view.debug_id, Some(program.machine)),
+        None => Err(Stop::NoIdentity(String::from_str(rt.alloc(), file)?)),
     }
 }
 
