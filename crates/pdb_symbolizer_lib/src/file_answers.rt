@@ -28,25 +28,6 @@ pub struct Questions<'q, 'w, 'p> {
     pub data: &'q ContextPdbData<'p>,
 }
 
-impl<'q, 'w, 'p> Questions<'q, 'w, 'p> {
-    /// Questions of a file, which wants to be loaded at an address if it is a program.
-    pub fn new(
-        options: &'q Options<'w>,
-        file: &'q str,
-        image_base: Option<u64>,
-        names: &'q SymbolNames,
-        data: &'q ContextPdbData<'p>,
-    ) -> Self {
-        Questions {
-            options,
-            file,
-            origin: Origin::new(options.base, image_base, options.adjust),
-            names,
-            data,
-        }
-    }
-}
-
 /// Answers the addresses of the command line, or else the lines of standard input, over one file.
 pub fn answer_file<R: Files + Input + Print + Eprint + AllocGlobal>(
     rt: &R,
@@ -65,10 +46,16 @@ fn answer_over<R: Input + Print + Eprint + AllocGlobal>(
     input: &mut InputFile,
 ) -> Result<(), Stop> {
     let mut hint = hint_for(options, input);
-    let image_base = input.image_base;
+    let origin = Origin::new(options.base, input.image_base, options.adjust);
     let names = SymbolNames::new(rt.alloc(), &input.records)?;
     let data = ContextPdbData::try_from_pdb_ref(rt.alloc(), &mut input.records)?;
-    let questions = Questions::new(options, path, image_base, &names, &data);
+    let questions = Questions {
+        options,
+        file: path,
+        origin,
+        names: &names,
+        data: &data,
+    };
     answer_all(rt, &questions, &mut hint)
 }
 

@@ -2,6 +2,7 @@
 //!
 //! Those that follow one another and name the same file are answered by one context.
 
+use crate::addresses::Origin;
 use crate::answers::{write_answer, write_no_answer};
 use crate::base_hints::BaseHint;
 use crate::file_answers::{Questions, hint_for, open_file, request_text, write_out};
@@ -111,10 +112,16 @@ fn answer_lines_of<R: Print + Eprint + AllocGlobal, B: BufRead>(
     line: &mut String,
 ) -> Result<bool, Stop> {
     let mut hint = hint_for(options, input);
-    let image_base = input.image_base;
+    let origin = Origin::new(options.base, input.image_base, options.adjust);
     let names = SymbolNames::new(rt.alloc(), &input.records)?;
     let data = ContextPdbData::try_from_pdb_ref(rt.alloc(), &mut input.records)?;
-    let questions = Questions::new(options, path, image_base, &names, &data);
+    let questions = Questions {
+        options,
+        file: path,
+        origin,
+        names: &names,
+        data: &data,
+    };
     answer_same_file(rt, &questions, &mut hint, reader, line)
 }
 

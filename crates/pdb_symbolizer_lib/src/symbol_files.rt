@@ -9,7 +9,6 @@ use crate::stops::Stop;
 use crate::symbol_names::SymbolNames;
 use pdb_addr2line::ContextPdbData;
 use pdb_breakpad::{ModuleIdentity, ProgramIdentity, write_symbol_file};
-use pdb_container::PdbIdentity;
 use std::io;
 use std::rt::Files;
 
@@ -24,10 +23,7 @@ pub fn dump_symbols<R: Files + Print + Eprint + AllocGlobal>(
         return Err(Stop::AnswersNone("dump-syms"));
     }
     let mut input = open_file(rt, status_line, options, path)?;
-    match input.identity {
-        Some(identity) => dump_over(rt, options, path, &mut input, identity),
-        None => Err(Stop::NoIdentity(input.path)),
-    }
+    dump_over(rt, options, path, &mut input)
 }
 
 fn dump_over<R: Print + Eprint + AllocGlobal>(
@@ -35,8 +31,10 @@ fn dump_over<R: Print + Eprint + AllocGlobal>(
     options: &Options<'_>,
     path: &str,
     input: &mut InputFile,
-    identity: PdbIdentity,
 ) -> Result<(), Stop> {
+    let Some(identity) = input.identity else {
+        return Err(Stop::NoIdentity(String::from_str(rt.alloc(), input.path.as_str())?));
+    };
     let module = ModuleIdentity {
         machine: identity.machine,
         debug_id: identity.debug_id,
