@@ -374,6 +374,9 @@ def global_symbols():
                 {"kind": "Public", "section": 1, "offset": 0x20, "name": "?f@@YAXXZ"})
     symbols.put(0x1009, u32(2, 0x30) + u16(1) + short(b"old\xff"),
                 {"kind": "Public", "section": 1, "offset": 0x30, "name": list(b"old\xff")})
+    # where a procedure starts too, whose name a jump has
+    symbols.put(0x110E, u32(2, 0x200) + u16(1) + text(b"?local@@YAXXZ"),
+                {"kind": "Public", "section": 1, "offset": 0x200, "name": "?local@@YAXXZ"})
     symbols.put(0x1125, u32(0, 0, 0) + u16(1) + text(b"reference"), {"kind": "Other"})
     symbols.put(0x110E, u32(2), None)
     symbols.data += u16(60, 0x110E)
