@@ -6,9 +6,9 @@ Usage: planted_bugs.py [JOBS [NAME ..]]     in the repository; needs `rt`, and a
 
 `planted_bugs.txt` has the bugs: a line `bug NAME`, a line `file PATH`, and lines `old TEXT` and `new TEXT`, of which the
 first stands once in the file. Each is planted in a copy of the crates, and `rt try`, which proves nothing, runs
-`pdb_container_tests` over its files, or `pdb_symbolizer_tests` for a bug of that program's. A bug is caught where the run writes something else than is stored, or doesn't end
-well. One that isn't has its reason in a line `why TEXT`. The script fails where a bug that has no reason isn't caught,
-where one that has a reason is, and where one can't be planted.
+`pdb_container_tests` over its files, or `pdb_symbolizer_tests` for a bug of that program's. A bug is caught where the
+run writes something else than is stored, or doesn't end well. One that isn't has its reason in a line `why TEXT`. The
+script fails where a bug that has no reason isn't caught, where one that has a reason is, and where one can't be planted.
 """
 import concurrent.futures
 import pathlib
@@ -62,12 +62,12 @@ def main(words):
     tried = [bug for bug in bugs() if not names or bug["bug"] in names]
     counts, wrong = {}, 0
     with concurrent.futures.ThreadPoolExecutor(jobs) as pool:
-        for bug, told in zip(tried, pool.map(outcome, tried)):
-            counts[told.partition(":")[0]] = counts.get(told.partition(":")[0], 0) + 1
-            wanted = "not caught" if "why" in bug else "caught"
-            wrong += told != wanted
-            print(f"{bug['bug']}: {told}{': ' + bug['why'] if 'why' in bug else ''}", flush=True)
-    print(", ".join(f"{number} {told}" for told, number in sorted(counts.items())))
+        for bug, end in zip(tried, pool.map(outcome, tried)):
+            kind = end.partition(":")[0]
+            counts[kind] = counts.get(kind, 0) + 1
+            wrong += end != ("not caught" if "why" in bug else "caught")
+            print(f"{bug['bug']}: {end}{': ' + bug['why'] if 'why' in bug else ''}", flush=True)
+    print(", ".join(f"{number} {kind}" for kind, number in sorted(counts.items())))
     return wrong > 0
 
 

@@ -26,7 +26,7 @@ PATHS = [b"..", b"../..", b"../../etc/passwd", b"/etc/passwd", b"/dev/zero", b"/
          b"C:\\..\\..\\shapes.pdb", b"a" * 32767, b"\\\\server\\share\\shapes.pdb", b"shapes.pdb/", b"\xff\xfe", b"con", b"NUL",
          b"shapes.pdb", b"symbols", b"./shapes.pdb", b"//shapes.pdb", b"shapes.pdb\n"]
 TRACED = 100
-LIBRARIES = re.compile(r'(/etc/ld\.so|/lib|/usr/lib|/proc/self/(maps|auxv)|/sys/)')
+LIBRARIES = re.compile(rb'(/etc/ld\.so|/lib|/usr/lib|/proc/self/(maps|auxv)|/sys/)')
 
 
 def headers_of(program):
@@ -68,17 +68,20 @@ def limits():
     resource.setrlimit(resource.RLIMIT_AS, (1 << 30, 1 << 30))
 
 
-def named_places(program):
-    """What a run may open for a program: its own file, the path that it names, and that path's last part."""
+def is_named(path, program):
+    """Whether a run on a program may open this path: its own file, the path that the program names, or that path's last
+    part. Either may be cut, since a number of the program says how long its record is."""
     at = program.find(b"RSDS")
-    path = program[at + 24:].split(b"\0")[0].decode(errors="replace") if at >= 0 else ""
-    return {"copy.exe", path, re.split(r"[/\\\\]", path)[-1]}
+    written = program[at + 24:].split(b"\0")[0] if at >= 0 else b""
+    parts = [written, *(written[slash.end():] for slash in re.finditer(rb"[/\\]", written))]
+    return path == b"copy.exe" or bool(path) and any(part.startswith(path) for part in parts)
 
 
 def strangers(trace, program):
     """The files that a run opened and that nobody named."""
-    found = re.findall(r'open(?:at)?\((?:AT_FDCWD, )?"((?:[^"\\]|\\.)*)"', trace)
-    return [path for path in found if path not in named_places(program) and not path.startswith("symbols/")
+    found = re.findall(r'open(?:at)?\((?:AT_FDCWD, )?"((?:\\x[0-9a-f]{2})*)"', trace)
+    paths = [bytes.fromhex(path.replace("\\x", "")) for path in found]
+    return [path for path in paths if not is_named(path, program) and not path.startswith(b"symbols/")
             and not LIBRARIES.match(path)]
 
 
@@ -94,7 +97,7 @@ def outcome(program, room, copy, traced):
     (room / "copy.exe").write_bytes(copy)
     asked = [program, "--pdb-dir", "symbols", "copy.exe", "0x140001136"]
     if traced:
-        asked = ["strace", "-f", "-e", "trace=open,openat", "-o", str(room / "trace"), *asked]
+        asked = ["strace", "-f", "-xx", "-e", "trace=open,openat", "-o", str(room / "trace"), *asked]
     try:
         run = subprocess.run(asked, cwd=room, capture_output=True, timeout=10, preexec_fn=None if traced else limits)
     except subprocess.TimeoutExpired:

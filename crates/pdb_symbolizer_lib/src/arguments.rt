@@ -10,8 +10,7 @@ Examples:
   pdb_symbolizer -p app.pdb 1136               of one that is relative to where the program is loaded
   pdb_symbolizer -p --base 0x7ff6a0000000 app.pdb <addresses    of addresses in memory, a line each
   pdb_symbolizer --output-style=JSON --obj=app.exe 0x140001136  as llvm-symbolizer is asked
-  pdb_symbolizer --show-id app.exe app.pdb     which build they are of
-  pdb_symbolizer --dump-syms app.exe >app.sym  a symbol file for readers of Breakpad's format
+  pdb_symbolizer --dump-syms app.exe >app.sym  a Breakpad symbol file, without unwind records
 Addresses are hexadecimal, and come from standard input, a line each, where no word gives one. docs/CONTAINER.md says more.
 
 ";
@@ -33,13 +32,7 @@ struct Valued {
     help: &'static str,
 }
 
-static FLAGS: [Flag; 10] = [
-    Flag {
-        name: "inlines",
-        short: Some('i'),
-        alias: None,
-        help: "Print inlined functions too, as without this option",
-    },
+static FLAGS: [Flag; 9] = [
     Flag {
         name: "no-inlines",
         short: None,
@@ -80,7 +73,7 @@ static FLAGS: [Flag; 10] = [
         name: "demangle",
         short: Some('C'),
         alias: None,
-        help: "Changes nothing: names of records need no demangling",
+        help: "Changes nothing: names are printed as the records have them",
     },
     Flag {
         name: "show-id",
@@ -99,12 +92,12 @@ static FLAGS: [Flag; 10] = [
 /// Options of `llvm-symbolizer` that are taken and change nothing, and are not in the help.
 static IGNORED: [&str; 3] = ["no-demangle", "no-untag-addresses", "skip-line-zero"];
 
-static VALUED: [Valued; 4] = [
+static VALUED: [Valued; 3] = [
     Valued {
         name: "output-style",
-        value_name: "LLVM|GNU|JSON",
+        value_name: "STYLE",
         default: "",
-        help: "The form of the answers",
+        help: "The form of the answers: LLVM, GNU or JSON",
     },
     Valued {
         name: "base",
@@ -118,12 +111,6 @@ static VALUED: [Valued; 4] = [
         default: "0",
         help: "Take this from each address",
     },
-    Valued {
-        name: "adjust-vma",
-        value_name: "OFFSET",
-        default: "0",
-        help: "Take this from each address too",
-    },
 ];
 
 /// The command line with all that it takes.
@@ -131,7 +118,6 @@ pub fn command<'a>(alloc: Global) -> Result<Command<'a>, AllocError> {
     let arguments = arguments(alloc)?;
     Command::new(alloc, "pdb_symbolizer")
         .version("0.1.0")
-        .about("Prints the functions, files and lines of addresses of a Windows program")
         .args(arguments)
 }
 
@@ -145,9 +131,13 @@ fn arguments<'a>(alloc: Global) -> Result<Vec<Arg<'a>>, AllocError> {
         arguments.push(valued_argument(alloc, valued))?;
     }
     for name in IGNORED {
-        arguments.push(ignored_argument(alloc, name))?;
+        arguments.push(hidden_flag(alloc, name))?;
     }
-    arguments.push(default_arch(alloc))?;
+    arguments.push(hidden_flag(alloc, "inlines").short('i'))?;
+    arguments.push(inlining(alloc))?;
+    arguments.push(hidden_option(alloc, "adjust-vma").default_value("0"))?;
+    arguments.push(hidden_option(alloc, "default-arch"))?;
+    arguments.push(store(alloc)?)?;
     arguments.push(export(alloc))?;
     arguments.push(modules(alloc)?)?;
     arguments.push(expected(alloc))?;
@@ -172,18 +162,26 @@ fn flag_argument<'a>(alloc: Global, flag: &Flag) -> Result<Arg<'a>, AllocError> 
     }
 }
 
-fn ignored_argument<'a>(alloc: Global, name: &'static str) -> Arg<'a> {
+// A flag that is not in the help.
+fn hidden_flag<'a>(alloc: Global, name: &'static str) -> Arg<'a> {
     Arg::new(alloc, name)
         .long(name)
         .action(ArgAction::SetTrue)
         .hide(true)
 }
 
-fn default_arch<'a>(alloc: Global) -> Arg<'a> {
-    Arg::new(alloc, "default-arch")
-        .long("default-arch")
-        .value_name("ARCH")
-        .hide(true)
+// An option with a value that is not in the help.
+fn hidden_option<'a>(alloc: Global, name: &'static str) -> Arg<'a> {
+    Arg::new(alloc, name).long(name).hide(true)
+}
+
+// `llvm-symbolizer`'s older word for `--inlines` and `--no-inlines`.
+fn inlining<'a>(alloc: Global) -> Arg<'a> {
+    hidden_option(alloc, "inlining")
+        .num_args(0..=1)
+        .require_equals(true)
+        .default_value("")
+        .default_missing_value("true")
 }
 
 fn valued_argument<'a>(alloc: Global, valued: &Valued) -> Arg<'a> {
@@ -199,13 +197,21 @@ fn functions<'a>(alloc: Global) -> Arg<'a> {
     Arg::new(alloc, "functions")
         .short('f')
         .long("functions")
-        .value_name("none|short|signature")
+        .value_name("STYLE")
         .num_args(0..=1)
         .require_equals(true)
         .default_value("")
         .hide_default_value(true)
         .default_missing_value("signature")
-        .help("What to print of a function's name")
+        .help("What to print of a name: none, short or signature")
+}
+
+fn store<'a>(alloc: Global) -> Result<Arg<'a>, AllocError> {
+    Arg::new(alloc, "store")
+        .long("store")
+        .value_name("DIR")
+        .help("With --dump-syms: write it as DIR/app.pdb/ID/app.sym")
+        .requires_arg("dump-syms")
 }
 
 fn export<'a>(alloc: Global) -> Arg<'a> {
@@ -219,7 +225,7 @@ fn modules<'a>(alloc: Global) -> Result<Arg<'a>, AllocError> {
     Arg::new(alloc, "modules")
         .long("modules")
         .value_name("FOLDER")
-        .help("With it: a file for each module in this folder")
+        .help("With --export: a file for each module in this folder")
         .requires_arg("export")
 }
 

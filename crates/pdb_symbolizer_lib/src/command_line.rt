@@ -2,7 +2,9 @@
 
 use crate::addresses::parse_number;
 use crate::arguments::command;
-use crate::options::{Base, Detail, Digits, Export, NameStyle, Options, Purpose, Style};
+use crate::options::{
+    Base, Detail, Digits, Export, NameStyle, Options, Purpose, Style, SymbolFilePlace,
+};
 use crate::stops::Stop;
 use clap::ArgMatches;
 use pdb_container::DebugId;
@@ -47,6 +49,7 @@ fn options_of<'w>(
     matches: &ArgMatches<'w>,
 ) -> Result<Options<'w>, Stop> {
     let names = name_style(alloc, habit, matches)?;
+    let inlines = inlines(alloc, habit, matches)?;
     let style = style(alloc, habit, matches)?;
     let base = base(alloc, matches)?;
     let adjust = number(alloc, matches, "adjust")?.wrapping_add(number(
@@ -67,7 +70,7 @@ fn options_of<'w>(
         pdb_dirs,
         addresses: Vec::from_slice(alloc, addresses)?,
         names,
-        inlines: inlines(habit, matches),
+        inlines,
         address_shown: matches.get_flag("addresses"),
         pretty: matches.get_flag("pretty-print"),
         basenames: matches.get_flag("basenames"),
@@ -117,10 +120,14 @@ fn digits(habit: Habit, naming: FileNaming) -> Digits {
     }
 }
 
-fn inlines(habit: Habit, matches: &ArgMatches<'_>) -> bool {
-    match habit {
-        Habit::Addr2line => matches.get_flag("inlines"),
-        _ => !matches.get_flag("no-inlines"),
+// Whether functions that were inlined are answered: as `--inlining` says, else as the flags and the habit do.
+fn inlines(alloc: Global, habit: Habit, matches: &ArgMatches<'_>) -> Result<bool, Stop> {
+    match matches.get_str("inlining").unwrap_or("") {
+        "" if habit == Habit::Addr2line => Ok(matches.get_flag("inlines")),
+        "" => Ok(!matches.get_flag("no-inlines")),
+        "true" => Ok(true),
+        "false" => Ok(false),
+        value => Err(no_such_value(alloc, "inlining", value)),
     }
 }
 
@@ -138,9 +145,16 @@ fn purpose_of<'w>(matches: &ArgMatches<'w>) -> Purpose<'w> {
             records,
             modules: matches.get_str("modules"),
         }),
-        None if matches.get_flag("dump-syms") => Purpose::SymbolFile,
+        None if matches.get_flag("dump-syms") => Purpose::SymbolFile(symbol_file_place(matches)),
         None if matches.get_flag("show-id") => Purpose::Identities,
         None => Purpose::Answers,
+    }
+}
+
+fn symbol_file_place<'w>(matches: &ArgMatches<'w>) -> SymbolFilePlace<'w> {
+    match matches.get_str("store") {
+        Some(store) => SymbolFilePlace::Store(store),
+        None => SymbolFilePlace::StandardOutput,
     }
 }
 

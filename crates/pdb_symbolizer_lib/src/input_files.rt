@@ -159,16 +159,21 @@ fn read_module_records<R: Files + AllocGlobal>(
 
 /// The bytes of a file that the words name.
 pub fn read_file<R: Files + AllocGlobal>(rt: &R, path: &str) -> Result<Vec<u8>, Stop> {
-    match read_bytes(rt, path) {
+    match fs::read(rt, path) {
         Ok(bytes) => Ok(bytes),
         Err(error) if ran_out_of_memory(&error) => Err(Stop::Refused(Error::OutOfMemory)),
         Err(_) => Err(Stop::CannotRead(String::from_str(rt.alloc(), path)?)),
     }
 }
 
-/// The bytes of a file.
-pub fn read_bytes<R: Files + AllocGlobal>(rt: &R, path: &str) -> io::Result<Vec<u8>> {
-    fs::read(rt, path)
+/// The bytes of a file that another file names. A folder, a device or a pipe is refused: what is in a file must not have
+/// the reader wait, or read without an end.
+pub fn read_regular_file<R: Files + AllocGlobal>(rt: &R, path: &str) -> io::Result<Vec<u8>> {
+    if fs::metadata(rt, path)?.is_file() {
+        fs::read(rt, path)
+    } else {
+        Err(io::Error::from(io::ErrorKind::InvalidInput))
+    }
 }
 
 /// The bytes of the module files that a records file names, in order.
@@ -202,7 +207,7 @@ fn read_module_file<R: Files + AllocGlobal>(
     name: &str,
 ) -> Result<Vec<u8>, Stop> {
     let path = beside(rt.alloc(), records, name)?;
-    match fs::read(rt, path.as_str()) {
+    match read_regular_file(rt, path.as_str()) {
         Ok(bytes) => Ok(bytes),
         Err(error) if ran_out_of_memory(&error) => Err(Stop::Refused(Error::OutOfMemory)),
         Err(_) => Err(Stop::CannotRead(path)),

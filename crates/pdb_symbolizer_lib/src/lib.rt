@@ -18,6 +18,7 @@ mod input_files;
 mod json_text;
 mod named_files;
 mod options;
+mod paths;
 mod programs;
 mod repairs;
 mod requests;
@@ -27,6 +28,7 @@ mod status_line;
 mod stops;
 mod symbol_files;
 mod symbol_names;
+mod symbol_stores;
 
 pub use runs::run_words;
 pub use status_line::StatusLine;

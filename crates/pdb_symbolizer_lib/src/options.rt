@@ -35,6 +35,15 @@ pub struct Export<'w> {
     pub modules: Option<&'w str>,
 }
 
+/// Where a symbol file is written.
+#[derive(Clone, Copy)]
+pub enum SymbolFilePlace<'w> {
+    /// On standard output.
+    StandardOutput,
+    /// Into the folder of a symbol store, under the name of its PDB file and its debug id.
+    Store(&'w str),
+}
+
 /// What is done with the file.
 #[derive(Clone, Copy)]
 pub enum Purpose<'w> {
@@ -43,7 +52,7 @@ pub enum Purpose<'w> {
     /// Its records are written.
     Export(Export<'w>),
     /// Its functions are written as a Breakpad symbol file.
-    SymbolFile,
+    SymbolFile(SymbolFilePlace<'w>),
     /// It is shown which build it is of, and the files that the other words name.
     Identities,
 }

@@ -1,7 +1,8 @@
 //! The PDB file of a program or a DLL: it is looked for where the program names it, beside the program, and in folders.
 
-use crate::input_files::{ran_out_of_memory, read_bytes};
+use crate::input_files::{ran_out_of_memory, read_regular_file};
 use crate::options::Options;
+use crate::paths::file_name;
 use crate::stops::Stop;
 use pdb_addr2line::Error;
 use pdb_container::{ContainerFault, DebugId, read_identity};
@@ -47,7 +48,7 @@ enum Look {
 
 fn look_at<R: Files + AllocGlobal>(rt: &R, path: &str, wanted: DebugId) -> Result<Look, Stop> {
     let alloc = rt.alloc();
-    let bytes = match read_bytes(rt, path) {
+    let bytes = match read_regular_file(rt, path) {
         Ok(bytes) => bytes,
         Err(error) if ran_out_of_memory(&error) => return Err(Stop::Refused(Error::OutOfMemory)),
         Err(_) => return passed_over(alloc, "can't be read"),
@@ -81,7 +82,7 @@ fn places(
         return Ok(places);
     };
     places.push(String::from_str(alloc, written)?)?;
-    let Some(name) = last_part(written) else {
+    let Some(name) = file_name(written) else {
         return Ok(places);
     };
     places.push(beside(alloc, program, name)?)?;
@@ -90,18 +91,6 @@ fn places(
         places.push(format!(in alloc; "{dir}/{name}/{}/{name}", code_view.debug_id.compact())?)?;
     }
     Ok(places)
-}
-
-// What stands behind the last slash of either kind, if that can be the name of a file.
-fn last_part(path: &str) -> Option<&str> {
-    let name = match path.rsplit_once(['/', '\\']) {
-        Some((_, name)) => name,
-        None => path,
-    };
-    match name {
-        "" | "." | ".." => None,
-        _ => Some(name),
-    }
 }
 
 fn beside(alloc: Global, program: &str, name: &str) -> Result<String, AllocError> {

@@ -46,8 +46,10 @@ fn run_over<R: Files + Input + Print + Eprint + Clock + AllocGlobal>(
         (Purpose::Export(export), Some(file)) => {
             export_file(rt, status_line, options, export, file)
         }
-        (Purpose::SymbolFile, Some(file)) => dump_symbols(rt, status_line, options, file),
-        (Purpose::Export(_) | Purpose::SymbolFile, None) => Err(Stop::NoFile),
+        (Purpose::SymbolFile(place), Some(file)) => {
+            dump_symbols(rt, status_line, options, place, file)
+        }
+        (Purpose::Export(_) | Purpose::SymbolFile(_), None) => Err(Stop::NoFile),
         (Purpose::Answers, Some(file)) => answer_file(rt, status_line, options, file),
         (Purpose::Answers, None) => answer_named_files(rt, status_line, options),
     }

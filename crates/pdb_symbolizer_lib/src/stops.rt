@@ -51,6 +51,9 @@ pub enum Stop {
     /// The file at this path could not be written.
     #[error("pdb_symbolizer: {0}: {1}")]
     Export(String, ExportFault),
+    /// The symbol file at this path could not be written.
+    #[error("pdb_symbolizer: {0}: {1}")]
+    SymbolFile(String, SymbolFileFault),
     /// The records were refused, or there was no memory.
     #[error("pdb_symbolizer: {0}")]
     Refused(Error),

@@ -1,12 +1,14 @@
-//! The Breakpad symbol file that `--dump-syms` writes on standard output.
+//! The Breakpad symbol file that `--dump-syms` writes, on standard output or into a store.
 
 use crate::file_answers::open_file;
 use crate::file_frames::FileFrames;
 use crate::input_files::InputFile;
-use crate::options::Options;
+use crate::options::{Options, SymbolFilePlace};
+use crate::paths::last_part;
 use crate::status_line::StatusLine;
 use crate::stops::Stop;
 use crate::symbol_names::SymbolNames;
+use crate::symbol_stores::write_into_store;
 use pdb_addr2line::ContextPdbData;
 use pdb_breakpad::{ModuleIdentity, ProgramIdentity, write_symbol_file};
 use std::io;
@@ -17,18 +19,20 @@ pub fn dump_symbols<R: Files + Print + Eprint + AllocGlobal>(
     rt: &R,
     status_line: &StatusLine,
     options: &Options<'_>,
+    place: SymbolFilePlace<'_>,
     path: &str,
 ) -> Result<(), Stop> {
     if !options.addresses.is_empty() {
         return Err(Stop::AnswersNone("dump-syms"));
     }
     let mut input = open_file(rt, status_line, options, path)?;
-    dump_over(rt, options, path, &mut input)
+    dump_over(rt, options, place, path, &mut input)
 }
 
-fn dump_over<R: Print + Eprint + AllocGlobal>(
+fn dump_over<R: Files + Print + Eprint + AllocGlobal>(
     rt: &R,
     options: &Options<'_>,
+    place: SymbolFilePlace<'_>,
     path: &str,
     input: &mut InputFile,
 ) -> Result<(), Stop> {
@@ -46,26 +50,24 @@ fn dump_over<R: Print + Eprint + AllocGlobal>(
     };
     let names = SymbolNames::new(rt.alloc(), &input.records)?;
     let data = ContextPdbData::try_from_pdb_ref(rt.alloc(), &mut input.records)?;
-    dump_all(rt, options, &module, &names, &data)
+    dump_all(rt, options, place, &module, &names, &data)
 }
 
-fn dump_all<R: Print + Eprint + AllocGlobal>(
+fn dump_all<R: Files + Print + Eprint + AllocGlobal>(
     rt: &R,
     options: &Options<'_>,
+    place: SymbolFilePlace<'_>,
     module: &ModuleIdentity<'_>,
     names: &SymbolNames,
     data: &ContextPdbData<'_>,
 ) -> Result<(), Stop> {
     let mut context = data.make_context_with_formatter_flags(options.flags())?;
     let mut frames = FileFrames::new(rt, &mut context, names, data);
-    write_symbol_file(rt.alloc(), &mut io::writer(rt), module, &mut frames)?;
-    Ok(())
-}
-
-// What stands behind the last slash of either kind.
-fn last_part(path: &str) -> &str {
-    match path.rsplit_once(['/', '\\']) {
-        Some((_, name)) => name,
-        None => path,
+    match place {
+        SymbolFilePlace::StandardOutput => {
+            write_symbol_file(rt.alloc(), &mut io::writer(rt), module, &mut frames)?;
+            Ok(())
+        }
+        SymbolFilePlace::Store(store) => write_into_store(rt, store, module, &mut frames),
     }
 }

@@ -7,8 +7,10 @@ Usage: write_cases.py FOLDER     FOLDER has shapes.exe with its PDB file, as cra
 Where `llvm-symbolizer` has an answer to the same words, that is what is wanted. All else is written here by hand, from
 docs/CONTAINER.md: what its tables of differences name, what LLVM's program doesn't have, and files that are broken.
 shapes.exe beside this is the program with the GUID of shapes.pdb here, and other.exe is it as it was built, whose PDB
-file stands under `symbols`: clang writes the name of its folder into a PDB file, by which the GUID is made. high.pdb is written
-here too: broken_parts.pdb with its section at the end of all addresses, and its public symbol in the last function.
+file stands under `symbols`: clang writes the name of its folder into a PDB file, by which the GUID is made. Written here
+are also high.pdb, which is broken_parts.pdb with its section at the end of all addresses, and its public symbol in the
+last function; device.exe and folder.exe, which are other.exe with a device and a folder in place of its PDB file's path;
+and device.json, which is names.json with a device as a module's file.
 """
 import itertools
 import json
@@ -61,6 +63,9 @@ def llvm_cases(folder):
     for style in STYLES:
         words = ["--relative-address", "--functions=short", f"--output-style={style}", "-e", "shapes.exe"]
         yield " ".join(["pdb_symbolizer", *words]) + " < " + "|".join(LINES), of_llvm(folder, words, LINES)
+    for option in ("--inlining", "--inlining=true", "--inlining=false"):
+        words = ["--obj=shapes.exe", "--relative-address", "--functions=short", option, *ADDRESSES]
+        yield " ".join(["pdb_symbolizer", *words]), of_llvm(folder, words)
     high = ["0x140001136", "5368713526"]
     for options in (["--obj", "shapes.exe"], ["--exe=shapes.exe"], ["-e", "shapes.exe", "--default-arch=x86_64"],
                     ["--obj=shapes.exe", "--adjust-vma=0x1000"]):
@@ -91,6 +96,15 @@ def json_answer(address, file, frames):
 def error(text):
     """A line on standard error."""
     return f"standard error: pdb_symbolizer: {text}\n"
+
+
+def replaced(name, *pairs):
+    """The bytes of a file beside this, with the second of each pair in place of the first, which stands there once."""
+    data = (HERE / name).read_bytes()
+    for old, new in pairs:
+        assert data.count(old) == 1
+        data = data.replace(old, new)
+    return data
 
 
 def name_cases():
@@ -150,6 +164,10 @@ def program_cases():
     yield "pdb_symbolizer --pdb-dir nowhere other.exe 0x140001136", error(f"other.exe: no PDB file of {other}" + "".join(
         f"\n    shapes.pdb: its id is {shapes}" for _ in range(2)) + "".join(
         f"\n    {place}: can't be read" for place in places)) + "status 1\n"
+    for program, path, name in (("device.exe", "/dev/zero", "zero"), ("folder.exe", "symbols", "symbols")):
+        (HERE / program).write_bytes(replaced("other.exe", (b"shapes.pdb\0", path.encode().ljust(11, b"\0"))))
+        yield f"pdb_symbolizer {program} 0x140001136", error(f"{program}: no PDB file of {other}" + "".join(
+            f"\n    {place}: can't be read" for place in (path, name))) + "status 1\n"
     yield "pdb_symbolizer --show-id shapes.exe other.exe", "shapes.exe 6B32B94164959A524C4C44205044422E1 1 x86_64\n" \
         "other.exe A9D98A29E7C186D04C4C44205044422E1 1 x86_64\n" + ENDED
     yield "pdb_symbolizer --pdb-dir symbols --expect-id 6B32B94164959A524C4C44205044422E1 other.exe 0x140001136", \
@@ -218,6 +236,7 @@ def broken_cases():
     yield "pdb_symbolizer cases.txt 0x1136", error("cases.txt: not a JSON text") + "status 2\n"
     yield "pdb_symbolizer --output-style=XML shapes.pdb 0x1136", error("--output-style can't be XML") + "status 2\n"
     yield "pdb_symbolizer --functions=long shapes.pdb 0x1136", error("--functions can't be long") + "status 2\n"
+    yield "pdb_symbolizer --inlining=no shapes.pdb 0x1136", error("--inlining can't be no") + "status 2\n"
     yield "pdb_symbolizer --base zz shapes.pdb 0x1136", error("--base can't be zz") + "status 2\n"
     yield "pdb_symbolizer --export written.json shapes.pdb 0x1136", error("--export answers no address") + "status 2\n"
     yield "pdb_symbolizer --export written.json", error("no FILE") + "status 2\n"
@@ -261,6 +280,9 @@ def records_cases():
     yield "cat modules/0.json", json.dumps(known, separators=(",", ":")) + "\n"
     records = {"version": 2, **records, "module_infos": [{"file": "modules/0.json"}, nothing]}
     yield "cat written.json", json.dumps(records, separators=(",", ":")) + "\n"
+    device = {"version": 2, **json.loads((HERE / "names.json").read_text(encoding="utf-8")), "module_infos": [{"file": "/dev/zero"}]}
+    (HERE / "device.json").write_text(json.dumps(device, separators=(",", ":")) + "\n", encoding="utf-8")
+    yield "pdb_symbolizer device.json 1010", error("cannot read /dev/zero") + "status 2\n"
     yield "pdb_symbolizer --export written.json shapes.pdb", ENDED
     yield "pdb_symbolizer -p written.json 0x1136", STACK
     yield "pdb_symbolizer --export nowhere/written.json shapes.pdb", \
@@ -367,12 +389,9 @@ def symbol_file(front, found):
 
 def write_high():
     """Writes high.pdb. The end of its last function, which is the end of the section, doesn't fit 32 bits."""
-    data = (HERE / "broken_parts.pdb").read_bytes()
-    for old, new in ((struct.pack("<II", 0x800, 0x1000), struct.pack("<II", 0x800, 0xfffff800)),
-                     (struct.pack("<IIH", 2, 0x20, 1) + b"?f@@", struct.pack("<IIH", 2, 0x428, 1) + b"?f@@")):
-        assert data.count(old) == 1
-        data = data.replace(old, new)
-    (HERE / "high.pdb").write_bytes(data)
+    (HERE / "high.pdb").write_bytes(replaced(
+        "broken_parts.pdb", (struct.pack("<II", 0x800, 0x1000), struct.pack("<II", 0x800, 0xfffff800)),
+        (struct.pack("<IIH", 2, 0x20, 1) + b"?f@@", struct.pack("<IIH", 2, 0x428, 1) + b"?f@@")))
 
 
 def broken_symbols(file, *functions):
@@ -402,6 +421,13 @@ def symbol_file_cases(folder):
         "high.pdb", "FUNC fffff800 80 0 <name omitted>", "FUNC fffffa00 10 0 <name omitted>",
         "FUNC fffffb04 40 0 <name omitted>", "FUNC fffffc20 4 0 <name omitted>", "FUNC fffffc24 4 0 <name omitted>",
         "PUBLIC fffffc28 0 ?f@@YAXXZ")
+    stored = "store/shapes.pdb/6B32B94164959A524C4C44205044422E1/shapes.sym"
+    yield "pdb_symbolizer --dump-syms --store store shapes.exe", ENDED
+    yield f"cat {stored}", symbol_file([module, program], whole).removesuffix(ENDED)
+    yield "pdb_symbolizer --dump-syms --functions=short --store=./store shapes.pdb", ENDED
+    yield f"cat {stored}", symbol_file([module], short).removesuffix(ENDED)
+    yield "pdb_symbolizer --dump-syms --store shapes.exe shapes.pdb", error(
+        stored.replace("store", "shapes.exe", 1) + ": cannot write") + "status 2\n"
     yield "pdb_symbolizer --dump-syms names.json", error("names.json: no id") + "status 1\n"
     yield "pdb_symbolizer --dump-syms stripped.pdb", error("stripped.pdb: no section headers (stripped)") + "status 1\n"
     yield "pdb_symbolizer --dump-syms --expect-id 6B32B94164959A524C4C44205044422E2 shapes.pdb", error(
