@@ -3,7 +3,7 @@
 use crate::addresses::parse_number;
 use crate::arguments::command;
 use crate::options::{
-    Base, Detail, Digits, Export, NameStyle, Options, Purpose, Style, SymbolFilePlace,
+    Base, Detail, Digits, Export, NameStyle, OpenFailure, Options, Purpose, Style, SymbolFilePlace,
 };
 use crate::stops::Stop;
 use clap::ArgMatches;
@@ -77,6 +77,7 @@ fn options_of<'w>(
         style,
         detail: detail(matches),
         digits: digits(habit, naming),
+        open_failure: open_failure(habit, naming),
         base,
         adjust,
         purpose: purpose_of(matches),
@@ -117,6 +118,14 @@ fn digits(habit: Habit, naming: FileNaming) -> Digits {
     match (habit, naming) {
         (Habit::Addr2line, _) | (Habit::Own, FileNaming::ByWord) => Digits::Hexadecimal,
         _ => Digits::ByPrefix,
+    }
+}
+
+// A file that an option names is opened as `llvm-symbolizer` opens it.
+fn open_failure(habit: Habit, naming: FileNaming) -> OpenFailure {
+    match (habit, naming) {
+        (Habit::Addr2line, _) | (_, FileNaming::ByWord) => OpenFailure::Refusal,
+        _ => OpenFailure::UnknownAnswers,
     }
 }
 

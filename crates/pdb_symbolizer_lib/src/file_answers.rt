@@ -10,6 +10,7 @@ use crate::requests::{Naming, Request, Sort, parse_request};
 use crate::status_line::StatusLine;
 use crate::stops::Stop;
 use crate::symbol_names::SymbolNames;
+use crate::unknown_files::open_answered_file;
 use pdb_addr2line::{Context, ContextPdbData, Error, Frame, FunctionFrames};
 use std::io::{self, BufRead, BufReader, Write};
 use std::rt::Files;
@@ -35,7 +36,7 @@ pub fn answer_file<R: Files + Input + Print + Eprint + AllocGlobal>(
     options: &Options<'_>,
     path: &str,
 ) -> Result<(), Stop> {
-    let mut input = open_file(rt, status_line, options, path)?;
+    let mut input = open_answered_file(rt, status_line, options, path)?;
     answer_over(rt, options, path, &mut input)
 }
 

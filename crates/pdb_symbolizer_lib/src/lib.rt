@@ -29,6 +29,7 @@ mod stops;
 mod symbol_files;
 mod symbol_names;
 mod symbol_stores;
+mod unknown_files;
 
 pub use runs::run_words;
 pub use status_line::StatusLine;

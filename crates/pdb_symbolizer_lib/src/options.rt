@@ -77,6 +77,15 @@ pub enum Digits {
     ByPrefix,
 }
 
+/// What comes of addresses in a file that can't be opened.
+#[derive(Clone, Copy, PartialEq, Eq)]
+pub enum OpenFailure {
+    /// The run ends, and none is answered.
+    Refusal,
+    /// Each is answered as unknown, behind a line on standard error.
+    UnknownAnswers,
+}
+
 /// How much is printed of where a frame's code came from.
 #[derive(Clone, Copy, PartialEq, Eq)]
 pub enum Detail {
@@ -107,6 +116,7 @@ pub struct Options<'w> {
     pub style: Style,
     pub detail: Detail,
     pub digits: Digits,
+    pub open_failure: OpenFailure,
     pub base: Base,
     /// What else is taken from the addresses.
     pub adjust: u64,

@@ -231,6 +231,19 @@ BROKEN_ROWS = ["public symbols end early: " + LENGTH, "the list of modules ends 
 def broken_cases():
     """Files that can't be read, of which nothing is answered, or in which something is broken."""
     yield "pdb_symbolizer nowhere.pdb 0x1136", error("cannot read nowhere.pdb") + "status 2\n"
+    # one that an option names is answered as unknown, but by addr2line, or where it is of another build than is said
+    unread = error("cannot read nowhere.exe")
+    yield "pdb_symbolizer --obj=nowhere.exe 0x401000 0x401001", unread + of_llvm(".", ["--obj=nowhere.exe", "0x401000", "0x401001"])
+    yield "pdb_symbolizer --obj=nowhere.exe < 0x401000|zz|DATA 0x1", unread + of_llvm(
+        ".", ["--obj=nowhere.exe"], ["0x401000", "zz", "DATA 0x1"])
+    yield "llvm-symbolizer --output-style=GNU --obj nowhere.exe < 0x401000|1ffffffff", unread + of_llvm(
+        ".", ["--output-style=GNU", "--obj=nowhere.exe"], ["0x401000", "1ffffffff"])
+    yield "pdb_symbolizer --obj=stripped.pdb 0x1136", error("stripped.pdb: no section headers (stripped)") + NO_NAME + ENDED
+    yield "pdb_symbolizer --obj=cases.txt 0x1136", error("cases.txt: not a JSON text") + NO_NAME + ENDED
+    yield "addr2line -e nowhere.exe 0x401000", unread + "status 2\n"
+    yield "pdb_symbolizer --expect-id 6B32B94164959A524C4C44205044422E2 --obj=shapes.pdb 0x1136", error(
+        "shapes.pdb: its id is {6B32B941-6495-9A52-4C4C-44205044422E}/1, not {6B32B941-6495-9A52-4C4C-44205044422E}/2") + "status 1\n"
+    yield "pdb_symbolizer --dump-syms --obj=nowhere.exe", unread + "status 2\n"
     yield "pdb_symbolizer program.exe 0x1136", error("program.exe: a program (EXE or DLL), not its PDB file") + "status 2\n"
     yield "pdb_symbolizer stripped.pdb 0x1136", error("stripped.pdb: no section headers (stripped)") + "status 1\n"
     yield "pdb_symbolizer cases.txt 0x1136", error("cases.txt: not a JSON text") + "status 2\n"

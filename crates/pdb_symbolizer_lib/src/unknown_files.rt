@@ -1,0 +1,80 @@
+//! A file that can't be opened, whose addresses are answered as unknown, as `llvm-symbolizer` does.
+
+use crate::file_answers::open_file;
+use crate::input_files::InputFile;
+use crate::options::{OpenFailure, Options};
+use crate::status_line::StatusLine;
+use crate::stops::Stop;
+use pdb_addr2line::pdb::{
+    AddressMap, DebugInformation, ItemInformation, MachineType, PDB, Reading, StringTable,
+    SymbolTable,
+};
+use std::alloc::{AllocError, Global};
+use std::rt::Files;
+
+/// Opens a file of which addresses are answered. Where it can't be opened, and an option names it, the cause is printed,
+/// and the file is taken as one without records. Another build than is expected is refused all the same.
+pub fn open_answered_file<R: Files + Print + Eprint + AllocGlobal>(
+    rt: &R,
+    status_line: &StatusLine,
+    options: &Options<'_>,
+    path: &str,
+) -> Result<InputFile, Stop> {
+    match (open_file(rt, status_line, options, path), options.open_failure) {
+        (Err(stop), OpenFailure::UnknownAnswers) if !ends_the_run(&stop) => {
+            stop.print(rt);
+            Ok(file_without_records(rt.alloc(), path)?)
+        }
+        (opened, _) => opened,
+    }
+}
+
+fn ends_the_run(stop: &Stop) -> bool {
+    matches!(stop, Stop::Refused(_) | Stop::OtherBuild(..))
+}
+
+fn file_without_records(alloc: Global, path: &str) -> Result<InputFile, AllocError> {
+    Ok(InputFile {
+        path: String::from_str(alloc, path)?,
+        records: no_records(alloc),
+        refusal: None,
+        names_only: false,
+        identity: None,
+        image_base: Some(0),
+        code_id: None,
+    })
+}
+
+fn no_records(alloc: Global) -> PDB {
+    PDB {
+        sections: Ok(Some(Vec::new(alloc))),
+        address_map: Ok(AddressMap {
+            sections: Vec::new(alloc),
+        }),
+        global_symbols: Ok(SymbolTable {
+            symbols: nothing(alloc),
+        }),
+        debug_information: Ok(DebugInformation {
+            machine_type: Ok(MachineType::Amd64),
+            modules: nothing(alloc),
+            section_contributions: nothing(alloc),
+        }),
+        type_information: Ok(ItemInformation {
+            items: nothing(alloc),
+        }),
+        id_information: Ok(ItemInformation {
+            items: nothing(alloc),
+        }),
+        string_table: Ok(StringTable {
+            strings: Vec::new(alloc),
+        }),
+        module_infos: Vec::new(alloc),
+    }
+}
+
+fn nothing<T>(alloc: Global) -> Reading<T> {
+    Reading {
+        items: Vec::new(alloc),
+        fault: None,
+    }
+}
