@@ -12,6 +12,7 @@ Examples:
   pdb_symbolizer --output-style=JSON --obj=app.exe 0x140001136  as llvm-symbolizer is asked
   pdb_symbolizer --show-id app.exe app.pdb     which build they are of
   pdb_symbolizer --dump-syms app.exe >app.sym  a symbol file for readers of Breakpad's format
+  pdb_symbolizer --symbolicate --pdb-dir symbols <request.json  a request of Mozilla's symbolication API
 Addresses are hexadecimal, and come from standard input, a line each, where no word gives one. docs/CONTAINER.md says more.
 
 ";
@@ -33,7 +34,7 @@ struct Valued {
     help: &'static str,
 }
 
-static FLAGS: [Flag; 10] = [
+static FLAGS: [Flag; 12] = [
     Flag {
         name: "inlines",
         short: Some('i'),
@@ -93,6 +94,18 @@ static FLAGS: [Flag; 10] = [
         short: None,
         alias: None,
         help: "Write a Breakpad symbol file of all functions",
+    },
+    Flag {
+        name: "symbolicate",
+        short: None,
+        alias: None,
+        help: "Answer the JSON request of a symbol server on standard input",
+    },
+    Flag {
+        name: "symbolicate-lines",
+        short: None,
+        alias: None,
+        help: "The same, of each line, as it comes",
     },
 ];
 

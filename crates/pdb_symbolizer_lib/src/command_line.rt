@@ -2,7 +2,9 @@
 
 use crate::addresses::parse_number;
 use crate::arguments::command;
-use crate::options::{Base, Detail, Digits, Export, NameStyle, Options, Purpose, Style};
+use crate::options::{
+    Base, Detail, Digits, Export, NameStyle, Options, Purpose, RequestForm, Style,
+};
 use crate::stops::Stop;
 use clap::ArgMatches;
 use pdb_container::DebugId;
@@ -140,6 +142,8 @@ fn purpose_of<'w>(matches: &ArgMatches<'w>) -> Purpose<'w> {
         }),
         None if matches.get_flag("dump-syms") => Purpose::SymbolFile,
         None if matches.get_flag("show-id") => Purpose::Identities,
+        None if matches.get_flag("symbolicate-lines") => Purpose::Symbolication(RequestForm::Lines),
+        None if matches.get_flag("symbolicate") => Purpose::Symbolication(RequestForm::Whole),
         None => Purpose::Answers,
     }
 }
