@@ -1,5 +1,4 @@
-//! Requests of the symbolication API, version 5, and their answers as JSON: stacks of addresses become functions,
-//! files, lines and inlined calls.
+//! Requests of Mozilla's symbolication API and their answers: functions, files and lines of addresses in stacks.
 //!
 //! [`Request::from_slice`] reads a request whole. [`WantedModules`] has the modules that its frames name, each once,
 //! with the offsets at which they ask for it. Whoever finds these modules makes the [`FrameTexts`] of each, and

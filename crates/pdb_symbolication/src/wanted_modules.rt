@@ -1,12 +1,15 @@
 //! The modules that the frames of a request name, each once, with the offsets at which they ask for it.
 
+ghost use Rattle.std.specs.Prelude.{IsTrue, string_bytes};
+ghost use Rattle.pdb_symbolication.specs.HarmlessNames.{is_harmless};
+
 use crate::harmless_names::is_harmless_name;
 use crate::requests::{FrameModule, Job, MemoryMapEntry, Request, StackFrame};
 use pdb_identity::DebugId;
 use std::alloc::{AllocError, Global};
 use std::collections::BTreeMap;
 
-/// A module that frames of a request name. Its name is harmless.
+/// A module that frames of a request name. Its name leads from a folder to a file in it, and to nothing else.
 #[derive(Drop)]
 pub struct WantedModule {
     pub name: String,
@@ -14,6 +17,7 @@ pub struct WantedModule {
     /// Where frames ask, relative to where the module is loaded: ascending, and each once. Offsets past 32 bits are
     /// left out, since no module has them.
     pub offsets: Vec<u32>,
+    pub ghost harmless: { IsTrue (is_harmless (string_bytes name)) },
 }
 
 /// What the frames of a job ask for of an entry of its memory map.
@@ -107,7 +111,9 @@ impl Collector {
     }
 
     // The module of this name and debug id, which is added where it isn't there.
-    fn module_of(&mut self, name: &str, debug_id: DebugId) -> Result<Search, AllocError> {
+    fn module_of(&mut self, name: &str, debug_id: DebugId) -> Result<Search, AllocError>
+        requires harmless { IsTrue (is_harmless name.now) }
+    {
         let key = format!(in self.alloc; "{name}/{}", debug_id.compact())?;
         if let Some(&position) = self.positions.get(&key) {
             return Ok(Search::Module(position));
