@@ -1,8 +1,8 @@
 //! The text of an answer: frames with names, files and lines, in the styles of LLVM, GNU and JSON.
 
-use crate::json_text::write_quoted;
 use crate::options::{Detail, NameStyle, Options, Style};
 use pdb_addr2line::Frame;
+use pdb_symbolication::write_quoted;
 use std::alloc::AllocError;
 
 /// What is printed of a name that isn't known.

@@ -11,7 +11,9 @@ Examples:
   pdb_symbolizer -p --base 0x7ff6a0000000 app.pdb <addresses    of addresses in memory, a line each
   pdb_symbolizer --output-style=JSON --obj=app.exe 0x140001136  as llvm-symbolizer is asked
   pdb_symbolizer --dump-syms app.exe >app.sym  a Breakpad symbol file, without unwind records
-Addresses are hexadecimal, and come from standard input, a line each, where no word gives one. docs/CONTAINER.md says more.
+  pdb_symbolizer --symbolicate --pdb-dir symbols <request.json  a request of Mozilla's symbolication API
+The first word is a program, a PDB file or a records file. The others are addresses, in hexadecimal digits; without any they
+come from standard input, a line each. docs/CONTAINER.md says more.
 
 ";
 
@@ -32,7 +34,7 @@ struct Valued {
     help: &'static str,
 }
 
-static FLAGS: [Flag; 9] = [
+static FLAGS: [Flag; 11] = [
     Flag {
         name: "no-inlines",
         short: None,
@@ -86,6 +88,18 @@ static FLAGS: [Flag; 9] = [
         short: None,
         alias: None,
         help: "Write a Breakpad symbol file of all functions",
+    },
+    Flag {
+        name: "symbolicate",
+        short: None,
+        alias: None,
+        help: "Answer the JSON request of a symbol server on standard input",
+    },
+    Flag {
+        name: "symbolicate-lines",
+        short: None,
+        alias: None,
+        help: "The same, of each line, as it comes",
     },
 ];
 
@@ -257,5 +271,5 @@ fn words<'a>(alloc: Global) -> Arg<'a> {
     Arg::new(alloc, "WORD")
         .num_args(0..)
         .action(ArgAction::Append)
-        .help("FILE (program, PDB file or records file), and addresses")
+        .hide(true)
 }

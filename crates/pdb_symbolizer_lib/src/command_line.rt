@@ -3,7 +3,8 @@
 use crate::addresses::parse_number;
 use crate::arguments::command;
 use crate::options::{
-    Base, Detail, Digits, Export, NameStyle, OpenFailure, Options, Purpose, Style, SymbolFilePlace,
+    Base, Detail, Digits, Export, NameStyle, OpenFailure, Options, Purpose, RequestForm, Style,
+    SymbolFilePlace,
 };
 use crate::stops::Stop;
 use clap::ArgMatches;
@@ -156,6 +157,8 @@ fn purpose_of<'w>(matches: &ArgMatches<'w>) -> Purpose<'w> {
         }),
         None if matches.get_flag("dump-syms") => Purpose::SymbolFile(symbol_file_place(matches)),
         None if matches.get_flag("show-id") => Purpose::Identities,
+        None if matches.get_flag("symbolicate-lines") => Purpose::Symbolication(RequestForm::Lines),
+        None if matches.get_flag("symbolicate") => Purpose::Symbolication(RequestForm::Whole),
         None => Purpose::Answers,
     }
 }

@@ -95,7 +95,9 @@ pub fn open_file<R: Files + Eprint + AllocGlobal>(
     Ok(input)
 }
 
-fn repair<R: Eprint + AllocGlobal>(rt: &R, input: &mut InputFile) -> Result<(), Stop> {
+/// Takes out of the records of a file what is broken, and prints that on standard error. An error where nothing can be
+/// answered over it.
+pub fn repair<R: Eprint + AllocGlobal>(rt: &R, input: &mut InputFile) -> Result<(), Stop> {
     if let Some(refusal) = input.refusal {
         return Err(Stop::PdbFile(String::from_str(rt.alloc(), input.path.as_str())?, refusal));
     }

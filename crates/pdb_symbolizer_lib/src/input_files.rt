@@ -84,7 +84,8 @@ fn read_records_of<R: Files + Eprint + AllocGlobal>(
     }
 }
 
-fn read_container(alloc: Global, path: &str, bytes: &[u8]) -> Result<InputFile, Stop> {
+/// The records of a PDB file, by its bytes.
+pub fn read_container(alloc: Global, path: &str, bytes: &[u8]) -> Result<InputFile, Stop> {
     match read_file_and_identity(alloc, bytes) {
         Ok((file, identity)) => of_pdb_file(alloc, path, file, identity),
         Err(ContainerFault::OutOfMemory) => Err(Stop::Refused(Error::OutOfMemory)),

@@ -2,7 +2,7 @@
 //!
 //! [`run_words`] takes the words of a command line, reads the file that they name, and prints an answer for each
 //! address in the styles of `llvm-symbolizer`; or it writes the records of the file as a records file, or its functions
-//! as a Breakpad symbol file. The program hands in the words, and standard input and output by its runtime.
+//! as a Breakpad symbol file; or it answers requests of the symbolication API. The program hands in the words, and standard input and output by its runtime.
 #![tactic(auto)]
 
 mod addresses;
@@ -15,7 +15,6 @@ mod file_answers;
 mod file_frames;
 mod identities;
 mod input_files;
-mod json_text;
 mod named_files;
 mod options;
 mod paths;
@@ -29,6 +28,8 @@ mod stops;
 mod symbol_files;
 mod symbol_names;
 mod symbol_stores;
+mod symbolication;
+mod symbolized_modules;
 mod unknown_files;
 
 pub use runs::run_words;

@@ -53,8 +53,19 @@ pub enum Purpose<'w> {
     Export(Export<'w>),
     /// Its functions are written as a Breakpad symbol file.
     SymbolFile(SymbolFilePlace<'w>),
+    /// Requests of the symbolication API are answered, over PDB files in folders.
+    Symbolication(RequestForm),
     /// It is shown which build it is of, and the files that the other words name.
     Identities,
+}
+
+/// How requests stand on standard input.
+#[derive(Clone, Copy, PartialEq, Eq)]
+pub enum RequestForm {
+    /// All of it is one.
+    Whole,
+    /// Each line is one.
+    Lines,
 }
 
 /// Where the program is loaded that addresses are of.

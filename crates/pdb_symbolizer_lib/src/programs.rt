@@ -38,6 +38,24 @@ pub fn find_pdb<R: Files + AllocGlobal>(
     Err(Stop::NoPdbFile(format!(in rt.alloc(); "{program}: no PDB file of {id}{looked}")?))
 }
 
+/// The PDB file of this name in the folders, the first with this debug id. The name has to be one that leads to nothing
+/// outside of them.
+pub fn find_in_folders<R: Files + AllocGlobal>(
+    rt: &R,
+    options: &Options<'_>,
+    name: &str,
+    debug_id: DebugId,
+) -> Result<Option<FoundFile>, Stop> {
+    let mut places = Vec::new(rt.alloc());
+    push_folder_places(rt.alloc(), &mut places, options, name, debug_id)?;
+    for path in places {
+        if let Look::Found(bytes) = look_at(rt, path.as_str(), debug_id)? {
+            return Ok(Some(FoundFile { path, bytes }));
+        }
+    }
+    Ok(None)
+}
+
 /// What a look at a place came to.
 #[derive(Drop)]
 enum Look {
@@ -86,11 +104,24 @@ fn places(
         return Ok(places);
     };
     places.push(beside(alloc, program, name)?)?;
+    push_folder_places(alloc, &mut places, options, name, code_view.debug_id)?;
+    Ok(places)
+}
+
+// Adds where a file of this name and debug id is looked for in each folder, and in the folder that a symbol store has
+// for it there.
+fn push_folder_places(
+    alloc: Global,
+    places: &mut Vec<String>,
+    options: &Options<'_>,
+    name: &str,
+    debug_id: DebugId,
+) -> Result<(), AllocError> {
     for dir in &options.pdb_dirs {
         places.push(format!(in alloc; "{dir}/{name}")?)?;
-        places.push(format!(in alloc; "{dir}/{name}/{}/{name}", code_view.debug_id.compact())?)?;
+        places.push(format!(in alloc; "{dir}/{name}/{}/{name}", debug_id.compact())?)?;
     }
-    Ok(places)
+    Ok(())
 }
 
 fn beside(alloc: Global, program: &str, name: &str) -> Result<String, AllocError> {

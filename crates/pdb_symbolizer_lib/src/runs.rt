@@ -11,6 +11,7 @@ use crate::response_files::expand_words;
 use crate::status_line::StatusLine;
 use crate::stops::Stop;
 use crate::symbol_files::dump_symbols;
+use crate::symbolication::symbolicate;
 use std::rt::Files;
 use std::time::Clock;
 
@@ -46,6 +47,7 @@ fn run_over<R: Files + Input + Print + Eprint + Clock + AllocGlobal>(
         (Purpose::Export(export), Some(file)) => {
             export_file(rt, status_line, options, export, file)
         }
+        (Purpose::Symbolication(form), _) => symbolicate(rt, options, form),
         (Purpose::SymbolFile(place), Some(file)) => {
             dump_symbols(rt, status_line, options, place, file)
         }

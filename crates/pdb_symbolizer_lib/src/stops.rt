@@ -8,6 +8,7 @@ use pdb_container::{ContainerFault, DebugId, Refusal};
 use pdb_export::ExportFault;
 use pdb_json::RecordFault;
 use std::alloc::{AllocError, AllocFailed};
+use std::io;
 
 /// Why a run of the program ended early. Its text is the line that the program prints.
 #[derive(Debug, Drop, thiserror::Error)]
@@ -30,6 +31,15 @@ pub enum Stop {
     /// Something is written by this option, and addresses asked for at once.
     #[error("pdb_symbolizer: --{0} answers no address")]
     AnswersNone(&'static str),
+    /// Requests are read by this option, and something else is named.
+    #[error("pdb_symbolizer: --{0} takes no FILE and no address")]
+    TakesNone(&'static str),
+    /// Standard input is no request.
+    #[error("pdb_symbolizer: no request: {0}")]
+    NoRequest(String),
+    /// So many lines of standard input were no requests.
+    #[error("pdb_symbolizer: lines that are no requests: {0}")]
+    NoRequests(u64),
     /// The PDB file of a program was not found: where it was looked for.
     #[error("pdb_symbolizer: {0}")]
     NoPdbFile(String),
@@ -120,6 +130,12 @@ impl From<SymbolFileFault> for Stop {
             SymbolFileFault::CannotWrite => Stop::CannotWrite,
             SymbolFileFault::ClosedPipe => Stop::ClosedPipe,
         }
+    }
+}
+
+impl From<io::Error> for Stop {
+    fn from(error: io::Error) -> Stop {
+        Stop::from(SymbolFileFault::from(error))
     }
 }
 

@@ -19,6 +19,8 @@ import struct
 import subprocess
 import sys
 
+from request_cases import request_cases
+
 HERE = pathlib.Path(__file__).resolve().parent
 # Three inlined bodies in one another; a function's start; a function of another file; the last byte of one
 ADDRESSES = ["0x1136", "0x1000", "0x10b0", "0x119f"]
@@ -449,9 +451,15 @@ def symbol_file_cases(folder):
     yield "pdb_symbolizer --dump-syms", error("no FILE") + "status 2\n"
 
 
+def api_cases(folder):
+    """Requests of the symbolication API."""
+    short = stacks(folder)
+    return request_cases(dict(with_arguments(short)), short, procedure_at, error, BROKEN_ROWS)
+
+
 def main(words):
     made = [*llvm_cases(words[0]), *habit_cases(words[0]), *name_cases(), *address_cases(), *program_cases(), *broken_cases(),
-            *identity_cases(), *records_cases(), *symbol_file_cases(words[0])]
+            *identity_cases(), *records_cases(), *symbol_file_cases(words[0]), *api_cases(words[0])]
     (HERE / "cases.txt").write_text("".join(f"{line}\n" for line, _ in made), encoding="utf-8")
     (HERE.parent / "stdout").write_text("".join(f"$ {line}\n{text}" for line, text in made), encoding="utf-8")
     print(f"{len(made)} cases")

@@ -1,0 +1,23 @@
+//! Requests of Mozilla's symbolication API and their answers: functions, files and lines of addresses in stacks.
+//!
+//! [`Request::from_slice`] reads a request whole. [`WantedModules`] has the modules that its frames name, each once,
+//! with the offsets at which they ask for it. Whoever finds these modules makes the [`FrameTexts`] of each, and
+//! [`write_answer`] puts every text at its frames. No file is opened here: [`is_harmless_name`] says which names of
+//! modules can be files of a folder.
+#![tactic(auto)]
+
+mod answers;
+mod frame_texts;
+mod harmless_names;
+mod json_text;
+mod request_reader;
+mod requests;
+mod wanted_modules;
+
+pub use answers::{error_line, write_answer};
+pub use frame_texts::{FoundFunction, FrameTexts, Place};
+pub use harmless_names::is_harmless_name;
+pub use json_text::write_quoted;
+pub use pdb_json_values::RecordFault;
+pub use requests::{FrameModule, Job, MemoryMapEntry, Request, Stack, StackFrame};
+pub use wanted_modules::{WantedModule, WantedModules};

@@ -1,0 +1,133 @@
+//! Answers to requests of the symbolication API on standard input: one request, or one on each line.
+
+use crate::file_answers::write_out;
+use crate::input_files::ran_out_of_memory;
+use crate::options::{Options, RequestForm};
+use crate::stops::Stop;
+use crate::symbolized_modules::texts_of_modules;
+use pdb_addr2line::Error;
+use pdb_symbolication::{RecordFault, Request, WantedModules, error_line, write_answer};
+use std::io::{self, BufRead, BufReader, BufWriter, Read};
+use std::rt::Files;
+
+/// The greatest length of a line with a request, with its end, in bytes.
+const LONGEST_LINE: u64 = 1 << 24;
+
+/// What a text came to that was to be a request.
+#[derive(Drop)]
+enum Outcome {
+    Answered,
+    /// What is wrong with it, in words.
+    Refused(String),
+}
+
+/// Answers the requests of standard input, over the PDB files in the folders of the options.
+pub fn symbolicate<R: Files + Input + Print + Eprint + AllocGlobal>(
+    rt: &R,
+    options: &Options<'_>,
+    form: RequestForm,
+) -> Result<(), Stop> {
+    if options.file.is_some() || !options.addresses.is_empty() {
+        return Err(Stop::TakesNone("symbolicate"));
+    }
+    match form {
+        RequestForm::Whole => answer_input(rt, options),
+        RequestForm::Lines => answer_lines(rt, options),
+    }
+}
+
+// Answers the request that standard input is.
+fn answer_input<R: Files + Input + Print + Eprint + AllocGlobal>(
+    rt: &R,
+    options: &Options<'_>,
+) -> Result<(), Stop> {
+    let mut bytes = Vec::new(rt.alloc());
+    known_input(rt.reader().read_to_end(&mut bytes))?;
+    match answer_text(rt, options, bytes)? {
+        Outcome::Answered => Ok(()),
+        Outcome::Refused(why) => Err(Stop::NoRequest(why)),
+    }
+}
+
+// Answers each line of standard input before the next is read.
+fn answer_lines<R: Files + Input + Print + Eprint + AllocGlobal>(
+    rt: &R,
+    options: &Options<'_>,
+) -> Result<(), Stop> {
+    let Ok(mut reader) = BufReader::new(rt.alloc(), rt.reader()) else {
+        return Err(Stop::Refused(Error::OutOfMemory));
+    };
+    let mut refused = 0u64;
+    for _ in 0..u64::MAX {
+        match answer_next_line(rt, options, &mut reader)? {
+            None => break,
+            Some(Outcome::Answered) => {}
+            Some(Outcome::Refused(_)) => refused = refused.saturating_add(1),
+        }
+    }
+    match refused {
+        0 => Ok(()),
+        _ => Err(Stop::NoRequests(refused)),
+    }
+}
+
+// Reads the next line and answers it. `None` where there is none.
+fn answer_next_line<R: Files + Print + Eprint + AllocGlobal, B: BufRead>(
+    rt: &R,
+    options: &Options<'_>,
+    reader: &mut B,
+) -> Result<Option<Outcome>, Stop> {
+    let mut line = Vec::new(rt.alloc());
+    let mut limited = (&mut *reader).take(LONGEST_LINE);
+    known_input(limited.read_until(b'\n', &mut line))?;
+    if line.is_empty() {
+        return Ok(None);
+    }
+    if line.len() as u64 == LONGEST_LINE && !line.ends_with(b"\n") {
+        known_input(reader.skip_until(b'\n'))?;
+        let why = format!(in rt.alloc(); "a line longer than {LONGEST_LINE} bytes")?;
+        return Ok(Some(refuse(rt, why)?));
+    }
+    Ok(Some(answer_text(rt, options, line)?))
+}
+
+// What was read, unless the input can't be read or there was no memory.
+fn known_input(read: io::Result<usize>) -> Result<(), Stop> {
+    match read {
+        Ok(_) => Ok(()),
+        Err(error) if ran_out_of_memory(&error) => Err(Stop::Refused(Error::OutOfMemory)),
+        Err(_) => Err(Stop::CannotReadInput),
+    }
+}
+
+// Answers a text that is to be a request: by a line with the answer, or with what is wrong with it.
+fn answer_text<R: Files + Print + Eprint + AllocGlobal>(
+    rt: &R,
+    options: &Options<'_>,
+    text: Vec<u8>,
+) -> Result<Outcome, Stop> {
+    let request = Request::from_slice(rt.alloc(), &text);
+    drop(text);
+    match request {
+        Ok(request) => answer_request(rt, options, &request),
+        Err(RecordFault::OutOfMemory) => Err(Stop::Refused(Error::OutOfMemory)),
+        Err(fault) => refuse(rt, format!(in rt.alloc(); "{fault}")?),
+    }
+}
+
+fn refuse<R: Print + AllocGlobal>(rt: &R, why: String) -> Result<Outcome, Stop> {
+    write_out(rt, error_line(rt.alloc(), why.as_str())?.as_str())?;
+    Ok(Outcome::Refused(why))
+}
+
+fn answer_request<R: Files + Print + Eprint + AllocGlobal>(
+    rt: &R,
+    options: &Options<'_>,
+    request: &Request,
+) -> Result<Outcome, Stop> {
+    let wanted = WantedModules::of(rt.alloc(), request)?;
+    let found = texts_of_modules(rt, options, &wanted.modules)?;
+    let mut writer = BufWriter::new(rt.alloc(), io::writer(rt))?;
+    write_answer(rt.alloc(), &mut writer, request, &wanted, &found)?;
+    Ok(Outcome::Answered)
+}

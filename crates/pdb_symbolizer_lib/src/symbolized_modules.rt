@@ -1,0 +1,128 @@
+//! The modules that a request asks for: their PDB files in folders, and what is found at the offsets of each.
+
+use crate::file_answers::repair;
+use crate::file_frames::FileFrames;
+use crate::input_files::{InputFile, read_container};
+use crate::options::Options;
+use crate::programs::find_in_folders;
+use crate::stops::Stop;
+use crate::symbol_names::SymbolNames;
+use pdb_addr2line::{ContextPdbData, Error, Frame, FunctionFrames};
+use pdb_breakpad::FrameSource;
+use pdb_symbolication::{FoundFunction, FrameTexts, Place, WantedModule};
+use std::alloc::{AllocError, Global};
+use std::rt::Files;
+
+/// The texts of each module, `None` where no file of it is found over which something can be answered. One module after
+/// the other is read, and let go before the next.
+pub fn texts_of_modules<R: Files + Eprint + Print + AllocGlobal>(
+    rt: &R,
+    options: &Options<'_>,
+    modules: &[WantedModule],
+) -> Result<Vec<Option<FrameTexts>>, Stop> {
+    let mut texts = Vec::new(rt.alloc());
+    for module in modules {
+        texts.push(texts_of_module(rt, options, module)?)?;
+    }
+    Ok(texts)
+}
+
+// The texts of a module. A file that is found and refused has a line on standard error.
+fn texts_of_module<R: Files + Eprint + Print + AllocGlobal>(
+    rt: &R,
+    options: &Options<'_>,
+    module: &WantedModule,
+) -> Result<Option<FrameTexts>, Stop> {
+    match texts_of_file(rt, options, module) {
+        Err(Stop::Refused(Error::OutOfMemory)) => Err(Stop::Refused(Error::OutOfMemory)),
+        Err(stop) => {
+            stop.print(rt);
+            Ok(None)
+        }
+        texts => texts,
+    }
+}
+
+fn texts_of_file<R: Files + Eprint + AllocGlobal>(
+    rt: &R,
+    options: &Options<'_>,
+    module: &WantedModule,
+) -> Result<Option<FrameTexts>, Stop> {
+    let Some(found) = find_in_folders(rt, options, module.name.as_str(), module.debug_id)? else {
+        return Ok(None);
+    };
+    let mut input = read_container(rt.alloc(), found.path.as_str(), &found.bytes)?;
+    drop(found);
+    repair(rt, &mut input)?;
+    Ok(Some(texts_over(rt, options, module, &mut input)?))
+}
+
+fn texts_over<R: Eprint + AllocGlobal>(
+    rt: &R,
+    options: &Options<'_>,
+    module: &WantedModule,
+    input: &mut InputFile,
+) -> Result<FrameTexts, Stop> {
+    let names = SymbolNames::new(rt.alloc(), &input.records)?;
+    let data = ContextPdbData::try_from_pdb_ref(rt.alloc(), &mut input.records)?;
+    Ok(texts_by(rt, options, module, &names, &data)?)
+}
+
+fn texts_by<R: Eprint + AllocGlobal>(
+    rt: &R,
+    options: &Options<'_>,
+    module: &WantedModule,
+    names: &SymbolNames,
+    data: &ContextPdbData<'_>,
+) -> Result<FrameTexts, Error> {
+    let mut context = data.make_context_with_formatter_flags(options.flags())?;
+    let mut frames = FileFrames::new(rt, &mut context, names, data);
+    let mut texts = FrameTexts::new(rt.alloc());
+    for &offset in &module.offsets {
+        add_text(rt.alloc(), &mut texts, &mut frames, offset)?;
+    }
+    Ok(texts)
+}
+
+// Adds the text at an offset.
+fn add_text<'a, S: FrameSource<'a>>(
+    alloc: Global,
+    texts: &mut FrameTexts,
+    frames: &mut S,
+    offset: u32,
+) -> Result<(), Error> {
+    match frames.find_frames(offset)? {
+        Some(found) => texts.add(offset, Some(&function_of(alloc, &found)?))?,
+        None => texts.add(offset, None)?,
+    }
+    Ok(())
+}
+
+fn function_of<'f>(
+    alloc: Global,
+    found: &'f FunctionFrames<'_>,
+) -> Result<FoundFunction<'f>, AllocError> {
+    let mut places = Vec::new(alloc);
+    for frame in &found.frames {
+        places.push(place_of(frame))?;
+    }
+    Ok(FoundFunction {
+        start: found.start_rva,
+        places,
+    })
+}
+
+// What is known of a frame. An empty name counts for none.
+fn place_of<'f>(frame: &'f Frame<'_>) -> Place<'f> {
+    Place {
+        function: match &frame.function {
+            Some(name) if !name.is_empty() => Some(name.as_str()),
+            _ => None,
+        },
+        file: match &frame.file {
+            Some(file) if !file.is_empty() => Some(file.as_str()),
+            _ => None,
+        },
+        line: frame.line,
+    }
+}

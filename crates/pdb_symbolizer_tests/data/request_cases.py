@@ -1,0 +1,186 @@
+"""Cases of requests of the symbolication API, with what is wanted of them, for write_cases.py.
+
+Frames are those that llvm-symbolizer answers for shapes.exe, as write_cases.py has them; all else is written here by
+hand, from docs/FORMATS.md.
+"""
+import json
+
+ID, OTHER, BROKEN = ("6B32B94164959A524C4C44205044422E1", "A9D98A29E7C186D04C4C44205044422E1",
+                     "030201000504070608090A0B0C0D0E0F1")
+SHAPES = ["shapes.pdb", ID]
+# Of bytes behind a procedure, which are of the public symbol before them, that symbol's address
+PUBLIC_STARTS = {"?count@Picture@@SAHPEBD@Z": 0x1000, "entry": 0x1020, "?draw@Framed@@UEAAHH@Z": 0x1110,
+                 "?area@shapes@@YAHPEBUPoint@1@H@Z": 0x1190}
+
+
+def text(value):
+    """A value as JSON, with nothing between its parts."""
+    return json.dumps(value, separators=(",", ":"), ensure_ascii=False)
+
+
+def frame(number, module, offset, known=None):
+    """A frame of an answer, with what is known of it."""
+    return {"frame": number, "module": module, "module_offset": f"0x{offset:x}", **(known or {})}
+
+
+def known_of(start, offset, stack):
+    """What is known at an offset: a function, the innermost of a stack first, which has it first itself."""
+    (name, file, line), *inlined = stack
+    known = {"function": name, "function_offset": f"0x{offset - start:x}", "file": file, "line": line}
+    if inlined:
+        known["inlines"] = [{"function": name, "file": file, "line": line} for name, file, line in reversed(inlined)]
+    return known
+
+
+def answer(*jobs):
+    """The line of an answer, of the stacks of each job and its modules."""
+    return text({"results": [{"stacks": stacks, "found_modules": modules} for stacks, modules in jobs]}) + "\n"
+
+
+def job(memory_map, *stacks):
+    """A job of a request."""
+    return {"memoryMap": memory_map, "stacks": list(stacks)}
+
+
+def asked(request, words="--pdb-dir ."):
+    """The line of a case."""
+    return f"pdb_symbolizer --symbolicate {words} < " + (request if isinstance(request, str) else text(request))
+
+
+class Shapes:
+    """What is known of shapes.exe at its addresses."""
+
+    def __init__(self, found, procedure_at):
+        self.found, self.procedure_at = found, procedure_at
+
+    def known(self, offset):
+        """What is known at an offset."""
+        stack = self.found[offset]
+        start = self.procedure_at(offset)
+        return known_of(PUBLIC_STARTS[stack[0][0]] if start is None else start, offset, stack)
+
+    def frames(self, *offsets, module="shapes.pdb"):
+        """The frames at these offsets."""
+        return [frame(number, module, offset, self.known(offset)) for number, offset in enumerate(offsets)]
+
+
+def module_cases(shapes, short):
+    """Modules in folders, by their names and ids."""
+    offsets = (0x1136, 0x1000, 0x10b0, 0x119f, 0x1213, 0x1278)
+    stack = [[0, offset] for offset in offsets]
+    wanted = shapes.frames(*offsets)
+    yield asked({"jobs": [job([SHAPES], stack)]}), answer(([wanted], {f"shapes.pdb/{ID}": True}))
+    yield asked(job([SHAPES], stack)), answer(([wanted], {f"shapes.pdb/{ID}": True}))
+    yield asked({"version": 5, "jobs": [{**job([SHAPES], stack), "more": [None]}]}), \
+        answer(([wanted], {f"shapes.pdb/{ID}": True}))
+    yield asked({"jobs": [job([SHAPES], stack)]}, "--functions=short --pdb-dir ."), \
+        answer(([short.frames(*offsets)], {f"shapes.pdb/{ID}": True}))
+    yield asked(job([SHAPES], stack), "--functions=linkage --base 140000000 --adjust 1 -s --no-inlines --pdb-dir ."), \
+        answer(([wanted], {f"shapes.pdb/{ID}": True}))
+    for same in (ID.lower(), ID[:-1] + "01", "{6B32B941-6495-9A52-4C4C-44205044422E}/1"):
+        yield asked(job([["shapes.pdb", same]], stack)), answer(([wanted], {f"shapes.pdb/{same}": True}))
+    for words in ("symbols", "nowhere --pdb-dir symbols", ". --pdb-dir symbols"):
+        yield asked(job([["shapes.pdb", OTHER]], stack), f"--pdb-dir {words}"), \
+            answer(([wanted], {f"shapes.pdb/{OTHER}": True}))
+    between = (0x101e, 0x10da, 0x1103, 0x114f, 0x1256)
+    yield asked(job([SHAPES], [[0, offset] for offset in between])), \
+        answer(([shapes.frames(*between)], {f"shapes.pdb/{ID}": True}))
+    first, last = shapes.frames(0x1136), shapes.frames(0x1213, 0x1136)
+    second = job([["no.pdb", ID], SHAPES], [[1, 0x1213], [1, 0x1136]])
+    yield asked({"jobs": [job([SHAPES], [[0, 0x1136]], []), second]}), \
+        answer(([first, []], {f"shapes.pdb/{ID}": True}), ([last], {f"no.pdb/{ID}": None, f"shapes.pdb/{ID}": True}))
+    yield asked(job([SHAPES, SHAPES, ["shapes.pdb", ID.lower()]], [[1, 0x1136]])), \
+        answer(([first], {f"shapes.pdb/{ID}": True, f"shapes.pdb/{ID.lower()}": None}))
+
+
+def unknown_cases():
+    """Modules that aren't found, and addresses at which nothing is known."""
+    for words, module in (("", SHAPES), ("--pdb-dir nowhere", SHAPES), ("--pdb-dir .", ["shapes.pdb", OTHER]),
+                          ("--pdb-dir .", ["shapes.pdb", ID[:-1] + "2"]), ("--pdb-dir .", ["shapes.pdb", "zz"]),
+                          ("--pdb-dir .", ["shapes.pdb", ""]), ("--pdb-dir .", ["nowhere.pdb", ID]),
+                          ("--pdb-dir .", ["shapes.exe", ID]), ("--pdb-dir .", ["names.json", ID]),
+                          ("--pdb-dir .", ["symbols", ID])):
+        yield asked(job([module], [[0, 0x1136]]), words), \
+            answer(([[frame(0, module[0], 0x1136)]], {"/".join(module): False}))
+    names = ["", ".", "..", "./shapes.pdb", "../data/shapes.pdb", "symbols\\shapes.pdb", "C:shapes.pdb", "shapes.pdb\0",
+             "/shapes.pdb", 'q"\t\x01é\u2028']
+    yield asked(job([[name, ID] for name in names], [[index, 0x1136] for index in range(len(names))])), \
+        answer(([[frame(index, name, 0x1136) for index, name in enumerate(names)]],
+                {key: False for key in sorted(f"{name}/{ID}" for name in names)}))
+    yield asked(job([SHAPES], [[0, 0x10], [-1, 0x1136], [0, 2**32 + 0x1136], [0, 2**64 - 1], [-1, 0]])), \
+        answer(([[frame(number, module, offset) for number, (module, offset) in enumerate((
+            ("shapes.pdb", 0x10), ("<unknown>", 0x1136), ("shapes.pdb", 2**32 + 0x1136), ("shapes.pdb", 2**64 - 1),
+            ("<unknown>", 0)))]], {f"shapes.pdb/{ID}": True}))
+    yield asked(job([["b.pdb", ID], SHAPES], [[-1, 1]])), \
+        answer(([[frame(0, "<unknown>", 1)]], {f"b.pdb/{ID}": None, f"shapes.pdb/{ID}": None}))
+    yield asked({"jobs": []}), answer()
+    yield asked(job([])), answer(([], {}))
+
+
+def broken_cases(error, rows):
+    """Files in which something is broken, or over which nothing can be answered."""
+    known = {"function": "?f@@YAXXZ", "function_offset": "0x30"}
+    yield asked(job([["broken_parts.pdb", BROKEN]], [[0, 0x1050]])), \
+        "".join(error(f"./broken_parts.pdb: {row}") for row in rows) + answer(
+            ([[frame(0, "broken_parts.pdb", 0x1050, known)]], {f"broken_parts.pdb/{BROKEN}": True}))
+    yield asked(job([["stripped.pdb", BROKEN]], [[0, 0x1136]])), \
+        error("./stripped.pdb: no section headers (stripped)") + answer(
+            ([[frame(0, "stripped.pdb", 0x1136)]], {f"stripped.pdb/{BROKEN}": False}))
+
+
+# What is no request, and what is wrong with it
+MALFORMED = [
+    ("", "not a JSON text"), ("{", "not a JSON text"), ('{"jobs":[]} x', "not a JSON text"),
+    ("[" * 200 + "]" * 200, "not a JSON text"), ("[]", ": wanted object"), ("7", ": wanted object"),
+    ("{}", "/jobs: wanted array"), ('{"jobs":null}', "/jobs: wanted array"), ('{"jobs":{}}', "/jobs: wanted array"),
+    ('{"jobs":[7]}', "/jobs/0: wanted object"), ('{"jobs":[{"stacks":[]}]}', "/jobs/0/memoryMap: wanted array"),
+    ('{"stacks":[]}', "/memoryMap: wanted array"), ('{"memoryMap":[]}', "/stacks: wanted array"),
+    ('{"jobs":[{"memoryMap":[],"stacks":[]},{"memoryMap":[]}]}', "/jobs/1/stacks: wanted array"),
+    (job([SHAPES, "shapes.pdb"]), "/memoryMap/1: wanted array"),
+    (job([["shapes.pdb"]]), "/memoryMap/0: wanted name and debug id"),
+    (job([[*SHAPES, 1]]), "/memoryMap/0: wanted name and debug id"),
+    (job([[7, ID]]), "/memoryMap/0/0: wanted text"), (job([["shapes.pdb", None]]), "/memoryMap/0/1: wanted text"),
+    (job([SHAPES], 7), "/stacks/0: wanted array"), (job([SHAPES], [[0, 1]], [7]), "/stacks/1/0: wanted array"),
+    (job([SHAPES], [[0]]), "/stacks/0/0: wanted index of a module and offset"),
+    (job([SHAPES], [[0, 1, 2]]), "/stacks/0/0: wanted index of a module and offset"),
+    (job([SHAPES], [["0", 1]]), "/stacks/0/0/0: wanted number"),
+    (job([SHAPES], [[0.5, 1]]), "/stacks/0/0/0: number out of range"),
+    (job([SHAPES], [[2**63, 1]]), "/stacks/0/0/0: number out of range"),
+    (job([SHAPES], [[0, 1], [1, 1]]), "/stacks/0/1/0: wanted index of memoryMap, or -1"),
+    (job([SHAPES], [[-2, 1]]), "/stacks/0/0/0: wanted index of memoryMap, or -1"),
+    (job([SHAPES], [[0, "0x1136"]]), "/stacks/0/0/1: wanted number"),
+    (job([SHAPES], [[0, -1]]), "/stacks/0/0/1: number out of range"),
+    (job([SHAPES], [[0, 2**64]]), "/stacks/0/0/1: number out of range"),
+    ({"jobs": [job([SHAPES]), job([SHAPES], [], [[0, 1], [0, 2], ["x", 3]])]}, "/jobs/1/stacks/1/2/0: wanted number"),
+]
+
+
+def malformed_cases(error):
+    """Texts that are no requests, and words that go with none."""
+    for request, why in MALFORMED:
+        yield asked(request), text({"error": why}) + "\n" + error(f"no request: {why}") + "status 2\n"
+    for words in ("--symbolicate shapes.pdb", "--symbolicate-lines shapes.pdb 0x1136", "--symbolicate -e shapes.exe"):
+        yield f"pdb_symbolizer {words}", error("--symbolicate takes no FILE and no address") + "status 2\n"
+
+
+def line_cases(shapes, error):
+    """A request on each line."""
+    start = "pdb_symbolizer --symbolicate-lines --pdb-dir . < "
+    good, wanted = text(job([SHAPES], [[0, 0x1136]])), answer(([shapes.frames(0x1136)], {f"shapes.pdb/{ID}": True}))
+    wrong = text({"error": "/jobs: wanted array"}) + "\n"
+    yield start + good, wanted + "status 0\n"
+    yield f"{start}{good}|{good}|", 2 * wanted + "status 0\n"
+    empty = text({"error": "not a JSON text"}) + "\n"
+    yield f"{start}{good}|{{}}||{good}", \
+        wanted + wrong + empty + wanted + error("lines that are no requests: 2") + "status 2\n"
+    yield "pdb_symbolizer --symbolicate-lines", "status 0\n"
+
+
+def request_cases(whole, short, procedure_at, error, broken_rows):
+    """All cases. Each that isn't refused ends with the status 0."""
+    shapes = Shapes(whole, procedure_at)
+    for line, wanted in (*module_cases(shapes, Shapes(short, procedure_at)), *unknown_cases(),
+                         *broken_cases(error, broken_rows)):
+        yield line, wanted + "status 0\n"
+    yield from malformed_cases(error)
+    yield from line_cases(shapes, error)
