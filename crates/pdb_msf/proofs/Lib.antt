@@ -1,2 +1,3 @@
-pub mod StreamLemmas
+pub mod ExtentLemmas
 pub mod NumberLemmas
+pub mod StreamLemmas
