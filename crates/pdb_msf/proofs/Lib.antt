@@ -1,3 +1,4 @@
+mod ContainerExamples
 pub mod ExtentLemmas
 pub mod NumberLemmas
 pub mod StreamLemmas
