@@ -19,7 +19,7 @@ use pdb_records::StreamError;
 use std::alloc::Global;
 use std::marker::Model;
 
-/// A file with its streams.
+/// A file with its streams. Contracts see what the file means as a container.
 #[derive(Drop)]
 pub struct Container<'a> {
     file: &'a [u8],
@@ -88,10 +88,11 @@ impl<'a> Container<'a> {
         }
     }
 
-    /// The bytes of the stream of this number: always the same, whatever was asked for before.
-    #[tactic(auto, unfolding(crate::specs::Msf::stream_of, crate::specs::Msf::stream_blocks))]
+    /// The bytes of the stream of this number. They don't depend on which streams were asked for before.
+    #[tactic(auto, using(crate::proofs::SizeLemmas::stream_size), unfolding(crate::specs::Msf::stream_of, crate::specs::Msf::stream_blocks))]
     pub fn stream(&self, alloc: Global, number: u32) -> Result<StreamBytes<'a>, Fault>
-        ensures { Gives bytes_of result (stream_of self.now number) }
+        ensures answer { Gives bytes_of result (stream_of self.now number) }
+        ensures size { IfOk result (λ bytes. size_of self.now number ≡ Ok (length (bytes_of bytes))) }
     {
         let extent = self.extent(number)?;
         let count = blocks_over(extent.size, self.block_size);
