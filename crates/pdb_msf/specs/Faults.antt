@@ -1,5 +1,5 @@
 -- Values and faults by definition, and what a call answers of them.
-use Rattle.std.specs.Prelude.{◌≡◌, List, Option, Result, Ok, Err}
+use Rattle.std.specs.Prelude.{◌≡◌, ◌≢◌, Result, Ok, Err}
 use Rattle.pdb_records.specs.declared.error.StreamError.{StreamError}
 use Rattle.pdb_msf.specs.declared.faults.Fault.{Fault}
 use Rattle.pdb_msf.specs.declared.faults.Fault.TheVariants.{Broken, OutOfMemory}
@@ -36,18 +36,7 @@ abbrev pub Gives : {X Y : Type 0} → (X → Y) → Result X Fault → Result Y 
 Gives seen (Ok answer) defined = defined ≡ Ok (seen answer)
 Gives seen (Err fault) defined = Fails fault defined
 
--- a fault of the file that a call answers is the defined one, unless there was no memory
-abbrev pub FailsToOpen : {Y : Type 0} → ContainerFault → Result Y ContainerFault → Type 0
-FailsToOpen file.OutOfMemory defined = Unit {0}
-FailsToOpen file.NotAPdbFile defined = defined ≡ Err file.NotAPdbFile
-FailsToOpen file.Program defined = defined ≡ Err file.Program
-FailsToOpen file.PortablePdb defined = defined ≡ Err file.PortablePdb
-FailsToOpen file.Compressed defined = defined ≡ Err file.Compressed
-FailsToOpen file.OldPdbFile defined = defined ≡ Err file.OldPdbFile
-FailsToOpen file.CutShort defined = defined ≡ Err file.CutShort
-FailsToOpen file.StreamsTooLong defined = defined ≡ Err file.StreamsTooLong
-
 -- opening answers what is defined, seen as it is there: the value, or the file's fault, unless there was no memory
 abbrev pub Opens : {X Y : Type 0} → (X → Y) → Result X ContainerFault → Result Y ContainerFault → Type 0
 Opens seen (Ok answer) defined = defined ≡ Ok (seen answer)
-Opens seen (Err fault) defined = FailsToOpen fault defined
+Opens seen (Err fault) defined = fault ≢ file.OutOfMemory → defined ≡ Err fault
