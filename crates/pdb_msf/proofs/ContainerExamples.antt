@@ -6,7 +6,7 @@ use Rattle.pdb_msf.specs.declared.container_fault.ContainerFault.TheVariants as 
 use Rattle.pdb_msf.specs.declared.faults.TheConstants.{BLOCK_OUTSIDE, CUT, NO_STREAM}
 use Rattle.pdb_msf.specs.ContainerFault.{other_fault}
 use Rattle.pdb_msf.specs.Directory.{block_map, directory, sizes_in}
-use Rattle.pdb_msf.specs.Msf.{Msf, container, numbers_place, size_of, stream_blocks, stream_of}
+use Rattle.pdb_msf.specs.Msf.{Msf, container, numbers_place, size_of, stream_of}
 use Rattle.pdb_msf.specs.NumberLists.{listed}
 use Rattle.pdb_msf.specs.Streams.{stream_inside}
 use Rattle.pdb_msf.specs.Superblock.{is_block_size, is_msf, superblock}
@@ -64,22 +64,22 @@ file_means = refl
 
 -- a stream that isn't there
 first_stream : stream_of msf 0 ≡ Err NO_STREAM
-unfolding stream_of size_of stream_blocks listed stream_inside numbers_place
+unfolding stream_of size_of listed stream_inside numbers_place
 first_stream = refl
 
 -- a stream in one block, of which the rest is no part
 second_stream : stream_of msf 1 ≡ Ok (97 ∷ 98 ∷ 99 ∷ [])
-unfolding stream_of size_of stream_blocks listed stream_inside numbers_place
+unfolding stream_of size_of listed stream_inside numbers_place
 second_stream = refl
 
 -- a stream in two blocks, of which the second stands before the first
 third_stream : stream_of msf 2 ≡ Ok (replicate 512 1 ++ 2 ∷ 3 ∷ [])
-unfolding stream_of size_of stream_blocks listed stream_inside numbers_place
+unfolding stream_of size_of listed stream_inside numbers_place
 third_stream = refl
 
 -- a number past the last stream
 fourth_stream : stream_of msf 3 ≡ Err NO_STREAM
-unfolding stream_of size_of stream_blocks listed stream_inside numbers_place
+unfolding stream_of size_of listed stream_inside numbers_place
 fourth_stream = refl
 
 -- two streams, of which the first has a block that the file doesn't have, and the second more blocks than the directory
@@ -91,11 +91,11 @@ broken_streams = record msf {
 }
 
 block_outside : stream_of broken_streams 0 ≡ Err BLOCK_OUTSIDE
-unfolding stream_of size_of stream_blocks listed stream_inside numbers_place
+unfolding stream_of size_of listed stream_inside numbers_place
 block_outside = refl
 
 numbers_cut : stream_of broken_streams 1 ≡ Err CUT
-unfolding stream_of size_of stream_blocks listed stream_inside numbers_place
+unfolding stream_of size_of listed stream_inside numbers_place
 numbers_cut = refl
 
 -- a file that ends in the block with its directory

@@ -35,6 +35,9 @@ own_extents block_size all streams is =
     is ∙ sym (ap (λ n. extents block_size (4 + 4 * n) (sizes streams)) count
     ∙ ap (extents block_size (4 + 4 * length all)) same)
 
+-- what is known of streams that were listed
+pub ruleset opened = (own_extents, extent_sizes)
+
 -- four times a first number and the others, behind a place
 regroup : (place first others all found : ℕ) → all ≡ first + others → found ≡ place + 4 * first + 4 * others
     → found ≡ place + 4 * all

@@ -52,3 +52,6 @@ number_count zero bytes = refl
 number_count (suc count) bytes =
     let others : length (numbers count (drop 4 bytes)) ≡ count = number_count count (drop 4 bytes) in
     ap suc others
+
+-- what is known of numbers that were taken
+pub ruleset taken = (numbers_of_taken, number_count)

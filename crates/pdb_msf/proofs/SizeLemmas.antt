@@ -49,7 +49,7 @@ inside_size size file stream_length blocks bytes enough is = grind (arith, commo
 -- a stream that is read has as many bytes as the directory says
 pub stream_size : (msf : Msf) (number : ℕ) (bytes : List ℕ) → 0 < msf.block_size
     → stream_of msf number ≡ Ok bytes → size_of msf number ≡ Ok (length bytes)
-unfolding stream_of stream_blocks
+unfolding stream_of
 stream_size msf number bytes some is =
     let sized : (size : ℕ) × (size_of msf number ≡ Ok size)
     × ((stream_blocks msf number size >>= λ blocks. stream_inside msf.block_size msf.file size blocks) ≡ Ok bytes)

@@ -46,7 +46,7 @@ numbers_place msf number =
     4 + 4 * length msf.sizes + 4 * sum_by (block_count msf.block_size) (take number msf.sizes)
 
 -- the numbers of the blocks of a stream of this number and this size
-unfoldable pub stream_blocks : Msf → ℕ → ℕ → Result (List ℕ) StreamError
+abbrev pub stream_blocks : Msf → ℕ → ℕ → Result (List ℕ) StreamError
 stream_blocks msf number size = listed (div_ceil size msf.block_size) (drop (numbers_place msf number) msf.directory)
 
 -- the bytes of the stream of this number: those of its blocks, one after the other, up to its size

@@ -1,4 +1,4 @@
-//! The directory: its own blocks, which the block map lists, the sizes of the streams, and where their blocks' numbers are.
+//! The directory: its bytes, by the block map, the sizes of the streams, and where the numbers of their blocks are.
 
 ghost use Rattle.std.specs.Prelude.{◌≡◌, ◌≤◌, ◌<◌, ◌+◌, ◌*◌, ◌^◌, length, nat_lt, not, IfOk, IfErr};
 ghost use Rattle.std.specs.Int.{div_ceil};

@@ -52,7 +52,7 @@ impl<'a> Model for Container<'a> {
 
 impl<'a> Container<'a> {
     /// The streams of a file, or why it can't be read as a whole.
-    #[tactic(auto, using(crate::proofs::ExtentLemmas::own_extents, crate::proofs::ExtentLemmas::extent_sizes), unfolding(crate::specs::Msf::container))]
+    #[tactic(auto, using(crate::proofs::ExtentLemmas::opened), unfolding(crate::specs::Msf::container))]
     pub fn open(alloc: Global, file: &'a [u8]) -> Result<Self, ContainerFault>
         ensures { Opens (λ opened. opened) result (container file.now) }
     {
@@ -89,7 +89,7 @@ impl<'a> Container<'a> {
     }
 
     /// The bytes of the stream of this number. They don't depend on which streams were asked for before.
-    #[tactic(auto, using(crate::proofs::SizeLemmas::stream_size), unfolding(crate::specs::Msf::stream_of, crate::specs::Msf::stream_blocks))]
+    #[tactic(auto, using(crate::proofs::SizeLemmas::stream_size), unfolding(crate::specs::Msf::stream_of))]
     pub fn stream(&self, alloc: Global, number: u32) -> Result<StreamBytes<'a>, Fault>
         ensures answer { Gives bytes_of result (stream_of self.now number) }
         ensures size { IfOk result (λ bytes. size_of self.now number ≡ Ok (length (bytes_of bytes))) }

@@ -9,7 +9,7 @@ use crate::faults::{CUT, Fault};
 use std::alloc::{AllocError, Global};
 
 /// So many numbers of four bytes, one after the other.
-#[tactic(auto, using(crate::proofs::NumberLemmas::numbers_of_taken, crate::proofs::NumberLemmas::number_count), unfolding(crate::specs::NumberLists::listed))]
+#[tactic(auto, using(crate::proofs::NumberLemmas::taken), unfolding(crate::specs::NumberLists::listed))]
 pub fn take_numbers(alloc: Global, rest: &mut Bytes<'_>, count: usize) -> Result<Vec<u32>, Fault>
     ensures answer { Gives (λ taken. taken.items) result (listed count rest.old) }
     ensures items { IfOk result (λ taken. taken.items ≡ numbers count rest.old) }

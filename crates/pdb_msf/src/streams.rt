@@ -55,7 +55,8 @@ fn block_start(block_size: usize, number: u32) -> Option<usize>
 // The bytes of the block of this number, where the file has the whole of it.
 fn block_of(file: &[u8], block_size: usize, number: u32) -> Option<&[u8]>
     ensures { MatchOption result (length file.now < number * block_size + block_size)
-        (λ bytes. (number * block_size + block_size ≤ length file.now) × (bytes.now ≡ block block_size file.now number)) }
+        (λ bytes. (number * block_size + block_size ≤ length file.now)
+        × (bytes.now ≡ block block_size file.now number)) }
 {
     let length = file.len();
     let start = block_start(block_size, number)?;

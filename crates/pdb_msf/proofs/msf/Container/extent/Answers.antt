@@ -8,5 +8,6 @@ pub returns-clause-place : goal.returns-clause-place
 unfolding numbers_place
 returns-clause-place c =
     own_extent_at _ _ _ _ c.self.invariant.listed
-    (ap (λ streams. slice_get streams c.args.number) (sym c.deref.ensures.value) ∙ sym c.extent_at.ensures ∙ c.in-Some.is)
+    (ap (λ streams. slice_get streams c.args.number) (sym c.deref.ensures.value)
+    ∙ sym c.extent_at.ensures ∙ c.in-Some.is)
     ∙ ap (λ msf. numbers_place msf c.args.number) c.self.view_is
