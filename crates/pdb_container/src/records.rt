@@ -63,8 +63,8 @@ pub struct PdbFile {
 
 /// The records of a PDB file.
 ///
-/// An error where the file is none, or is cut short before the end of its directory, or there is no
-/// memory. All else that is broken is a failed stream or a fault in the records.
+/// An error where the file is none, or is cut short before the end of its directory, or its streams are longer than the
+/// file together, or there is no memory. All else that is broken is a failed stream or a fault in the records.
 pub fn read_pdb(alloc: Global, bytes: &[u8]) -> Result<PDB, ContainerFault> {
     let container = Container::open(alloc, bytes)?;
     let info = InfoStream::read(alloc, &container)?;
