@@ -23,11 +23,11 @@ pub struct PdbIdentity {
 
 /// Which build a PDB file is of. Nothing where its info stream can't be read as far as the GUID.
 pub fn read_identity(alloc: Global, bytes: &[u8]) -> Result<Option<PdbIdentity>, ContainerFault> {
-    let mut container = Container::open(alloc, bytes)?;
-    Ok(identity_in(alloc, &mut container)?)
+    let container = Container::open(alloc, bytes)?;
+    Ok(identity_in(alloc, &container)?)
 }
 
-fn identity_in(alloc: Global, container: &mut Container<'_>) -> Result<Option<PdbIdentity>, Fault> {
+fn identity_in(alloc: Global, container: &Container<'_>) -> Result<Option<PdbIdentity>, Fault> {
     let Ok(info) = part_or_fault(container.stream(alloc, INFO))? else {
         return Ok(None);
     };
@@ -52,7 +52,7 @@ struct DebugBuild {
     machine: u16,
 }
 
-fn debug_build(alloc: Global, container: &mut Container<'_>) -> Result<Option<DebugBuild>, Fault> {
+fn debug_build(alloc: Global, container: &Container<'_>) -> Result<Option<DebugBuild>, Fault> {
     let Ok(stream) = part_or_fault(container.stream(alloc, DEBUG))? else {
         return Ok(None);
     };

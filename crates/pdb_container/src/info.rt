@@ -44,7 +44,7 @@ pub struct InfoStream<'a> {
 
 impl<'a> InfoStream<'a> {
     /// The info stream of a file.
-    pub fn read(alloc: Global, container: &mut Container<'a>) -> Result<Self, Fault> {
+    pub fn read(alloc: Global, container: &Container<'a>) -> Result<Self, Fault> {
         Ok(InfoStream {
             bytes: part_or_fault(container.stream(alloc, INFO))?,
         })

@@ -12,7 +12,7 @@ use crate::strings::read_strings;
 use crate::symbols::read_global_symbols;
 use crate::types::read_types;
 use crate::unnamed_code::{ModuleInfoResult, name_unnamed_code};
-use pdb_msf::faults::{Fault, NO_STREAM, REARRANGED, part_or_fault};
+use pdb_msf::faults::{Fault, NO_STREAM, REARRANGED, TOO_LONG, part_or_fault};
 use pdb_msf::{Container, ContainerFault};
 use pdb_records::{
     AddressMap, DebugInformation, IdInformation, ImageSectionHeader, ModuleInfo, PDB, StreamError,
@@ -63,19 +63,19 @@ pub struct PdbFile {
 
 /// The records of a PDB file.
 ///
-/// An error where the file is none, or is cut short before the end of its directory, or there is no
-/// memory. All else that is broken is a failed stream or a fault in the records.
+/// An error where the file is none, or is cut short before the end of its directory, or its streams are longer than the
+/// file together, or there is no memory. All else that is broken is a failed stream or a fault in the records.
 pub fn read_pdb(alloc: Global, bytes: &[u8]) -> Result<PDB, ContainerFault> {
-    let mut container = Container::open(alloc, bytes)?;
-    let info = InfoStream::read(alloc, &mut container)?;
-    Ok(read_records(alloc, &mut container, &info)?)
+    let container = Container::open(alloc, bytes)?;
+    let info = InfoStream::read(alloc, &container)?;
+    Ok(read_records(alloc, &container, &info)?)
 }
 
 /// The records of a PDB file, and what a reader of them wants to be told. The errors are those of [`read_pdb`].
 pub fn read_pdb_file(alloc: Global, bytes: &[u8]) -> Result<PdbFile, ContainerFault> {
-    let mut container = Container::open(alloc, bytes)?;
-    let info = InfoStream::read(alloc, &mut container)?;
-    let records = read_records(alloc, &mut container, &info)?;
+    let container = Container::open(alloc, bytes)?;
+    let info = InfoStream::read(alloc, &container)?;
+    let records = read_records(alloc, &container, &info)?;
     Ok(PdbFile {
         refusal: refusal_of(info.version(), &records),
         names_only: info.features().names_only,
@@ -85,7 +85,7 @@ pub fn read_pdb_file(alloc: Global, bytes: &[u8]) -> Result<PdbFile, ContainerFa
 
 fn read_records(
     alloc: Global,
-    container: &mut Container<'_>,
+    container: &Container<'_>,
     info: &InfoStream<'_>,
 ) -> Result<PDB, Fault> {
     let string_table = part_or_fault(read_texts(alloc, container, info))?;
@@ -106,7 +106,7 @@ fn read_records(
 
 fn read_texts(
     alloc: Global,
-    container: &mut Container<'_>,
+    container: &Container<'_>,
     info: &InfoStream<'_>,
 ) -> Result<StringTable, Fault> {
     let number = info.named_stream(&NAMES)?;
@@ -114,10 +114,7 @@ fn read_texts(
     read_strings(alloc, names.as_slice())
 }
 
-fn type_information(
-    alloc: Global,
-    container: &mut Container<'_>,
-) -> Result<TypeInformation, Fault> {
+fn type_information(alloc: Global, container: &Container<'_>) -> Result<TypeInformation, Fault> {
     let stream = container.stream(alloc, TYPES)?;
     read_types(alloc, stream.as_slice())
 }
@@ -125,7 +122,7 @@ fn type_information(
 // The ids. A file that doesn't list that it has ids, as those from before there were any, has none.
 fn id_information(
     alloc: Global,
-    container: &mut Container<'_>,
+    container: &Container<'_>,
     info: &InfoStream<'_>,
 ) -> Result<IdInformation, Fault> {
     if !info.features().ids {
@@ -138,8 +135,8 @@ fn id_information(
     }
 }
 
-fn debug_records(alloc: Global, container: &mut Container<'_>) -> Result<DebugRecords, Fault> {
-    if container.is_empty_stream(DEBUG) {
+fn debug_records(alloc: Global, container: &Container<'_>) -> Result<DebugRecords, Fault> {
+    if container.stream_size(DEBUG) == Some(0) {
         return Ok(without_debug_stream(alloc, NO_STREAM));
     }
     let stream = match part_or_fault(container.stream(alloc, DEBUG))? {
@@ -165,7 +162,7 @@ fn without_debug_stream(alloc: Global, error: StreamError) -> DebugRecords {
 
 fn records_of_header(
     alloc: Global,
-    container: &mut Container<'_>,
+    container: &Container<'_>,
     header: &DebugHeader<'_>,
 ) -> Result<DebugRecords, Fault> {
     let mut streams = Vec::new(alloc);
@@ -205,7 +202,7 @@ fn debug_information(
 
 fn section_headers(
     alloc: Global,
-    container: &mut Container<'_>,
+    container: &Container<'_>,
     header: &DebugHeader<'_>,
 ) -> Result<Option<Vec<ImageSectionHeader>>, Fault> {
     let Some(number) = optional_stream(header.optional_streams.bytes, SECTIONS) else {
@@ -238,14 +235,14 @@ fn address_map(
 // Whether a stream says how addresses were rearranged: one that is there and empty says nothing.
 fn is_rearranged(container: &Container<'_>, number: Option<u16>) -> bool {
     match number {
-        Some(number) => !container.is_empty_stream(u32::from(number)),
+        Some(number) => container.stream_size(u32::from(number)) != Some(0),
         None => false,
     }
 }
 
 fn global_symbols(
     alloc: Global,
-    container: &mut Container<'_>,
+    container: &Container<'_>,
     number: u16,
 ) -> Result<SymbolTable, Fault> {
     if number == NO_NUMBER {
@@ -257,25 +254,34 @@ fn global_symbols(
 
 fn module_infos(
     alloc: Global,
-    container: &mut Container<'_>,
+    container: &Container<'_>,
     streams: &[ModuleStream],
 ) -> Result<Vec<ModuleInfoResult>, Fault> {
     let mut infos = Vec::with_capacity(alloc, streams.len())?;
+    let mut left = container.file_length();
     for module in streams {
-        infos.push(part_or_fault(module_info(alloc, container, *module))?)?;
+        infos.push(part_or_fault(module_info(alloc, container, *module, &mut left))?)?;
     }
     Ok(infos)
 }
 
-// What is known of a module, where it has a stream.
+// What is known of a module, where it has a stream. Of the streams of all modules no more bytes are read than the file
+// has: so many are left.
 fn module_info(
     alloc: Global,
-    container: &mut Container<'_>,
+    container: &Container<'_>,
     module: ModuleStream,
+    left: &mut usize,
 ) -> Result<Option<ModuleInfo>, Fault> {
     if module.stream == NO_NUMBER {
         return Ok(None);
     }
-    let stream = container.stream(alloc, u32::from(module.stream))?;
+    let number = u32::from(module.stream);
+    let size = container.stream_size(number).unwrap_or(0) as usize;
+    if *left < size {
+        return Err(Fault::Broken(TOO_LONG));
+    }
+    *left -= size;
+    let stream = container.stream(alloc, number)?;
     Ok(Some(read_module(alloc, module, stream.as_slice())?))
 }

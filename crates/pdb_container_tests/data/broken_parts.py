@@ -3,7 +3,7 @@ from kinds import (CUT, HAS_IDS, SECTIONS, Symbols, container, contribution, deb
                    item_list, item_stream, module_header, primitives, put_procedure, records, shown, string_stream,
                    subsection, text, u16, u32, u8)
 
-NO_STREAM, UNKNOWN_VERSION, BAD_LENGTH = 2, 5, 6
+NO_STREAM, TOO_LONG, UNKNOWN_VERSION, BAD_LENGTH = 2, 4, 5, 6
 SHORT = 0xF12EBA2D
 
 
@@ -125,4 +125,23 @@ def records_types():
     return primitives() + item_list(TYPES)
 
 
-FILES = [("broken_parts.pdb", broken_parts)]
+def modules_of_one_stream():
+    """A file whose modules name one stream: so many have it as the file has bytes for."""
+    data, symbols = one_procedure()
+    code = subsection(0xF1, bytes(3000))
+    names = [b"first", b"second", b"third", b"fourth"]
+    headers = b"".join(module_header(10, len(data), len(code), name) for name in names)
+    file = container([b"", info_stream(HAS_IDS), item_stream([]), debug_stream(headers, b""), item_stream([]),
+                      string_stream(), b"", None, b"", SECTIONS, data + code])
+    read = len(file) // len(data + code)
+    info = {"symbols": symbols, "line_program": {"entries": [], "files": []}, "inlinees": [], "imports": [],
+            "exports": []}
+    wanted = records(
+        debug_information={"machine_type": "Amd64", "modules": [{"name": shown(name)} for name in names],
+                           "section_contributions": []},
+        module_infos=[info] * read + [{"error": TOO_LONG}] * (len(names) - read))
+    broken = [f"Module {{ module_index: {number}, fault: StreamError({TOO_LONG}) }}" for number in range(read, len(names))]
+    return file, [wanted, *broken]
+
+
+FILES = [("broken_parts.pdb", broken_parts), ("modules_of_one_stream.pdb", modules_of_one_stream)]

@@ -18,6 +18,15 @@ def file_of(**changed):
     return lambda: container(streams(**changed))
 
 
+def streams_too_long():
+    """A file whose directory says of the first stream that it is a byte longer than the file."""
+    made = bytearray(file_of()())
+    size, map_block = (int.from_bytes(made[at:at + 4], "little") for at in (32, 52))
+    directory = size * int.from_bytes(made[size * map_block:size * map_block + 4], "little")
+    made[directory + 4:directory + 8] = u32(len(made) + 1)
+    return bytes(made)
+
+
 def old_types():
     """A file whose types have the form from before 2005."""
     return container(streams(types=u32(19990903) + item_stream([])[4:]))
@@ -33,6 +42,7 @@ FILES = [
     ("text.pdb", lambda: b"Microsoft C", "not a PDB file"),
     ("blocks_of_no_size.pdb", lambda: file_of()()[:32] + u32(1000) + file_of()()[36:], "not a PDB file"),
     ("superblock_alone.pdb", lambda: file_of()()[:56], "the file is cut short before the end of its directory"),
+    ("streams_too_long.pdb", streams_too_long, "the streams are longer than the file together"),
     ("objects.pdb", file_of(debug=b""), "a compiler's PDB file, of objects and not of a program"),
     ("no_debug_stream.pdb", file_of(debug=None), "a compiler's PDB file, of objects and not of a program"),
     ("old_debug.pdb", file_of(debug=u32(930803) + bytes(60)),

@@ -1,2 +1,5 @@
-pub mod StreamLemmas
+mod ContainerExamples
+pub mod ExtentLemmas
 pub mod NumberLemmas
+pub mod SizeLemmas
+pub mod StreamLemmas

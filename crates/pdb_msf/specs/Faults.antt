@@ -1,9 +1,21 @@
--- What a fault below a file's directory comes to for the file.
-use Rattle.std.specs.Prelude.{◌≡◌}
+-- Values and faults by definition, and what a call answers of them.
+use Rattle.std.specs.Prelude.{◌≡◌, ◌≢◌, Result, Ok, Err}
+use Rattle.pdb_records.specs.declared.error.StreamError.{StreamError}
 use Rattle.pdb_msf.specs.declared.faults.Fault.{Fault}
 use Rattle.pdb_msf.specs.declared.faults.Fault.TheVariants.{Broken, OutOfMemory}
 use Rattle.pdb_msf.specs.declared.container_fault.ContainerFault.{ContainerFault}
 use Rattle.pdb_msf.specs.declared.container_fault.ContainerFault.TheVariants as file
+
+infixl 10 ◌>>=◌
+-- the second meaning over the value of the first, or the first one's fault
+abbrev pub ◌>>=◌ : {A B E : Type 0} → Result A E → (A → Result B E) → Result B E
+(Ok value) >>= next = next value
+(Err fault) >>= next = Err fault
+
+-- a fault in the directory cuts the file short
+abbrev pub cut_short : {A : Type 0} → Result A StreamError → Result A ContainerFault
+cut_short (Ok value) = Ok value
+cut_short (Err error) = Err file.CutShort
 
 -- what is broken in the directory cuts the file short; out of memory stays out of memory
 abbrev pub fault_of : Fault → ContainerFault
@@ -13,3 +25,18 @@ fault_of OutOfMemory = file.OutOfMemory
 -- a fault is turned into the file's
 abbrev pub GivesFault : Fault → ContainerFault → Type 0
 GivesFault fault given = given ≡ fault_of fault
+
+-- a fault that a call answers is the defined one, unless there was no memory
+abbrev pub Fails : {Y : Type 0} → Fault → Result Y StreamError → Type 0
+Fails (Broken error) defined = defined ≡ Err error
+Fails OutOfMemory defined = Unit {0}
+
+-- a call answers what is defined, seen as it is there: the value, or the fault, unless there was no memory
+abbrev pub Gives : {X Y : Type 0} → (X → Y) → Result X Fault → Result Y StreamError → Type 0
+Gives seen (Ok answer) defined = defined ≡ Ok (seen answer)
+Gives seen (Err fault) defined = Fails fault defined
+
+-- opening answers what is defined, seen as it is there: the value, or the file's fault, unless there was no memory
+abbrev pub Opens : {X Y : Type 0} → (X → Y) → Result X ContainerFault → Result Y ContainerFault → Type 0
+Opens seen (Ok answer) defined = defined ≡ Ok (seen answer)
+Opens seen (Err fault) defined = fault ≢ file.OutOfMemory → defined ≡ Err fault

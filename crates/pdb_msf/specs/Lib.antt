@@ -1,3 +1,7 @@
-pub mod Streams
+pub mod ContainerFault
+pub mod Directory
 pub mod Faults
+pub mod Msf
 pub mod NumberLists
+pub mod Streams
+pub mod Superblock

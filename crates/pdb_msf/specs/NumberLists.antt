@@ -1,8 +1,11 @@
 -- Numbers of four bytes.
-use Rattle.std.specs.Prelude.{ℕ, zero, suc, List, [], ◌∷◌, take, drop}
+use Rattle.std.specs.Prelude.{ℕ, zero, suc, ◌*◌, nat_lt, List, [], ◌∷◌, take, drop, length, Result, Ok, Err}
+use Rattle.std.specs.Prelude.{if◌then◌else◌}
 use Rattle.byteorder.specs.Endian.{little_number}
+use Rattle.pdb_records.specs.declared.error.StreamError.{StreamError}
+use Rattle.pdb_msf.specs.declared.faults.TheConstants.{CUT}
 
--- the number that the first four bytes are
+-- the number that the first four bytes are, the lowest byte first
 abbrev pub number : List ℕ → ℕ
 number bytes = little_number 4 (take 4 bytes)
 
@@ -10,3 +13,7 @@ number bytes = little_number 4 (take 4 bytes)
 abbrev pub numbers : ℕ → List ℕ → List ℕ
 numbers zero bytes = []
 numbers (suc count) bytes = number bytes ∷ numbers count (drop 4 bytes)
+
+-- so many numbers, where there are bytes for all of them
+unfoldable pub listed : ℕ → List ℕ → Result (List ℕ) StreamError
+listed count bytes = if nat_lt (length bytes) (4 * count) then Err CUT else Ok (numbers count bytes)

@@ -1,5 +1,8 @@
 -- Streams: what stands in a file as a list of blocks.
-use Rattle.std.specs.Prelude.{ℕ, ◌*◌, List, [], ◌∷◌, ◌++◌, take, drop}
+use Rattle.std.specs.Prelude.{ℕ, ◌+◌, ◌*◌, nat_lt, Bool, true, false, List, [], ◌∷◌, ◌++◌, take, drop, length}
+use Rattle.std.specs.Prelude.{Result, Ok, Err, if◌then◌else◌}
+use Rattle.pdb_records.specs.declared.error.StreamError.{StreamError}
+use Rattle.pdb_msf.specs.declared.faults.TheConstants.{BLOCK_OUTSIDE}
 use Rattle.pdb_msf.specs.declared.streams.StreamBytes.{StreamBytes}
 use Rattle.pdb_msf.specs.declared.streams.StreamBytes.TheVariants.{InPlace, Copied}
 
@@ -15,6 +18,17 @@ in_order size file (number ∷ numbers) = block size file number ++ in_order siz
 -- the bytes of a stream: those of its blocks in order, up to its length
 abbrev pub stream : ℕ → List ℕ → ℕ → List ℕ → List ℕ
 stream size file stream_length numbers = take stream_length (in_order size file numbers)
+
+-- whether the file has the whole of each of these blocks
+abbrev pub all_inside : ℕ → List ℕ → List ℕ → Bool
+all_inside size file [] = true
+all_inside size file (number ∷ numbers) =
+    if nat_lt (length file) (number * size + size) then false else all_inside size file numbers
+
+-- the bytes of a stream, where the file has the whole of each of its blocks
+unfoldable pub stream_inside : ℕ → List ℕ → ℕ → List ℕ → Result (List ℕ) StreamError
+stream_inside size file stream_length numbers =
+    if all_inside size file numbers then Ok (stream size file stream_length numbers) else Err BLOCK_OUTSIDE
 
 -- the bytes, wherever they stand
 abbrev pub bytes_of : StreamBytes → List ℕ

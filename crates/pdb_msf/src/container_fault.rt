@@ -1,5 +1,8 @@
 //! Why a file can't be read at all: no PDB file, a program, a compressed file, an older version, cut short.
 
+ghost use Rattle.std.specs.Prelude.{◌≡◌};
+ghost use Rattle.pdb_msf.specs.ContainerFault.{other_fault};
+
 use crate::faults::Fault;
 use thiserror::Error;
 
@@ -24,13 +27,19 @@ pub enum ContainerFault {
     /// The file ends before its directory of streams does.
     #[error("the file is cut short before the end of its directory")]
     CutShort,
+    /// The streams of the file are longer than the file together.
+    #[error("the streams are longer than the file together")]
+    StreamsTooLong,
     /// There was no memory. The same call may succeed later.
     #[error("out of memory")]
     OutOfMemory,
 }
 
 /// What a file is that is no PDB file of version 7.00, by its first bytes.
-pub fn other_file(file: &[u8]) -> ContainerFault {
+#[tactic(auto, unfolding(crate::specs::ContainerFault::other_fault))]
+pub fn other_file(file: &[u8]) -> ContainerFault
+    ensures { result ≡ other_fault file.now }
+{
     if file.starts_with(b"MZ") {
         return ContainerFault::Program;
     }

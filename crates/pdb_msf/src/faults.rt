@@ -9,7 +9,7 @@ pub const CUT: StreamError = StreamError(1);
 pub const NO_STREAM: StreamError = StreamError(2);
 /// A block of the stream lies outside of the file.
 pub const BLOCK_OUTSIDE: StreamError = StreamError(3);
-/// The streams that are read are longer than the file together.
+/// The streams of the modules are longer than the file together, each as often as a module names it.
 pub const TOO_LONG: StreamError = StreamError(4);
 /// A signature or a version is none that is known.
 pub const UNKNOWN_VERSION: StreamError = StreamError(5);

@@ -8,11 +8,13 @@
 
 mod bytes;
 mod container_fault;
+mod directory;
 pub mod faults;
 mod msf;
 mod names;
 mod number_lists;
 mod streams;
+mod superblock;
 
 pub use bytes::{Bytes, u16_at, u32_at};
 pub use container_fault::{ContainerFault, other_file};

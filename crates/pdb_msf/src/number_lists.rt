@@ -1,19 +1,56 @@
 //! Lists of numbers of four bytes, such as those of a stream's blocks.
 
-ghost use Rattle.std.specs.Prelude.{◌≡◌, IfOk};
-ghost use Rattle.pdb_msf.specs.NumberLists.{numbers};
+ghost use Rattle.std.specs.Prelude.{◌≡◌, ◌≤◌, ◌+◌, ◌*◌, drop, length, IfOk};
+ghost use Rattle.pdb_msf.specs.Faults.{Gives};
+ghost use Rattle.pdb_msf.specs.NumberLists.{listed, number, numbers};
 
-use crate::bytes::Bytes;
-use crate::faults::Fault;
-use std::alloc::Global;
+use crate::bytes::{Bytes, u32_at};
+use crate::faults::{CUT, Fault};
+use std::alloc::{AllocError, Global};
 
 /// So many numbers of four bytes, one after the other.
+#[tactic(auto, using(crate::proofs::NumberLemmas::taken), unfolding(crate::specs::NumberLists::listed))]
 pub fn take_numbers(alloc: Global, rest: &mut Bytes<'_>, count: usize) -> Result<Vec<u32>, Fault>
-    ensures { IfOk result (λ taken. taken.items ≡ numbers count rest.old) }
+    ensures answer { Gives (λ taken. taken.items) result (listed count rest.old) }
+    ensures items { IfOk result (λ taken. taken.items ≡ numbers count rest.old) }
+    ensures count { IfOk result (λ taken. length taken.items ≡ count) }
 {
-    let mut taken = Vec::new(alloc);
-    for _position in 0..count {
-        taken.push(rest.u32()?)?;
+    if rest.len() / 4 < count {
+        return Err(Fault::Broken(CUT));
     }
-    Ok(taken)
+    let Ok(bytes) = rest.take(4 * count) else {
+        return Err(Fault::Broken(CUT));
+    };
+    Ok(copy_numbers(alloc, bytes, count)?)
+}
+
+// The numbers that these bytes are.
+fn copy_numbers(alloc: Global, bytes: &[u8], count: usize) -> Result<Vec<u32>, AllocError>
+    requires { 4 * count ≤ length bytes.now }
+    ensures { IfOk result (λ copied. copied.items ≡ numbers count bytes.now) }
+{
+    let mut copied = Vec::with_capacity(alloc, count)?;
+    for position in 0..count {
+        copied.push(number_at(bytes, 4 * position))?;
+    }
+    Ok(copied)
+}
+
+/// The number of four bytes that stands at a place.
+pub fn number_at(bytes: &[u8], place: usize) -> u32
+    requires { place + 4 ≤ length bytes.now }
+    ensures { result ≡ number (drop place bytes.now) }
+{
+    u32_at(bytes, place)
+}
+
+/// The bytes from a place on, or none where there are not so many.
+pub fn bytes_from(bytes: &[u8], place: usize) -> &[u8]
+    ensures { result.now ≡ drop place bytes.now }
+{
+    if bytes.len() < place {
+        return &[];
+    }
+    let (_, rest) = bytes.split_at(place);
+    rest
 }

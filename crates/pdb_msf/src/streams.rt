@@ -1,7 +1,8 @@
 //! The bytes of a stream by the list of its blocks: in the file itself where they follow one another, else copied.
 
-ghost use Rattle.std.specs.Prelude.{◌≡◌, ◌≤◌, ◌*◌, length, take, IfOk, IfSome};
-ghost use Rattle.pdb_msf.specs.Streams.{block, stream, bytes_of};
+ghost use Rattle.std.specs.Prelude.{◌≡◌, ◌≤◌, ◌<◌, ◌+◌, ◌*◌, ◌^◌, length, take, IfSome, MatchOption};
+ghost use Rattle.pdb_msf.specs.Faults.{Gives};
+ghost use Rattle.pdb_msf.specs.Streams.{block, stream_inside, bytes_of};
 
 use crate::faults::{BLOCK_OUTSIDE, Fault};
 use std::alloc::Global;
@@ -35,7 +36,7 @@ pub fn read_stream<'a>(
     stream_length: usize,
     blocks: &[u32],
 ) -> Result<StreamBytes<'a>, Fault>
-    ensures { IfOk result (λ bytes. bytes_of bytes ≡ stream block_size file.now stream_length blocks.now) }
+    ensures { Gives bytes_of result (stream_inside block_size file.now stream_length blocks.now) }
 {
     if let Some(bytes) = in_place(file, block_size, stream_length, blocks) {
         return Ok(StreamBytes::InPlace(bytes));
@@ -46,17 +47,20 @@ pub fn read_stream<'a>(
 
 // Where the block of this number starts in a file of such blocks.
 fn block_start(block_size: usize, number: u32) -> Option<usize>
-    ensures { IfSome result (λ start. start ≡ number * block_size) }
+    ensures { MatchOption result (2 ^ 64 ≤ number * block_size) (λ start. start ≡ number * block_size) }
 {
     (number as usize).checked_mul(block_size)
 }
 
 // The bytes of the block of this number, where the file has the whole of it.
 fn block_of(file: &[u8], block_size: usize, number: u32) -> Option<&[u8]>
-    ensures { IfSome result (λ bytes. bytes.now ≡ block block_size file.now number) }
+    ensures { MatchOption result (length file.now < number * block_size + block_size)
+        (λ bytes. (number * block_size + block_size ≤ length file.now)
+        × (bytes.now ≡ block block_size file.now number)) }
 {
+    let length = file.len();
     let start = block_start(block_size, number)?;
-    if file.len() < start {
+    if length < start {
         return None;
     }
     let (_, bytes) = file.split_at(start);
@@ -68,13 +72,14 @@ fn block_of(file: &[u8], block_size: usize, number: u32) -> Option<&[u8]>
 }
 
 // The stream's bytes in the file, where its blocks follow one another.
+#[tactic(auto, unfolding(crate::specs::Streams::stream_inside))]
 fn in_place<'a>(
     file: &'a [u8],
     block_size: usize,
     stream_length: usize,
     blocks: &[u32],
 ) -> Option<&'a [u8]>
-    ensures { IfSome result (λ bytes. bytes.now ≡ stream block_size file.now stream_length blocks.now) }
+    ensures { IfSome result (λ bytes. stream_inside block_size file.now stream_length blocks.now ≡ Ok bytes.now) }
 {
     let first = *blocks.first()?;
     let start = block_start(block_size, first)?;
@@ -94,6 +99,7 @@ fn in_place<'a>(
 }
 
 // The stream's bytes, block by block.
+#[tactic(auto, unfolding(crate::specs::Streams::stream_inside))]
 fn copied(
     alloc: Global,
     file: &[u8],
@@ -101,7 +107,7 @@ fn copied(
     stream_length: usize,
     blocks: &[u32],
 ) -> Result<Vec<u8>, Fault>
-    ensures { IfOk result (λ bytes. bytes.items ≡ stream block_size file.now stream_length blocks.now) }
+    ensures { Gives (λ bytes. bytes.items) result (stream_inside block_size file.now stream_length blocks.now) }
 {
     let mut bytes = Vec::with_capacity(alloc, stream_length.saturating_add(block_size))?;
     for &number in blocks {

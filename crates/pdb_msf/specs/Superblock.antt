@@ -1,0 +1,34 @@
+-- The superblock, which a file of the format begins with.
+use Rattle.std.specs.Prelude.{ℕ, ◌==◌, nat_eq, nat_lt, Bool, not, List, [], ◌∷◌, ◌++◌, drop, length, codes}
+use Rattle.std.specs.Prelude.{Result, Ok, Err, if◌then◌else◌}
+use Rattle.std.specs.List.{list_any}
+use Rattle.pdb_msf.specs.declared.container_fault.ContainerFault.{ContainerFault}
+use Rattle.pdb_msf.specs.declared.container_fault.ContainerFault.TheVariants as file
+use Rattle.pdb_msf.specs.declared.superblock.Superblock.{Superblock}
+use Rattle.pdb_msf.specs.ContainerFault.{begins, other_fault}
+use Rattle.pdb_msf.specs.NumberLists.{number}
+
+-- the magic of the format: its name, the ends of a line and of a text, the letters DS, and zeros up to 32 bytes
+abbrev pub magic : List ℕ
+magic = codes "Microsoft C/C++ MSF 7.00" ++ 13 ∷ 10 ∷ 26 ∷ 68 ∷ 83 ∷ 0 ∷ 0 ∷ 0 ∷ []
+
+-- whether a file begins with the magic
+unfoldable pub is_msf : List ℕ → Bool
+is_msf bytes = begins bytes magic
+
+-- whether blocks may have this size: a power of two from 512 to 32768 bytes
+unfoldable pub is_block_size : ℕ → Bool
+is_block_size size =
+    list_any (λ lawful. size == lawful) (512 ∷ 1024 ∷ 2048 ∷ 4096 ∷ 8192 ∷ 16384 ∷ 32768 ∷ [])
+
+-- the fields that are read: behind the magic stands the size of a block, and at 44 the number of the directory's bytes
+abbrev pub fields : List ℕ → Superblock
+fields bytes = record { block_size = number (drop 32 bytes); directory_size = number (drop 44 bytes) }
+
+-- the superblock of a file: the magic, all of its 56 bytes, and a size that blocks may have
+unfoldable pub superblock : List ℕ → Result Superblock ContainerFault
+superblock bytes =
+    if not (is_msf bytes) then Err (other_fault bytes) else
+    if nat_lt (length bytes) 56 then Err file.CutShort else
+    if not (is_block_size (number (drop 32 bytes))) then Err file.NotAPdbFile else
+    Ok (fields bytes)

@@ -1,0 +1,133 @@
+//! The directory: its bytes, by the block map, the sizes of the streams, and where the numbers of their blocks are.
+
+ghost use Rattle.std.specs.Prelude.{◌≡◌, ◌≤◌, ◌<◌, ◌+◌, ◌*◌, ◌^◌, length, nat_lt, not, IfOk, IfErr};
+ghost use Rattle.std.specs.Int.{div_ceil};
+ghost use Rattle.pdb_msf.specs.Directory.{block_count, block_map, directory, extents, sizes_in, total_size};
+ghost use Rattle.pdb_msf.specs.Faults.{Gives};
+ghost use Rattle.pdb_msf.specs.Streams.{bytes_of};
+
+use crate::bytes::Bytes;
+use crate::faults::{CUT, Fault};
+use crate::number_lists::{bytes_from, number_at, take_numbers};
+use crate::streams::{StreamBytes, read_stream};
+use crate::superblock::Superblock;
+use std::alloc::Global;
+
+/// Where the superblock names the blocks of the block map: most often one, and as many as the map takes.
+const BLOCK_MAP: usize = 52;
+
+/// The size that stands for a stream that isn't there.
+pub const ABSENT: u32 = 0xffff_ffff;
+
+/// Where the directory has a stream.
+#[derive(Clone, Copy)]
+pub struct StreamExtent {
+    pub size: u32,
+    /// Where the number of its first block stands.
+    pub numbers: usize,
+}
+
+/// The directory's bytes.
+#[tactic(auto, unfolding(crate::specs::Directory::directory))]
+pub fn read_directory<'a>(
+    alloc: Global,
+    file: &'a [u8],
+    superblock: Superblock,
+) -> Result<StreamBytes<'a>, Fault>
+    requires { 512 ≤ superblock.block_size }
+    ensures { Gives bytes_of result (directory superblock file.now) }
+{
+    let size = superblock.directory_size as usize;
+    if file.len() < size {
+        return Err(Fault::Broken(CUT));
+    }
+    let blocks = read_block_map(alloc, file, superblock)?;
+    read_stream(alloc, file, superblock.block_size, size, &blocks)
+}
+
+// The block map: the numbers of the directory's blocks.
+#[tactic(auto, unfolding(crate::specs::Directory::block_map))]
+fn read_block_map(alloc: Global, file: &[u8], superblock: Superblock) -> Result<Vec<u32>, Fault>
+    requires { 512 ≤ superblock.block_size }
+    ensures { Gives (λ map. map.items) result (block_map superblock file.now) }
+{
+    let block_size = superblock.block_size;
+    let count = blocks_over(superblock.directory_size, block_size);
+    let size = 4 * count;
+    let mut front = Bytes::new(bytes_from(file, BLOCK_MAP));
+    let blocks = take_numbers(alloc, &mut front, size.div_ceil(block_size))?;
+    let map = read_stream(alloc, file, block_size, size, &blocks)?;
+    take_numbers(alloc, &mut Bytes::new(map.as_slice()), count)
+}
+
+/// How many blocks hold so many bytes.
+pub fn blocks_over(size: u32, block_size: usize) -> usize
+    requires { 512 ≤ block_size }
+    ensures answer { result ≡ div_ceil size block_size }
+    ensures few { result ≤ 8388608 }
+{
+    (size as usize).div_ceil(block_size)
+}
+
+/// The sizes of all streams, by the directory's bytes.
+#[tactic(auto, unfolding(crate::specs::Directory::sizes_in))]
+pub fn read_sizes(alloc: Global, directory: &[u8]) -> Result<Vec<u32>, Fault>
+    ensures answer { Gives (λ sizes. sizes.items) result (sizes_in directory.now) }
+    ensures few { IfOk result (λ sizes. length sizes.items < 2 ^ 32) }
+{
+    if directory.len() < 4 {
+        return Err(Fault::Broken(CUT));
+    }
+    let count = number_at(directory, 0);
+    let mut sizes = Bytes::new(bytes_from(directory, 4));
+    take_numbers(alloc, &mut sizes, count as usize)
+}
+
+/// Whether streams of these sizes are together no longer than a file of this length.
+pub fn sizes_fit(sizes: &[u32], file_length: usize) -> bool
+    ensures { result ≡ not (nat_lt file_length (total_size sizes.now)) }
+{
+    let mut left = file_length;
+    for &size in sizes {
+        if size != ABSENT {
+            let size = size as usize;
+            if left < size {
+                return false;
+            }
+            left -= size;
+        }
+    }
+    true
+}
+
+/// Where the directory has each stream, by the sizes of all.
+pub fn list_extents(
+    alloc: Global,
+    sizes: &[u32],
+    block_size: usize,
+) -> Result<Vec<StreamExtent>, Fault>
+    requires least { 512 ≤ block_size }
+    requires few { length sizes.now < 2 ^ 32 }
+    ensures answer { IfOk result (λ listed. listed.items ≡ extents block_size (4 + 4 * length sizes.now) sizes.now) }
+    ensures memory { IfErr result (λ fault. fault ≡ Fault.OutOfMemory) }
+{
+    let mut extents = Vec::with_capacity(alloc, sizes.len())?;
+    let mut numbers = 4 + 4 * sizes.len();
+    for &size in sizes {
+        extents.push(StreamExtent { size, numbers })?;
+        numbers += 4 * blocks_of_stream(size, block_size);
+    }
+    Ok(extents)
+}
+
+// How many blocks hold the bytes of a stream of this size.
+fn blocks_of_stream(size: u32, block_size: usize) -> usize
+    requires { 512 ≤ block_size }
+    ensures answer { result ≡ block_count block_size size }
+    ensures few { result ≤ 8388608 }
+{
+    if size == ABSENT {
+        return 0;
+    }
+    blocks_over(size, block_size)
+}

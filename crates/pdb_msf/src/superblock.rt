@@ -1,0 +1,65 @@
+//! The superblock, which a file begins with: the size of its blocks, and how long its directory is.
+
+ghost use Rattle.std.specs.Prelude.{◌≡◌, ◌≤◌, IsTrue, IfOk};
+ghost use Rattle.pdb_msf.specs.Superblock.{is_msf, is_block_size, superblock};
+
+use crate::container_fault::{ContainerFault, other_file};
+use crate::number_lists::number_at;
+
+/// The bytes that a file of this format begins with.
+const MAGIC: [u8; 32] = *b"Microsoft C/C++ MSF 7.00\r\n\x1aDS\0\0\0";
+
+/// The bytes of the superblock.
+const SUPERBLOCK: usize = 56;
+
+/// Where it has the size of a block.
+const BLOCK_SIZE: usize = 32;
+
+/// Where it has the number of the directory's bytes.
+const DIRECTORY_SIZE: usize = 44;
+
+/// What the superblock says of the directory.
+#[derive(Clone, Copy)]
+pub struct Superblock {
+    pub block_size: usize,
+    pub directory_size: u32,
+}
+
+/// The superblock of a file, or why that is no file of this format.
+#[tactic(auto, unfolding(crate::specs::Superblock::superblock))]
+pub fn read_superblock(file: &[u8]) -> Result<Superblock, ContainerFault>
+    ensures answer { result ≡ superblock file.now }
+    ensures least { IfOk result (λ front. 512 ≤ front.block_size) }
+{
+    if !is_msf(file) {
+        return Err(other_file(file));
+    }
+    if file.len() < SUPERBLOCK {
+        return Err(ContainerFault::CutShort);
+    }
+    let block_size = number_at(file, BLOCK_SIZE);
+    if !is_block_size(block_size) {
+        return Err(ContainerFault::NotAPdbFile);
+    }
+    Ok(Superblock {
+        block_size: block_size as usize,
+        directory_size: number_at(file, DIRECTORY_SIZE),
+    })
+}
+
+// Whether a file begins as those of this format do.
+#[tactic(auto, unfolding(crate::specs::Superblock::is_msf))]
+fn is_msf(file: &[u8]) -> bool
+    ensures { result ≡ is_msf file.now }
+{
+    file.starts_with(&MAGIC)
+}
+
+// Whether the format has blocks of this size.
+#[tactic(auto, unfolding(crate::specs::Superblock::is_block_size))]
+fn is_block_size(size: u32) -> bool
+    ensures answer { result ≡ is_block_size size }
+    ensures least { IsTrue result → 512 ≤ size }
+{
+    matches!(size, 512 | 1024 | 2048 | 4096 | 8192 | 16384 | 32768)
+}
