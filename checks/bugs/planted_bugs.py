@@ -20,7 +20,8 @@ import tempfile
 HERE = pathlib.Path(__file__).resolve().parent
 ROOT = HERE.parents[1]
 # The tests that run what a crate has; those of the readers are of all others.
-RUNS = {"pdb_symbolizer_lib": "pdb_symbolizer_tests", "pdb_identity": "pdb_symbolizer_tests", "identity.rt": "pdb_symbolizer_tests"}
+SYMBOLIZER = "pdb_symbolizer_tests"
+RUNS = {name: SYMBOLIZER for name in ("pdb_symbolizer_lib", "pdb_symbolication", "pdb_identity", "identity.rt")}
 READERS = "pdb_container_tests"
 
 

@@ -11,9 +11,7 @@ Examples:
   pdb_symbolizer -p --base 0x7ff6a0000000 app.pdb <addresses    of addresses in memory, a line each
   pdb_symbolizer --output-style=JSON --obj=app.exe 0x140001136  as llvm-symbolizer is asked
   pdb_symbolizer --dump-syms app.exe >app.sym  a Breakpad symbol file, without unwind records
-  pdb_symbolizer --symbolicate --pdb-dir symbols <request.json  a request of Mozilla's symbolication API
-The first word is a program, a PDB file or a records file. The others are addresses, in hexadecimal digits; without any they
-come from standard input, a line each. docs/CONTAINER.md says more.
+Addresses are hexadecimal, and come from standard input, a line each, where no word gives one. docs/CONTAINER.md says more.
 
 ";
 
@@ -34,7 +32,7 @@ struct Valued {
     help: &'static str,
 }
 
-static FLAGS: [Flag; 11] = [
+static FLAGS: [Flag; 10] = [
     Flag {
         name: "no-inlines",
         short: None,
@@ -93,13 +91,7 @@ static FLAGS: [Flag; 11] = [
         name: "symbolicate",
         short: None,
         alias: None,
-        help: "Answer the JSON request of a symbol server on standard input",
-    },
-    Flag {
-        name: "symbolicate-lines",
-        short: None,
-        alias: None,
-        help: "The same, of each line, as it comes",
+        help: "Answer a JSON request on standard input; --symbolicate-lines: on each line",
     },
 ];
 
@@ -148,6 +140,7 @@ fn arguments<'a>(alloc: Global) -> Result<Vec<Arg<'a>>, AllocError> {
         arguments.push(hidden_flag(alloc, name))?;
     }
     arguments.push(hidden_flag(alloc, "inlines").short('i'))?;
+    arguments.push(hidden_flag(alloc, "symbolicate-lines"))?;
     arguments.push(inlining(alloc))?;
     arguments.push(hidden_option(alloc, "adjust-vma").default_value("0"))?;
     arguments.push(hidden_option(alloc, "default-arch"))?;
@@ -271,5 +264,5 @@ fn words<'a>(alloc: Global) -> Arg<'a> {
     Arg::new(alloc, "WORD")
         .num_args(0..)
         .action(ArgAction::Append)
-        .hide(true)
+        .help("FILE (program, PDB file or records file), and addresses")
 }
