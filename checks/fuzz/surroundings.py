@@ -1,7 +1,7 @@
 #!/usr/bin/env python3
 """Runs the built program where what surrounds it is broken, and reports every run that ends otherwise than docs/REPORT.md says.
 
-Usage: program.py PROGRAM
+Usage: surroundings.py PROGRAM
 
 That is: a standard output that is closed, full, or read by nobody; a records file that is a folder, empty, can't be
 read, or comes in pieces; words that aren't UTF-8; texts that are cut off anywhere or nested too deep; and module files
