@@ -1,6 +1,6 @@
 -- A stream that is read has as many bytes as the directory says.
-use Rattle.std.proofs.Common.{◌≡◌, ◌∙◌, ℕ, ◌+◌, ◌*◌, ◌<◌, ◌≤◌, nat_lt, Bool, true, false, cond, List, [], ◌∷◌, ◌++◌}
-use Rattle.std.proofs.Common.{take, drop, length, Result, Ok, Err, refl, sym, subst, ap, arith}
+use Rattle.std.proofs.Common.{◌≡◌, ◌∙◌, ℕ, ◌*◌, ◌<◌, ◌≤◌, nat_lt, Bool, true, false, cond, List, [], ◌∷◌}
+use Rattle.std.proofs.Common.{drop, length, Result, Ok, Err, refl, sym, subst, ap, arith}
 use Rattle.std.proofs.lemmas.Grind.{common_steps, div_ceil_times}
 use Rattle.std.specs.Int.{div_ceil}
 use Rattle.pdb_records.specs.declared.error.StreamError.{StreamError}
@@ -8,7 +8,7 @@ use Rattle.pdb_msf.proofs.NumberLemmas.{number_count}
 use Rattle.pdb_msf.specs.Faults.{◌>>=◌}
 use Rattle.pdb_msf.specs.Msf.{Msf, numbers_place, size_of, stream_blocks, stream_of}
 use Rattle.pdb_msf.specs.NumberLists.{listed, numbers}
-use Rattle.pdb_msf.specs.Streams.{all_inside, block, in_order, stream, stream_inside}
+use Rattle.pdb_msf.specs.Streams.{all_inside, in_order, stream_inside}
 
 -- where two meanings have a value, the first has one, and the second over it
 after : {A B : Type 0} (first : Result A StreamError) (next : A → Result B StreamError) (value : B)

@@ -1,5 +1,5 @@
 -- The superblock, which a file of the format begins with.
-use Rattle.std.specs.Prelude.{ℕ, ◌==◌, nat_eq, nat_lt, Bool, not, List, [], ◌∷◌, ◌++◌, drop, length, codes}
+use Rattle.std.specs.Prelude.{ℕ, ◌==◌, nat_lt, Bool, not, List, [], ◌∷◌, ◌++◌, drop, length, codes}
 use Rattle.std.specs.Prelude.{Result, Ok, Err, if◌then◌else◌}
 use Rattle.std.specs.List.{list_any}
 use Rattle.pdb_msf.specs.declared.container_fault.ContainerFault.{ContainerFault}
