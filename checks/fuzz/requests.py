@@ -41,6 +41,13 @@ def no_constant(text):
     raise Fault("not a JSON text")
 
 
+def finite(text):
+    """A number that a double has room for."""
+    if float(text) in (float("inf"), float("-inf")):
+        raise Fault("not a JSON text")
+    return float(text)
+
+
 def nesting(value):
     """How deep values nest."""
     inner = value.values() if isinstance(value, dict) else value if isinstance(value, list) else ()
@@ -50,7 +57,7 @@ def nesting(value):
 def json_of(data):
     """The value of a JSON text."""
     try:
-        value = json.loads(data.decode("utf-8"), parse_constant=no_constant,
+        value = json.loads(data.decode("utf-8"), parse_constant=no_constant, parse_float=finite,
                            parse_int=lambda text: -0.0 if text == "-0" else int(text))
         json.dumps(value, ensure_ascii=False).encode("utf-8")
     except (ValueError, RecursionError):
@@ -167,7 +174,8 @@ class Store:
         offsets = sorted(offset for offset in offsets if offset not in self.known and offset < 2**32)
         if not offsets:
             return
-        printed = self.printed("--output-style=JSON", self.folder / self.name, text="".join(f"0x{at:x}\n" for at in offsets))
+        text = "".join(f"0x{offset:x}\n" for offset in offsets)
+        printed = self.printed("--output-style=JSON", self.folder / self.name, text=text)
         for offset, line in zip(offsets, printed.splitlines(), strict=True):
             frames = json.loads(line)["Symbol"]
             self.known[offset] = [(frame["FunctionName"], frame["FileName"], frame["Line"]) for frame in frames]
@@ -285,7 +293,8 @@ def batch_faults(store, requests):
     if len(lines) != len(requests):
         return [*faults, f"{len(lines)} answers to {len(requests)} lines, status {run.returncode}"], 0
     looked = [right_line(store, data, line) for data, line in zip(requests, lines)]
-    faults += [f"{data[:300]!r}: {line[:300]!r}" for data, line, (right, _) in zip(requests, lines, looked) if not right]
+    for data, line, (right, _) in zip(requests, lines, looked):
+        faults += [] if right else [f"{data[:300]!r}: {line[:300]!r}"]
     good = sum(is_request for _, is_request in looked)
     if run.returncode != (0 if good == len(requests) else 2):
         faults.append(f"status {run.returncode} of {len(requests)} lines, {good} of them requests")

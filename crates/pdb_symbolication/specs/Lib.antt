@@ -1,1 +1,2 @@
 pub mod HarmlessNames
+pub mod Requests

@@ -92,7 +92,10 @@ fn add_text<'a, S: FrameSource<'a>>(
     offset: u32,
 ) -> Result<(), Error> {
     match frames.find_frames(offset)? {
-        Some(found) => texts.add(offset, Some(&function_of(alloc, &found)?))?,
+        Some(found) => {
+            let function = function_of(alloc, &found)?;
+            texts.add(offset, Some(&function))?;
+        }
         None => texts.add(offset, None)?,
     }
     Ok(())
