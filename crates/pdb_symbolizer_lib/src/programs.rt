@@ -1,4 +1,4 @@
-//! The PDB file of a program or a DLL: it is looked for where the program names it, beside the program, and in folders.
+//! The PDB file of a program, looked for where that names it, beside it and in folders; and of a module, in folders.
 
 use crate::input_files::{ran_out_of_memory, read_regular_file};
 use crate::options::Options;
@@ -7,6 +7,7 @@ use crate::stops::Stop;
 use pdb_addr2line::Error;
 use pdb_container::{ContainerFault, DebugId, read_identity};
 use pdb_identity::CodeView;
+use pdb_symbolication::WantedModule;
 use std::alloc::{AllocError, Global};
 use std::rt::Files;
 use std::str;
@@ -38,18 +39,17 @@ pub fn find_pdb<R: Files + AllocGlobal>(
     Err(Stop::NoPdbFile(format!(in rt.alloc(); "{program}: no PDB file of {id}{looked}")?))
 }
 
-/// The PDB file of this name in the folders, the first with this debug id. The name has to be one that leads to nothing
-/// outside of them.
+/// The PDB file of a module that a request asks for: the first of its name and its debug id in the folders.
 pub fn find_in_folders<R: Files + AllocGlobal>(
     rt: &R,
     options: &Options<'_>,
-    name: &str,
-    debug_id: DebugId,
+    module: &WantedModule,
 ) -> Result<Option<FoundFile>, Stop> {
+    let name = module.name.as_str();
     let mut places = Vec::new(rt.alloc());
-    push_folder_places(rt.alloc(), &mut places, options, name, debug_id)?;
+    push_folder_places(rt.alloc(), &mut places, options, name, module.debug_id)?;
     for path in places {
-        if let Look::Found(bytes) = look_at(rt, path.as_str(), debug_id)? {
+        if let Look::Found(bytes) = look_at(rt, path.as_str(), module.debug_id)? {
             return Ok(Some(FoundFile { path, bytes }));
         }
     }

@@ -48,7 +48,7 @@ fn texts_of_file<R: Files + Eprint + AllocGlobal>(
     options: &Options<'_>,
     module: &WantedModule,
 ) -> Result<Option<FrameTexts>, Stop> {
-    let Some(found) = find_in_folders(rt, options, module.name.as_str(), module.debug_id)? else {
+    let Some(found) = find_in_folders(rt, options, module)? else {
         return Ok(None);
     };
     let mut input = read_container(rt.alloc(), found.path.as_str(), &found.bytes)?;
