@@ -20,6 +20,8 @@ import subprocess
 import sys
 
 from request_cases import request_cases
+from stacks import procedure_at, stacks, with_arguments
+from symbol_file_texts import symbol_file
 
 HERE = pathlib.Path(__file__).resolve().parent
 # Three inlined bodies in one another; a function's start; a function of another file; the last byte of one
@@ -304,104 +306,6 @@ def records_cases():
         error("nowhere/written.json: cannot write") + "status 2\n"
 
 
-# The procedures of shapes.exe by their starts, with their lengths and their arguments, as its sources and
-# `llvm-pdbutil dump --symbols` have them
-PROCEDURES = {0x1000: (29, "(char const*)"), 0x1020: (186, "()"), 0x10e0: (35, "(Colour, Bits)"), 0x1110: (62, "(int)"),
-              0x1150: (50, "(int)"), 0x1190: (198, "(shapes::Point const*, int)"),
-              0x1260: (45, "(shapes::Point const&, unsigned char)")}
-# Those of the functions that are inlined
-ARGUMENTS = {"Framed::Framed": "()", "Picture::Picture": "()", "Picture::draw": "(int)", "shapes::Point::length": "() const",
-             "shapes::Point::moved": "(int) const", "`anonymous namespace'::Walker::walk": "(shapes::Point const&)",
-             "`anonymous namespace'::doubled": "(int)", "shapes::Counter<int>::add": "(int)",
-             "shapes::Counter<int>::mean": "() const", "shapes::Counter<long long>::add": "(long long)",
-             "shapes::Counter<long long>::mean": "() const"}
-# The bytes behind procedures up to the next one of their contribution: the last public symbol before them, and its last
-# row. `paint` is static and has none, so what stands behind it is of `entry`
-BETWEEN = [(0x101d, 0x1020, "?count@Picture@@SAHPEBD@Z", "main.cpp", 44), (0x10da, 0x10e0, "entry", "main.cpp", 57),
-           (0x1103, 0x1110, "entry", "main.cpp", 57), (0x114e, 0x1150, "?draw@Framed@@UEAAHH@Z", "main.cpp", 36),
-           (0x1256, 0x1260, "?area@shapes@@YAHPEBUPoint@1@H@Z", "shapes.cpp", 31)]
-# Where LLVM answers another line, and why: docs/CONTAINER.md, "Against LLVM"
-DIFFERENCES = HERE.parents[1] / "pdb_symbolizer" / "data" / "program" / "differences.txt"
-TWO_ROWS = 0x10e0
-
-
-def stacks(folder):
-    """The stack of each address of shapes.exe, the function itself first: that of LLVM, but for the lines that it has
-    otherwise. Inside of a row of an inlined body it answers the line of the row behind it, where here a body that goes on
-    has the line of the address before; and of two rows at one offset the first, where here the second has all bytes."""
-    addresses = [address for start, (length, _) in PROCEDURES.items() for address in range(start, start + length)]
-    words = ["--obj=shapes.exe", "--relative-address", "--functions=short", "--output-style=JSON"]
-    printed = subprocess.run(["llvm-symbolizer", *words], input="".join(f"{address}\n" for address in addresses),
-                             capture_output=True, text=True, check=True, cwd=folder).stdout
-    found = {address: [(frame["FunctionName"], frame["FileName"], frame["Line"]) for frame in reversed(json.loads(line)["Symbol"])]
-             for address, line in zip(addresses, printed.splitlines(), strict=True)}
-    for address in sorted(int(line, 16) for line in DIFFERENCES.read_text(encoding="utf-8").split()):
-        own, *inlined = found[address]
-        if address == TWO_ROWS:
-            own = found[address + 1][0]
-        before = found[address - 1][1:] if inlined else []
-        going_on = [old for old, new in itertools.takewhile(lambda pair: pair[0][0] == pair[1][0], zip(before, inlined))]
-        found[address] = [own, *going_on, *inlined[len(going_on):]]
-    for start, end, name, file, line in BETWEEN:
-        found.update({address: [(name, f"C:\\shapes\\{file}", line)] for address in range(start, end)})
-    return dict(sorted(found.items()))
-
-
-def with_arguments(found):
-    """The same stacks with the names that have arguments."""
-    for address, [(name, *place), *inlined] in found.items():
-        _, arguments = PROCEDURES.get(procedure_at(address), (0, ""))
-        yield address, [(name + arguments, *place), *((name + ARGUMENTS[name], *rest) for name, *rest in inlined)]
-
-
-def procedure_at(address):
-    """Where the procedure starts that an address lies in, or None where it lies in none."""
-    return next((start for start, (length, _) in PROCEDURES.items() if start <= address < start + length), None)
-
-
-def runs(found, key):
-    """The runs of consecutive addresses of one key, with the key: first address, how many, key."""
-    grouped = itertools.groupby(enumerate(found), lambda pair: (pair[1] - pair[0], key(pair[1])))
-    for (_, value), members in grouped:
-        addresses = [address for _, address in members]
-        yield addresses[0], len(addresses), value
-
-
-def calls(stack, level, files, origins):
-    """The calls of a stack down to a level, each with its line, its file and the function's name; nothing where it has
-    none at that level."""
-    pairs = list(zip(stack, stack[1:]))
-    return tuple((outer[2], files[outer[1]], origins[inner[0]]) for outer, inner in pairs[:level + 1]) if len(pairs) > level else None
-
-
-def numbers(names):
-    """Numbers of names by where they come first."""
-    return {name: number for number, name in enumerate(dict.fromkeys(names))}
-
-
-def function_records(start, found, files, origins):
-    """The records of one function."""
-    yield f"FUNC {start:x} {len(found):x} 0 {found[start][0][0]}"
-    deepest = max(map(len, found.values())) - 1
-    inlines = [(first, level, count, chain[-1]) for level in range(deepest)
-               for first, count, chain in runs(found, lambda address: calls(found[address], level, files, origins)) if chain]
-    for first, level, count, (line, file, origin) in sorted(inlines):
-        yield f"INLINE {level} {line} {file} {origin} {first:x} {count:x}"
-    for first, count, stack in runs(found, found.get):
-        yield f"{first:x} {count:x} {stack[-1][2]} {files[stack[-1][1]]}"
-
-
-def symbol_file(front, found):
-    """The symbol file of these stacks, behind the records in front."""
-    files = numbers(frame[1] for stack in found.values() for frame in stack)
-    origins = numbers(frame[0] for stack in found.values() for frame in stack[1:])
-    rows = [*front, *(f"FILE {number} {name}" for name, number in files.items()),
-            *(f"INLINE_ORIGIN {number} {name}" for name, number in origins.items())]
-    for start, count, _ in runs(found, lambda address: (procedure_at(address), found[address][0][0])):
-        rows += function_records(start, {address: found[address] for address in range(start, start + count)}, files, origins)
-    return "".join(f"{row}\n" for row in rows) + ENDED
-
-
 def write_high():
     """Writes high.pdb. The end of its last function, which is the end of the section, doesn't fit 32 bits."""
     (HERE / "high.pdb").write_bytes(replaced(
@@ -424,11 +328,11 @@ def symbol_file_cases(folder):
     program = "INFO CODE_ID 000000006000 shapes.exe"
     short = stacks(folder)
     whole = dict(with_arguments(short))
-    yield "pdb_symbolizer --dump-syms shapes.exe", symbol_file([module, program], whole)
-    yield "pdb_symbolizer --dump-syms --functions=short ./shapes.pdb", symbol_file([module], short)
+    yield "pdb_symbolizer --dump-syms shapes.exe", symbol_file([module, program], whole) + ENDED
+    yield "pdb_symbolizer --dump-syms --functions=short ./shapes.pdb", symbol_file([module], short) + ENDED
     yield "pdb_symbolizer --dump-syms --base 140000000 --adjust 1 -s -p --pdb-dir symbols -e other.exe", symbol_file(
         [module.replace("6B32B94164959A524C4C44205044422E", "A9D98A29E7C186D04C4C44205044422E"),
-         program.replace("shapes", "other")], whole)
+         program.replace("shapes", "other")], whole) + ENDED
     yield "pdb_symbolizer --dump-syms broken_parts.pdb", broken_symbols(
         "broken_parts.pdb", "FUNC 1000 20 0 <name omitted>", "FUNC 1020 60 0 ?f@@YAXXZ", "FUNC 1200 10 0 <name omitted>",
         "FUNC 1304 40 0 <name omitted>", "FUNC 1420 4 0 <name omitted>", "FUNC 1424 8 0 <name omitted>")
@@ -438,9 +342,9 @@ def symbol_file_cases(folder):
         "PUBLIC fffffc28 0 ?f@@YAXXZ")
     stored = "store/shapes.pdb/6B32B94164959A524C4C44205044422E1/shapes.sym"
     yield "pdb_symbolizer --dump-syms --store store shapes.exe", ENDED
-    yield f"cat {stored}", symbol_file([module, program], whole).removesuffix(ENDED)
+    yield f"cat {stored}", symbol_file([module, program], whole)
     yield "pdb_symbolizer --dump-syms --functions=short --store=./store shapes.pdb", ENDED
-    yield f"cat {stored}", symbol_file([module], short).removesuffix(ENDED)
+    yield f"cat {stored}", symbol_file([module], short)
     yield "pdb_symbolizer --dump-syms --store shapes.exe shapes.pdb", error(
         stored.replace("store", "shapes.exe", 1) + ": cannot write") + "status 2\n"
     yield "pdb_symbolizer --dump-syms names.json", error("names.json: no id") + "status 1\n"

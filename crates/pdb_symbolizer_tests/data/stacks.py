@@ -1,0 +1,61 @@
+"""The stacks of all addresses of shapes.exe, for write_cases.py: those of llvm-symbolizer, but for lines that it has
+otherwise."""
+import itertools
+import json
+import pathlib
+import subprocess
+
+HERE = pathlib.Path(__file__).resolve().parent
+# The procedures of shapes.exe by their starts, with their lengths and their arguments, as its sources and
+# `llvm-pdbutil dump --symbols` have them
+PROCEDURES = {0x1000: (29, "(char const*)"), 0x1020: (186, "()"), 0x10e0: (35, "(Colour, Bits)"), 0x1110: (62, "(int)"),
+              0x1150: (50, "(int)"), 0x1190: (198, "(shapes::Point const*, int)"),
+              0x1260: (45, "(shapes::Point const&, unsigned char)")}
+# Those of the functions that are inlined
+ARGUMENTS = {"Framed::Framed": "()", "Picture::Picture": "()", "Picture::draw": "(int)", "shapes::Point::length": "() const",
+             "shapes::Point::moved": "(int) const", "`anonymous namespace'::Walker::walk": "(shapes::Point const&)",
+             "`anonymous namespace'::doubled": "(int)", "shapes::Counter<int>::add": "(int)",
+             "shapes::Counter<int>::mean": "() const", "shapes::Counter<long long>::add": "(long long)",
+             "shapes::Counter<long long>::mean": "() const"}
+# The bytes behind procedures up to the next one of their contribution: the last public symbol before them, and its last
+# row. `paint` is static and has none, so what stands behind it is of `entry`
+BETWEEN = [(0x101d, 0x1020, "?count@Picture@@SAHPEBD@Z", "main.cpp", 44), (0x10da, 0x10e0, "entry", "main.cpp", 57),
+           (0x1103, 0x1110, "entry", "main.cpp", 57), (0x114e, 0x1150, "?draw@Framed@@UEAAHH@Z", "main.cpp", 36),
+           (0x1256, 0x1260, "?area@shapes@@YAHPEBUPoint@1@H@Z", "shapes.cpp", 31)]
+# Where LLVM answers another line, and why: docs/CONTAINER.md, "Against LLVM"
+DIFFERENCES = HERE.parents[1] / "pdb_symbolizer" / "data" / "program" / "differences.txt"
+TWO_ROWS = 0x10e0
+
+
+def stacks(folder):
+    """The stack of each address of shapes.exe, the function itself first: that of LLVM, but for the lines that it has
+    otherwise. Inside of a row of an inlined body it answers the line of the row behind it, where here a body that goes on
+    has the line of the address before; and of two rows at one offset the first, where here the second has all bytes."""
+    addresses = [address for start, (length, _) in PROCEDURES.items() for address in range(start, start + length)]
+    words = ["--obj=shapes.exe", "--relative-address", "--functions=short", "--output-style=JSON"]
+    printed = subprocess.run(["llvm-symbolizer", *words], input="".join(f"{address}\n" for address in addresses),
+                             capture_output=True, text=True, check=True, cwd=folder).stdout
+    found = {address: [(frame["FunctionName"], frame["FileName"], frame["Line"]) for frame in reversed(json.loads(line)["Symbol"])]
+             for address, line in zip(addresses, printed.splitlines(), strict=True)}
+    for address in sorted(int(line, 16) for line in DIFFERENCES.read_text(encoding="utf-8").split()):
+        own, *inlined = found[address]
+        if address == TWO_ROWS:
+            own = found[address + 1][0]
+        before = found[address - 1][1:] if inlined else []
+        going_on = [old for old, new in itertools.takewhile(lambda pair: pair[0][0] == pair[1][0], zip(before, inlined))]
+        found[address] = [own, *going_on, *inlined[len(going_on):]]
+    for start, end, name, file, line in BETWEEN:
+        found.update({address: [(name, f"C:\\shapes\\{file}", line)] for address in range(start, end)})
+    return dict(sorted(found.items()))
+
+
+def with_arguments(found):
+    """The same stacks with the names that have arguments."""
+    for address, [(name, *place), *inlined] in found.items():
+        _, arguments = PROCEDURES.get(procedure_at(address), (0, ""))
+        yield address, [(name + arguments, *place), *((name + ARGUMENTS[name], *rest) for name, *rest in inlined)]
+
+
+def procedure_at(address):
+    """Where the procedure starts that an address lies in, or None where it lies in none."""
+    return next((start for start, (length, _) in PROCEDURES.items() if start <= address < start + length), None)
