@@ -20,7 +20,10 @@ pub fn open_answered_file<R: Files + Print + Eprint + AllocGlobal>(
     options: &Options<'_>,
     path: &str,
 ) -> Result<InputFile, Stop> {
-    match (open_file(rt, status_line, options, path), options.open_failure) {
+    match (
+        open_file(rt, status_line, options, path),
+        options.open_failure,
+    ) {
         (Err(stop), OpenFailure::UnknownAnswers) if !ends_the_run(&stop) => {
             stop.print(rt);
             Ok(file_without_records(rt.alloc(), path)?)
