@@ -1,6 +1,6 @@
 //! Reads a request from its JSON value; the first fault in it is answered with the path to the value at fault.
 
-ghost use Rattle.std.specs.Prelude.{All, IfOk, vec_len};
+ghost use Rattle.std.specs.Prelude.{All, IfOk};
 ghost use Rattle.pdb_symbolication.specs.Requests.{IsOneOf, IsOver, NamesItsModules};
 
 use crate::requests::{FrameModule, Job, MemoryMapEntry, Request, Stack, StackFrame};
