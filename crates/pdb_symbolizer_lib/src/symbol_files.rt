@@ -8,9 +8,9 @@ use crate::paths::last_part;
 use crate::status_line::StatusLine;
 use crate::stops::Stop;
 use crate::symbol_names::SymbolNames;
-use crate::symbol_stores::write_into_store;
+use crate::symbol_stores::{make_place, write_whole};
 use pdb_addr2line::ContextPdbData;
-use pdb_breakpad::{ModuleIdentity, ProgramIdentity, write_symbol_file};
+use pdb_breakpad::{ModuleIdentity, ProgramIdentity, SymbolFileFault, write_symbol_file};
 use std::io;
 use std::rt::Files;
 
@@ -50,24 +50,46 @@ fn dump_over<R: Files + Print + Eprint + AllocGlobal>(
     };
     let names = SymbolNames::new(rt.alloc(), &input.records)?;
     let data = ContextPdbData::try_from_pdb_ref(rt.alloc(), &mut input.records)?;
-    dump_all(rt, options, place, &module, &names, &data)
+    match place {
+        SymbolFilePlace::StandardOutput => {
+            Ok(dump_all(rt, options, None, &module, &names, &data)?)
+        }
+        SymbolFilePlace::Store(store) => {
+            dump_into_store(rt, options, store, &module, &names, &data)
+        }
+    }
 }
 
-fn dump_all<R: Files + Print + Eprint + AllocGlobal>(
+fn dump_into_store<R: Files + Print + Eprint + AllocGlobal>(
     rt: &R,
     options: &Options<'_>,
-    place: SymbolFilePlace<'_>,
+    store: &str,
     module: &ModuleIdentity<'_>,
     names: &SymbolNames,
     data: &ContextPdbData<'_>,
 ) -> Result<(), Stop> {
+    let path = make_place(rt, store, module)?;
+    match dump_all(rt, options, Some(path.as_str()), module, names, data) {
+        Err(SymbolFileFault::CannotWrite) => {
+            Err(Stop::SymbolFile(path, SymbolFileFault::CannotWrite))
+        }
+        written => Ok(written?),
+    }
+}
+
+// Writes all functions to this path, or else on standard output.
+fn dump_all<R: Files + Print + Eprint + AllocGlobal>(
+    rt: &R,
+    options: &Options<'_>,
+    path: Option<&str>,
+    module: &ModuleIdentity<'_>,
+    names: &SymbolNames,
+    data: &ContextPdbData<'_>,
+) -> Result<(), SymbolFileFault> {
     let mut context = data.make_context_with_formatter_flags(options.flags())?;
     let mut frames = FileFrames::new(rt, &mut context, names, data);
-    match place {
-        SymbolFilePlace::StandardOutput => {
-            write_symbol_file(rt.alloc(), &mut io::writer(rt), module, &mut frames)?;
-            Ok(())
-        }
-        SymbolFilePlace::Store(store) => write_into_store(rt, store, module, &mut frames),
+    match path {
+        Some(path) => write_whole(rt, path, module, &mut frames),
+        None => write_symbol_file(rt.alloc(), &mut io::writer(rt), module, &mut frames),
     }
 }

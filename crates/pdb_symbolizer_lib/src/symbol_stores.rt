@@ -8,28 +8,23 @@ use std::fs;
 use std::io::BufWriter;
 use std::rt::Files;
 
-/// Writes a symbol file into a store, as `STORE/app.pdb/DEBUGID/app.sym`. It stands there once it is whole: until then
-/// it is written as `app.sym.part` beside that, which is removed where the writing fails.
-pub fn write_into_store<'a, R: Files + AllocGlobal, S: FrameSource<'a>>(
+/// The path of a module's symbol file in a store, `STORE/app.pdb/DEBUGID/app.sym`. Folders that aren't there are made.
+pub fn make_place<R: Files + AllocGlobal>(
     rt: &R,
     store: &str,
     module: &ModuleIdentity<'_>,
-    source: &mut S,
-) -> Result<(), Stop> {
+) -> Result<String, Stop> {
     let folder = store_folder(rt.alloc(), store, module)?;
     let path = format!(in rt.alloc(); "{folder}/{}.sym", stem(module.pdb_name))?;
     if file_name(module.pdb_name).is_none() || fs::create_dir_all(rt, folder.as_str()).is_err() {
         return Err(Stop::SymbolFile(path, SymbolFileFault::CannotWrite));
     }
-    match write_whole(rt, path.as_str(), module, source) {
-        Ok(()) => Ok(()),
-        Err(SymbolFileFault::Refused(error)) => Err(Stop::Refused(error)),
-        Err(fault) => Err(Stop::SymbolFile(path, fault)),
-    }
+    Ok(path)
 }
 
-// Writes a file beside the path, and renames it to the path, or removes it.
-fn write_whole<'a, R: Files + AllocGlobal, S: FrameSource<'a>>(
+/// Writes a symbol file that stands at this path once it is whole. Until then it is written beside that, with `.part`
+/// behind its name, and what was written is removed where the writing fails.
+pub fn write_whole<'a, R: Files + AllocGlobal, S: FrameSource<'a>>(
     rt: &R,
     path: &str,
     module: &ModuleIdentity<'_>,

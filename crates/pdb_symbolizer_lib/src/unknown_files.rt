@@ -20,20 +20,28 @@ pub fn open_answered_file<R: Files + Print + Eprint + AllocGlobal>(
     options: &Options<'_>,
     path: &str,
 ) -> Result<InputFile, Stop> {
-    match (
-        open_file(rt, status_line, options, path),
-        options.open_failure,
-    ) {
-        (Err(stop), OpenFailure::UnknownAnswers) if !ends_the_run(&stop) => {
-            stop.print(rt);
-            Ok(file_without_records(rt.alloc(), path)?)
-        }
-        (opened, _) => opened,
+    match open_file(rt, status_line, options, path) {
+        Ok(input) => Ok(input),
+        Err(stop) => unknown_file(rt, options.open_failure, path, stop),
     }
 }
 
-fn ends_the_run(stop: &Stop) -> bool {
-    matches!(stop, Stop::Refused(_) | Stop::OtherBuild(..))
+// What comes of a file that can't be opened, by the cause.
+fn unknown_file<R: Print + Eprint + AllocGlobal>(
+    rt: &R,
+    open_failure: OpenFailure,
+    path: &str,
+    cause: Stop,
+) -> Result<InputFile, Stop> {
+    if open_failure == OpenFailure::Refusal || ends_the_run(&cause) {
+        return Err(cause);
+    }
+    cause.print(rt);
+    Ok(file_without_records(rt.alloc(), path)?)
+}
+
+fn ends_the_run(cause: &Stop) -> bool {
+    matches!(cause, Stop::Refused(_) | Stop::OtherBuild(..))
 }
 
 fn file_without_records(alloc: Global, path: &str) -> Result<InputFile, AllocError> {
