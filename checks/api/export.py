@@ -6,7 +6,7 @@ Usage: export.py PROGRAM REPORT PDB ADDRESSES
 ADDRESSES is a file with an address a line, each of which lies in a function. The PDB file is exported as one records
 file, and as one with a file for each module; both are exported again, which has to give the same bytes. Of each address
 pdb_symbolizer has to say the same of the PDB file and of both records files, and the built pdb_report has to print the
-same frames of both.
+same frames of both; where a procedure's type can't be printed, pdb_symbolizer has its symbol's name, and pdb_report none.
 """
 import itertools
 import json
@@ -52,6 +52,14 @@ def report(program, records, addresses):
     return "".join(run(program, records, "frames", *part) for part in parts)
 
 
+def same_frames(printed, lines):
+    """Whether pdb_report printed these lines, but for names that it doesn't know."""
+    pairs = [*zip(printed.splitlines(), lines.splitlines())]
+    unknown = FRAME.split("{")[0] + UNKNOWN["FunctionName"]
+    return len(printed.splitlines()) == len(lines.splitlines()) and all(
+        here == there or here.startswith(unknown) and there.endswith(here.removeprefix(unknown)) for here, there in pairs)
+
+
 def exported(program, folder, source, name):
     """A records file of a source, and one with a file for each module."""
     whole, parted = folder / f"{name}.json", folder / f"{name}.parted.json"
@@ -82,7 +90,7 @@ def main(program, reporter, pdb, path):
                 wrong.append(f"{records.name}, exported again with module files, has other bytes")
             found = answers(program, records, addresses)
             wrong += [f"{records.name}: {a}\n  {b}" for a, b in zip(wanted, found, strict=True) if a != b]
-            if report(reporter, records, addresses) != lines:
+            if not same_frames(report(reporter, records, addresses), lines):
                 wrong.append(f"{records.name}: pdb_report prints other frames")
     print("\n".join(wrong[:20]))
     print(f"{len(addresses)} addresses, {len(lines.splitlines())} lines of pdb_report, {len(wrong)} differences")
