@@ -36,7 +36,7 @@ import tempfile
 from collections import Counter, namedtuple
 
 HERE = pathlib.Path(__file__).resolve().parent
-CRATES = HERE.parent / "crates"
+CRATES = HERE.parents[1] / "crates"
 SECONDS = 10
 WORKERS = max(1, (os.cpu_count() or 1) // 2)
 # What a run of cases.txt begins with; the first such run is the case.

@@ -300,6 +300,9 @@ def records_cases():
     device = {"version": 2, **json.loads((HERE / "names.json").read_text(encoding="utf-8")), "module_infos": [{"file": "/dev/zero"}]}
     (HERE / "device.json").write_text(json.dumps(device, separators=(",", ":")) + "\n", encoding="utf-8")
     yield "pdb_symbolizer device.json 1010", error("cannot read /dev/zero") + "status 2\n"
+    yield "pdb_symbolizer --export symbols/written.json --modules modules names.json", ENDED
+    yield "cat symbols/modules/0.json", json.dumps(known, separators=(",", ":")) + "\n"
+    yield "pdb_symbolizer -p symbols/written.json 1010", typed + ENDED
     yield "pdb_symbolizer --export written.json shapes.pdb", ENDED
     yield "pdb_symbolizer -p written.json 0x1136", STACK
     yield "pdb_symbolizer --export nowhere/written.json shapes.pdb", \
