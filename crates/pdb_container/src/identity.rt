@@ -1,6 +1,6 @@
 //! Which build a PDB file is of: its GUID, its age, when it was made, and for which processor.
 
-use crate::dbi::read_header;
+use pdb_dbi::read_header;
 use pdb_identity::{DebugId, InfoFront, Machine};
 use pdb_msf::faults::{Fault, part_or_fault};
 use pdb_msf::{Container, ContainerFault};

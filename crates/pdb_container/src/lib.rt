@@ -6,7 +6,6 @@
 #![tactic(auto)]
 
 mod aggregates;
-mod dbi;
 mod identity;
 mod ids;
 mod info;
@@ -15,9 +14,7 @@ mod numbers;
 mod primitives;
 mod records;
 mod refusals;
-mod sections;
 mod strings;
-mod substreams;
 mod symbols;
 mod type_records;
 mod types;

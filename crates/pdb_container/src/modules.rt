@@ -1,12 +1,11 @@
 //! A module's stream: its symbols, and the subsections of lines, files, inlinees, imports and exports.
 
-use crate::dbi::ModuleStream;
-use crate::substreams::{Substream, take_substream};
 use crate::symbols::{read_symbols, split_symbol_records};
 use pdb_codeview::{
     CodeRecords, Files, ProcedureSpan, program_entries, read_exports, read_files, read_imports,
     read_inlinees, read_lines, symbol_spans,
 };
+use pdb_dbi::{ModuleStream, Substream, take_substream};
 use pdb_msf::Bytes;
 use pdb_msf::faults::{Fault, UNKNOWN_VERSION, early_end, part_or_fault};
 use pdb_records::{

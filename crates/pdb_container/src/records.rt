@@ -1,17 +1,17 @@
 //! All records of a PDB file: which streams are read, which failed, and whether addresses were rearranged.
 
-use crate::dbi::{
-    DebugHeader, ModuleStream, optional_stream, read_contributions, read_header, read_modules,
-};
 use crate::ids::read_ids;
 use crate::info::InfoStream;
 use crate::modules::read_module;
 use crate::refusals::{Refusal, refusal_of};
-use crate::sections::{map_addresses, read_sections};
 use crate::strings::read_strings;
 use crate::symbols::read_global_symbols;
 use crate::types::read_types;
 use crate::unnamed_code::{ModuleInfoResult, name_unnamed_code};
+use pdb_dbi::{
+    DebugHeader, ModuleStream, map_addresses, optional_stream, read_contributions, read_header,
+    read_modules, read_sections,
+};
 use pdb_msf::faults::{Fault, NO_STREAM, REARRANGED, TOO_LONG, part_or_fault};
 use pdb_msf::{Container, ContainerFault};
 use pdb_records::{
@@ -191,8 +191,8 @@ fn debug_information(
     header: &DebugHeader<'_>,
     streams: &mut Vec<ModuleStream>,
 ) -> Result<DebugInformation, Fault> {
-    let modules = read_modules(alloc, header.modules, streams)?;
-    let section_contributions = read_contributions(alloc, header.section_contributions)?;
+    let modules = read_modules(alloc, &header.modules, streams)?;
+    let section_contributions = read_contributions(alloc, &header.section_contributions)?;
     Ok(DebugInformation {
         machine_type: Ok(header.machine_type),
         modules,

@@ -1,6 +1,6 @@
 //! The type records of a stream, split by their lengths, and why one has no content.
 
-use crate::substreams::take_substream;
+use pdb_dbi::take_substream;
 use pdb_msf::faults::{BAD_LENGTH, Fault, POINTS_NOWHERE, UNKNOWN_VERSION, early_end};
 use pdb_msf::{Bytes, u32_at};
 use pdb_records::{Error, StreamError};

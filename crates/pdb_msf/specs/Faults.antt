@@ -36,6 +36,12 @@ abbrev pub Gives : {X Y : Type 0} → (X → Y) → Result X Fault → Result Y 
 Gives seen (Ok answer) defined = defined ≡ Ok (seen answer)
 Gives seen (Err fault) defined = Fails fault defined
 
+-- a part as it is read by itself: its value, or why it alone is broken; out of memory stays out of memory
+abbrev pub part_of : {T : Type 0} → Result T Fault → Result (Result T StreamError) Fault
+part_of (Ok part) = Ok (Ok part)
+part_of (Err (Broken error)) = Ok (Err error)
+part_of (Err OutOfMemory) = Err OutOfMemory
+
 -- opening answers what is defined, seen as it is there: the value, or the file's fault, unless there was no memory
 abbrev pub Opens : {X Y : Type 0} → (X → Y) → Result X ContainerFault → Result Y ContainerFault → Type 0
 Opens seen (Ok answer) defined = defined ≡ Ok (seen answer)

@@ -1,3 +1,4 @@
+pub mod Bytes
 pub mod ContainerFault
 pub mod Directory
 pub mod Faults

@@ -1,4 +1,4 @@
--- Numbers of four bytes.
+-- Numbers of two and of four bytes.
 use Rattle.std.specs.Prelude.{ℕ, zero, suc, ◌*◌, nat_lt, List, [], ◌∷◌, take, drop, length, Result, Ok, Err}
 use Rattle.std.specs.Prelude.{if◌then◌else◌}
 use Rattle.byteorder.specs.Endian.{little_number}
@@ -8,6 +8,10 @@ use Rattle.pdb_msf.specs.declared.faults.TheConstants.{CUT}
 -- the number that the first four bytes are, the lowest byte first
 abbrev pub number : List ℕ → ℕ
 number bytes = little_number 4 (take 4 bytes)
+
+-- the number that the first two bytes are, the lowest byte first
+abbrev pub two_byte_number : List ℕ → ℕ
+two_byte_number bytes = little_number 2 (take 2 bytes)
 
 -- so many numbers, one after the other
 abbrev pub numbers : ℕ → List ℕ → List ℕ

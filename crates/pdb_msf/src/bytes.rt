@@ -1,9 +1,12 @@
 //! What is left of bytes that are read from the front: numbers of one to eight bytes, and texts.
 
-ghost use Rattle.std.specs.Prelude.{◌≡◌, ◌≤◌, ◌<◌, ◌+◌, length, take, drop, IfOk, OnOk, OnErr};
-ghost use Rattle.byteorder.specs.Endian.{little_number};
+ghost use Rattle.std.specs.Prelude.{◌≡◌, ◌≤◌, ◌<◌, ◌+◌, ◌-◌, ◌==◌, length, take, drop, Some, None, IfSome, IfOk};
+ghost use Rattle.std.specs.Prelude.{IfErr, OnOk, OnErr};
+ghost use Rattle.pdb_msf.specs.Bytes.{padding, text_in, text_length};
+ghost use Rattle.pdb_msf.specs.NumberLists.{number, two_byte_number};
 
 use crate::faults::CUT;
+use crate::number_lists::bytes_from;
 use byteorder::{ByteOrder, LittleEndian};
 use pdb_records::StreamError;
 use std::marker::Model;
@@ -39,7 +42,9 @@ impl<'a> Bytes<'a> {
     }
 
     /// Whether no byte is left.
-    pub fn is_empty(&self) -> bool {
+    pub fn is_empty(&self) -> bool
+        ensures { result ≡ (length self.now == 0) }
+    {
         self.rest.is_empty()
     }
 
@@ -54,8 +59,10 @@ impl<'a> Bytes<'a> {
     pub fn take(&mut self, count: usize) -> Result<&'a [u8], StreamError>
         ensures answer { IfOk result (λ taken. taken.now ≡ take count self.old) }
         ensures count { IfOk result (λ taken. length taken.now ≡ count) }
+        ensures there { OnOk result (count ≤ length self.old) }
         ensures state { OnOk result (self.new ≡ drop count self.old) }
         ensures refused { OnErr result (length self.old < count) }
+        ensures fault { IfErr result (λ error. error ≡ CUT) }
     {
         if self.rest.len() < count {
             return Err(CUT);
@@ -67,13 +74,11 @@ impl<'a> Bytes<'a> {
 
     /// Passes over the bytes up to the next place that is a multiple of four, counted from the end of the
     /// first `whole` bytes that these are the rest of. Where the bytes end before, nothing is left.
-    pub fn align(&mut self, whole: usize) {
+    pub fn align(&mut self, whole: usize)
+        ensures { self.new ≡ drop (padding (whole - length self.old)) self.old }
+    {
         let read = whole.saturating_sub(self.rest.len());
-        let past = read % 4;
-        if past > 0 {
-            let count = self.rest.len().min(4 - past);
-            self.rest = &self.rest[count..];
-        }
+        self.rest = bytes_from(self.rest, (4 - read % 4) % 4);
     }
 
     /// The next byte.
@@ -84,8 +89,11 @@ impl<'a> Bytes<'a> {
 
     /// The next number of two bytes.
     pub fn u16(&mut self) -> Result<u16, StreamError>
-        ensures answer { IfOk result (λ number. number ≡ little_number 2 (take 2 self.old)) }
+        ensures answer { IfOk result (λ read. read ≡ two_byte_number self.old) }
+        ensures there { OnOk result (2 ≤ length self.old) }
         ensures state { OnOk result (self.new ≡ drop 2 self.old) }
+        ensures refused { OnErr result (length self.old < 2) }
+        ensures fault { IfErr result (λ error. error ≡ CUT) }
     {
         let taken = self.take(2)?;
         Ok(LittleEndian::read_u16(taken))
@@ -93,8 +101,11 @@ impl<'a> Bytes<'a> {
 
     /// The next number of four bytes.
     pub fn u32(&mut self) -> Result<u32, StreamError>
-        ensures answer { IfOk result (λ number. number ≡ little_number 4 (take 4 self.old)) }
+        ensures answer { IfOk result (λ read. read ≡ number self.old) }
+        ensures there { OnOk result (4 ≤ length self.old) }
         ensures state { OnOk result (self.new ≡ drop 4 self.old) }
+        ensures refused { OnErr result (length self.old < 4) }
+        ensures fault { IfErr result (λ error. error ≡ CUT) }
     {
         let taken = self.take(4)?;
         Ok(LittleEndian::read_u32(taken))
@@ -107,12 +118,18 @@ impl<'a> Bytes<'a> {
     }
 
     /// The next text, which ends before a zero byte. The zero is passed over.
-    pub fn text(&mut self) -> Result<&'a [u8], StreamError> {
+    pub fn text(&mut self) -> Result<&'a [u8], StreamError>
+        ensures answer { IfOk result (λ text. text_in self.old ≡ Some text.now) }
+        ensures within { IfOk result (λ text. length text.now < length self.old) }
+        ensures state { IfOk result (λ text. self.new ≡ drop (length text.now + 1) self.old) }
+        ensures refused { OnErr result (text_in self.old ≡ None) }
+        ensures fault { IfErr result (λ error. error ≡ CUT) }
+    {
         let Some(end) = zero_in(self.rest) else {
             return Err(CUT);
         };
-        let text = self.take(end)?;
-        self.take(1)?;
+        let (text, rest) = self.rest.split_at(end);
+        self.rest = bytes_from(rest, 1);
         Ok(text)
     }
 
@@ -124,7 +141,10 @@ impl<'a> Bytes<'a> {
 }
 
 // The position of the first zero byte.
-fn zero_in(bytes: &[u8]) -> Option<usize> {
+fn zero_in(bytes: &[u8]) -> Option<usize>
+    ensures answer { result ≡ text_length bytes.now }
+    ensures within { IfSome result (λ end. end < length bytes.now) }
+{
     for (position, &byte) in bytes.iter().enumerate() {
         if byte == 0 {
             return Some(position);
@@ -136,7 +156,7 @@ fn zero_in(bytes: &[u8]) -> Option<usize> {
 /// The number of two bytes that stands in the front of a record.
 pub fn u16_at(front: &[u8], at: usize) -> u16
     requires { at + 2 ≤ length front.now }
-    ensures { result ≡ little_number 2 (drop at front.now) }
+    ensures { result ≡ two_byte_number (drop at front.now) }
 {
     LittleEndian::read_u16(&front[at..])
 }
@@ -144,7 +164,7 @@ pub fn u16_at(front: &[u8], at: usize) -> u16
 /// The number of four bytes that stands in the front of a record.
 pub fn u32_at(front: &[u8], at: usize) -> u32
     requires { at + 4 ≤ length front.now }
-    ensures { result ≡ little_number 4 (drop at front.now) }
+    ensures { result ≡ number (drop at front.now) }
 {
     LittleEndian::read_u32(&front[at..])
 }

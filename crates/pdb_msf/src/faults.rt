@@ -1,5 +1,8 @@
 //! Why a part of a file could not be read, by number, and the two ways in which reading a part ends early.
 
+ghost use Rattle.std.specs.Prelude.{◌≡◌};
+ghost use Rattle.pdb_msf.specs.Faults.{part_of};
+
 use pdb_records::StreamError;
 use std::alloc::{AllocError, AllocFailed};
 
@@ -85,7 +88,9 @@ impl<T: Drop> From<AllocFailed<T>> for Fault {
 }
 
 /// The part, or why it alone is broken.
-pub fn part_or_fault<T>(outcome: Result<T, Fault>) -> Result<Result<T, StreamError>, Fault> {
+pub fn part_or_fault<T>(outcome: Result<T, Fault>) -> Result<Result<T, StreamError>, Fault>
+    ensures { result ≡ part_of outcome }
+{
     match outcome {
         Ok(part) => Ok(Ok(part)),
         Err(Fault::Broken(error)) => Ok(Err(error)),

@@ -20,5 +20,5 @@ pub use bytes::{Bytes, u16_at, u32_at};
 pub use container_fault::{ContainerFault, other_file};
 pub use msf::Container;
 pub use names::{copy_name, offset_of};
-pub use number_lists::take_numbers;
+pub use number_lists::{bytes_from, number_at, take_numbers};
 pub use streams::StreamBytes;

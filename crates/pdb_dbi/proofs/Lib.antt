@@ -1,0 +1,5 @@
+pub mod ContributionLemmas
+mod DbiExamples
+pub mod EntryLemmas
+pub mod ModuleLemmas
+pub mod SectionLemmas

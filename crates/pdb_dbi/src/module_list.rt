@@ -1,0 +1,107 @@
+//! The list of modules: their names, and where the records of each stand.
+
+ghost use Rattle.std.specs.Prelude.{◌≡◌, ◌++◌, length, map, Some, None, IfErr, IfOk, OnErr, OnOk};
+ghost use Rattle.pdb_dbi.specs.ModuleList.{first_module, module_list, module_stream, module_streams, modules};
+
+use crate::substreams::Substream;
+use pdb_msf::faults::{CUT, Fault};
+use pdb_msf::{Bytes, copy_name, u16_at, u32_at};
+use pdb_records::{Module, Reading, StreamError};
+use std::alloc::Global;
+
+/// The bytes in front of a module's names.
+const FRONT: usize = 64;
+
+/// Where a module's own records stand.
+#[derive(Clone, Copy)]
+pub struct ModuleStream {
+    /// The number of the stream, 65535 where there is none.
+    pub stream: u16,
+    /// The bytes of its symbols, with the signature in front of them.
+    pub symbols: u32,
+    /// The bytes of lines in the older form.
+    pub old_lines: u32,
+    /// The bytes of lines, files and inlinees.
+    pub lines: u32,
+}
+
+/// A module as the list has it.
+#[derive(Clone, Copy)]
+struct ModuleEntry<'a> {
+    name: &'a [u8],
+    stream: ModuleStream,
+}
+
+/// The modules in their order, and beside each where its records stand.
+pub fn read_modules(
+    alloc: Global,
+    substream: &Substream<'_>,
+    streams: &mut Vec<ModuleStream>,
+) -> Result<Reading<Module>, Fault>
+    ensures answer { IfOk result (λ reading. reading ≡ modules substream.now) }
+    ensures state { OnOk result (streams.new.items ≡ streams.old.items ++ module_streams substream.now) }
+    ensures memory { IfErr result (λ fault. fault ≡ Fault.OutOfMemory) }
+{
+    let mut modules = read_list(alloc, substream.bytes, streams)?;
+    modules.fault = modules.fault.or(substream.fault);
+    Ok(modules)
+}
+
+// The list that these bytes are, up to the first module that they end in.
+fn read_list(
+    alloc: Global,
+    bytes: &[u8],
+    streams: &mut Vec<ModuleStream>,
+) -> Result<Reading<Module>, Fault>
+    ensures items { IfOk result (λ reading.
+        reading.items ≡ map (λ listed. record { name = listed.name }) (module_list bytes.now).items) }
+    ensures fault { IfOk result (λ reading. reading.fault ≡ (module_list bytes.now).fault) }
+    ensures state { OnOk result
+        (streams.new.items ≡ streams.old.items ++ map (λ listed. listed.stream) (module_list bytes.now).items) }
+    ensures memory { IfErr result (λ fault. fault ≡ Fault.OutOfMemory) }
+{
+    let mut items = Vec::new(alloc);
+    let mut rest = Bytes::new(bytes);
+    while !rest.is_empty() {
+        let Ok(entry) = take_module(&mut rest) else {
+            return Ok(Reading {
+                items,
+                fault: Some(CUT),
+            });
+        };
+        let name = copy_name(alloc, entry.name)?;
+        streams.push(entry.stream)?;
+        items.push(Module { name })?;
+    }
+    Ok(Reading { items, fault: None })
+}
+
+// The next module.
+#[tactic(auto, using(crate::proofs::ModuleLemmas::no_front), unfolding(crate::specs::ModuleList::first_module))]
+fn take_module<'a>(rest: &mut Bytes<'a>) -> Result<ModuleEntry<'a>, StreamError>
+    ensures answer { IfOk result (λ entry. first_module rest.old
+        ≡ Some (record { name = entry.name.now; stream = entry.stream; next = rest.new })) }
+    ensures refused { OnErr result (first_module rest.old ≡ None) }
+{
+    let whole = rest.len();
+    let front = rest.take(FRONT)?;
+    let name = rest.text()?;
+    rest.text()?;
+    rest.align(whole);
+    Ok(ModuleEntry {
+        name,
+        stream: module_stream(front),
+    })
+}
+
+fn module_stream(front: &[u8]) -> ModuleStream
+    requires { length front.now ≡ 64 }
+    ensures { result ≡ module_stream front.now }
+{
+    ModuleStream {
+        stream: u16_at(front, 34),
+        symbols: u32_at(front, 36),
+        old_lines: u32_at(front, 40),
+        lines: u32_at(front, 44),
+    }
+}
