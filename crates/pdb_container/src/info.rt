@@ -1,5 +1,7 @@
 //! The info stream: the version, the named streams, and what the file lists that it has.
 
+ghost use Rattle.std.specs.Prelude.{◌≡◌, IfErr};
+
 use pdb_msf::faults::{Fault, NO_STREAM, part_or_fault};
 use pdb_msf::{Bytes, Container, StreamBytes};
 use pdb_records::StreamError;
@@ -44,7 +46,9 @@ pub struct InfoStream<'a> {
 
 impl<'a> InfoStream<'a> {
     /// The info stream of a file.
-    pub fn read(alloc: Global, container: &Container<'a>) -> Result<Self, Fault> {
+    pub fn read(alloc: Global, container: &Container<'a>) -> Result<Self, Fault>
+        ensures { IfErr result (λ fault. fault ≡ Fault.OutOfMemory) }
+    {
         Ok(InfoStream {
             bytes: part_or_fault(container.stream(alloc, INFO))?,
         })

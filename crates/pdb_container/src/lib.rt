@@ -6,6 +6,7 @@
 #![tactic(auto)]
 
 mod aggregates;
+mod debug_records;
 mod identity;
 mod ids;
 mod info;

@@ -3,6 +3,8 @@
 //! Further chunks of a function and the jumps of incremental links: each jump, and each chunk that the list has
 //! elsewhere than behind its function, becomes such a procedure.
 
+ghost use Rattle.std.specs.Prelude.{◌≡◌, IfErr};
+
 use pdb_msf::copy_name;
 use pdb_msf::faults::Fault;
 use pdb_records::{
@@ -53,7 +55,9 @@ pub fn name_unnamed_code(
     modules: &mut [ModuleInfoResult],
     global_symbols: &Result<SymbolTable, StreamError>,
     room: usize,
-) -> Result<(), Fault> {
+) -> Result<(), Fault>
+    ensures { IfErr result (λ fault. fault ≡ Fault.OutOfMemory) }
+{
     let list = list_unnamed_code(alloc, modules)?;
     if list.is_empty() {
         return Ok(());
@@ -144,7 +148,9 @@ fn procedures_of<'m>(
     modules: &'m [ModuleInfoResult],
     global_symbols: &'m Result<SymbolTable, StreamError>,
     room: usize,
-) -> Result<Vec<(SymbolPlace, ProcedureSymbol)>, Fault> {
+) -> Result<Vec<(SymbolPlace, ProcedureSymbol)>, Fault>
+    ensures { IfErr result (λ fault. fault ≡ Fault.OutOfMemory) }
+{
     let functions = functions(alloc, modules, global_symbols)?;
     let mut procedures = Vec::new(alloc);
     let mut left = room;
@@ -169,7 +175,9 @@ fn procedure(
     code: UnnamedCode,
     name: &RawString,
     type_index: TypeIndex,
-) -> Result<ProcedureSymbol, Fault> {
+) -> Result<ProcedureSymbol, Fault>
+    ensures { IfErr result (λ fault. fault ≡ Fault.OutOfMemory) }
+{
     Ok(ProcedureSymbol {
         offset: code.offset,
         len: code.len,

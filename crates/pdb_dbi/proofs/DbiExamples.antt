@@ -1,6 +1,6 @@
 -- Worked examples of the stream of debug information: bytes written by hand, and what they mean.
-use Rattle.std.proofs.Common.{◌≡◌, ℕ, List, [], ◌∷◌, ◌++◌, take, drop, length, refl}
-use Rattle.std.specs.Prelude.{Some, None, Ok, Err, true, false, codes}
+use Rattle.std.proofs.Common.{◌≡◌, ℕ, List, [], ◌∷◌, ◌++◌, take, drop, refl}
+use Rattle.std.specs.Prelude.{Some, None, Ok, Err, true, codes}
 use Rattle.pdb_records.specs.Readings.{Read}
 use Rattle.pdb_records.specs.declared.debug_information.MachineType.TheVariants as kind
 use Rattle.pdb_records.specs.declared.debug_information.SectionContribution.{SectionContribution}

@@ -1,6 +1,5 @@
 -- Section headers, one by one.
-use Rattle.std.proofs.Common.{◌≡◌, ◌∙◌, ℕ, ◌<◌, List, length, Ok, Err, ap, arith}
-use Rattle.pdb_records.specs.Readings.{Read}
+use Rattle.std.proofs.Common.{◌≡◌, ℕ, ◌<◌, List, length, Ok, Err, ap, arith}
 use Rattle.pdb_records.specs.declared.addresses.ImageSectionHeader.{ImageSectionHeader}
 use Rattle.pdb_msf.specs.declared.faults.TheConstants.{CUT}
 use Rattle.pdb_dbi.proofs.EntryLemmas.{all_read, cut_read}

@@ -1,5 +1,5 @@
 -- Section contributions: which bytes of the sections came from which module.
-use Rattle.std.specs.Prelude.{ℕ, ◌==◌, nat_lt, List, take, drop, length, Option, Some, None, if◌then◌else◌}
+use Rattle.std.specs.Prelude.{ℕ, ◌==◌, nat_lt, List, drop, length, Option, Some, None, if◌then◌else◌}
 use Rattle.pdb_records.specs.Readings.{Read}
 use Rattle.pdb_records.specs.declared.debug_information.SectionContribution.{SectionContribution}
 use Rattle.pdb_msf.specs.declared.faults.TheConstants.{CUT, UNKNOWN_VERSION}

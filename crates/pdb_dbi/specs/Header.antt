@@ -6,7 +6,7 @@ use Rattle.pdb_records.specs.declared.debug_information.MachineType.TheVariants 
 use Rattle.pdb_msf.specs.declared.faults.TheConstants.{CUT, UNKNOWN_VERSION}
 use Rattle.pdb_msf.specs.NumberLists.{number, two_byte_number}
 use Rattle.pdb_dbi.specs.declared.header.DebugHeader.{DebugHeader}
-use Rattle.pdb_dbi.specs.Substreams.{SubstreamBytes, substream}
+use Rattle.pdb_dbi.specs.Substreams.{substream}
 
 -- VersionSignature, the header's first number: -1 in four bytes
 abbrev pub version_signature : ℕ

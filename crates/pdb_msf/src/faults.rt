@@ -1,6 +1,6 @@
 //! Why a part of a file could not be read, by number, and the two ways in which reading a part ends early.
 
-ghost use Rattle.std.specs.Prelude.{◌≡◌};
+ghost use Rattle.std.specs.Prelude.{◌≡◌, IfErr};
 ghost use Rattle.pdb_msf.specs.Faults.{part_of};
 
 use pdb_records::StreamError;
@@ -89,7 +89,8 @@ impl<T: Drop> From<AllocFailed<T>> for Fault {
 
 /// The part, or why it alone is broken.
 pub fn part_or_fault<T>(outcome: Result<T, Fault>) -> Result<Result<T, StreamError>, Fault>
-    ensures { result ≡ part_of outcome }
+    ensures answer { result ≡ part_of outcome }
+    ensures memory { IfErr result (λ fault. fault ≡ Fault.OutOfMemory) }
 {
     match outcome {
         Ok(part) => Ok(Ok(part)),
@@ -99,7 +100,9 @@ pub fn part_or_fault<T>(outcome: Result<T, Fault>) -> Result<Result<T, StreamErr
 }
 
 /// Why the reading of a list ended early, if it did.
-pub fn early_end(outcome: Result<(), Fault>) -> Result<Option<StreamError>, Fault> {
+pub fn early_end(outcome: Result<(), Fault>) -> Result<Option<StreamError>, Fault>
+    ensures { IfErr result (λ fault. fault ≡ Fault.OutOfMemory) }
+{
     match outcome {
         Ok(()) => Ok(None),
         Err(Fault::Broken(error)) => Ok(Some(error)),

@@ -1,5 +1,5 @@
 -- One contribution more.
-use Rattle.std.proofs.Common.{◌∙◌, ◌<◌, ap, arith}
+use Rattle.std.proofs.Common.{◌<◌, arith}
 use Rattle.pdb_dbi.proofs.EntryLemmas.{one_entry_more}
 use Rattle.pdb_dbi.proofs.contributions.read_entries.Goals as goal
 use Rattle.pdb_dbi.specs.Contributions.{contribution}

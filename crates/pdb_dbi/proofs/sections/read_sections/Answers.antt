@@ -1,5 +1,5 @@
 -- One section header more.
-use Rattle.std.proofs.Common.{◌≡◌, ◌-◌, ◌<◌, ℕ, length, length-drop, ◌∙◌, ap, arith}
+use Rattle.std.proofs.Common.{◌≡◌, ◌-◌, ◌<◌, length, length-drop, ◌∙◌, ap, arith}
 use Rattle.pdb_dbi.proofs.EntryLemmas.{one_entry_more}
 use Rattle.pdb_dbi.proofs.sections.read_sections.Goals as goal
 use Rattle.pdb_dbi.specs.Sections.{section_header}

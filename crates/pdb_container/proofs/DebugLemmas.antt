@@ -1,0 +1,48 @@
+-- What a file says of its program, by whether its stream of debug information has a header.
+use Rattle.std.proofs.Common.{◌≡◌, Ok, Err, ap}
+use Rattle.pdb_records.specs.declared.error.StreamError.{StreamError}
+use Rattle.pdb_msf.specs.Faults.{◌>>=◌}
+use Rattle.pdb_msf.specs.Msf.{Msf}
+use Rattle.pdb_dbi.specs.declared.header.DebugHeader.{DebugHeader}
+use Rattle.pdb_container.specs.DebugRecords.{address_map, address_map_of, debug_header, debug_information}
+use Rattle.pdb_container.specs.DebugRecords.{information_of, sections, sections_of}
+
+-- without a header there is no debug information
+pub information_without : (msf : Msf) (error : StreamError) → debug_header msf ≡ Err error
+    → debug_information msf ≡ Err error
+unfolding debug_information
+information_without msf error is = ap (λ front. front >>= (λ h. Ok (information_of h))) is
+
+-- nor are there sections
+pub sections_without : (msf : Msf) (error : StreamError) → debug_header msf ≡ Err error → sections msf ≡ Err error
+unfolding sections
+sections_without msf error is = ap (λ front. front >>= sections_of msf) is
+
+-- nor an address map
+pub address_map_without : (msf : Msf) (error : StreamError) → debug_header msf ≡ Err error
+    → address_map msf ≡ Err error
+unfolding address_map
+address_map_without msf error is = ap (λ front. front >>= address_map_of msf) is
+
+-- with a header there is what its substreams say
+pub information_with : (msf : Msf) (front : DebugHeader) → debug_header msf ≡ Ok front
+    → debug_information msf ≡ Ok (information_of front)
+unfolding debug_information
+information_with msf front is = ap (λ found. found >>= (λ h. Ok (information_of h))) is
+
+-- the sections are those of the header
+pub sections_with : (msf : Msf) (front : DebugHeader) → debug_header msf ≡ Ok front
+    → sections msf ≡ sections_of msf front
+unfolding sections
+sections_with msf front is = ap (λ found. found >>= sections_of msf) is
+
+-- the address map is that of the header
+pub address_map_with : (msf : Msf) (front : DebugHeader) → debug_header msf ≡ Ok front
+    → address_map msf ≡ address_map_of msf front
+unfolding address_map
+address_map_with msf front is = ap (λ found. found >>= address_map_of msf) is
+
+-- what is known without a header, and with one
+pub ruleset without_header = (information_without, sections_without, address_map_without)
+
+pub ruleset with_header = (information_with, sections_with, address_map_with)

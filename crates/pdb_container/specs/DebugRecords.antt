@@ -1,0 +1,83 @@
+-- What a file says of its program in the stream of debug information and in the streams that this one names.
+use Rattle.std.specs.Prelude.{ℕ, ◌==◌, Bool, false, not, List, Option, Some, None, Result, Ok, Err, if◌then◌else◌}
+use Rattle.pdb_records.specs.declared.error.StreamError.{StreamError}
+use Rattle.pdb_records.specs.declared.addresses.AddressRange.{AddressRange}
+use Rattle.pdb_records.specs.declared.addresses.ImageSectionHeader.{ImageSectionHeader}
+use Rattle.pdb_records.specs.declared.debug_information.DebugInformation.{DebugInformation}
+use Rattle.pdb_msf.specs.declared.container_fault.ContainerFault.{ContainerFault}
+use Rattle.pdb_msf.specs.declared.faults.TheConstants.{NO_STREAM, REARRANGED}
+use Rattle.pdb_msf.specs.Faults.{◌>>=◌}
+use Rattle.pdb_msf.specs.Msf.{Msf, container, size_of, stream_of}
+use Rattle.pdb_dbi.specs.declared.header.DebugHeader.{DebugHeader}
+use Rattle.pdb_dbi.specs.Contributions.{contributions}
+use Rattle.pdb_dbi.specs.Header.{header}
+use Rattle.pdb_dbi.specs.ModuleList.{modules}
+use Rattle.pdb_dbi.specs.OptionalStreams.{optional_stream}
+use Rattle.pdb_dbi.specs.Sections.{loaded_at, section_headers}
+
+-- whether this is the size of a stream without bytes
+abbrev pub is_no_size : Result ℕ StreamError → Bool
+is_no_size (Ok size) = size == 0
+is_no_size (Err fault) = false
+
+-- the bytes of the stream of debug information, which has the number 3: one without bytes is none
+unfoldable pub debug_stream : Msf → Result (List ℕ) StreamError
+debug_stream msf = if is_no_size (size_of msf 3) then Err NO_STREAM else stream_of msf 3
+
+-- the header of the debug information
+unfoldable pub debug_header : Msf → Result DebugHeader StreamError
+debug_header msf = debug_stream msf >>= header
+
+-- what the substreams behind a header say: the machine, the modules, and which bytes came from which module
+abbrev pub information_of : DebugHeader → DebugInformation
+information_of front = record {
+  machine_type = Ok front.machine_type;
+  modules = modules front.modules;
+  section_contributions = contributions front.section_contributions;
+}
+
+-- the section headers of a stream, where it is named
+abbrev pub headers_in : Msf → Option ℕ → Result (Option (List ImageSectionHeader)) StreamError
+headers_in msf None = Ok None
+headers_in msf (Some number) = do
+  stream ← stream_of msf number
+  headers ← section_headers stream
+  Ok (Some headers)
+
+-- the section headers stand in the stream at the position 5 of the optional debug header
+unfoldable pub sections_of : Msf → DebugHeader → Result (Option (List ImageSectionHeader)) StreamError
+sections_of msf front = headers_in msf (optional_stream front.optional_streams.bytes 5)
+
+-- addresses are rearranged by a stream that is named, unless it is there and has no bytes
+abbrev pub rearranges : Msf → Option ℕ → Bool
+rearranges msf None = false
+rearranges msf (Some number) = not (is_no_size (size_of msf number))
+
+-- where sections are loaded, if there are section headers
+abbrev pub addresses_of : Option (List ImageSectionHeader) → Result (List AddressRange) StreamError
+addresses_of None = Err NO_STREAM
+addresses_of (Some headers) = Ok (loaded_at headers)
+
+-- the address map is that of the sections; it isn't known where addresses are rearranged, by the streams at the
+-- positions 3 and 4 of the optional debug header
+unfoldable pub address_map_of : Msf → DebugHeader → Result (List AddressRange) StreamError
+address_map_of msf front =
+    if rearranges msf (optional_stream front.optional_streams.bytes 3) then Err REARRANGED else
+    if rearranges msf (optional_stream front.optional_streams.bytes 4) then Err REARRANGED else
+    (sections_of msf front >>= addresses_of)
+
+-- the debug information of a container
+unfoldable pub debug_information : Msf → Result DebugInformation StreamError
+debug_information msf = debug_header msf >>= λ front. Ok (information_of front)
+
+-- the sections of a container
+unfoldable pub sections : Msf → Result (Option (List ImageSectionHeader)) StreamError
+sections msf = debug_header msf >>= sections_of msf
+
+-- the address map of a container
+unfoldable pub address_map : Msf → Result (List AddressRange) StreamError
+address_map msf = debug_header msf >>= address_map_of msf
+
+-- a part of a file's records: that of the container which the file is, or why it is none
+abbrev pub of_file : {A : Type 0} → (Msf → A) → List ℕ → Result A ContainerFault
+of_file part file = container file >>= λ msf. Ok (part msf)

@@ -1,0 +1,285 @@
+//! What the stream of debug information leads to: modules, contributions, sections, addresses, symbols, their streams.
+
+ghost use Rattle.std.specs.Prelude.{◌≡◌, Ok, Err, IfErr, IfOk, option_map};
+ghost use Rattle.pdb_container.specs.DebugRecords.{address_map, address_map_of, debug_header, debug_information};
+ghost use Rattle.pdb_container.specs.DebugRecords.{debug_stream};
+ghost use Rattle.pdb_container.specs.DebugRecords.{information_of, rearranges, sections, sections_of};
+ghost use Rattle.pdb_msf.specs.Faults.{Gives};
+ghost use Rattle.pdb_msf.specs.Streams.{bytes_of};
+ghost use Rattle.pdb_records.specs.Sections.{listed};
+
+use crate::modules::read_module;
+use crate::symbols::read_global_symbols;
+use crate::unnamed_code::{ModuleInfoResult, name_unnamed_code};
+use pdb_dbi::{
+    DebugHeader, ModuleStream, map_addresses, optional_stream, read_contributions, read_header,
+    read_modules, read_sections,
+};
+use pdb_msf::faults::{Fault, NO_STREAM, REARRANGED, TOO_LONG, part_or_fault};
+use pdb_msf::{Container, StreamBytes};
+use pdb_records::{
+    AddressMap, DebugInformation, ImageSectionHeader, ModuleInfo, StreamError, SymbolTable,
+};
+use std::alloc::Global;
+
+/// The number of the stream of debug information.
+const DEBUG: u32 = 3;
+
+/// The number that stands for no stream.
+const NO_NUMBER: u16 = 0xffff;
+
+/// Where the streams are named that not every file has: two for addresses that were rearranged, and the
+/// headers of the sections.
+const REARRANGED_TO: usize = 3;
+
+const REARRANGED_FROM: usize = 4;
+
+const SECTIONS: usize = 5;
+
+/// What stands in the stream of debug information and in the streams that it names.
+#[derive(Drop)]
+pub struct DebugRecords {
+    pub debug_information: Result<DebugInformation, StreamError>,
+    pub sections: Result<Option<Vec<ImageSectionHeader>>, StreamError>,
+    pub address_map: Result<AddressMap, StreamError>,
+    pub global_symbols: Result<SymbolTable, StreamError>,
+    pub module_infos: Vec<ModuleInfoResult>,
+}
+
+/// What the stream of debug information leads to.
+#[tactic(auto, unfolding(crate::specs::DebugRecords::debug_header))]
+pub fn debug_records(alloc: Global, container: &Container<'_>) -> Result<DebugRecords, Fault>
+    ensures information { IfOk result (λ read. read.debug_information ≡ debug_information container.now) }
+    ensures sections { IfOk result (λ read. listed read.sections ≡ sections container.now) }
+    ensures address_map { IfOk result (λ read. read.address_map ≡ address_map container.now) }
+    ensures memory { IfErr result (λ fault. fault ≡ Fault.OutOfMemory) }
+{
+    match part_or_fault(debug_stream(alloc, container))? {
+        Ok(stream) => records_of_stream(alloc, container, stream.as_slice()),
+        Err(error) => Ok(without_debug_stream(alloc, container, error)),
+    }
+}
+
+// What the bytes of that stream lead to.
+#[tactic(auto, unfolding(crate::specs::DebugRecords::debug_header))]
+fn records_of_stream(
+    alloc: Global,
+    container: &Container<'_>,
+    stream: &[u8],
+) -> Result<DebugRecords, Fault>
+    requires { debug_stream container.now ≡ Ok stream.now }
+    ensures information { IfOk result (λ read. read.debug_information ≡ debug_information container.now) }
+    ensures sections { IfOk result (λ read. listed read.sections ≡ sections container.now) }
+    ensures address_map { IfOk result (λ read. read.address_map ≡ address_map container.now) }
+    ensures memory { IfErr result (λ fault. fault ≡ Fault.OutOfMemory) }
+{
+    match read_header(stream) {
+        Ok(header) => records_of_header(alloc, container, &header),
+        Err(error) => Ok(without_debug_stream(alloc, container, error)),
+    }
+}
+
+// The stream of debug information, unless it has no bytes.
+#[tactic(auto, unfolding(crate::specs::DebugRecords::debug_stream))]
+fn debug_stream<'a>(alloc: Global, container: &Container<'a>) -> Result<StreamBytes<'a>, Fault>
+    ensures { Gives bytes_of result (debug_stream container.now) }
+{
+    if container.stream_size(DEBUG) == Some(0) {
+        return Err(Fault::Broken(NO_STREAM));
+    }
+    container.stream(alloc, DEBUG)
+}
+
+// All that the stream of debug information leads to fails with it.
+#[tactic(auto, using(crate::proofs::DebugLemmas::without_header))]
+fn without_debug_stream(
+    alloc: Global,
+    container: &Container<'_>,
+    error: StreamError,
+) -> DebugRecords
+    requires { debug_header container.now ≡ Err error }
+    ensures information { result.debug_information ≡ debug_information container.now }
+    ensures sections { listed result.sections ≡ sections container.now }
+    ensures address_map { result.address_map ≡ address_map container.now }
+{
+    DebugRecords {
+        debug_information: Err(error),
+        sections: Err(error),
+        address_map: Err(error),
+        global_symbols: Err(error),
+        module_infos: Vec::new(alloc),
+    }
+}
+
+#[tactic(auto, using(crate::proofs::DebugLemmas::with_header))]
+fn records_of_header(
+    alloc: Global,
+    container: &Container<'_>,
+    header: &DebugHeader<'_>,
+) -> Result<DebugRecords, Fault>
+    requires { debug_header container.now ≡ Ok header.now }
+    ensures information { IfOk result (λ read. read.debug_information ≡ debug_information container.now) }
+    ensures sections { IfOk result (λ read. listed read.sections ≡ sections container.now) }
+    ensures address_map { IfOk result (λ read. read.address_map ≡ address_map container.now) }
+    ensures memory { IfErr result (λ fault. fault ≡ Fault.OutOfMemory) }
+{
+    let mut streams = Vec::new(alloc);
+    let debug_information = debug_information(alloc, header, &mut streams)?;
+    let sections = sections(alloc, container, header)?;
+    let address_map = address_map(alloc, container, header, &sections)?;
+    let global_symbols = part_or_fault(global_symbols(alloc, container, header.global_symbols))?;
+    let mut module_infos = module_infos(alloc, container, &streams)?;
+    name_unnamed_code(
+        alloc,
+        &mut module_infos,
+        &global_symbols,
+        container.file_length(),
+    )?;
+    Ok(DebugRecords {
+        debug_information: Ok(debug_information),
+        sections,
+        address_map,
+        global_symbols,
+        module_infos,
+    })
+}
+
+fn debug_information(
+    alloc: Global,
+    header: &DebugHeader<'_>,
+    streams: &mut Vec<ModuleStream>,
+) -> Result<DebugInformation, Fault>
+    ensures answer { IfOk result (λ read. read ≡ information_of header.now) }
+    ensures memory { IfErr result (λ fault. fault ≡ Fault.OutOfMemory) }
+{
+    let modules = read_modules(alloc, &header.modules, streams)?;
+    let section_contributions = read_contributions(alloc, &header.section_contributions)?;
+    Ok(DebugInformation {
+        machine_type: Ok(header.machine_type),
+        modules,
+        section_contributions,
+    })
+}
+
+// The section headers, or why they can't be read.
+fn sections(
+    alloc: Global,
+    container: &Container<'_>,
+    header: &DebugHeader<'_>,
+) -> Result<Result<Option<Vec<ImageSectionHeader>>, StreamError>, Fault>
+    ensures answer { IfOk result (λ read. listed read ≡ sections_of container.now header.now) }
+    ensures memory { IfErr result (λ fault. fault ≡ Fault.OutOfMemory) }
+{
+    part_or_fault(section_headers(alloc, container, header))
+}
+
+#[tactic(auto, unfolding(crate::specs::DebugRecords::sections_of))]
+fn section_headers(
+    alloc: Global,
+    container: &Container<'_>,
+    header: &DebugHeader<'_>,
+) -> Result<Option<Vec<ImageSectionHeader>>, Fault>
+    ensures { Gives (option_map (λ headers. headers.items)) result (sections_of container.now header.now) }
+{
+    let Some(number) = optional_stream(header.optional_streams.bytes, SECTIONS) else {
+        return Ok(None);
+    };
+    let stream = container.stream(alloc, u32::from(number))?;
+    Ok(Some(read_sections(alloc, stream.as_slice())?))
+}
+
+// Where the sections are loaded, or why that isn't known.
+fn address_map(
+    alloc: Global,
+    container: &Container<'_>,
+    header: &DebugHeader<'_>,
+    sections: &Result<Option<Vec<ImageSectionHeader>>, StreamError>,
+) -> Result<Result<AddressMap, StreamError>, Fault>
+    requires { listed sections.now ≡ sections_of container.now header.now }
+    ensures answer { IfOk result (λ read. read ≡ address_map_of container.now header.now) }
+    ensures memory { IfErr result (λ fault. fault ≡ Fault.OutOfMemory) }
+{
+    part_or_fault(mapped_addresses(alloc, container, header, sections))
+}
+
+// Where the sections are loaded. That isn't known if addresses were rearranged after linking.
+#[tactic(auto, unfolding(crate::specs::DebugRecords::address_map_of))]
+fn mapped_addresses(
+    alloc: Global,
+    container: &Container<'_>,
+    header: &DebugHeader<'_>,
+    sections: &Result<Option<Vec<ImageSectionHeader>>, StreamError>,
+) -> Result<AddressMap, Fault>
+    requires { listed sections.now ≡ sections_of container.now header.now }
+    ensures { Gives (λ mapped. mapped) result (address_map_of container.now header.now) }
+{
+    let numbers = header.optional_streams.bytes;
+    if is_rearranged(container, optional_stream(numbers, REARRANGED_TO))
+        || is_rearranged(container, optional_stream(numbers, REARRANGED_FROM))
+    {
+        return Err(Fault::Broken(REARRANGED));
+    }
+    match sections {
+        Ok(Some(sections)) => map_addresses(alloc, sections),
+        Ok(None) => Err(Fault::Broken(NO_STREAM)),
+        Err(error) => Err(Fault::Broken(*error)),
+    }
+}
+
+// Whether a stream says how addresses were rearranged: one that is there and empty says nothing.
+fn is_rearranged(container: &Container<'_>, number: Option<u16>) -> bool
+    ensures { result ≡ rearranges container.now number }
+{
+    match number {
+        Some(number) => container.stream_size(u32::from(number)) != Some(0),
+        None => false,
+    }
+}
+
+fn global_symbols(
+    alloc: Global,
+    container: &Container<'_>,
+    number: u16,
+) -> Result<SymbolTable, Fault> {
+    if number == NO_NUMBER {
+        return Err(Fault::Broken(NO_STREAM));
+    }
+    let stream = container.stream(alloc, u32::from(number))?;
+    read_global_symbols(alloc, stream.as_slice())
+}
+
+fn module_infos(
+    alloc: Global,
+    container: &Container<'_>,
+    streams: &[ModuleStream],
+) -> Result<Vec<ModuleInfoResult>, Fault>
+    ensures { IfErr result (λ fault. fault ≡ Fault.OutOfMemory) }
+{
+    let mut infos = Vec::with_capacity(alloc, streams.len())?;
+    let mut left = container.file_length();
+    for module in streams {
+        infos.push(part_or_fault(module_info(alloc, container, *module, &mut left))?)?;
+    }
+    Ok(infos)
+}
+
+// What is known of a module, where it has a stream. Of the streams of all modules no more bytes are read than the file
+// has: so many are left.
+fn module_info(
+    alloc: Global,
+    container: &Container<'_>,
+    module: ModuleStream,
+    left: &mut usize,
+) -> Result<Option<ModuleInfo>, Fault> {
+    if module.stream == NO_NUMBER {
+        return Ok(None);
+    }
+    let number = u32::from(module.stream);
+    let size = container.stream_size(number).unwrap_or(0) as usize;
+    if *left < size {
+        return Err(Fault::Broken(TOO_LONG));
+    }
+    *left -= size;
+    let stream = container.stream(alloc, number)?;
+    Ok(Some(read_module(alloc, module, stream.as_slice())?))
+}
