@@ -1,1 +1,2 @@
+mod DebugExamples
 pub mod DebugLemmas
