@@ -1,1 +1,2 @@
 pub mod DebugRecords
+pub mod Identity

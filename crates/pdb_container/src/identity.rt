@@ -1,5 +1,10 @@
 //! Which build a PDB file is of: its GUID, its age, when it was made, and for which processor.
 
+ghost use Rattle.std.specs.Prelude.{◌≡◌, IfErr, IfOk};
+ghost use Rattle.pdb_container.specs.DebugRecords.{of_file};
+ghost use Rattle.pdb_container.specs.Identity.{debug_build, identity, identity_by};
+ghost use Rattle.pdb_msf.specs.Faults.{Opens};
+
 use pdb_dbi::read_header;
 use pdb_identity::{DebugId, InfoFront, Machine};
 use pdb_msf::faults::{Fault, part_or_fault};
@@ -22,12 +27,18 @@ pub struct PdbIdentity {
 }
 
 /// Which build a PDB file is of. Nothing where its info stream can't be read as far as the GUID.
-pub fn read_identity(alloc: Global, bytes: &[u8]) -> Result<Option<PdbIdentity>, ContainerFault> {
+pub fn read_identity(alloc: Global, bytes: &[u8]) -> Result<Option<PdbIdentity>, ContainerFault>
+    ensures { Opens (λ found. found) result (of_file identity bytes.now) }
+{
     let container = Container::open(alloc, bytes)?;
     Ok(identity_in(alloc, &container)?)
 }
 
-fn identity_in(alloc: Global, container: &Container<'_>) -> Result<Option<PdbIdentity>, Fault> {
+#[tactic(auto, unfolding(crate::specs::Identity::identity))]
+fn identity_in(alloc: Global, container: &Container<'_>) -> Result<Option<PdbIdentity>, Fault>
+    ensures answer { IfOk result (λ found. found ≡ identity container.now) }
+    ensures memory { IfErr result (λ fault. fault ≡ Fault.OutOfMemory) }
+{
     let Ok(info) = part_or_fault(container.stream(alloc, INFO))? else {
         return Ok(None);
     };
@@ -35,14 +46,21 @@ fn identity_in(alloc: Global, container: &Container<'_>) -> Result<Option<PdbIde
         return Ok(None);
     };
     let build = debug_build(alloc, container)?;
-    Ok(Some(PdbIdentity {
+    Ok(Some(identity_by(build, front)))
+}
+
+// The identity by what the info stream begins with, and what the debug information says.
+fn identity_by(build: Option<DebugBuild>, front: InfoFront) -> PdbIdentity
+    ensures { result ≡ identity_by build front }
+{
+    PdbIdentity {
         debug_id: DebugId {
             guid: front.guid,
             age: build.map_or(front.age, |build| build.age),
         },
         time_stamp: front.time_stamp,
         machine: build.map(|build| Machine(build.machine)),
-    }))
+    }
 }
 
 /// What the header of the debug information says of the build.
@@ -52,7 +70,11 @@ struct DebugBuild {
     machine: u16,
 }
 
-fn debug_build(alloc: Global, container: &Container<'_>) -> Result<Option<DebugBuild>, Fault> {
+#[tactic(auto, unfolding(crate::specs::Identity::debug_build))]
+fn debug_build(alloc: Global, container: &Container<'_>) -> Result<Option<DebugBuild>, Fault>
+    ensures answer { IfOk result (λ build. build ≡ debug_build container.now) }
+    ensures memory { IfErr result (λ fault. fault ≡ Fault.OutOfMemory) }
+{
     let Ok(stream) = part_or_fault(container.stream(alloc, DEBUG))? else {
         return Ok(None);
     };
