@@ -102,6 +102,9 @@ unfolding module_list
 cut_module [] some is = absurd (omega arith)
 cut_module (x ∷ xs) some is = cut_up_to (length xs) (x ∷ xs) some is
 
+-- where the list ends
+pub ruleset ends = (no_modules, cut_module)
+
 -- with the next module read, what is made of the modules is still what was made of those that were read and what is
 -- left
 pub one_module_more : {B : Type 0} (make : ListedModule → B) (bytes : List ℕ) (first : ListedModule)

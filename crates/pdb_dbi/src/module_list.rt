@@ -48,6 +48,7 @@ pub fn read_modules(
 }
 
 // The list that these bytes are, up to the first module that they end in.
+#[tactic(auto, using(crate::proofs::ModuleLemmas::ends))]
 fn read_list(
     alloc: Global,
     bytes: &[u8],
@@ -85,13 +86,11 @@ fn take_module<'a>(rest: &mut Bytes<'a>) -> Result<ModuleEntry<'a>, StreamError>
 {
     let whole = rest.len();
     let front = rest.take(FRONT)?;
+    let stream = module_stream(front);
     let name = rest.text()?;
     rest.text()?;
     rest.align(whole);
-    Ok(ModuleEntry {
-        name,
-        stream: module_stream(front),
-    })
+    Ok(ModuleEntry { name, stream })
 }
 
 fn module_stream(front: &[u8]) -> ModuleStream

@@ -1,5 +1,5 @@
 -- One module more, and the list's end.
-use Rattle.std.proofs.Common.{◌≡◌, ◌∙◌, ◌<◌, ◌++◌, ◌∷◌, List, [], ℕ, length, Some, None, sym, ap, arith}
+use Rattle.std.proofs.Common.{◌≡◌, ◌∙◌, ◌<◌, ◌++◌, ◌∷◌, List, [], ℕ, length, Some, None, ap, arith}
 use Rattle.std.proofs.lemmas.Grind.{common_steps}
 use Rattle.pdb_records.specs.declared.debug_information.Module.{Module}
 use Rattle.pdb_msf.specs.declared.faults.TheConstants.{CUT}
@@ -39,12 +39,6 @@ returns-in_default-clause-items c =
     made_all (λ listed. record { name = listed.name }) (Some CUT) (module_list c.loop-rest.rest) _ _
     (cut_module c.loop-rest.rest some c.in_default.ensures.refused) c.loop-rest.invariant.names
 
-pub returns-in_default-clause-fault : goal.returns-in_default-clause-fault
-returns-in_default-clause-fault c =
-    let some : 0 < length c.loop-rest.rest = grind (arith, common_steps) in
-    sym (c.loop-rest.invariant.fault
-    ∙ ap (λ r. r.fault) (cut_module c.loop-rest.rest some c.in_default.ensures.refused))
-
 pub returns-in_default-clause-state : goal.returns-in_default-clause-state
 returns-in_default-clause-state c =
     let some : 0 < length c.loop-rest.rest = grind (arith, common_steps) in
@@ -56,11 +50,6 @@ returns-clause-items c =
     let none : length c.loop-rest.rest ≡ 0 = grind (arith, common_steps) in
     made_all (λ listed. record { name = listed.name }) None (module_list c.loop-rest.rest) _ _
     (no_modules c.loop-rest.rest none) c.loop-rest.invariant.names
-
-pub returns-clause-fault : goal.returns-clause-fault
-returns-clause-fault c =
-    let none : length c.loop-rest.rest ≡ 0 = grind (arith, common_steps) in
-    sym (c.loop-rest.invariant.fault ∙ ap (λ r. r.fault) (no_modules c.loop-rest.rest none))
 
 pub returns-clause-state : goal.returns-clause-state
 returns-clause-state c =

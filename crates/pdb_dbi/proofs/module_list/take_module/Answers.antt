@@ -7,4 +7,4 @@ returns-clause-answer c =
     taken_module c.args.rest.now _ _ _ _ _ _ _ _ _ c.len-whole.ensures c.in_ok-front.ensures.there
     c.in_ok-front.ensures.answer c.in_ok-front.ensures.state c.in_ok-name.ensures.answer c.in_ok-name.ensures.within
     c.in_ok-name.ensures.state c.in_ok-text.ensures.answer c.in_ok-text.ensures.within c.in_ok-text.ensures.state
-    c.align.ensures c.module_stream.ensures
+    c.align.ensures c.module_stream-stream.ensures
