@@ -16,8 +16,8 @@ import sys
 import tempfile
 
 ROOT = pathlib.Path(__file__).resolve().parents[2]
-SEGMENTS = ("pdb_ranges/src/segments.rt", "pub fn find", "ensures value { result ≡ value_at self.now x }")
-STACKS = ("pdb_inline/src/stack_table.rt", "pub fn find", "ensures stack { result.now ≡ stack_over self.now offset }")
+SEGMENTS = ("pdb_ranges/src/segments.rt", "pub fn find", "ensures answer { result ≡ value_at self.now x }")
+STACKS = ("pdb_inline/src/stack_table.rt", "pub fn find", "ensures answer { result.now ≡ stack_over self.now offset }")
 CASES = [
     (SEGMENTS, "pdb_functions", ["contribution_table::ContributionTable::search",
                                  "procedure_table::ProcedureTable::search"]),

@@ -1,17 +1,32 @@
 //! What a symbol file is made of: whatever answers where functions start and what frames an address has.
 
+ghost use Rattle.std.specs.Prelude.{◌≡◌, ℕ, Option, Ok, IfOk};
+ghost use Rattle.pdb_frames.specs.Frame.{FramesInfo};
+
 use pdb_addr2line::{Context, FunctionFrames, ModuleProvider, Result};
 
 /// Answers over a program. The same question has the same answer, as often as it is asked.
 pub trait FrameSource<'a> {
+    /// Whether this is the answer at an address.
+    ghost answers: { Self → ℕ → Option FramesInfo → Type 0 };
+
     /// Where functions start, ascending and each once.
-    fn start_addresses(&mut self) -> Result<Vec<u32>>;
+    fn start_addresses(&mut self) -> Result<Vec<u32>>
+        ensures inputs { (address : ℕ) (answer : Option FramesInfo)
+            → answers self.new address answer → answers self.old address answer };
 
     /// The functions in whose code an address lies, from inside to outside. `None` where no function is known there.
-    fn find_frames(&mut self, address: u32) -> Result<Option<FunctionFrames<'a>>>;
+    fn find_frames(&mut self, address: u32) -> Result<Option<FunctionFrames<'a>>>
+        ensures answer { IfOk result (λ found. answers self.old address found) }
+        ensures inputs { (other : ℕ) (answer : Option FramesInfo)
+            → answers self.new other answer → answers self.old other answer };
 }
 
 impl<'a, P: ModuleProvider> FrameSource<'a> for Context<'a, P> {
+    ghost use Rattle.pdb_addr2line.specs.Lookups.{frames_at};
+
+    ghost answers = { λ context address answer. frames_at P.info context.inputs address ≡ Ok answer };
+
     fn start_addresses(&mut self) -> Result<Vec<u32>> {
         Context::start_addresses(self)
     }

@@ -1,133 +1,194 @@
 //! The records of a function: where it lies, its inlined calls and its lines, made address by address.
 
-use crate::address_range::AddressRange;
-use crate::inline_records::{InlineRecords, calls_of};
-use crate::name_text::{file_name, function_name, push_name};
+ghost use Rattle.std.specs.Prelude.{◌≡◌, ◌≤◌, ◌<◌, ◌+◌, ℕ, List, [], true, Some, None, is_some, IfOk, OnOk};
+ghost use Rattle.std.specs.Prelude.{if◌then◌else◌};
+ghost use Rattle.pdb_breakpad.specs.AddressSpans.{EndBefore, content_at};
+ghost use Rattle.pdb_breakpad.specs.InlineRecords.{LevelEndsBefore, calls_at};
+ghost use Rattle.pdb_breakpad.specs.FunctionRecords.{InOrder, IsNumbered, IsOf, Reads};
+ghost use Rattle.pdb_breakpad.specs.NumberedCode.{KeepsAllNames};
+ghost use Rattle.pdb_breakpad.specs.ShownFrames.{answer_shown, own_name};
+
+use crate::address_spans::AddressSpans;
+use crate::frame_texts::{are_equal, function_name};
+use crate::inline_records::InlineRecords;
+use crate::name_text::push_name;
+use crate::numbered_code::{NumberedCode, Place, number_code};
 use crate::numbers::Numbers;
-use pdb_addr2line::{Frame, FunctionFrames};
+use pdb_addr2line::FunctionFrames;
 use std::alloc::{AllocError, Global};
 
 /// A function, as far as its addresses were gone through.
 #[derive(Drop)]
 pub(crate) struct FunctionRecords<'a> {
-    range: AddressRange,
-    /// The answer at the last address.
+    /// The answer at the last address, with its frames from outside to inside.
     found: FunctionFrames<'a>,
-    /// The addresses up to the last that have the same frames.
-    piece: AddressRange,
-    /// Of the addresses before this piece.
+    /// What is known of the code there.
+    code: NumberedCode,
+    start: u32,
+    last: u32,
     inlines: InlineRecords,
-    lines: String,
+    lines: AddressSpans<Place>,
 }
 
 impl<'a> FunctionRecords<'a> {
-    /// A function of which one address has been gone through.
-    pub(crate) fn new(alloc: Global, address: u32, found: FunctionFrames<'a>) -> Self {
-        FunctionRecords {
-            range: AddressRange::of(address),
+    #[tactic(auto, using(crate::proofs::FunctionRecordLemmas::recorded))]
+    /// A function of which one address has been gone through. The frames of the answer there stand from outside to
+    /// inside.
+    pub(crate) fn new(
+        alloc: Global,
+        numbers: &mut Numbers,
+        address: u32,
+        found: FunctionFrames<'a>,
+    ) -> Result<Self, AllocError>
+        ensures answer { IfOk result (λ records. Reads numbers.new records address (answer_shown found.entry)) }
+        ensures addresses { IfOk result (λ records. (records.start ≡ address) × (records.last ≡ address)) }
+        ensures order { IfOk result InOrder }
+        ensures numbered { IfOk result (IsNumbered numbers.new) }
+        ensures names { KeepsAllNames numbers.old numbers.new }
+    {
+        let code = number_code(alloc, numbers, &found.frames)?;
+        let mut records = FunctionRecords {
             found,
-            piece: AddressRange::of(address),
+            code,
+            start: address,
+            last: address,
             inlines: InlineRecords::new(alloc),
-            lines: String::new(alloc),
-        }
+            lines: AddressSpans::new(alloc),
+        };
+        records.add_code(address, false)?;
+        Ok(records)
     }
 
-    /// Whether an answer is of this function: it has the same start, end and name.
-    pub(crate) fn is_of(&self, found: &FunctionFrames<'_>) -> bool {
+    /// The last address.
+    pub(crate) fn last(&self) -> u32
+        ensures { result ≡ self.now.last }
+    {
+        self.last
+    }
+
+    /// Whether an answer, whose frames stand from outside to inside, is of this function: it has the same start, end
+    /// and name.
+    pub(crate) fn is_of(&self, found: &FunctionFrames<'_>) -> bool
+        ensures { result ≡ true → IsOf self.now.found found.now }
+    {
         self.found.start_rva == found.start_rva
             && self.found.end_rva == found.end_rva
             && own_name(&self.found) == own_name(found)
     }
 
-    /// Adds the next address with its answer, which is of this function.
+    #[tactic(auto, using(crate::proofs::FunctionRecordLemmas::recorded))]
+    /// Adds the next address with its answer, which is of this function. Its frames stand from outside to inside.
     pub(crate) fn add(
         &mut self,
         numbers: &mut Numbers,
         address: u32,
         found: FunctionFrames<'a>,
-    ) -> Result<(), AllocError> {
-        self.range.grow(1);
-        if are_equal(&self.found.frames, &found.frames) {
-            self.piece.grow(1);
+    ) -> Result<(), AllocError>
+        requires next { address ≡ self.old.last + 1 }
+        requires same { IsOf self.old.found found }
+        requires order { InOrder self.old }
+        requires numbered { IsNumbered numbers.old self.old }
+        ensures answer { OnOk result (Reads numbers.new self.new address (answer_shown found.entry)) }
+        ensures unchanged { OnOk result ((a : ℕ) → a ≤ self.old.last
+            → (calls_at a self.new.inlines ≡ calls_at a self.old.inlines)
+            × (content_at a self.new.lines ≡ content_at a self.old.lines)) }
+        ensures name { OnOk result (own_name self.old.found.frames ≡ own_name self.new.found.frames) }
+        ensures addresses { OnOk result ((self.new.start ≡ self.old.start) × (self.new.last ≡ address)) }
+        ensures order { OnOk result (InOrder self.new) }
+        ensures numbered { OnOk result (IsNumbered numbers.new self.new) }
+        ensures names { KeepsAllNames numbers.old numbers.new }
+    {
+        let goes_on = are_equal(&self.found.frames, &found.frames);
+        if !goes_on {
+            let alloc = *self.code.calls.allocator();
+            self.code = number_code(alloc, numbers, &found.frames)?;
+        }
+        self.found = found;
+        self.last = address;
+        self.add_code(address, goes_on)
+    }
+
+    // Adds what is known of the code at the last address, unless the function's end isn't known. A line goes on where
+    // all frames are as before.
+    #[tactic(auto, using(crate::proofs::InlineRecordLemmas::past))]
+    fn add_code(&mut self, address: u32, goes_on: bool) -> Result<(), AllocError>
+        requires inlines { (level : ℕ) → LevelEndsBefore address self.old.inlines level }
+        requires lines { EndBefore address self.old.lines }
+        ensures calls { OnOk result (calls_at address self.new.inlines
+            ≡ (if is_some self.new.found.end_rva then self.new.code.calls.items else [])) }
+        ensures place { OnOk result (content_at address self.new.lines
+            ≡ (if is_some self.new.found.end_rva then self.new.code.place else None)) }
+        ensures unchanged { OnOk result ((a : ℕ) → a < address
+            → (calls_at a self.new.inlines ≡ calls_at a self.old.inlines)
+            × (content_at a self.new.lines ≡ content_at a self.old.lines)) }
+        ensures inlines { OnOk result ((level : ℕ) → LevelEndsBefore (address + 1) self.new.inlines level) }
+        ensures lines { OnOk result (EndBefore (address + 1) self.new.lines) }
+        ensures found { self.new.found ≡ self.old.found }
+        ensures code { self.new.code ≡ self.old.code }
+        ensures addresses { (self.new.start ≡ self.old.start) × (self.new.last ≡ self.old.last) }
+    {
+        if self.found.end_rva.is_none() {
             return Ok(());
         }
-        self.end_piece(numbers)?;
-        self.piece = AddressRange::of(address);
-        self.found = found;
-        Ok(())
+        self.inlines.add(address, &self.code.calls)?;
+        let Some(place) = self.code.place else {
+            return Ok(());
+        };
+        add_line(&mut self.lines, address, place, goes_on)
     }
 
     /// The text of the records, once all addresses are gone through. A function whose end isn't known has a name alone.
-    pub(crate) fn finish(mut self, numbers: &mut Numbers) -> Result<String, AllocError> {
-        self.end_piece(numbers)?;
-        let AddressRange { start, size } = self.range;
-        let mut text = String::new(*self.lines.allocator());
+    pub(crate) fn text(&self, alloc: Global) -> Result<String, AllocError> {
+        let start = self.start;
+        let size = u64::from(self.last.saturating_sub(start)) + 1;
+        let mut text = String::new(alloc);
         match self.found.end_rva {
             Some(_) => write!(text, "FUNC {start:x} {size:x} 0 ")?,
             None => write!(text, "PUBLIC {start:x} 0 ")?,
         }
         push_name(&mut text, own_name(&self.found))?;
         self.inlines.push_records(&mut text)?;
-        text.push_str(self.lines.as_str())?;
+        push_lines(&mut text, &self.lines)?;
         Ok(text)
     }
+}
 
-    // Adds the calls and the line of the last piece.
-    fn end_piece(&mut self, numbers: &mut Numbers) -> Result<(), AllocError> {
-        if self.found.end_rva.is_none() {
-            return Ok(());
-        }
-        let alloc = *self.lines.allocator();
-        let calls = calls_of(alloc, numbers, &self.found.frames)?;
-        self.inlines.add(self.piece, &calls)?;
-        match self.found.frames.first() {
-            Some(frame) => push_line(&mut self.lines, numbers, self.piece, frame),
-            None => Ok(()),
-        }
+// Adds the place of the code at an address, which stands behind all others.
+fn add_line(
+    lines: &mut AddressSpans<Place>,
+    address: u32,
+    place: Place,
+    goes_on: bool,
+) -> Result<(), AllocError>
+    requires order { EndBefore address lines.old }
+    ensures answer { OnOk result (content_at address lines.new ≡ Some place) }
+    ensures unchanged { OnOk result ((a : ℕ) → a < address → content_at a lines.new ≡ content_at a lines.old) }
+    ensures order { OnOk result (EndBefore (address + 1) lines.new) }
+{
+    if goes_on && lines.content_before(address) == Some(place) {
+        lines.lengthen(address)
+    } else {
+        lines.begin(address, place)
     }
 }
 
-// Appends the record of the line of addresses, where the line or its file is known.
-fn push_line(
-    lines: &mut String,
-    numbers: &mut Numbers,
-    range: AddressRange,
-    frame: &Frame<'_>,
-) -> Result<(), AllocError> {
-    if frame.file.is_none() && frame.line.is_none() {
-        return Ok(());
+// Appends the records of lines.
+fn push_lines(text: &mut String, lines: &AddressSpans<Place>) -> Result<(), AllocError> {
+    for span in lines.spans() {
+        let Place { file, line } = span.content;
+        let start = span.start;
+        let size = span.size();
+        write!(text, "{start:x} {size:x} {line} {file}\n")?;
     }
-    let file = numbers.files.number_of(file_name(frame))?;
-    let line = frame.line.unwrap_or(0);
-    let AddressRange { start, size } = range;
-    write!(lines, "{start:x} {size:x} {line} {file}\n")
+    Ok(())
 }
 
-// The name of the function itself.
-fn own_name<'f>(found: &'f FunctionFrames<'_>) -> &'f str {
-    match found.frames.last() {
+// The name of the function itself, of an answer whose frames stand from outside to inside.
+fn own_name<'f>(found: &'f FunctionFrames<'_>) -> &'f str
+    ensures { result.now ≡ own_name found.now.frames }
+{
+    match found.frames.first() {
         Some(frame) => function_name(frame),
         None => "",
     }
-}
-
-// Whether these frames have the same functions, files and lines.
-fn are_equal(frames: &[Frame<'_>], others: &[Frame<'_>]) -> bool {
-    if frames.len() != others.len() {
-        return false;
-    }
-    for (frame, other) in frames.iter().zip(others) {
-        if !is_equal(frame, other) {
-            return false;
-        }
-    }
-    true
-}
-
-// Whether two frames have the same function, file and line, as records have them.
-fn is_equal(frame: &Frame<'_>, other: &Frame<'_>) -> bool {
-    frame.line == other.line
-        && frame.file.is_some() == other.file.is_some()
-        && file_name(frame) == file_name(other)
-        && function_name(frame) == function_name(other)
 }

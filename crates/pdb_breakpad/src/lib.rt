@@ -4,14 +4,16 @@
 //! frames of each. A reader of the file finds at each of them what the source answered there.
 #![tactic(auto)]
 
-mod address_range;
+mod address_spans;
 mod faults;
 mod frame_source;
+mod frame_texts;
 mod function_records;
 mod functions;
 mod inline_records;
 mod module_records;
 mod name_text;
+mod numbered_code;
 mod numbers;
 mod symbol_file;
 

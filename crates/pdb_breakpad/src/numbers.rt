@@ -1,8 +1,15 @@
 //! The numbers of files and of inlined functions' names, in the order in which they are met.
 
+ghost use Rattle.std.specs.Prelude.{◌≡◌, ◌++◌, ℕ, List, [], ◌∷◌, Some, IfOk, OnOk, OnErr, length, map, slice_get};
+ghost use Rattle.std.specs.Prelude.{string_bytes, if◌then◌else◌};
+ghost use Rattle.std.specs.BTreeMap.{get_by_text};
+ghost use Rattle.std.specs.Str.{bytes_eq};
+ghost use Rattle.pdb_breakpad.specs.Numbers.{KeepsNames};
+
 use crate::name_text::push_name;
 use std::alloc::{AllocError, Global};
 use std::collections::BTreeMap;
+use std::marker::Model;
 
 /// What names are of.
 #[derive(Clone, Copy)]
@@ -26,35 +33,97 @@ impl NameKind {
 pub(crate) struct NumberedNames {
     kind: NameKind,
     numbers: BTreeMap<String, usize>,
-    /// A record of each name, in the order of their numbers.
-    records: String,
+    /// By their numbers.
+    names: Vec<String>,
+}
+
+// Clauses see the names, by their numbers.
+impl Model for NumberedNames {
+    ghost use Rattle.std.specs.Prelude.{ℕ, List, map, string_bytes};
+    ghost use Rattle.pdb_breakpad.specs.Numbers.{KnowsNumbers};
+
+    ghost Value = { List (List ℕ) };
+
+    ghost view = { λ n. map string_bytes n.names.items };
+
+    ghost invariant = { λ n. KnowsNumbers n.numbers (map string_bytes n.names.items) };
+}
+
+// The number under a name.
+fn number_in(numbers: &BTreeMap<String, usize>, name: &str) -> Option<usize>
+    ensures { result ≡ get_by_text numbers.now name.now }
+{
+    match numbers.get(name) {
+        Some(number) => Some(*number),
+        None => None,
+    }
+}
+
+// Puts a number under a name.
+fn put(numbers: &mut BTreeMap<String, usize>, name: String, number: usize) -> Result<(), AllocError>
+    ensures state { OnOk result ((asked : List ℕ) → get_by_text numbers.new asked
+        ≡ (if bytes_eq (string_bytes name) asked then Some number else get_by_text numbers.old asked)) }
+    ensures unchanged_if_refused { OnErr result ((asked : List ℕ)
+        → get_by_text numbers.new asked ≡ get_by_text numbers.old asked) }
+{
+    numbers.insert(name, number)?;
+    Ok(())
+}
+
+// Adds a copy of a name behind all others, and answers its position.
+fn push_copy(names: &mut Vec<String>, name: &str) -> Result<usize, AllocError>
+    ensures answer { IfOk result (λ position. position ≡ length (map string_bytes names.old.items)) }
+    ensures state { OnOk result (map string_bytes names.new.items ≡ map string_bytes names.old.items ++ name.now ∷ []) }
+    ensures unchanged_if_refused { OnErr result
+        (map string_bytes names.new.items ≡ map string_bytes names.old.items) }
+{
+    let position = names.len();
+    let copy = String::from_str(*names.allocator(), name)?;
+    names.push(copy)?;
+    Ok(position)
 }
 
 impl NumberedNames {
-    fn new(alloc: Global, kind: NameKind) -> NumberedNames {
+    fn new(alloc: Global, kind: NameKind) -> NumberedNames
+        ensures { result ≡ [] }
+    {
         NumberedNames {
             kind,
             numbers: BTreeMap::new(alloc),
-            records: String::new(alloc),
+            names: Vec::new(alloc),
         }
     }
 
     /// The number of a name: the one that it has, or the next.
-    pub(crate) fn number_of(&mut self, name: &str) -> Result<usize, AllocError> {
-        if let Some(&number) = self.numbers.get(name) {
-            return Ok(number);
+    pub(crate) fn number_of(&mut self, name: &str) -> Result<usize, AllocError>
+        ensures answer { IfOk result (λ number. slice_get self.new number ≡ Some name.now) }
+        ensures state { KeepsNames self.old self.new }
+    {
+        match number_in(&self.numbers, name) {
+            Some(number) => Ok(number),
+            None => self.add(name),
         }
-        let number = self.numbers.len();
-        write!(self.records, "{} {number} ", self.kind.keyword())?;
-        push_name(&mut self.records, name)?;
-        let name = String::from_str(*self.records.allocator(), name)?;
-        self.numbers.insert(name, number)?;
+    }
+
+    // Gives a name the next number.
+    #[tactic(auto, using(crate::proofs::NumberLemmas::numbered))]
+    fn add(&mut self, name: &str) -> Result<usize, AllocError>
+        ensures answer { IfOk result (λ number. slice_get self.new number ≡ Some name.now) }
+        ensures state { KeepsNames self.old self.new }
+    {
+        let known = String::from_str(*self.names.allocator(), name)?;
+        let number = push_copy(&mut self.names, name)?;
+        put(&mut self.numbers, known, number)?;
         Ok(number)
     }
 
-    /// The records of all names.
-    pub(crate) fn records(&self) -> &str {
-        self.records.as_str()
+    /// Appends a record of each name, by their numbers.
+    pub(crate) fn push_records(&self, text: &mut String) -> Result<(), AllocError> {
+        for (number, name) in self.names.iter().enumerate() {
+            write!(text, "{} {number} ", self.kind.keyword())?;
+            push_name(text, name.as_str())?;
+        }
+        Ok(())
     }
 }
 

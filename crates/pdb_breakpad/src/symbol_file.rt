@@ -38,9 +38,9 @@ fn write_front<W: io::Write>(
     module: &ModuleIdentity<'_>,
     numbers: &Numbers,
 ) -> Result<(), SymbolFileFault> {
-    let text = module_records(alloc, module)?;
+    let mut text = module_records(alloc, module)?;
+    numbers.files.push_records(&mut text)?;
+    numbers.origins.push_records(&mut text)?;
     out.write_all(text.as_bytes())?;
-    out.write_all(numbers.files.records().as_bytes())?;
-    out.write_all(numbers.origins.records().as_bytes())?;
     Ok(())
 }

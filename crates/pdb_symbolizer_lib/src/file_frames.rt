@@ -66,6 +66,9 @@ fn copy_of(name: &Option<String>) -> Result<Option<String>, AllocError> {
 }
 
 impl<'a, R: Eprint + AllocGlobal> FrameSource<'a> for FileFrames<'_, 'a, '_, R> {
+    // Names of symbols are no answers of a context, so nothing is said of them here.
+    ghost answers = { λ source address answer. Unit {0} };
+
     fn start_addresses(&mut self) -> Result<Vec<u32>, Error> {
         self.context.start_addresses()
     }

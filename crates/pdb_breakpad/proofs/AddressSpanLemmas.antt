@@ -1,0 +1,127 @@
+-- What holds at an address, where one span more stands behind all others.
+use Rattle.std.proofs.Common.{◌≡◌, ◌∙◌, ℕ, ◌<◌, ◌≤◌, false, List, [], ◌∷◌, ◌++◌, refl, sym, ap, subst}
+use Rattle.std.proofs.Common.{Some, None, option_and_then, slice_get, length, ◌-◌, arith}
+use Rattle.std.specs.List.{All}
+use Rattle.std.specs.Option.{option_or, IsSome, IfSome}
+use Rattle.std.proofs.lemmas.Grind.{common_steps}
+use Rattle.std.proofs.lemmas.List.Elements.{All-head, All-tail, All-pop}
+use Rattle.pdb_breakpad.specs.declared.address_spans.Span.{Span}
+use Rattle.pdb_breakpad.specs.AddressSpans.{is_over, content_at, content_before, ending_before}
+
+-- a span that ends before an address isn't over it
+past : {T : Type 0} (address : ℕ) (span : Span T) → span.last < address → is_over address span ≡ false
+past address span before = grind (arith, common_steps)
+
+-- a span that begins behind an address isn't over it
+ahead : {T : Type 0} (address : ℕ) (span : Span T) → address < span.start → is_over address span ≡ false
+ahead address span before = grind (arith, common_steps)
+
+-- spans that end before an address have nothing there
+pub nothing_past : {T : Type 0} (address : ℕ) (spans : List (Span T)) → All (λ span. span.last < address) spans
+    → content_at address spans ≡ None
+nothing_past address [] before = refl
+nothing_past address (span ∷ spans) before =
+    let first : is_over address span ≡ false = past address span (All-head (λ s. s.last < address) span spans before) in
+    let others : content_at address spans ≡ None
+    = nothing_past address spans (All-tail (λ s. s.last < address) span spans before) in
+    grind (arith, common_steps, first, others)
+
+-- what holds at an address, where a span stands behind all others
+pub content_with_last : {T : Type 0} (address : ℕ) (spans : List (Span T)) (span : Span T)
+    → content_at address (spans ++ span ∷ []) ≡ option_or (content_at address spans) (content_at address (span ∷ []))
+content_with_last address [] span = refl
+content_with_last address (first ∷ spans) span =
+    let others : content_at address (spans ++ span ∷ [])
+    ≡ option_or (content_at address spans) (content_at address (span ∷ [])) = content_with_last address spans span in
+    grind (arith, common_steps, others)
+
+-- behind all others stands this one
+at_end : {T : Type 0} (spans : List (Span T)) (span : Span T) → slice_get (spans ++ span ∷ []) (length spans) ≡ Some span
+at_end [] span = refl
+at_end (first ∷ spans) span = at_end spans span
+
+-- the last of a list is the one that stands behind all others
+last_of_pushed : {T : Type 0} (spans : List (Span T)) (span : Span T)
+    → slice_get (spans ++ span ∷ []) (length (spans ++ span ∷ []) - 1) ≡ Some span
+last_of_pushed spans span =
+    let count : length (spans ++ span ∷ []) - 1 ≡ length spans = grind (arith, common_steps) in
+    ap (slice_get (spans ++ span ∷ [])) count ∙ at_end spans span
+
+-- the last span alone says what holds at the address before
+pub before_by_last : {T : Type 0} (address : ℕ) (spans : List (Span T)) (span : Span T)
+    → content_before address (spans ++ span ∷ []) ≡ ending_before address span
+before_by_last address spans span = ap (option_and_then (ending_before address)) (last_of_pushed spans span)
+
+-- a span that ends at the address before one is over it once it reaches to it
+reaches : {T : Type 0} (address : ℕ) (content : T) (span : Span T) → span.start ≤ span.last
+    → ending_before address span ≡ Some content
+    → content_at address (record span { last = address } ∷ []) ≡ Some content
+reaches address content span some is = grind (arith, common_steps)
+
+-- at lower addresses it holds as before
+holds_below : {T : Type 0} (a address : ℕ) (content : T) (span : Span T) → a < address
+    → ending_before address span ≡ Some content
+    → content_at a (record span { last = address } ∷ []) ≡ content_at a (span ∷ [])
+holds_below a address content span below is = grind (arith, common_steps)
+
+-- a span that is the last and goes on to an address holds there what it holds
+pub goes_on_to : {T : Type 0} (address : ℕ) (content : T) (spans : List (Span T)) (span : Span T)
+    → All (λ s. s.last < address) spans → span.start ≤ span.last → ending_before address span ≡ Some content
+    → content_at address (spans ++ record span { last = address } ∷ []) ≡ Some content
+goes_on_to address content spans span before some is =
+    content_with_last address spans (record span { last = address })
+    ∙ ap (λ there. option_or there (content_at address (record span { last = address } ∷ [])))
+    (nothing_past address spans before) ∙ reaches address content span some is
+
+-- at lower addresses it stays as it was
+pub stays_below : {T : Type 0} (a address : ℕ) (content : T) (spans : List (Span T)) (span : Span T) → a < address
+    → ending_before address span ≡ Some content
+    → content_at a (spans ++ record span { last = address } ∷ []) ≡ content_at a (spans ++ span ∷ [])
+stays_below a address content spans span below is =
+    content_with_last a spans (record span { last = address })
+    ∙ ap (option_or (content_at a spans)) (holds_below a address content span below is)
+    ∙ sym (content_with_last a spans span)
+
+-- a span of one address behind all others holds there
+pub begins_at : {T : Type 0} (address : ℕ) (spans : List (Span T)) (span : Span T)
+    → All (λ s. s.last < address) spans → span.start ≡ address → span.last ≡ address
+    → content_at address (spans ++ span ∷ []) ≡ Some span.content
+begins_at address spans span before start last =
+    let there : content_at address (span ∷ []) ≡ Some span.content = grind (arith, common_steps) in
+    content_with_last address spans span
+    ∙ ap (λ found. option_or found (content_at address (span ∷ []))) (nothing_past address spans before) ∙ there
+
+-- at lower addresses nothing changes by it
+pub none_below : {T : Type 0} (a address : ℕ) (spans : List (Span T)) (span : Span T) → a < address
+    → span.start ≡ address → content_at a (spans ++ span ∷ []) ≡ content_at a spans
+none_below a address spans span below start =
+    let nothing : content_at a (span ∷ []) ≡ None = grind (arith, common_steps) in
+    let same : option_or (content_at a spans) None ≡ content_at a spans = grind (arith, common_steps) in
+    content_with_last a spans span ∙ ap (option_or (content_at a spans)) nothing ∙ same
+
+-- where something holds that ends at the address before one, there is such a span
+pub ends_there : {T : Type 0} (address : ℕ) (span : Span T) → IsSome (ending_before address span)
+    → ending_before address span ≡ Some span.content
+ends_there address span is = grind (arith, common_steps)
+
+-- where the last span ends at the address before one and goes on to it, what held before it holds there
+pub went_on : {T : Type 0} (address : ℕ) (old spans : List (Span T)) (span : Span T)
+    → old ≡ spans ++ span ∷ [] → All (λ s. s.last < address) old → All (λ s. s.start ≤ s.last) old
+    → IsSome (content_before address old)
+    → content_at address (spans ++ record span { last = address } ∷ []) ≡ content_before address old
+went_on address old spans span is before some there =
+    let last : content_before address old ≡ ending_before address span
+    = ap (content_before address) is ∙ before_by_last address spans span in
+    let found : ending_before address span ≡ Some span.content
+    = ends_there address span (subst IsSome last there) in
+    let front : All (λ s. s.last < address) spans × IfSome (Some span) (λ s. s.last < address)
+    = All-pop (λ s. s.last < address) old spans (Some span) is before in
+    let whole : All (λ s. s.start ≤ s.last) spans × IfSome (Some span) (λ s. s.start ≤ s.last)
+    = All-pop (λ s. s.start ≤ s.last) old spans (Some span) is some in
+    goes_on_to address span.content spans span front.0 whole.1 found ∙ sym found ∙ sym last
+
+-- what is known of spans of which the last goes on
+pub ruleset lengthened = (before_by_last, went_on, stays_below, ends_there)
+
+-- what is known of spans behind which one begins
+pub ruleset begun = (begins_at, none_below)

@@ -1,0 +1,5 @@
+pub mod AddressSpanLemmas
+pub mod FunctionLemmas
+pub mod FunctionRecordLemmas
+pub mod InlineRecordLemmas
+pub mod NumberLemmas
