@@ -1,10 +1,11 @@
 #!/bin/sh
-# Builds the static library and the examples of C and Rust, and compares what they print with pdb_report's.
+# Builds the static library and the examples of C and of the Rust crate in bindings/rust, and compares what those print
+# that write reports with pdb_report's.
 #
 # Usage: examples/run.sh [FOLDER [PROGRAM]]
 #
 # The examples are left in FOLDER, which is else a new one that is removed at the end. PROGRAM is a built pdb_report;
-# else it is built here. Wanted are gcc, rustc and rt.
+# else it is built here. Wanted are gcc, cargo, make and rt. bindings/run.sh has the tests of the bindings.
 set -eu
 
 top=$(cd "$(dirname "$0")/.." && pwd)
@@ -23,10 +24,10 @@ for name in report opened refusals; do
     gcc -std=c11 -O2 -Wall -Wextra -Werror -I "$top/include" -o "$folder/${name}_c" \
         "$top/examples/c/$name.c" "$library" "$kit/c/liblibc_c.a"
 done
-for name in report opened; do
-    rustc --edition 2021 -O -o "$folder/${name}_rust" "$top/examples/rust/$name.rs" \
-        -C link-arg="$library" -C link-arg="$kit/c/liblibc_c.a"
-done
+make --no-print-directory -s -C "$top/bindings" OUT="$folder/library" KIT="$kit" "$folder/library/liblimberlime.a"
+(cd "$top/bindings/rust" && LIMBERLIME_LIB_DIR="$folder/library" CARGO_TARGET_DIR="$folder/target" \
+    cargo build --quiet --offline --release --example opened && rm -f Cargo.lock)
+cp "$folder/target/release/examples/opened" "$folder/opened_rust"
 
 records="$top/crates/pdb_report_tests/data/small_x64.json"
 "$folder/refusals_c" "$records" "$top/crates/pdb_report_tests/data/failing_parts.json"
@@ -44,7 +45,7 @@ compare() {
 set -- 1544 2b45 6011 1000 ffffffff $(seq 4096 7 25000 | xargs printf '0x%x ')
 for command in frames names; do
     "$program" "$records" "$command" "$@" >"$folder/wanted"
-    for example in report_c opened_c report_rust opened_rust; do
+    for example in report_c opened_c opened_rust; do
         compare "$folder/$example" "$records" "$command" "$@"
     done
 done

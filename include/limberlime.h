@@ -1,9 +1,10 @@
 /* Limberlime: functions, files, lines and inlined calls at addresses of a Windows program.
  *
- * The calls take the bytes of a records file (docs/FORMAT.md) and a list of addresses, and write a text into a buffer
- * of the caller's: the very text that the program pdb_report prints for them. limberlime_frames and limberlime_names
- * read the records at each call; limberlime_open reads them once into a handle, which limberlime_frames_of and
- * limberlime_names_of are given in place of the bytes. Link libpdb_c.a and the kit's liblibc_c.a.
+ * limberlime_open_pdb reads a PDB file, and limberlime_open a records file (docs/FORMAT.md), once into a handle.
+ * limberlime_find_frames and limberlime_find_function answer an address of it as data. limberlime_frames_of and
+ * limberlime_names_of write a text into a buffer of the caller's: the very text that the program pdb_report prints of
+ * such records. limberlime_frames and limberlime_names do so over the bytes of a records file, which they read at each
+ * call. Link libpdb_c.a and the kit's liblibc_c.a, or the one library that the Makefile in bindings makes of both.
  *
  * What the caller owes: each pointer is null, or valid for as many elements as its length says and aligned for them,
  * until the call returns. Nobody writes meanwhile what a call reads, and nobody else uses what it writes: the buffer,
@@ -22,12 +23,19 @@
 
 #include <stddef.h>
 #include <stdint.h>
+#include <stdlib.h>
+
+/* How the functions below are defined: each file that includes this has its own. A file that makes a shared library of
+ * them says so before, by a definition of its own (bindings/library.c). */
+#ifndef LIMBERLIME_FUNCTION
+#define LIMBERLIME_FUNCTION static inline
+#endif
 
 #ifdef __cplusplus
 extern "C" {
 #endif
 
-/* Why a call wrote no text. The buffer is as it was then. */
+/* Why a call has no answer. A buffer is as it was then. */
 enum limberlime_refusal {
     /* A pointer is null, whatever its length. *wanted is not written. */
     LIMBERLIME_NULL_POINTER = -1,
@@ -48,17 +56,103 @@ enum limberlime_refusal {
     /* The text is longer than the buffer. *wanted is its length: call again with as much. */
     LIMBERLIME_BUFFER_TOO_SMALL = -9,
     /* The handle is closed: it was never opened, its last opening was refused, or limberlime_close closed it. */
-    LIMBERLIME_CLOSED_HANDLE = -10
+    LIMBERLIME_CLOSED_HANDLE = -10,
+    /* The bytes are no PDB file. */
+    LIMBERLIME_NOT_A_PDB_FILE = -11,
+    /* The bytes are a program or a library, not its PDB file. */
+    LIMBERLIME_PROGRAM = -12,
+    /* The bytes are the debugging records of a program for .NET, a portable PDB. */
+    LIMBERLIME_PORTABLE_PDB = -13,
+    /* The bytes are a compressed file, as symbol stores have them. */
+    LIMBERLIME_COMPRESSED = -14,
+    /* The bytes are a PDB file of the version before 7.00. */
+    LIMBERLIME_OLD_PDB_FILE = -15,
+    /* The bytes end before the PDB file's directory of streams does. */
+    LIMBERLIME_CUT_SHORT = -16,
+    /* The streams of the PDB file are longer than it together. */
+    LIMBERLIME_STREAMS_TOO_LONG = -17,
+    /* The PDB file is one that a compiler keeps, of objects and not of a program. */
+    LIMBERLIME_OF_OBJECTS = -18,
+    /* The types of the PDB file have a form from before 2005. */
+    LIMBERLIME_OLD_TYPES = -19,
+    /* The PDB file was stripped of its section headers, so nothing says where code lies. */
+    LIMBERLIME_NO_SECTION_HEADERS = -20,
+    /* Addresses were rearranged after linking, which is not undone. */
+    LIMBERLIME_REARRANGED = -21,
+    /* A stream is broken that nothing can be answered without. */
+    LIMBERLIME_BROKEN_STREAM = -22,
+    /* The PDB file doesn't say which build it is of. */
+    LIMBERLIME_NO_DEBUG_ID = -23
+};
+
+/* A function in whose code an address lies: the one that was called, or one whose body was inlined there. Texts are
+ * UTF-8, with a 0 behind the last byte, which the length doesn't count. */
+struct limberlime_frame {
+    /* The function's name, or null where none is known, and how many bytes it has. */
+    const char *function;
+    size_t function_length;
+    /* The source file that the code comes from, or null where none is known, and how many bytes its name has. */
+    const char *file;
+    size_t file_length;
+    /* The line in that file, or 0 where none is known. Records may have a line 0, which is not told from that. */
+    uint32_t line;
+};
+
+/* The frames over an address. They and their texts stay until the next call with their handle. */
+struct limberlime_frames {
+    /* How many there are: 0 where no function lies over the address. */
+    size_t count;
+    /* The frames, the innermost inlined function first, and last the one that was called. */
+    const struct limberlime_frame *frames;
+    /* Where that function starts, relative to where the program is loaded. */
+    uint32_t start;
+    /* The address of the first byte behind it, where end_known is 1. It is 0 where none is known. */
+    uint32_t end;
+    uint32_t end_known;
+};
+
+/* Where a text stands among the texts of an answer, and how many bytes it has. One that isn't known starts at
+ * SIZE_MAX. */
+struct limberlime_place {
+    size_t start;
+    size_t length;
+};
+
+/* A frame as the library writes it. */
+struct limberlime_row {
+    struct limberlime_place function;
+    struct limberlime_place file;
+    uint32_t line;
+};
+
+/* How many rows an answer has, how many bytes its texts have, and its function's addresses. */
+struct limberlime_found {
+    size_t rows;
+    size_t texts;
+    uint32_t start;
+    uint32_t end;
+    uint32_t end_known;
+};
+
+/* What the last answer of a handle stands in. */
+struct limberlime_rooms {
+    struct limberlime_row *rows;
+    struct limberlime_frame *frames;
+    size_t row_capacity;
+    uint8_t *texts;
+    size_t text_capacity;
 };
 
 /* Records that were opened, in memory of the library's that the handle owns, or none. */
 struct limberlime_handle {
     /* Null where the handle is closed. The library's alone, to write and to follow. */
     void *records;
+    /* Those of the functions below alone, to write and to follow. */
+    struct limberlime_rooms rooms;
 };
 
 /* A handle that was never opened, as `struct limberlime_handle handle = LIMBERLIME_CLOSED;`. */
-#define LIMBERLIME_CLOSED { NULL }
+#define LIMBERLIME_CLOSED { NULL, { NULL, NULL, 0, NULL, 0 } }
 
 /* The calls as the library has them. They are given no null pointer; the functions below see to that. */
 int64_t limberlime_frames_unchecked(const uint8_t *records, size_t records_length, const uint32_t *addresses,
@@ -70,7 +164,47 @@ int64_t limberlime_frames_of_unchecked(struct limberlime_handle *handle, const u
                                        size_t address_count, uint8_t *buffer, size_t capacity, size_t *wanted);
 int64_t limberlime_names_of_unchecked(struct limberlime_handle *handle, const uint32_t *addresses,
                                       size_t address_count, uint8_t *buffer, size_t capacity, size_t *wanted);
+int64_t limberlime_open_pdb_unchecked(const uint8_t *pdb, size_t pdb_length, struct limberlime_handle *handle);
+int64_t limberlime_debug_id_unchecked(const uint8_t *pdb, size_t pdb_length, uint8_t *buffer, size_t capacity,
+                                      size_t *wanted);
+int64_t limberlime_find_frames_unchecked(struct limberlime_handle *handle, uint32_t address,
+                                         struct limberlime_row *rows, size_t row_capacity, uint8_t *texts,
+                                         size_t text_capacity, struct limberlime_found *found);
+int64_t limberlime_find_function_unchecked(struct limberlime_handle *handle, uint32_t address,
+                                           struct limberlime_row *rows, size_t row_capacity, uint8_t *texts,
+                                           size_t text_capacity, struct limberlime_found *found);
 void limberlime_close_unchecked(struct limberlime_handle *handle);
+
+/* What a number that a call answers says in words, as a text that stays. An empty one where it is no refusal. */
+LIMBERLIME_FUNCTION const char *limberlime_refusal_text(int64_t answer)
+{
+    switch (answer) {
+    case LIMBERLIME_NULL_POINTER: return "a null pointer";
+    case LIMBERLIME_NO_ADDRESSES: return "no addresses";
+    case LIMBERLIME_NOT_JSON: return "not a JSON text";
+    case LIMBERLIME_NO_RECORDS: return "no records";
+    case LIMBERLIME_MODULE_FILES: return "module files";
+    case LIMBERLIME_RECORDS_REFUSED: return "the records are refused";
+    case LIMBERLIME_ADDRESS_REFUSED: return "the records of the address's module are refused";
+    case LIMBERLIME_OUT_OF_MEMORY: return "out of memory";
+    case LIMBERLIME_BUFFER_TOO_SMALL: return "the buffer is too small";
+    case LIMBERLIME_CLOSED_HANDLE: return "the handle is closed";
+    case LIMBERLIME_NOT_A_PDB_FILE: return "not a PDB file";
+    case LIMBERLIME_PROGRAM: return "a program (EXE or DLL), not its PDB file";
+    case LIMBERLIME_PORTABLE_PDB: return "a .NET portable PDB";
+    case LIMBERLIME_COMPRESSED: return "a compressed file (CAB, .pd_)";
+    case LIMBERLIME_OLD_PDB_FILE: return "a PDB file of version 2.00 (JG)";
+    case LIMBERLIME_CUT_SHORT: return "the file is cut short before the end of its directory";
+    case LIMBERLIME_STREAMS_TOO_LONG: return "the streams are longer than the file together";
+    case LIMBERLIME_OF_OBJECTS: return "a compiler's PDB file, of objects and not of a program";
+    case LIMBERLIME_OLD_TYPES: return "types made by a version from before 2005";
+    case LIMBERLIME_NO_SECTION_HEADERS: return "no section headers (stripped)";
+    case LIMBERLIME_REARRANGED: return "rearranged addresses (OMAP)";
+    case LIMBERLIME_BROKEN_STREAM: return "a broken stream";
+    case LIMBERLIME_NO_DEBUG_ID: return "no debug id";
+    default: return "";
+    }
+}
 
 /* Writes the functions in whose code each address lies, innermost inlined one first, with files and lines, as
  *     pdb_report RECORDS frames ADDRESS...
@@ -87,8 +221,8 @@ void limberlime_close_unchecked(struct limberlime_handle *handle);
  * length alone, give a capacity of 0, with a buffer that is not null all the same. Where one address is refused,
  * nothing is written of the others.
  */
-static inline int64_t limberlime_frames(const uint8_t *records, size_t records_length, const uint32_t *addresses,
-                                        size_t address_count, uint8_t *buffer, size_t capacity, size_t *wanted)
+LIMBERLIME_FUNCTION int64_t limberlime_frames(const uint8_t *records, size_t records_length, const uint32_t *addresses,
+                                              size_t address_count, uint8_t *buffer, size_t capacity, size_t *wanted)
 {
     if (records == NULL || addresses == NULL || buffer == NULL || wanted == NULL)
         return LIMBERLIME_NULL_POINTER;
@@ -99,8 +233,8 @@ static inline int64_t limberlime_frames(const uint8_t *records, size_t records_l
  *     pdb_report RECORDS names ADDRESS...
  * does. All else is as of limberlime_frames.
  */
-static inline int64_t limberlime_names(const uint8_t *records, size_t records_length, const uint32_t *addresses,
-                                       size_t address_count, uint8_t *buffer, size_t capacity, size_t *wanted)
+LIMBERLIME_FUNCTION int64_t limberlime_names(const uint8_t *records, size_t records_length, const uint32_t *addresses,
+                                             size_t address_count, uint8_t *buffer, size_t capacity, size_t *wanted)
 {
     if (records == NULL || addresses == NULL || buffer == NULL || wanted == NULL)
         return LIMBERLIME_NULL_POINTER;
@@ -116,19 +250,155 @@ static inline int64_t limberlime_names(const uint8_t *records, size_t records_le
  * which leaves it as it was. What the records of all modules are refused for is answered here, as
  * LIMBERLIME_RECORDS_REFUSED; what those of one module are refused for is answered where an address of it is asked for.
  */
-static inline int64_t limberlime_open(const uint8_t *records, size_t records_length, struct limberlime_handle *handle)
+LIMBERLIME_FUNCTION int64_t limberlime_open(const uint8_t *records, size_t records_length,
+                                            struct limberlime_handle *handle)
 {
     if (records == NULL || handle == NULL)
         return LIMBERLIME_NULL_POINTER;
     return limberlime_open_unchecked(records, records_length, handle);
 }
 
+/* Reads the records in the bytes of a PDB file into a handle, for all calls with a handle.
+ *
+ * pdb, pdb_length: the bytes of a PDB file. They are not needed any more once the call has returned.
+ * handle: what it held before is given back first.
+ *
+ * What of the file is broken is left out, as pdb_symbolizer leaves it out, and all else is answered. Answers 0, or a
+ * number of enum limberlime_refusal, and then the handle is closed, but with LIMBERLIME_NULL_POINTER, which leaves it
+ * as it was.
+ */
+LIMBERLIME_FUNCTION int64_t limberlime_open_pdb(const uint8_t *pdb, size_t pdb_length,
+                                                struct limberlime_handle *handle)
+{
+    if (pdb == NULL || handle == NULL)
+        return LIMBERLIME_NULL_POINTER;
+    return limberlime_open_pdb_unchecked(pdb, pdb_length, handle);
+}
+
+/* Writes the debug id of a PDB file, by which a program, a symbol server and a crash report name it: 32 digits and
+ * behind them the age, as 6B32B94164959A524C4C44205044422E1. A buffer of 40 bytes has room for each.
+ *
+ * Answers its length, or a number of enum limberlime_refusal. The buffer and *wanted are as of limberlime_frames.
+ */
+LIMBERLIME_FUNCTION int64_t limberlime_debug_id(const uint8_t *pdb, size_t pdb_length, uint8_t *buffer,
+                                                size_t capacity, size_t *wanted)
+{
+    if (pdb == NULL || buffer == NULL || wanted == NULL)
+        return LIMBERLIME_NULL_POINTER;
+    return limberlime_debug_id_unchecked(pdb, pdb_length, buffer, capacity, wanted);
+}
+
+/* A number that doubles until it is no less than another. */
+static inline size_t limberlime_capacity(size_t capacity, size_t wanted)
+{
+    while (capacity < wanted && capacity <= SIZE_MAX / 2)
+        capacity *= 2;
+    return capacity < wanted ? wanted : capacity;
+}
+
+/* Makes room for an answer of this size. Whether there was memory for it. */
+static inline int limberlime_make_room(struct limberlime_rooms *rooms, size_t rows, size_t texts)
+{
+    if (rooms->row_capacity == 0 || rooms->row_capacity < rows) {
+        size_t capacity = limberlime_capacity(16, rows);
+        free(rooms->rows);
+        free(rooms->frames);
+        rooms->rows = (struct limberlime_row *)calloc(capacity, sizeof *rooms->rows);
+        rooms->frames = (struct limberlime_frame *)calloc(capacity, sizeof *rooms->frames);
+        rooms->row_capacity = rooms->rows == NULL || rooms->frames == NULL ? 0 : capacity;
+    }
+    if (rooms->text_capacity == 0 || rooms->text_capacity < texts) {
+        size_t capacity = limberlime_capacity(1024, texts);
+        free(rooms->texts);
+        rooms->texts = (uint8_t *)calloc(capacity, 1);
+        rooms->text_capacity = rooms->texts == NULL ? 0 : capacity;
+    }
+    return rooms->row_capacity >= rows && rooms->text_capacity >= texts && rooms->row_capacity != 0
+        && rooms->text_capacity != 0;
+}
+
+/* The text at a place, or null where it isn't known. */
+static inline const char *limberlime_text(const struct limberlime_rooms *rooms, struct limberlime_place place)
+{
+    return place.start == SIZE_MAX ? NULL : (const char *)rooms->texts + place.start;
+}
+
+/* What the library wrote into a handle's rooms, with pointers to its texts. */
+static inline void limberlime_show(struct limberlime_rooms *rooms, const struct limberlime_found *found,
+                                   struct limberlime_frames *frames)
+{
+    for (size_t i = 0; i < found->rows; i++) {
+        const struct limberlime_row *row = &rooms->rows[i];
+        rooms->frames[i].function = limberlime_text(rooms, row->function);
+        rooms->frames[i].function_length = row->function.length;
+        rooms->frames[i].file = limberlime_text(rooms, row->file);
+        rooms->frames[i].file_length = row->file.length;
+        rooms->frames[i].line = row->line;
+    }
+    frames->count = found->rows;
+    frames->frames = rooms->frames;
+    frames->start = found->start;
+    frames->end = found->end;
+    frames->end_known = found->end_known;
+}
+
+typedef int64_t (*limberlime_find_call)(struct limberlime_handle *, uint32_t, struct limberlime_row *, size_t,
+                                        uint8_t *, size_t, struct limberlime_found *);
+
+/* Asks by a call of the library's, with more room where the answer is larger than there is. */
+static inline int64_t limberlime_find(limberlime_find_call call, struct limberlime_handle *handle, uint32_t address,
+                                      struct limberlime_frames *frames)
+{
+    struct limberlime_rooms *rooms = &handle->rooms;
+    struct limberlime_found found = {0, 0, 0, 0, 0};
+    int64_t answer = LIMBERLIME_BUFFER_TOO_SMALL;
+    while (answer == LIMBERLIME_BUFFER_TOO_SMALL) {
+        if (!limberlime_make_room(rooms, found.rows, found.texts))
+            return LIMBERLIME_OUT_OF_MEMORY;
+        answer = call(handle, address, rooms->rows, rooms->row_capacity, rooms->texts, rooms->text_capacity, &found);
+    }
+    if (answer == 0)
+        limberlime_show(rooms, &found, frames);
+    return answer;
+}
+
+/* Finds the frames over an address: the functions in whose code it lies, with files and lines, from inside to outside.
+ *
+ * handle: open. It holds the same records afterwards, also where the call is refused.
+ * address: relative to where the program is loaded, in bytes.
+ * frames: what is found. It is written where the answer is 0, and else left as it is.
+ *
+ * Answers 0, also where no function lies over the address and frames->count is 0, or a number of
+ * enum limberlime_refusal: LIMBERLIME_CLOSED_HANDLE, LIMBERLIME_ADDRESS_REFUSED, LIMBERLIME_RECORDS_REFUSED,
+ * LIMBERLIME_OUT_OF_MEMORY or LIMBERLIME_NULL_POINTER. Of a PDB file the frames are those that pdb_symbolizer prints,
+ * but for one thing: a function whose type can't be read has a null name here, where pdb_symbolizer prints its
+ * symbol's.
+ */
+LIMBERLIME_FUNCTION int64_t limberlime_find_frames(struct limberlime_handle *handle, uint32_t address,
+                                                   struct limberlime_frames *frames)
+{
+    if (handle == NULL || frames == NULL)
+        return LIMBERLIME_NULL_POINTER;
+    return limberlime_find(limberlime_find_frames_unchecked, handle, address, frames);
+}
+
+/* Finds the function over an address, as the one frame of itself, with no file and no line. All else is as of
+ * limberlime_find_frames. It needs no lines, and so no LIMBERLIME_ADDRESS_REFUSED is answered.
+ */
+LIMBERLIME_FUNCTION int64_t limberlime_find_function(struct limberlime_handle *handle, uint32_t address,
+                                                     struct limberlime_frames *frames)
+{
+    if (handle == NULL || frames == NULL)
+        return LIMBERLIME_NULL_POINTER;
+    return limberlime_find(limberlime_find_function_unchecked, handle, address, frames);
+}
+
 /* Writes what limberlime_frames does of the bytes that the handle was opened with. The handle holds the same records
  * afterwards, also where the call is refused. Its refusals are LIMBERLIME_CLOSED_HANDLE, which stands before all others
  * but LIMBERLIME_NULL_POINTER, and those that are no fault of the bytes. All else is as of limberlime_frames.
  */
-static inline int64_t limberlime_frames_of(struct limberlime_handle *handle, const uint32_t *addresses,
-                                           size_t address_count, uint8_t *buffer, size_t capacity, size_t *wanted)
+LIMBERLIME_FUNCTION int64_t limberlime_frames_of(struct limberlime_handle *handle, const uint32_t *addresses,
+                                                 size_t address_count, uint8_t *buffer, size_t capacity, size_t *wanted)
 {
     if (handle == NULL || addresses == NULL || buffer == NULL || wanted == NULL)
         return LIMBERLIME_NULL_POINTER;
@@ -138,21 +408,30 @@ static inline int64_t limberlime_frames_of(struct limberlime_handle *handle, con
 /* Writes what limberlime_names does of the bytes that the handle was opened with. All else is as of
  * limberlime_frames_of.
  */
-static inline int64_t limberlime_names_of(struct limberlime_handle *handle, const uint32_t *addresses,
-                                          size_t address_count, uint8_t *buffer, size_t capacity, size_t *wanted)
+LIMBERLIME_FUNCTION int64_t limberlime_names_of(struct limberlime_handle *handle, const uint32_t *addresses,
+                                                size_t address_count, uint8_t *buffer, size_t capacity, size_t *wanted)
 {
     if (handle == NULL || addresses == NULL || buffer == NULL || wanted == NULL)
         return LIMBERLIME_NULL_POINTER;
     return limberlime_names_of_unchecked(handle, addresses, address_count, buffer, capacity, wanted);
 }
 
-/* Gives the records of a handle back, which is closed from then on and may be opened again. Does nothing with a handle
- * that is closed, or with a null pointer.
+/* Gives the records of a handle back, with the frames that it answered last. It is closed from then on and may be
+ * opened again. Does nothing with a handle that is closed, or with a null pointer.
  */
-static inline void limberlime_close(struct limberlime_handle *handle)
+LIMBERLIME_FUNCTION void limberlime_close(struct limberlime_handle *handle)
 {
-    if (handle != NULL)
-        limberlime_close_unchecked(handle);
+    if (handle == NULL)
+        return;
+    limberlime_close_unchecked(handle);
+    free(handle->rooms.rows);
+    free(handle->rooms.frames);
+    free(handle->rooms.texts);
+    handle->rooms.rows = NULL;
+    handle->rooms.frames = NULL;
+    handle->rooms.texts = NULL;
+    handle->rooms.row_capacity = 0;
+    handle->rooms.text_capacity = 0;
 }
 
 #ifdef __cplusplus

@@ -37,12 +37,15 @@ static inline uint8_t *read_file(const char *path, size_t *length)
     do {
         capacity = capacity == 0 ? 65536 : 2 * capacity;
         uint8_t *more = realloc(bytes, capacity);
-        if (more == NULL)
-            break;
+        if (more == NULL) {
+            free(bytes);
+            fclose(file);
+            return NULL;
+        }
         bytes = more;
         *length += fread(bytes + *length, 1, capacity - *length, file);
     } while (*length == capacity);
-    if (*length == capacity || ferror(file)) {
+    if (ferror(file)) {
         free(bytes);
         bytes = NULL;
     }

@@ -1,5 +1,5 @@
 -- From what an opening reads to the text of its handle.
-use Rattle.std.proofs.Common.{◌≡◌, ℕ, List, [], ◌∷◌, refl, ap, w64, to_z, of_z}
+use Rattle.std.proofs.Common.{◌≡◌, ℕ, List, [], ◌∷◌, refl, ap, subst, w64, to_z, of_z}
 use Rattle.std.specs.Prelude.{Option, None, Some, Result, Ok, Err}
 use Rattle.pdb_records.specs.Records.{Records}
 use Rattle.pdb_types.specs.declared.error.Error.{Error}
@@ -12,7 +12,7 @@ use Rattle.pdb_c.specs.declared.refusals.Refusal.{Refusal}
 use Rattle.pdb_c.specs.declared.refusals.Refusal.TheVariants as refusal
 use Rattle.pdb_c.specs.Refusals.{code}
 use Rattle.pdb_c.specs.Texts.{records_in, text_over, asked_text}
-use Rattle.pdb_c.specs.Openings.{if_made, with_context, records_to_open, text_of_handle}
+use Rattle.pdb_c.specs.Openings.{if_made, with_context, HasContext, records_to_open, text_of_handle}
 
 -- the records that are answered are those that were given
 same_records : {A : Type 0} (made : Result A Error) (given records : Records)
@@ -31,6 +31,12 @@ read_to_open : (read : Result Records Refusal) (records : Records)
     → and_then read with_context ≡ Ok records → read ≡ Ok records
 read_to_open (Ok given) records is = ap Ok (same_records (opened given) given records is)
 read_to_open (Err why) records is = absurd cc
+
+-- records that are handed out since they have a context have one
+pub has_context : (given records : Records) → with_context given ≡ Ok records → HasContext records
+has_context given records is =
+    let same : given ≡ records = same_records (opened given) given records is in
+    subst (λ r. with_context r ≡ Ok records) same is
 
 -- records that were opened are asked as their bytes are
 pub asked_alike : (command : Command) (bytes addresses : List ℕ) (records : Records)
@@ -72,3 +78,16 @@ code_fits refusal.AddressRefused = refl
 code_fits refusal.OutOfMemory = refl
 code_fits refusal.BufferTooSmall = refl
 code_fits refusal.Closed = refl
+code_fits refusal.NotAPdbFile = refl
+code_fits refusal.Program = refl
+code_fits refusal.PortablePdb = refl
+code_fits refusal.Compressed = refl
+code_fits refusal.OldPdbFile = refl
+code_fits refusal.CutShort = refl
+code_fits refusal.StreamsTooLong = refl
+code_fits refusal.OfObjects = refl
+code_fits refusal.OldTypes = refl
+code_fits refusal.NoSectionHeaders = refl
+code_fits refusal.Rearranged = refl
+code_fits refusal.BrokenStream = refl
+code_fits refusal.NoDebugId = refl

@@ -33,3 +33,8 @@ pub record Ends (asked : Result (List ℕ) Refusal) (before after : List ℕ) (w
   pub found : Result (List ℕ) Refusal
   pub agrees : Agrees (λ text. text) found asked
   pub left : Answers found before after wanted answer
+
+-- how a call ends whose text no definition says: with some text, or refused
+pub record AnswersSome (before after : List ℕ) (wanted : ℕ) (answer : ℤ) : Type 0 where
+  pub found : Result (List ℕ) Refusal
+  pub left : Answers found before after wanted answer

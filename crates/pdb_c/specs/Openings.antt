@@ -41,3 +41,17 @@ pub record Opens (wanted : Result Records Refusal) (held : Option Records) (answ
   pub found : Result Records Refusal
   pub agrees : Agrees (λ records. records) found wanted
   pub left : Leaves found held answer
+
+-- records of which a context can be made
+abbrev pub HasContext : Records → Type 0
+HasContext records = with_context records ≡ Ok records
+
+-- an answer that is the number of a refusal
+pub record RefusedBy (answer : ℤ) : Type 0 where
+  pub why : Refusal
+  pub is : answer ≡ code why
+
+-- what the opening of a PDB file leaves: records that have a context, and 0; or no records, and why
+abbrev pub LeavesFile : Option Records → ℤ → Type 0
+LeavesFile (Some records) answer = HasContext records × (answer ≡ pos 0)
+LeavesFile None answer = RefusedBy answer

@@ -11,6 +11,14 @@ use Rattle.pdb_c.specs.declared.refusals.Refusal.{Refusal}
 use Rattle.pdb_c.specs.declared.refusals.Refusal.TheVariants.{NoAddresses, NotJson, NoRecords, ModuleFiles}
 use Rattle.pdb_c.specs.declared.refusals.Refusal.TheVariants.{RecordsRefused, AddressRefused}
 use Rattle.pdb_c.specs.declared.refusals.Refusal.TheVariants.{OutOfMemory, BufferTooSmall, Closed}
+use Rattle.pdb_c.specs.declared.refusals.Refusal.TheVariants.{NotAPdbFile, Program, PortablePdb, Compressed}
+use Rattle.pdb_c.specs.declared.refusals.Refusal.TheVariants.{OldPdbFile, CutShort, StreamsTooLong, OfObjects}
+use Rattle.pdb_c.specs.declared.refusals.Refusal.TheVariants.{OldTypes, NoSectionHeaders, Rearranged}
+use Rattle.pdb_c.specs.declared.refusals.Refusal.TheVariants.{BrokenStream, NoDebugId}
+use Rattle.pdb_msf.specs.declared.container_fault.ContainerFault.{ContainerFault}
+use Rattle.pdb_msf.specs.declared.container_fault.ContainerFault.TheVariants as container
+use Rattle.pdb_container.specs.declared.refusals.Refusal as told
+use Rattle.pdb_container.specs.declared.refusals.Refusal.TheVariants as file
 
 -- the number that a call answers for a refusal
 abbrev pub code : Refusal → ℤ
@@ -23,6 +31,19 @@ code AddressRefused = neg_ℤ (pos 7)
 code OutOfMemory = neg_ℤ (pos 8)
 code BufferTooSmall = neg_ℤ (pos 9)
 code Closed = neg_ℤ (pos 10)
+code NotAPdbFile = neg_ℤ (pos 11)
+code Program = neg_ℤ (pos 12)
+code PortablePdb = neg_ℤ (pos 13)
+code Compressed = neg_ℤ (pos 14)
+code OldPdbFile = neg_ℤ (pos 15)
+code CutShort = neg_ℤ (pos 16)
+code StreamsTooLong = neg_ℤ (pos 17)
+code OfObjects = neg_ℤ (pos 18)
+code OldTypes = neg_ℤ (pos 19)
+code NoSectionHeaders = neg_ℤ (pos 20)
+code Rearranged = neg_ℤ (pos 21)
+code BrokenStream = neg_ℤ (pos 22)
+code NoDebugId = neg_ℤ (pos 23)
 
 -- what a fault in a records file is answered as
 abbrev pub refusal_of : Fault → Refusal
@@ -54,3 +75,22 @@ refusal_of_records error = refusal_or_memory RecordsRefused error
 abbrev pub refusal_of_report : ReportFault → Refusal
 refusal_of_report (Lookup error) = refusal_or_memory AddressRefused error
 refusal_of_report Write = OutOfMemory
+
+-- what is answered where bytes can't be read as a PDB file
+abbrev pub refusal_of_container : ContainerFault → Refusal
+refusal_of_container container.NotAPdbFile = NotAPdbFile
+refusal_of_container container.Program = Program
+refusal_of_container container.PortablePdb = PortablePdb
+refusal_of_container container.Compressed = Compressed
+refusal_of_container container.OldPdbFile = OldPdbFile
+refusal_of_container container.CutShort = CutShort
+refusal_of_container container.StreamsTooLong = StreamsTooLong
+refusal_of_container container.OutOfMemory = OutOfMemory
+
+-- what is answered where nothing can be answered over the records of a PDB file
+abbrev pub refusal_of_file : told.Refusal → Refusal
+refusal_of_file file.OfObjects = OfObjects
+refusal_of_file (file.OldTypes version) = OldTypes
+refusal_of_file file.NoSectionHeaders = NoSectionHeaders
+refusal_of_file file.Rearranged = Rearranged
+refusal_of_file (file.Broken stream why) = BrokenStream

@@ -6,18 +6,28 @@
 
 mod answers;
 mod calls;
+mod found_frames;
+mod frame_answers;
+mod frame_calls;
+mod frame_rows;
 mod handle;
 mod handle_calls;
 mod laws;
 mod openings;
+mod pdb_calls;
+mod pdb_openings;
 mod refusals;
 mod texts;
 
 pub use calls::{limberlime_frames_unchecked, limberlime_names_unchecked};
+pub use found_frames::FoundFunction;
+pub use frame_calls::{limberlime_find_frames_unchecked, limberlime_find_function_unchecked};
+pub use frame_rows::{FrameRow, TextPlace};
 pub use handle::Handle;
 pub use handle_calls::{
     limberlime_close_unchecked, limberlime_frames_of_unchecked, limberlime_names_of_unchecked,
     limberlime_open_unchecked,
 };
 pub use laws::a_handle_is_answered_as_its_bytes_are;
+pub use pdb_calls::{limberlime_debug_id_unchecked, limberlime_open_pdb_unchecked};
 pub use refusals::Refusal;

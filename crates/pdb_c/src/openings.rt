@@ -22,7 +22,7 @@ fn check_context(context_data: &ContextPdbData<'_>) -> Result<(), Refusal>
 }
 
 // These records, where they have a context.
-fn with_context(alloc: Global, records: PDB) -> Result<ContextPdbData<'static>, Refusal>
+pub(crate) fn with_context(alloc: Global, records: PDB) -> Result<ContextPdbData<'static>, Refusal>
     ensures { Agrees (λ records. records) result (with_context records) }
 {
     let context_data = ContextPdbData::try_from_pdb(alloc, records)?;

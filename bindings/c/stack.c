@@ -1,0 +1,125 @@
+/* Prints the stack of each address of a PDB file or a records file, as `pdb_symbolizer -p PDB ADDRESS...` does:
+ *
+ *     stack PDB ADDRESS...
+ *
+ * An address is a hexadecimal number, relative to where the program is loaded. The status is 1 where the library
+ * refuses, and 2 for all else.
+ */
+#include <errno.h>
+#include <stdio.h>
+#include <stdlib.h>
+
+#include "limberlime.h"
+
+/* The whole file at a path, which the caller frees, or null. It is never null for an empty file. */
+static uint8_t *read_file(const char *path, size_t *length)
+{
+    FILE *file = fopen(path, "rb");
+    uint8_t *bytes = NULL;
+    size_t capacity = 0;
+    *length = 0;
+    if (file == NULL)
+        return NULL;
+    do {
+        capacity = capacity == 0 ? 65536 : 2 * capacity;
+        uint8_t *more = (uint8_t *)realloc(bytes, capacity);
+        if (more == NULL) {
+            free(bytes);
+            fclose(file);
+            return NULL;
+        }
+        bytes = more;
+        *length += fread(bytes + *length, 1, capacity - *length, file);
+    } while (*length == capacity);
+    if (ferror(file)) {
+        free(bytes);
+        bytes = NULL;
+    }
+    fclose(file);
+    return bytes;
+}
+
+/* The address that a word spells in hexadecimal digits. Whether it spells one. */
+static int read_address(const char *word, uint32_t *address)
+{
+    char *end;
+    errno = 0;
+    unsigned long long number = strtoull(word, &end, 16);
+    *address = (uint32_t)number;
+    return errno == 0 && *end == '\0' && end != word && number <= UINT32_MAX;
+}
+
+static void print_frame(const struct limberlime_frame *frame, const char *before)
+{
+    printf("%s%s at %s:%lu:0\n", before, frame->function == NULL ? "??" : frame->function,
+           frame->file == NULL ? "??" : frame->file, (unsigned long)frame->line);
+}
+
+/* Prints the stack of an address, or what refuses it. */
+static int print_stack(struct limberlime_handle *handle, uint32_t address)
+{
+    struct limberlime_frames found;
+    int64_t answer = limberlime_find_frames(handle, address, &found);
+    if (answer != 0) {
+        fprintf(stderr, "stack: 0x%lx: %s\n", (unsigned long)address, limberlime_refusal_text(answer));
+        if (answer != LIMBERLIME_ADDRESS_REFUSED)
+            return 1;
+        found.count = 0;
+    }
+    if (found.count == 0)
+        printf("?? at ??:0:0\n");
+    for (size_t i = 0; i < found.count; i++)
+        print_frame(&found.frames[i], i == 0 ? "" : " (inlined by) ");
+    printf("\n");
+    return 0;
+}
+
+/* Opens a PDB file, or else a records file. */
+static int64_t open_file(const uint8_t *bytes, size_t length, struct limberlime_handle *handle)
+{
+    int64_t answer = limberlime_open_pdb(bytes, length, handle);
+    if (answer == LIMBERLIME_NOT_A_PDB_FILE && limberlime_open(bytes, length, handle) == 0)
+        return 0;
+    return answer;
+}
+
+/* Prints the stacks of all addresses. */
+static int print_stacks(struct limberlime_handle *handle, char **words)
+{
+    int status = 0;
+    for (; status == 0 && *words != NULL; words++) {
+        uint32_t address;
+        if (!read_address(*words, &address)) {
+            fprintf(stderr, "stack: an address is a hexadecimal number of 32 bits\n");
+            return 2;
+        }
+        status = print_stack(handle, address);
+    }
+    return status;
+}
+
+int main(int argc, char **argv)
+{
+    if (argc < 3) {
+        fprintf(stderr, "usage: stack PDB ADDRESS...\n");
+        return 2;
+    }
+    size_t length;
+    uint8_t *bytes = read_file(argv[1], &length);
+    if (bytes == NULL) {
+        fprintf(stderr, "stack: cannot read %s\n", argv[1]);
+        return 2;
+    }
+    struct limberlime_handle handle = LIMBERLIME_CLOSED;
+    int64_t answer = open_file(bytes, length, &handle);
+    free(bytes);
+    if (answer != 0) {
+        fprintf(stderr, "stack: %s: %s\n", argv[1], limberlime_refusal_text(answer));
+        return 1;
+    }
+    int status = print_stacks(&handle, argv + 2);
+    limberlime_close(&handle);
+    if (fflush(stdout) != 0)
+        status = 2;
+    return status;
+}

@@ -1,0 +1,94 @@
+#!/bin/sh
+# Builds the library and its bindings for C, Rust and Python, runs their tests, and compares what their examples print.
+#
+# Usage: bindings/run.sh [FOLDER]
+#
+# What is built is left in FOLDER, which is else a new one that is removed at the end. Wanted are rt, gcc, g++, make,
+# cmake, pkg-config, valgrind, cargo with clippy, and python3. Nothing is fetched.
+set -eu
+
+top=$(cd "$(dirname "$0")/.." && pwd)
+kit=$(dirname "$(rt doc)")
+folder=${1:-$(mktemp -d)}
+[ $# -gt 0 ] || trap 'rm -rf "$folder"' EXIT
+mkdir -p "$folder"
+folder=$(cd "$folder" && pwd)
+bindings="$top/bindings"
+shapes="$top/crates/pdb_symbolizer/data/shapes.pdb"
+files="$top/crates/pdb_container_tests/data"
+failed=0
+
+(cd "$top/crates/pdb_c" && rt lib)
+make --no-print-directory -C "$bindings" OUT="$folder" KIT="$kit" PREFIX="$folder/prefix" install
+
+cat >"$folder/wanted" <<'WANTED'
+shapes::Point::length() const at C:\shapes\shapes.h:10:0
+ (inlined by) Picture::draw(int) at C:\shapes\main.cpp:29:0
+ (inlined by) Framed::draw(int) at C:\shapes\main.cpp:36:0
+
+WANTED
+
+# Runs a command, and says so where it fails.
+try() {
+    if "$@" >"$folder/said" 2>&1; then return; fi
+    echo "fails: $*"
+    cat "$folder/said"
+    failed=1
+}
+
+# Runs an example, and says so where it prints something else than is wanted.
+prints_the_stack() {
+    if "$@" "$shapes" 0x1136 >"$folder/printed" && cmp -s "$folder/wanted" "$folder/printed"; then return; fi
+    echo "prints something else: $*"
+    failed=1
+}
+
+warnings="-Wall -Wextra -Werror -pedantic -I $top/include"
+for build in 'c11 gcc -std=c11' 'c++17 g++ -std=c++17 -x c++'; do
+    # shellcheck disable=SC2086
+    set -- $build
+    name=$1
+    shift
+    for program in test stack; do
+        # shellcheck disable=SC2086
+        "$@" -O2 $warnings -c -o "$folder/$program.o" "$bindings/c/$program.c"
+        "$1" -o "$folder/${program}_$name" "$folder/$program.o" "$folder/liblimberlime.a"
+        # shellcheck disable=SC2086
+        "$@" -g $warnings -fsanitize=address,undefined -fno-sanitize-recover=all -c -o "$folder/$program.o" \
+            "$bindings/c/$program.c"
+        "$1" -fsanitize=address,undefined -o "$folder/${program}_${name}_sanitized" "$folder/$program.o" \
+            "$folder/liblimberlime.a"
+    done
+    try "$folder/test_$name" "$shapes" "$files"
+    try "$folder/test_${name}_sanitized" "$shapes" "$files"
+    try valgrind --quiet --error-exitcode=99 --leak-check=full --show-leak-kinds=all --errors-for-leak-kinds=all \
+        "$folder/test_$name" "$shapes" "$files"
+    prints_the_stack "$folder/stack_$name"
+    prints_the_stack "$folder/stack_${name}_sanitized"
+done
+
+# By what `make install` put there.
+try cmake -S "$bindings/c" -B "$folder/cmake" -DCMAKE_PREFIX_PATH="$folder/prefix"
+try cmake --build "$folder/cmake"
+prints_the_stack "$folder/cmake/stack"
+# shellcheck disable=SC2046
+gcc -o "$folder/stack_shared" "$bindings/c/stack.c" \
+    $(PKG_CONFIG_PATH="$folder/prefix/lib/pkgconfig" pkg-config --cflags --libs limberlime)
+prints_the_stack env LD_LIBRARY_PATH="$folder/prefix/lib" "$folder/stack_shared"
+
+export LIMBERLIME_LIB_DIR="$folder" CARGO_TARGET_DIR="$folder/target" CARGO_NET_OFFLINE=true
+cd "$bindings/rust"
+try cargo fmt --check
+try cargo clippy --quiet --all-targets -- -D warnings
+try cargo test --quiet
+try cargo build --quiet --release --examples
+prints_the_stack "$folder/target/release/examples/stack"
+rm -f Cargo.lock
+
+export LIMBERLIME_LIBRARY="$folder/liblimberlime.so" PYTHONDONTWRITEBYTECODE=1
+cd "$bindings/python"
+try python3 -m unittest
+prints_the_stack python3 stack.py
+
+[ "$failed" = 0 ] && echo "bindings: C, C++, Rust and Python answer what is wanted"
+exit "$failed"

@@ -1,0 +1,70 @@
+//! Prints the stack of each address of a PDB file or a records file, as `pdb_symbolizer -p PDB ADDRESS..` does:
+//!
+//!     stack PDB ADDRESS..
+//!
+//! An address is a hexadecimal number, relative to where the program is loaded.
+
+use limberlime::{Frames, Program, Refusal};
+use std::error::Error;
+use std::io::{self, Write};
+use std::process::ExitCode;
+use std::{env, fs};
+
+fn main() -> ExitCode {
+    let words: Vec<String> = env::args().skip(1).collect();
+    match run(&words) {
+        Ok(()) => ExitCode::SUCCESS,
+        Err(error) => {
+            eprintln!("stack: {error}");
+            ExitCode::FAILURE
+        }
+    }
+}
+
+fn run(words: &[String]) -> Result<(), Box<dyn Error>> {
+    let [file, addresses @ ..] = words else {
+        return Err("usage: stack PDB ADDRESS..".into());
+    };
+    let mut program = open(&fs::read(file)?)?;
+    let mut out = io::BufWriter::new(io::stdout().lock());
+    for word in addresses {
+        let digits = word.trim_start_matches("0x");
+        print_stack(&mut out, &mut program, u32::from_str_radix(digits, 16)?)?;
+    }
+    out.flush()?;
+    Ok(())
+}
+
+/// A PDB file, or else a records file.
+fn open(bytes: &[u8]) -> Result<Program, Refusal> {
+    match Program::open_pdb(bytes) {
+        Err(Refusal::NotAPdbFile) => Program::open_records(bytes).map_err(|_| Refusal::NotAPdbFile),
+        opened => opened,
+    }
+}
+
+fn print_stack(out: &mut impl Write, program: &mut Program, address: u32) -> Result<(), Box<dyn Error>> {
+    match program.frames(address) {
+        Ok(frames) => print_frames(out, frames)?,
+        Err(Refusal::AddressRefused) => {
+            eprintln!("stack: 0x{address:x}: {}", Refusal::AddressRefused);
+            writeln!(out, "?? at ??:0:0")?;
+        }
+        Err(refusal) => return Err(refusal.into()),
+    }
+    writeln!(out)?;
+    Ok(())
+}
+
+fn print_frames(out: &mut impl Write, frames: Frames<'_>) -> io::Result<()> {
+    if frames.is_empty() {
+        writeln!(out, "?? at ??:0:0")?;
+    }
+    for (depth, frame) in frames.iter().enumerate() {
+        let before = if depth == 0 { "" } else { " (inlined by) " };
+        let function = frame.function.unwrap_or("??");
+        let file = frame.file.unwrap_or("??");
+        writeln!(out, "{before}{function} at {file}:{}:0", frame.line.unwrap_or(0))?;
+    }
+    Ok(())
+}

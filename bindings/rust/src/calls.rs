@@ -1,0 +1,265 @@
+//! The library's calls with Rust's types. `include/limberlime.h` says what they mean, and what a caller owes.
+
+use crate::frames::Frames;
+use crate::refusals::Refusal;
+use std::ffi::c_void;
+use std::ptr;
+
+/// The handle of an opening. Its pointer is null where it is closed, and the library's alone.
+#[repr(C)]
+pub(crate) struct Handle {
+    records: *mut c_void,
+}
+
+/// Where a text stands among the texts of an answer. One that isn't known starts at the greatest number there is.
+#[repr(C)]
+#[derive(Clone, Copy, Default)]
+pub(crate) struct Place {
+    pub(crate) start: usize,
+    pub(crate) length: usize,
+}
+
+/// A frame as the library writes it.
+#[repr(C)]
+#[derive(Clone, Copy, Default)]
+pub(crate) struct Row {
+    pub(crate) function: Place,
+    pub(crate) file: Place,
+    pub(crate) line: u32,
+}
+
+/// How many rows an answer has, how many bytes its texts have, and its function's addresses.
+#[repr(C)]
+#[derive(Clone, Copy, Default)]
+pub(crate) struct Found {
+    pub(crate) rows: usize,
+    pub(crate) texts: usize,
+    pub(crate) start: u32,
+    pub(crate) end: u32,
+    pub(crate) end_known: u32,
+}
+
+type ReportFunction = unsafe extern "C" fn(*mut Handle, *const u32, usize, *mut u8, usize, *mut usize) -> i64;
+
+type FindFunction =
+    unsafe extern "C" fn(*mut Handle, u32, *mut Row, usize, *mut u8, usize, *mut Found) -> i64;
+
+extern "C" {
+    fn limberlime_open_unchecked(records: *const u8, length: usize, handle: *mut Handle) -> i64;
+
+    fn limberlime_open_pdb_unchecked(pdb: *const u8, length: usize, handle: *mut Handle) -> i64;
+
+    fn limberlime_debug_id_unchecked(
+        pdb: *const u8,
+        length: usize,
+        buffer: *mut u8,
+        capacity: usize,
+        wanted: *mut usize,
+    ) -> i64;
+
+    fn limberlime_find_frames_unchecked(
+        handle: *mut Handle,
+        address: u32,
+        rows: *mut Row,
+        row_capacity: usize,
+        texts: *mut u8,
+        text_capacity: usize,
+        found: *mut Found,
+    ) -> i64;
+
+    fn limberlime_find_function_unchecked(
+        handle: *mut Handle,
+        address: u32,
+        rows: *mut Row,
+        row_capacity: usize,
+        texts: *mut u8,
+        text_capacity: usize,
+        found: *mut Found,
+    ) -> i64;
+
+    fn limberlime_frames_of_unchecked(
+        handle: *mut Handle,
+        addresses: *const u32,
+        count: usize,
+        buffer: *mut u8,
+        capacity: usize,
+        wanted: *mut usize,
+    ) -> i64;
+
+    fn limberlime_names_of_unchecked(
+        handle: *mut Handle,
+        addresses: *const u32,
+        count: usize,
+        buffer: *mut u8,
+        capacity: usize,
+        wanted: *mut usize,
+    ) -> i64;
+
+    fn limberlime_close_unchecked(handle: *mut Handle);
+}
+
+/// The number that is answered for rooms that the answer doesn't fit.
+const BUFFER_TOO_SMALL: i64 = -9;
+
+/// How large the first rooms are. They do for most answers.
+const FIRST_ROWS: usize = 16;
+const FIRST_BYTES: usize = 1024;
+
+/// A debug id has 32 digits, and up to eight of the age.
+const DEBUG_ID_BYTES: usize = 40;
+
+// The library proves that a handle may go to another thread. It may be given to one call at a time, so no call takes it
+// by `&self`, and threads don't share it.
+unsafe impl Send for Handle {}
+
+impl Handle {
+    fn closed() -> Handle {
+        Handle {
+            records: ptr::null_mut(),
+        }
+    }
+
+    pub(crate) fn open_pdb(pdb: &[u8]) -> Result<Handle, Refusal> {
+        let mut handle = Handle::closed();
+        // SAFETY: the pointer is the slice's, with its length, and the handle is closed, as before its first call.
+        let answer = unsafe { limberlime_open_pdb_unchecked(pdb.as_ptr(), pdb.len(), &mut handle) };
+        length_of(answer).map(|_| handle)
+    }
+
+    pub(crate) fn open_records(records: &[u8]) -> Result<Handle, Refusal> {
+        let mut handle = Handle::closed();
+        // SAFETY: as in `open_pdb`.
+        let answer = unsafe { limberlime_open_unchecked(records.as_ptr(), records.len(), &mut handle) };
+        length_of(answer).map(|_| handle)
+    }
+
+    pub(crate) fn report_frames(&mut self, addresses: &[u32]) -> Result<String, Refusal> {
+        self.report(limberlime_frames_of_unchecked, addresses)
+    }
+
+    pub(crate) fn report_names(&mut self, addresses: &[u32]) -> Result<String, Refusal> {
+        self.report(limberlime_names_of_unchecked, addresses)
+    }
+
+    fn report(&mut self, call: ReportFunction, addresses: &[u32]) -> Result<String, Refusal> {
+        text_of(FIRST_BYTES, |buffer, wanted| {
+            // SAFETY: the pointers are the slices' and the reference's, with their lengths; the library alone writes
+            // the handle, which this call borrows alone.
+            unsafe {
+                call(
+                    self,
+                    addresses.as_ptr(),
+                    addresses.len(),
+                    buffer.as_mut_ptr(),
+                    buffer.len(),
+                    wanted,
+                )
+            }
+        })
+    }
+}
+
+impl Drop for Handle {
+    fn drop(&mut self) {
+        // SAFETY: the library alone has written the handle, and no call has it any more.
+        unsafe { limberlime_close_unchecked(self) }
+    }
+}
+
+/// The debug id of a PDB file.
+pub(crate) fn debug_id(pdb: &[u8]) -> Result<String, Refusal> {
+    text_of(DEBUG_ID_BYTES, |buffer, wanted| {
+        // SAFETY: the pointers are the slices' and the reference's, with their lengths.
+        unsafe {
+            limberlime_debug_id_unchecked(pdb.as_ptr(), pdb.len(), buffer.as_mut_ptr(), buffer.len(), wanted)
+        }
+    })
+}
+
+/// A length that was answered, or the refusal of its number.
+fn length_of(answer: i64) -> Result<usize, Refusal> {
+    usize::try_from(answer).map_err(|_| Refusal::of_number(answer))
+}
+
+/// The text of a call. Where the first buffer is too small, the call has said the length that is wanted.
+fn text_of(capacity: usize, mut call: impl FnMut(&mut [u8], &mut usize) -> i64) -> Result<String, Refusal> {
+    let mut buffer = vec![0; capacity];
+    let mut wanted = 0;
+    let mut answer = call(&mut buffer, &mut wanted);
+    if answer == BUFFER_TOO_SMALL {
+        buffer.resize(wanted, 0);
+        answer = call(&mut buffer, &mut wanted);
+    }
+    buffer.truncate(length_of(answer)?);
+    Ok(String::from_utf8_lossy(&buffer).into_owned())
+}
+
+/// What is asked about an address.
+#[derive(Clone, Copy)]
+pub(crate) enum FindCall {
+    Frames,
+    Function,
+}
+
+impl FindCall {
+    fn function(self) -> FindFunction {
+        match self {
+            FindCall::Frames => limberlime_find_frames_unchecked,
+            FindCall::Function => limberlime_find_function_unchecked,
+        }
+    }
+}
+
+/// What the last answer stands in.
+pub(crate) struct Rooms {
+    rows: Vec<Row>,
+    texts: Vec<u8>,
+}
+
+impl Rooms {
+    pub(crate) fn new() -> Rooms {
+        Rooms {
+            rows: vec![Row::default(); FIRST_ROWS],
+            texts: vec![0; FIRST_BYTES],
+        }
+    }
+
+    /// Asks about an address, with more room where the answer is larger than there is.
+    pub(crate) fn find(
+        &mut self,
+        handle: &mut Handle,
+        call: FindCall,
+        address: u32,
+    ) -> Result<Frames<'_>, Refusal> {
+        let mut found = Found::default();
+        loop {
+            // SAFETY: the pointers are the vectors' and the references', with their lengths; the library alone writes
+            // the handle, which this call borrows alone.
+            let answer = unsafe {
+                call.function()(
+                    handle,
+                    address,
+                    self.rows.as_mut_ptr(),
+                    self.rows.len(),
+                    self.texts.as_mut_ptr(),
+                    self.texts.len(),
+                    &mut found,
+                )
+            };
+            match answer {
+                0 => return Ok(Frames::new(&self.rows, &self.texts, found)),
+                BUFFER_TOO_SMALL => self.make_room(&found),
+                refused => return Err(Refusal::of_number(refused)),
+            }
+        }
+    }
+
+    fn make_room(&mut self, found: &Found) {
+        if self.rows.len() < found.rows {
+            self.rows.resize(found.rows.next_power_of_two(), Row::default());
+        }
+        if self.texts.len() < found.texts {
+            self.texts.resize(found.texts.next_power_of_two(), 0);
+        }
+    }
+}

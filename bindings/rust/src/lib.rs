@@ -1,0 +1,157 @@
+//! Functions, files, lines and inlined calls at addresses of a Windows program.
+//!
+//! ```
+//! # fn main() -> Result<(), Box<dyn std::error::Error>> {
+//! let file = std::fs::read("../../crates/pdb_symbolizer/data/shapes.pdb")?;
+//! let mut program = limberlime::Program::open_pdb(&file)?;
+//! let frames = program.frames(0x1136)?;
+//! let innermost = frames.iter().next().ok_or("no function")?;
+//! assert_eq!(innermost.function, Some("shapes::Point::length() const"));
+//! assert_eq!(innermost.file, Some(r"C:\shapes\shapes.h"));
+//! assert_eq!(innermost.line, Some(10));
+//! assert_eq!(frames.len(), 3);
+//! # Ok(())
+//! # }
+//! ```
+//!
+//! The calls are those of the library for C, which is written in Rattle and proved. Addresses are relative to where the
+//! program is loaded.
+#![deny(missing_docs)]
+
+mod calls;
+mod frames;
+mod refusals;
+
+pub use frames::{Frame, Frames, Iter};
+pub use refusals::Refusal;
+
+use calls::{FindCall, Handle, Rooms};
+use std::fmt;
+
+/// A program's records, which are read once for many questions, and given back when this is dropped.
+///
+/// It may go to another thread, and one question at a time is put to it:
+///
+/// ```
+/// fn goes_to_another_thread<T: Send>() {}
+/// goes_to_another_thread::<limberlime::Program>();
+/// ```
+///
+/// ```compile_fail
+/// fn is_shared_by_threads<T: Sync>() {}
+/// is_shared_by_threads::<limberlime::Program>();
+/// ```
+pub struct Program {
+    handle: Handle,
+    rooms: Rooms,
+}
+
+impl Program {
+    /// Reads the records in the bytes of a PDB file, which aren't needed any more afterwards. What of the file is
+    /// broken is left out, and all else is answered.
+    ///
+    /// # Errors
+    ///
+    /// What the bytes are that are no PDB file of a program; or why nothing can be answered over them:
+    ///
+    /// ```
+    /// use limberlime::{Program, Refusal};
+    ///
+    /// let refusal = Program::open_pdb(b"MZ, and then a program").err();
+    /// assert_eq!(refusal, Some(Refusal::Program));
+    /// ```
+    pub fn open_pdb(pdb: &[u8]) -> Result<Program, Refusal> {
+        Ok(Program::of(Handle::open_pdb(pdb)?))
+    }
+
+    /// Reads the records in the bytes of a records file.
+    ///
+    /// # Errors
+    ///
+    /// [`Refusal::NotJson`], [`Refusal::NoRecords`] and [`Refusal::ModuleFiles`] for the file's own faults, and
+    /// [`Refusal::RecordsRefused`] where the records of the whole program are refused.
+    pub fn open_records(records: &[u8]) -> Result<Program, Refusal> {
+        Ok(Program::of(Handle::open_records(records)?))
+    }
+
+    fn of(handle: Handle) -> Program {
+        Program {
+            handle,
+            rooms: Rooms::new(),
+        }
+    }
+
+    /// The functions in whose code an address lies, with files and lines, the innermost inlined one first. There are
+    /// none where no function lies there.
+    ///
+    /// # Errors
+    ///
+    /// [`Refusal::AddressRefused`] where the records of the address's module are refused, and
+    /// [`Refusal::OutOfMemory`].
+    pub fn frames(&mut self, address: u32) -> Result<Frames<'_>, Refusal> {
+        self.rooms.find(&mut self.handle, FindCall::Frames, address)
+    }
+
+    /// The function in whose code an address lies, as the one frame of itself, with no file and no line.
+    ///
+    /// # Errors
+    ///
+    /// [`Refusal::OutOfMemory`].
+    ///
+    /// ```
+    /// # fn main() -> Result<(), Box<dyn std::error::Error>> {
+    /// # let file = std::fs::read("../../crates/pdb_symbolizer/data/shapes.pdb")?;
+    /// # let mut program = limberlime::Program::open_pdb(&file)?;
+    /// let function = program.function(0x1136)?;
+    /// assert!(function.start() <= 0x1136);
+    /// assert!(function.end().is_some_and(|end| 0x1136 < end));
+    /// # Ok(())
+    /// # }
+    /// ```
+    pub fn function(&mut self, address: u32) -> Result<Frames<'_>, Refusal> {
+        self.rooms.find(&mut self.handle, FindCall::Function, address)
+    }
+
+    /// The text that `pdb_report RECORDS frames ADDRESS..` prints of these addresses.
+    ///
+    /// # Errors
+    ///
+    /// [`Refusal::NoAddresses`], [`Refusal::AddressRefused`] where one of them is refused, and
+    /// [`Refusal::OutOfMemory`].
+    pub fn report_frames(&mut self, addresses: &[u32]) -> Result<String, Refusal> {
+        self.handle.report_frames(addresses)
+    }
+
+    /// The text that `pdb_report RECORDS names ADDRESS..` prints of these addresses.
+    ///
+    /// # Errors
+    ///
+    /// [`Refusal::NoAddresses`] and [`Refusal::OutOfMemory`].
+    pub fn report_names(&mut self, addresses: &[u32]) -> Result<String, Refusal> {
+        self.handle.report_names(addresses)
+    }
+}
+
+impl fmt::Debug for Program {
+    fn fmt(&self, formatter: &mut fmt::Formatter<'_>) -> fmt::Result {
+        formatter.debug_struct("Program").finish_non_exhaustive()
+    }
+}
+
+/// The debug id of a PDB file, by which a program, a symbol server and a crash report name it: 32 digits, and behind
+/// them the age.
+///
+/// # Errors
+///
+/// [`Refusal::NoDebugId`] where the file doesn't say it, or what the bytes are that are no PDB file.
+///
+/// ```
+/// # fn main() -> Result<(), Box<dyn std::error::Error>> {
+/// let file = std::fs::read("../../crates/pdb_symbolizer/data/shapes.pdb")?;
+/// assert_eq!(limberlime::debug_id(&file)?, "6B32B94164959A524C4C44205044422E1");
+/// # Ok(())
+/// # }
+/// ```
+pub fn debug_id(pdb: &[u8]) -> Result<String, Refusal> {
+    calls::debug_id(pdb)
+}

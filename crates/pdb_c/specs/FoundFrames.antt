@@ -1,0 +1,71 @@
+-- What a question for frames or for a function finds, as it is shown to C.
+use Rattle.std.specs.Prelude.{ℕ, List, [], ◌∷◌, ◌++◌, Option, Some, None, length, drop, nat_le, Bool, ◌&&◌}
+use Rattle.pdb_frames.specs.Frame.{FramesInfo}
+use Rattle.pdb_function_info.specs.Function.{FunctionInfo}
+use Rattle.pdb_c.specs.declared.frame_rows.FrameRow.{FrameRow}
+use Rattle.pdb_c.specs.declared.found_frames.FoundFunction.{FoundFunction}
+use Rattle.pdb_c.specs.declared.found_frames.FoundFrames.{FoundFrames}
+use Rattle.pdb_c.specs.FrameRows.{rows_of, texts_of}
+
+-- what is shown of a function: its addresses, a row for each frame, and the texts that rows lead to
+pub record Shown : Type 0 where
+  pub start : ℕ
+  pub end : Option ℕ
+  pub rows : List FrameRow
+  pub texts : List ℕ
+
+-- what is shown of the frames over an address; nothing where no function lies there
+abbrev pub shown : Option FramesInfo → Shown
+shown None = record { start = 0; end = None; rows = []; texts = [] }
+shown (Some found) = record {
+  start = found.start_rva;
+  end = found.end_rva;
+  rows = rows_of 0 found.frames;
+  texts = texts_of found.frames;
+}
+
+-- the same, as the code has it
+abbrev pub shown_view : FoundFrames → Shown
+shown_view found = record {
+  start = found.start;
+  end = found.end;
+  rows = found.rows.items;
+  texts = found.texts.items;
+}
+
+-- a function as frames: itself alone, with no file and no line
+abbrev pub frames_of_function : FunctionInfo → FramesInfo
+frames_of_function f = record {
+  start_rva = f.start_rva;
+  end_rva = f.end_rva;
+  frames = record { function = f.name; file = None; line = None } ∷ [];
+}
+
+-- a list with another put at its start
+abbrev pub put_at_start : {A : Type 0} → List A → List A → List A
+put_at_start items room = items ++ drop (length items) room
+
+-- whether rows and texts fit rooms
+abbrev pub fits : {A : Type 0} → Shown → List A → List ℕ → Bool
+fits found rows texts =
+    nat_le (length found.rows) (length rows) && nat_le (length found.texts) (length texts)
+
+-- where a function ends, and 0 where that isn't known
+abbrev pub end_or_0 : Option ℕ → ℕ
+end_or_0 (Some end) = end
+end_or_0 None = 0
+
+-- 1 where it is known where a function ends, and else 0
+abbrev pub end_is_known : Option ℕ → ℕ
+end_is_known (Some end) = 1
+end_is_known None = 0
+
+-- the size of an answer, and its function's addresses
+abbrev pub sizes : Shown → FoundFunction
+sizes found = record {
+  rows = length found.rows;
+  texts = length found.texts;
+  start = found.start;
+  end = end_or_0 found.end;
+  end_known = end_is_known found.end;
+}

@@ -1,0 +1,135 @@
+//! What a question for frames or for a function finds, as rows and texts in memory.
+ghost use Rattle.std.specs.Prelude.{◌≡◌, None, Some, option_map, IfOk};
+ghost use Rattle.pdb_function_info.specs.Function.{function_view};
+ghost use Rattle.pdb_c.specs.FoundFrames.{shown, shown_view, frames_of_function, sizes};
+
+use crate::frame_rows::{FrameRow, append_frames};
+use pdb_addr2line::{Frame, Function, FunctionFrames};
+use std::alloc::{AllocError, Global};
+
+/// What is asked about an address.
+#[derive(Clone, Copy)]
+pub(crate) enum Question {
+    /// The functions in whose code it lies, from inside to outside.
+    Frames(u32),
+    /// The function whose code it lies in.
+    Function(u32),
+}
+
+/// How large an answer is, and the addresses of its function.
+#[repr(C)]
+#[derive(Clone, Copy)]
+pub struct FoundFunction {
+    /// How many rows the answer has, and how many bytes its texts.
+    pub rows: usize,
+    pub texts: usize,
+    /// Where the function starts, relative to where the program is loaded.
+    pub start: u32,
+    /// The address of the first byte behind it, if it is known, and whether it is: 1, or else 0.
+    pub end: u32,
+    pub end_known: u32,
+}
+
+// The size of what is found, and its function's addresses.
+pub(crate) fn sizes(found: &FoundFrames) -> FoundFunction
+    ensures { result ≡ sizes (shown_view found.now) }
+{
+    FoundFunction {
+        rows: found.rows.len(),
+        texts: found.texts.len(),
+        start: found.start,
+        end: found.end.unwrap_or(0),
+        end_known: u32::from(found.end.is_some()),
+    }
+}
+
+/// What a question finds: its function's addresses, rows and texts.
+#[derive(Drop)]
+pub(crate) struct FoundFrames {
+    pub(crate) start: u32,
+    pub(crate) end: Option<u32>,
+    pub(crate) rows: Vec<FrameRow>,
+    pub(crate) texts: Vec<u8>,
+}
+
+// No function at all.
+pub(crate) fn no_frames(alloc: Global) -> FoundFrames
+    ensures { shown_view result ≡ shown None }
+{
+    FoundFrames {
+        start: 0,
+        end: None,
+        rows: Vec::new(alloc),
+        texts: Vec::new(alloc),
+    }
+}
+
+// What is found of frames.
+fn rows_of_frames(alloc: Global, found: &FunctionFrames<'_>) -> Result<FoundFrames, AllocError>
+    ensures { IfOk result (λ rows. shown_view rows ≡ shown (Some found.now)) }
+{
+    let mut rows = Vec::new(alloc);
+    let mut texts = Vec::new(alloc);
+    append_frames(&mut rows, &mut texts, &found.frames)?;
+    Ok(FoundFrames {
+        start: found.start_rva,
+        end: found.end_rva,
+        rows,
+        texts,
+    })
+}
+
+// What is found of frames, where there are any.
+pub(crate) fn found_frames(
+    alloc: Global,
+    found: &Option<FunctionFrames<'_>>,
+) -> Result<FoundFrames, AllocError>
+    ensures { IfOk result (λ rows. shown_view rows ≡ shown found.now) }
+{
+    match found {
+        Some(found) => rows_of_frames(alloc, found),
+        None => Ok(no_frames(alloc)),
+    }
+}
+
+// A function as the one frame of itself, with no file and no line.
+fn frames_of_function(
+    alloc: Global,
+    function: Function,
+) -> Result<FunctionFrames<'static>, AllocError>
+    ensures { IfOk result (λ frames. frames ≡ frames_of_function (function_view function)) }
+{
+    let Function {
+        start_rva,
+        end_rva,
+        name,
+    } = function;
+    let mut frames = Vec::new(alloc);
+    frames.push(Frame {
+        function: name,
+        file: None,
+        line: None,
+    })?;
+    Ok(FunctionFrames {
+        start_rva,
+        end_rva,
+        frames,
+    })
+}
+
+// What is found of a function, where there is one.
+pub(crate) fn found_function(
+    alloc: Global,
+    found: Option<Function>,
+) -> Result<FoundFrames, AllocError>
+    ensures { IfOk result (λ rows. shown_view rows
+        ≡ shown (option_map frames_of_function (option_map function_view found))) }
+{
+    match found {
+        Some(function) => {
+            let frames = frames_of_function(alloc, function)?;
+            rows_of_frames(alloc, &frames)
+        }
+        None => Ok(no_frames(alloc)),
+    }
+}

@@ -1,0 +1,51 @@
+//! The calls for C that answer frames and functions as data.
+ghost use Rattle.std.specs.Prelude.{◌≡◌};
+ghost use Rattle.pdb_c.specs.FrameAnswers.{answer_of_handle, EndsWithFrames};
+ghost use Rattle.pdb_c.specs.declared.found_frames.Question.TheVariants.{Frames, Function};
+
+use crate::found_frames::{FoundFunction, Question};
+use crate::frame_answers::{answer_of_handle, answer_with_frames};
+use crate::frame_rows::FrameRow;
+use crate::handle::Handle;
+use std::alloc::Global;
+
+/// Writes the frames over an address to the caller's rooms, by the records that a handle holds: a row for each, the
+/// innermost first, and the texts that rows lead to, each with a 0 behind it. `size` says how many there are of both,
+/// and which function it is. Answers 0, also where no function lies there, and then there are no rows. Where there is
+/// no answer, or it is larger than the rooms, nothing is written to these, and the answer is the refusal's number. The
+/// handle holds what it held.
+#[unsafe(no_mangle)]
+pub extern "C" fn limberlime_find_frames_unchecked(
+    alloc: Global,
+    handle: &mut Handle,
+    address: u32,
+    rows: &mut [FrameRow],
+    texts: &mut [u8],
+    size: &mut FoundFunction,
+) -> i64
+    ensures answer { EndsWithFrames (answer_of_handle handle.old.held (Frames address))
+        rows.old rows.new texts.old texts.new size.new result }
+    ensures unchanged { handle.new.held ≡ handle.old.held }
+{
+    let found = answer_of_handle(alloc, handle, Question::Frames(address));
+    answer_with_frames(found, rows, texts, size)
+}
+
+/// Writes the function over an address: a row for it alone, with no file and no line. All else is as of
+/// [`limberlime_find_frames_unchecked`].
+#[unsafe(no_mangle)]
+pub extern "C" fn limberlime_find_function_unchecked(
+    alloc: Global,
+    handle: &mut Handle,
+    address: u32,
+    rows: &mut [FrameRow],
+    texts: &mut [u8],
+    size: &mut FoundFunction,
+) -> i64
+    ensures answer { EndsWithFrames (answer_of_handle handle.old.held (Function address))
+        rows.old rows.new texts.old texts.new size.new result }
+    ensures unchanged { handle.new.held ≡ handle.old.held }
+{
+    let found = answer_of_handle(alloc, handle, Question::Function(address));
+    answer_with_frames(found, rows, texts, size)
+}

@@ -1,0 +1,110 @@
+//! Frames as data: a row of each, and the texts that rows lead to.
+ghost use Rattle.std.specs.Prelude.{◌≡◌, ◌++◌, length, option_map, string_bytes, IfOk, OnOk};
+ghost use Rattle.std.specs.Cow.{cow_str_bytes};
+ghost use Rattle.pdb_c.specs.FrameRows.{known_place, place_at, row_at, rows_of};
+ghost use Rattle.pdb_c.specs.FrameRows.{ended, ended_or_none, frame_texts, texts_of};
+
+use pdb_addr2line::Frame;
+use std::alloc::AllocError;
+use std::borrow::CowStr;
+
+/// Where no text stands that isn't known.
+const NOWHERE: usize = 0xffff_ffff_ffff_ffff;
+
+/// Where a text stands among the texts of an answer, by its first byte, and its length in bytes. One that isn't known
+/// stands at the greatest number there is, and has none.
+#[repr(C)]
+#[derive(Clone, Copy)]
+pub struct TextPlace {
+    pub start: usize,
+    pub length: usize,
+}
+
+/// A frame: the texts of its function and its file, and its line, which is 0 where none is known.
+#[repr(C)]
+#[derive(Clone, Copy)]
+pub struct FrameRow {
+    pub function: TextPlace,
+    pub file: TextPlace,
+    pub line: u32,
+}
+
+// Appends a text with a 0 behind it, and answers where it stands.
+fn append_text(texts: &mut Vec<u8>, text: &str) -> Result<TextPlace, AllocError>
+    ensures place { IfOk result (λ place. place ≡ known_place (length texts.old.items) text.now) }
+    ensures state { OnOk result (texts.new.items ≡ texts.old.items ++ ended text.now) }
+{
+    let start = texts.len();
+    texts.extend_from_slice(text.as_bytes())?;
+    texts.push(0)?;
+    Ok(TextPlace {
+        start,
+        length: text.len(),
+    })
+}
+
+// Appends the name of a function, where it is known.
+fn append_function(texts: &mut Vec<u8>, name: &Option<String>) -> Result<TextPlace, AllocError>
+    ensures place { IfOk result (λ place. place
+        ≡ place_at (length texts.old.items) (option_map string_bytes name.now)) }
+    ensures state { OnOk result (texts.new.items
+        ≡ texts.old.items ++ ended_or_none (option_map string_bytes name.now)) }
+{
+    match name {
+        Some(name) => append_text(texts, name.as_str()),
+        None => {
+            Ok(TextPlace {
+                start: NOWHERE,
+                length: 0,
+            })
+        }
+    }
+}
+
+// Appends the name of a file, where it is known.
+fn append_file(texts: &mut Vec<u8>, name: &Option<CowStr<'_>>) -> Result<TextPlace, AllocError>
+    ensures place { IfOk result (λ place. place
+        ≡ place_at (length texts.old.items) (option_map cow_str_bytes name.now)) }
+    ensures state { OnOk result (texts.new.items
+        ≡ texts.old.items ++ ended_or_none (option_map cow_str_bytes name.now)) }
+{
+    match name {
+        Some(name) => append_text(texts, name.as_str()),
+        None => {
+            Ok(TextPlace {
+                start: NOWHERE,
+                length: 0,
+            })
+        }
+    }
+}
+
+// Appends the texts of a frame, and answers its row.
+fn append_frame(texts: &mut Vec<u8>, frame: &Frame<'_>) -> Result<FrameRow, AllocError>
+    ensures row { IfOk result (λ row. row ≡ row_at (length texts.old.items) frame.now) }
+    ensures state { OnOk result (texts.new.items ≡ texts.old.items ++ frame_texts frame.now) }
+{
+    let function = append_function(texts, &frame.function)?;
+    let file = append_file(texts, &frame.file)?;
+    Ok(FrameRow {
+        function,
+        file,
+        line: frame.line.unwrap_or(0),
+    })
+}
+
+// Appends the rows and the texts of frames, in order.
+pub(crate) fn append_frames(
+    rows: &mut Vec<FrameRow>,
+    texts: &mut Vec<u8>,
+    frames: &[Frame<'_>],
+) -> Result<(), AllocError>
+    ensures rows { OnOk result (rows.new.items
+        ≡ rows.old.items ++ rows_of (length texts.old.items) frames.now) }
+    ensures texts { OnOk result (texts.new.items ≡ texts.old.items ++ texts_of frames.now) }
+{
+    for frame in frames {
+        rows.push(append_frame(texts, frame)?)?;
+    }
+    Ok(())
+}

@@ -1,0 +1,44 @@
+//! The calls for C over the bytes of a PDB file.
+ghost use Rattle.pdb_c.specs.Answers.{AnswersSome};
+ghost use Rattle.pdb_c.specs.Openings.{LeavesFile};
+
+use crate::answers::answer;
+use crate::handle::Handle;
+use crate::pdb_openings::{debug_id_text, pdb_to_open};
+use std::alloc::Global;
+
+/// Reads the records in the bytes of a PDB file into a handle, and answers 0. Where nothing can be answered over them
+/// the handle is closed, and the answer is the refusal's number. What it held before is given back first.
+#[unsafe(no_mangle)]
+pub extern "C" fn limberlime_open_pdb_unchecked(
+    alloc: Global,
+    pdb: &[u8],
+    handle: &mut Handle,
+) -> i64
+    ensures { LeavesFile handle.new.held result }
+{
+    handle.close(alloc);
+    match pdb_to_open(alloc, pdb) {
+        Ok(opened) => {
+            handle.put(opened);
+            0
+        }
+        Err(refusal) => refusal.code(),
+    }
+}
+
+/// Writes the debug id of a PDB file to the caller's buffer, as symbol servers have it, and answers its length in
+/// bytes; `wanted` is that length too. Where there is none, or it is longer than the buffer, nothing is written, and
+/// the answer is the refusal's number.
+#[unsafe(no_mangle)]
+pub extern "C" fn limberlime_debug_id_unchecked(
+    alloc: Global,
+    pdb: &[u8],
+    buffer: &mut [u8],
+    wanted: &mut usize,
+) -> i64
+    ensures { AnswersSome buffer.old buffer.new wanted.new result }
+{
+    let found = debug_id_text(alloc, pdb);
+    answer(found, buffer, wanted)
+}

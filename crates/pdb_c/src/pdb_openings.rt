@@ -1,0 +1,64 @@
+//! PDB files that are read once, for many questions, and which build one is of.
+ghost use Rattle.std.specs.Prelude.{IfOk};
+ghost use Rattle.pdb_c.specs.Openings.{HasContext};
+
+use crate::openings::with_context;
+use crate::refusals::Refusal;
+use pdb_addr2line::ContextPdbData;
+use pdb_addr2line::pdb::PDB;
+use pdb_container::{PdbFile, read_identity, read_pdb_file};
+use pdb_identity::DebugId;
+use pdb_repairs::repair_records;
+use std::alloc::{AllocError, Global};
+
+// The records of a PDB file over which something can be answered, as they stand in the file.
+fn records_of_file(alloc: Global, bytes: &[u8]) -> Result<PDB, Refusal> {
+    let PdbFile {
+        records,
+        refusal,
+        names_only: _,
+    } = read_pdb_file(alloc, bytes)?;
+    match refusal {
+        None => Ok(records),
+        Some(why) => Err(Refusal::from(why)),
+    }
+}
+
+// The records of a PDB file, of which what is broken is taken out.
+fn repaired_records(alloc: Global, bytes: &[u8]) -> Result<PDB, Refusal> {
+    let mut records = records_of_file(alloc, bytes)?;
+    match repair_records(alloc, &mut records) {
+        Ok(_) => Ok(records),
+        Err(_) => Err(Refusal::OutOfMemory),
+    }
+}
+
+// The records of a PDB file, in memory of their own.
+pub(crate) fn pdb_to_open(
+    alloc: Global,
+    bytes: &[u8],
+) -> Result<Box<ContextPdbData<'static>>, Refusal>
+    ensures { IfOk result (λ records. HasContext records.value) }
+{
+    let records = repaired_records(alloc, bytes)?;
+    let context_data = with_context(alloc, records)?;
+    match Box::new(alloc, context_data) {
+        Ok(records) => Ok(records),
+        Err(_) => Err(Refusal::OutOfMemory),
+    }
+}
+
+// The text of a debug id, as symbol servers have it.
+fn compact_text(alloc: Global, id: DebugId) -> Result<String, AllocError> {
+    let id = id.compact();
+    format!(in alloc; "{id}")
+}
+
+// The text of the debug id of a PDB file, as bytes.
+pub(crate) fn debug_id_text(alloc: Global, bytes: &[u8]) -> Result<Vec<u8>, Refusal> {
+    let Some(identity) = read_identity(alloc, bytes)? else {
+        return Err(Refusal::NoDebugId);
+    };
+    let text = compact_text(alloc, identity.debug_id)?;
+    Ok(Vec::from_slice(alloc, text.as_bytes())?)
+}
