@@ -1,2 +1,4 @@
 pub mod DebugRecords
 pub mod Identity
+pub mod Info
+pub mod Strings

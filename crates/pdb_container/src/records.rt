@@ -2,7 +2,9 @@
 
 ghost use Rattle.std.specs.Prelude.{◌≡◌, IfErr, IfOk};
 ghost use Rattle.pdb_container.specs.DebugRecords.{address_map, debug_information, of_file, sections};
-ghost use Rattle.pdb_msf.specs.Faults.{Opens};
+ghost use Rattle.pdb_container.specs.Strings.{string_table};
+ghost use Rattle.pdb_msf.specs.Faults.{Gives, Opens};
+ghost use Rattle.pdb_msf.specs.Msf.{stream_of};
 
 use crate::debug_records::debug_records;
 use crate::ids::read_ids;
@@ -41,6 +43,7 @@ pub fn read_pdb(alloc: Global, bytes: &[u8]) -> Result<PDB, ContainerFault>
     ensures information { Opens (λ pdb. pdb.debug_information) result (of_file debug_information bytes.now) }
     ensures sections { Opens (λ pdb. pdb.sections) result (of_file sections bytes.now) }
     ensures address_map { Opens (λ pdb. pdb.address_map) result (of_file address_map bytes.now) }
+    ensures string_table { Opens (λ pdb. pdb.string_table) result (of_file string_table bytes.now) }
 {
     let container = Container::open(alloc, bytes)?;
     let info = InfoStream::read(alloc, &container)?;
@@ -52,6 +55,7 @@ pub fn read_pdb_file(alloc: Global, bytes: &[u8]) -> Result<PdbFile, ContainerFa
     ensures information { Opens (λ file. file.records.debug_information) result (of_file debug_information bytes.now) }
     ensures sections { Opens (λ file. file.records.sections) result (of_file sections bytes.now) }
     ensures address_map { Opens (λ file. file.records.address_map) result (of_file address_map bytes.now) }
+    ensures string_table { Opens (λ file. file.records.string_table) result (of_file string_table bytes.now) }
 {
     let container = Container::open(alloc, bytes)?;
     let info = InfoStream::read(alloc, &container)?;
@@ -68,9 +72,11 @@ fn read_records(
     container: &Container<'_>,
     info: &InfoStream<'_>,
 ) -> Result<PDB, Fault>
+    requires { info.now ≡ stream_of container.now 1 }
     ensures information { IfOk result (λ pdb. pdb.debug_information ≡ debug_information container.now) }
     ensures sections { IfOk result (λ pdb. pdb.sections ≡ sections container.now) }
     ensures address_map { IfOk result (λ pdb. pdb.address_map ≡ address_map container.now) }
+    ensures string_table { IfOk result (λ pdb. pdb.string_table ≡ string_table container.now) }
     ensures memory { IfErr result (λ fault. fault ≡ Fault.OutOfMemory) }
 {
     let string_table = part_or_fault(read_texts(alloc, container, info))?;
@@ -89,11 +95,16 @@ fn read_records(
     })
 }
 
+// The texts of the stream of that name.
+#[tactic(auto, unfolding(crate::specs::Strings::string_table))]
 fn read_texts(
     alloc: Global,
     container: &Container<'_>,
     info: &InfoStream<'_>,
-) -> Result<StringTable, Fault> {
+) -> Result<StringTable, Fault>
+    requires { info.now ≡ stream_of container.now 1 }
+    ensures { Gives (λ table. table) result (string_table container.now) }
+{
     let number = info.named_stream(&NAMES)?;
     let names = container.stream(alloc, number)?;
     read_strings(alloc, names.as_slice())

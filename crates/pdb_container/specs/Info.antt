@@ -1,0 +1,132 @@
+-- The info stream: the version, the streams that have names, and what a file lists that it has.
+use Rattle.std.specs.Prelude.{ℕ, zero, suc, ◌+◌, ◌*◌, ◌/◌, ◌==◌, ◌&&◌, ◌||◌, Bool, true, false, nat_lt, nat_le, List}
+use Rattle.std.specs.Prelude.{[], ◌∷◌, take, drop, length, find, Option, Some, None, Result, Ok, Err, if◌then◌else◌}
+use Rattle.std.specs.List.{starts_with}
+use Rattle.std.specs.Option.{unwrap_or}
+use Rattle.pdb_records.specs.Readings.{Read}
+use Rattle.pdb_records.specs.declared.error.StreamError.{StreamError}
+use Rattle.pdb_msf.specs.declared.faults.TheConstants.{CUT, NO_STREAM}
+use Rattle.pdb_msf.specs.Faults.{◌>>=◌}
+use Rattle.pdb_msf.specs.NumberLists.{number, numbers}
+use Rattle.pdb_msf.specs.Streams.{bytes_of}
+use Rattle.pdb_msf.specs.declared.streams.StreamBytes.{StreamBytes}
+use Rattle.pdb_dbi.specs.Readings.{behind, nothing_read}
+use Rattle.pdb_container.specs.declared.info.Features.{Features}
+
+-- the bytes of an info stream, or why it can't be read
+abbrev pub Info : Type 0
+Info = Result (List ℕ) StreamError
+
+-- the bytes of a stream that was read, wherever they stand
+abbrev pub seen : Result StreamBytes StreamError → Info
+seen (Ok bytes) = Ok (bytes_of bytes)
+seen (Err fault) = Err fault
+
+-- the version of the file, which stands first, in four bytes; 0 where these aren't there
+abbrev pub version : Info → ℕ
+version (Ok info) = if nat_lt (length info) 4 then 0 else number info
+version (Err fault) = 0
+
+-- how many bytes the names of streams have together: the number at 28, behind Version, Signature, Age and Guid
+abbrev pub names_size : List ℕ → ℕ
+names_size info = number (drop 28 info)
+
+-- the names of streams, one after the other
+abbrev pub names : List ℕ → List ℕ
+names info = take (names_size info) (drop 32 info)
+
+-- the table of streams stands behind the names
+abbrev pub table_place : List ℕ → ℕ
+table_place info = 32 + names_size info
+
+-- Size, the table's first number: how many streams have names
+abbrev pub table_size : List ℕ → ℕ
+table_size info = number (drop (table_place info) info)
+
+-- how many bytes a set of bits has: the number of its words, and four bytes for each of these
+abbrev pub bits_size : List ℕ → ℕ
+bits_size bytes = 4 + 4 * number bytes
+
+-- the bits of slots that are in use stand behind Size and Capacity
+abbrev pub present_place : List ℕ → ℕ
+present_place info = table_place info + 8
+
+-- the bits of slots that were given up stand behind those in use
+abbrev pub deleted_place : List ℕ → ℕ
+deleted_place info = present_place info + bits_size (drop (present_place info) info)
+
+-- the table's pairs stand behind both sets of bits
+abbrev pub pairs_place : List ℕ → ℕ
+pairs_place info = deleted_place info + bits_size (drop (deleted_place info) info)
+
+-- the list of features stands behind the pairs, which have eight bytes each
+abbrev pub features_place : List ℕ → ℕ
+features_place info = pairs_place info + 8 * table_size info
+
+-- a stream with a name: where the name stands among the names, and the stream's number
+pub record NamedStream : Type 0 where
+  pub name_place : ℕ
+  pub stream : ℕ
+
+-- the pair that these bytes begin with: the place of a name, and the number of its stream
+abbrev pub pair : List ℕ → NamedStream
+pair bytes = record { name_place = number bytes; stream = number (drop 4 bytes) }
+
+-- so many pairs, one after the other; one that the bytes end in is cut
+abbrev pub pairs : ℕ → List ℕ → Read NamedStream
+pairs zero bytes = nothing_read None
+pairs (suc count) bytes =
+    if nat_lt (length bytes) 8 then nothing_read (Some CUT) else behind (pair bytes ∷ []) (pairs count (drop 8 bytes))
+
+-- whether this name, which has its zero behind it, stands at this place among the names
+abbrev pub stands_at : List ℕ → List ℕ → ℕ → Bool
+stands_at all name place = nat_le place (length all) && starts_with (λ a b. a == b) (drop place all) name
+
+-- the number of the stream that was found; where none was, the fault that the pairs end by, or that there is no stream
+abbrev pub found_or : Option StreamError → Option NamedStream → Result ℕ StreamError
+found_or fault (Some named) = Ok named.stream
+found_or fault None = Err (unwrap_or fault NO_STREAM)
+
+-- the number of the first stream of these that has this name
+abbrev pub named_among : List ℕ → List ℕ → Read NamedStream → Result ℕ StreamError
+named_among all name listed = found_or listed.fault (find (λ named. stands_at all name named.name_place) listed.items)
+
+-- the number of the stream of this name, which has its zero behind it
+unfoldable pub named_in : List ℕ → List ℕ → Result ℕ StreamError
+named_in name info =
+    if nat_lt (length info) (pairs_place info) then Err CUT else
+    named_among (names info) name (pairs (table_size info) (drop (pairs_place info) info))
+
+-- the number of the stream of this name, unless the info stream can't be read
+abbrev pub named_stream : List ℕ → Info → Result ℕ StreamError
+named_stream name info = info >>= named_in name
+
+-- a file that lists nothing has neither
+abbrev pub no_features : Features
+no_features = record { ids = false; names_only = false }
+
+-- what these numbers list: 20140508 that there are ids, 0x494e494d that there are names alone; 20091201 says that there
+-- are ids, too, and ends the list
+abbrev pub features_by : List ℕ → Features
+features_by [] = no_features
+features_by (listed ∷ rest) =
+    if listed == 20091201 then record { ids = true; names_only = false } else
+    record {
+      ids = (listed == 20140508) || (features_by rest).ids;
+      names_only = (listed == 0x494e494d) || (features_by rest).names_only;
+    }
+
+-- the numbers of four bytes that these bytes are, as far as they go
+abbrev pub all_numbers : List ℕ → List ℕ
+all_numbers bytes = numbers (length bytes / 4) bytes
+
+-- what the list of features says, which goes on to the stream's end; a stream that ends before it lists nothing
+unfoldable pub features_in : List ℕ → Features
+features_in info =
+    if nat_lt (length info) (features_place info) then no_features else
+    features_by (all_numbers (drop (features_place info) info))
+
+-- what a file lists that it has: a stream that can't be read lists nothing
+abbrev pub features : Info → Features
+features (Ok info) = features_in info
+features (Err fault) = no_features
