@@ -1,2 +1,5 @@
 pub mod PlaceLemmas
 mod LineExamples
+pub mod AnnotationLemmas
+mod SymbolExamples
+pub mod SymbolRecordLemmas

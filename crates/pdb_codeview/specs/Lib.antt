@@ -7,3 +7,7 @@ pub mod ProcedureSpans
 pub mod LineEntries
 pub mod Files
 pub mod Inlinees
+pub mod SymbolRecords
+pub mod Symbols
+pub mod Annotations
+pub mod InlineSites

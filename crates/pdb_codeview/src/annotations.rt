@@ -1,11 +1,14 @@
 //! The annotations of an inline site: compressed numbers that say where its code and its lines go on.
 
-ghost use Rattle.std.specs.Prelude.{◌≡◌, ◌≤◌, length, drop, MatchResult, OnOk, Some, None, option_map};
+ghost use Rattle.std.specs.Prelude.{◌≡◌, ◌≤◌, length, drop, IfErr, IfOk, MatchResult, OnOk, Some, None, option_map};
+ghost use Rattle.std.specs.Prelude.{Ok, Err};
+ghost use Rattle.pdb_codeview.specs.Annotations.{annotation_of, annotations, behind_number, first_annotation};
+ghost use Rattle.pdb_codeview.specs.Annotations.{first_number, of_one_number};
 ghost use Rattle.pdb_codeview.specs.Compressed.{compressed, width};
 
 use pdb_msf::Bytes;
-use pdb_msf::faults::{APART, BAD_NUMBER, Fault, early_end};
-use pdb_records::StreamError;
+use pdb_msf::faults::{APART, BAD_NUMBER, Fault};
+use pdb_records::{Reading, StreamError};
 use std::alloc::Global;
 
 /// A step of the list that says where the code of an inlined body stands, and of which lines it is.
@@ -31,38 +34,61 @@ pub enum Annotation {
     Other,
 }
 
-/// The annotations of a site, and why they end early, if they do.
-#[derive(Drop)]
-pub struct Annotations {
-    pub list: Vec<Annotation>,
-    pub fault: Option<StreamError>,
-}
-
 /// The annotations that these bytes hold, up to their end or an annotation of kind 0.
-pub fn read_annotations(alloc: Global, bytes: &[u8]) -> Result<Annotations, Fault> {
-    let mut list = Vec::new(alloc);
-    let fault = early_end(fill_annotations(bytes, &mut list))?;
-    Ok(Annotations { list, fault })
-}
-
-fn fill_annotations(bytes: &[u8], list: &mut Vec<Annotation>) -> Result<(), Fault> {
+pub fn read_annotations(alloc: Global, bytes: &[u8]) -> Result<Reading<Annotation>, Fault>
+    ensures answer { IfOk result (λ read. read ≡ annotations bytes.now) }
+    ensures memory { IfErr result (λ fault. fault ≡ Fault.OutOfMemory) }
+{
+    let mut items = Vec::new(alloc);
     let mut rest = Bytes::new(bytes);
     for _ in 0..bytes.len() {
         if rest.is_empty() {
             break;
         }
-        let kind = take_number(&mut rest)?;
-        if kind == 0 {
-            break;
+        match next_annotation(&mut rest) {
+            Ok(Some(annotation)) => items.push(annotation)?,
+            Ok(None) => break,
+            Err(error) => {
+                return Ok(Reading {
+                    items,
+                    fault: Some(error),
+                });
+            }
         }
-        list.push(take_annotation(kind, &mut rest)?)?;
     }
-    Ok(())
+    Ok(Reading { items, fault: None })
+}
+
+// The next annotation, unless its kind is 0.
+fn next_annotation(rest: &mut Bytes<'_>) -> Result<Option<Annotation>, StreamError>
+    ensures { MatchResult result (λ first. first_annotation rest.old
+        ≡ Ok (option_map (λ annotation. record { annotation = annotation; next = rest.new }) first))
+        (λ error. first_annotation rest.old ≡ Err error) }
+{
+    let kind = take_number(rest)?;
+    if kind == 0 {
+        return Ok(None);
+    }
+    Ok(Some(take_annotation(kind, rest)?))
 }
 
 // The annotation of this kind, with its numbers.
-fn take_annotation(kind: u32, rest: &mut Bytes<'_>) -> Result<Annotation, StreamError> {
+fn take_annotation(kind: u32, rest: &mut Bytes<'_>) -> Result<Annotation, StreamError>
+    ensures { MatchResult result
+        (λ annotation. annotation_of kind rest.old ≡ Ok (record { annotation = annotation; next = rest.new }))
+        (λ error. annotation_of kind rest.old ≡ Err error) }
+{
     let number = take_number(rest)?;
+    if kind == 12 {
+        return Ok(Annotation::LengthAndAdvance(number, take_number(rest)?));
+    }
+    of_one_number(kind, number)
+}
+
+// The annotation of this kind, where it has one number.
+fn of_one_number(kind: u32, number: u32) -> Result<Annotation, StreamError>
+    ensures { result ≡ of_one_number kind number }
+{
     match kind {
         1 => Ok(Annotation::Start(number)),
         2 if number > 0 => Err(APART),
@@ -71,7 +97,6 @@ fn take_annotation(kind: u32, rest: &mut Bytes<'_>) -> Result<Annotation, Stream
         5 => Ok(Annotation::File(number)),
         6 => Ok(Annotation::Line(number)),
         11 => Ok(Annotation::AdvanceAndLine(number % 16, number / 16)),
-        12 => Ok(Annotation::LengthAndAdvance(number, take_number(rest)?)),
         2 | 7..=10 | 13 => Ok(Annotation::Other),
         _ => Err(BAD_NUMBER),
     }
@@ -79,9 +104,9 @@ fn take_annotation(kind: u32, rest: &mut Bytes<'_>) -> Result<Annotation, Stream
 
 // The next compressed number.
 fn take_number(rest: &mut Bytes<'_>) -> Result<u32, StreamError>
-    ensures answer { MatchResult result (λ number. compressed rest.old ≡ Some number)
-        (λ _. compressed rest.old ≡ None) }
-    ensures state { OnOk result (rest.new ≡ drop (width rest.old) rest.old) }
+    ensures answer { MatchResult result (λ number. first_number rest.old ≡ Ok number)
+        (λ error. first_number rest.old ≡ Err error) }
+    ensures state { OnOk result (rest.new ≡ behind_number rest.old) }
 {
     let bytes = rest.rest();
     let Some(number) = compressed(bytes) else {

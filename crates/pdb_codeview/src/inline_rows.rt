@@ -1,6 +1,6 @@
 //! The rows of an inline site, made of its annotations one after the other.
 
-ghost use Rattle.std.specs.Prelude.{◌≡◌, IfOk, None};
+ghost use Rattle.std.specs.Prelude.{◌≡◌, IfErr, IfOk, None};
 ghost use Rattle.pdb_codeview.specs.InlineRows.{moved, moved_line, starts_row, own_length, closed, lengthened};
 ghost use Rattle.pdb_codeview.specs.InlineRows.{new_row};
 ghost use Rattle.pdb_codeview.specs.InlineRows.{rows_from};
@@ -28,7 +28,8 @@ pub fn rows_of(
     annotations: &[Annotation],
     start: RowPosition,
 ) -> Result<Vec<InlineRow>, Fault>
-    ensures { IfOk result (λ rows. rows.items ≡ rows_from start None annotations.now) }
+    ensures answer { IfOk result (λ rows. rows.items ≡ rows_from start None annotations.now) }
+    ensures memory { IfErr result (λ fault. fault ≡ Fault.OutOfMemory) }
 {
     let mut rows = Vec::new(alloc);
     let mut position = start;

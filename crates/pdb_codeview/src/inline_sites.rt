@@ -1,13 +1,17 @@
 //! An inline site's rows, beginning with the line and the file of its inlinee.
 
+ghost use Rattle.std.specs.Prelude.{◌≡◌, map, IfErr, IfOk};
+ghost use Rattle.pdb_codeview.specs.InlineSites.{named_row, site_rows};
+
 use crate::annotations::read_annotations;
 use crate::files::Files;
 use crate::inline_rows::{RowPosition, rows_of};
 use crate::inlinees::Inlinees;
 use crate::lines::file_at;
 use pdb_msf::faults::Fault;
+use pdb_msf::nothing_read;
 use pdb_records::{IdIndex, InlineRow, Reading};
-use std::alloc::Global;
+use std::alloc::{AllocError, Global};
 
 /// What the sites of a module refer to.
 #[derive(Drop)]
@@ -24,12 +28,12 @@ pub fn site_rows(
     inlinee: IdIndex,
     start: u32,
     annotations: &[u8],
-) -> Result<Reading<InlineRow>, Fault> {
+) -> Result<Reading<InlineRow>, Fault>
+    ensures answer { IfOk result (λ rows. rows ≡ site_rows code.now inlinee.0 start annotations.now) }
+    ensures memory { IfErr result (λ fault. fault ≡ Fault.OutOfMemory) }
+{
     let Some(source) = code.inlinees.sources.get(&inlinee.0) else {
-        return Ok(Reading {
-            items: Vec::new(alloc),
-            fault: None,
-        });
+        return Ok(nothing_read(alloc, None));
     };
     let position = RowPosition {
         start,
@@ -38,17 +42,26 @@ pub fn site_rows(
         line: source.line,
     };
     let annotations = read_annotations(alloc, annotations)?;
-    let mut items = rows_of(alloc, &annotations.list, position)?;
-    name_files(&mut items, &code.files);
-    Ok(Reading {
-        items,
-        fault: annotations.fault,
-    })
+    let rows = rows_of(alloc, &annotations.items, position)?;
+    let items = named_rows(alloc, &rows, &code.files)?;
+    let fault = annotations.fault;
+    Ok(Reading { items, fault })
 }
 
-// Puts the position of each row's file in the place of where its entry starts.
-fn name_files(rows: &mut [InlineRow], files: &Files) {
-    for row in rows.iter_mut() {
-        row.file_index = file_at(files, row.file_index.0);
+// The rows with the position of each one's file in the place of where its entry starts.
+fn named_rows(
+    alloc: Global,
+    rows: &[InlineRow],
+    files: &Files,
+) -> Result<Vec<InlineRow>, AllocError>
+    ensures { IfOk result (λ named. named.items ≡ map (named_row files.now.starts.items) rows.now) }
+{
+    let mut named = Vec::with_capacity(alloc, rows.len())?;
+    for row in rows {
+        named.push(InlineRow {
+            file_index: file_at(files, row.file_index.0),
+            ..*row
+        })?;
     }
+    Ok(named)
 }

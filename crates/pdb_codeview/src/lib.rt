@@ -1,4 +1,4 @@
-//! What CodeView has of a module's code beside its symbols: files, lines, inlined functions, imports, exports.
+//! What CodeView has of a program: symbols, files, lines, inlined functions, imports, exports.
 //!
 //! Each call reads one list, by its bytes. A list that is broken ends early, with one of the numbers of
 //! `pdb_msf::faults`.
@@ -16,11 +16,14 @@ mod line_rows;
 mod lines;
 mod places;
 mod procedure_spans;
+mod symbol_records;
+mod symbols;
 
 pub use cross_modules::{read_exports, read_imports};
 pub use files::{Files, read_files};
-pub use inline_sites::{CodeRecords, site_rows};
+pub use inline_sites::CodeRecords;
 pub use inlinees::{Inlinees, read_inlinees};
 pub use line_entries::program_entries;
 pub use lines::{LineSubsection, read_lines};
 pub use procedure_spans::{ProcedureSpan, symbol_spans};
+pub use symbols::{S_TRAMPOLINE, read_global_symbols, read_symbols};

@@ -1,5 +1,8 @@
 //! The subsection of lines: rows of offset, file and line over bytes of a section.
 
+ghost use Rattle.std.specs.Prelude.{◌≡◌};
+ghost use Rattle.pdb_codeview.specs.InlineSites.{file_at};
+
 use crate::files::Files;
 use pdb_msf::faults::{BAD_LENGTH, Fault, early_end};
 use pdb_msf::{Bytes, u16_at, u32_at};
@@ -28,7 +31,9 @@ const STEP_OVER: u32 = 0x00f0_0f00;
 const NO_FILE: FileIndex = FileIndex(u32::MAX);
 
 /// The position of the file whose entry starts there, or one that no file has.
-pub fn file_at(files: &Files, start: u32) -> FileIndex {
+pub fn file_at(files: &Files, start: u32) -> FileIndex
+    ensures { result ≡ file_at files.now.starts.items start }
+{
     files.position(start).unwrap_or(NO_FILE)
 }
 

@@ -12,7 +12,7 @@ use Rattle.pdb_dbi.specs.Contributions.{contribution_list}
 use Rattle.pdb_dbi.specs.Header.{header}
 use Rattle.pdb_dbi.specs.ModuleList.{module_list}
 use Rattle.pdb_dbi.specs.OptionalStreams.{optional_stream}
-use Rattle.pdb_dbi.specs.Readings.{entry_list}
+use Rattle.pdb_msf.specs.Readings.{entry_list}
 use Rattle.pdb_dbi.specs.Sections.{section_headers}
 use Rattle.pdb_container.specs.DebugRecords.{address_map, address_map_of, debug_header, debug_information, debug_stream}
 use Rattle.pdb_container.specs.DebugRecords.{sections, sections_of}

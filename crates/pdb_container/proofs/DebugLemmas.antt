@@ -5,7 +5,7 @@ use Rattle.pdb_msf.specs.Faults.{◌>>=◌}
 use Rattle.pdb_msf.specs.Msf.{Msf}
 use Rattle.pdb_dbi.specs.declared.header.DebugHeader.{DebugHeader}
 use Rattle.pdb_container.specs.DebugRecords.{address_map, address_map_of, debug_header, debug_information}
-use Rattle.pdb_container.specs.DebugRecords.{information_of, sections, sections_of}
+use Rattle.pdb_container.specs.DebugRecords.{global_symbols, information_of, sections, sections_of, symbols_in}
 
 -- without a header there is no debug information
 pub information_without : (msf : Msf) (error : StreamError) → debug_header msf ≡ Err error
@@ -23,6 +23,11 @@ pub address_map_without : (msf : Msf) (error : StreamError) → debug_header msf
     → address_map msf ≡ Err error
 unfolding address_map
 address_map_without msf error is = ap (λ front. front >>= address_map_of msf) is
+
+-- nor symbols of the whole program
+pub symbols_without : (msf : Msf) (error : StreamError) → debug_header msf ≡ Err error → global_symbols msf ≡ Err error
+unfolding global_symbols
+symbols_without msf error is = ap (λ front. front >>= (λ h. symbols_in msf h.global_symbols)) is
 
 -- with a header there is what its substreams say
 pub information_with : (msf : Msf) (front : DebugHeader) → debug_header msf ≡ Ok front
@@ -42,7 +47,13 @@ pub address_map_with : (msf : Msf) (front : DebugHeader) → debug_header msf �
 unfolding address_map
 address_map_with msf front is = ap (λ found. found >>= address_map_of msf) is
 
--- what is known without a header, and with one
-pub ruleset without_header = (information_without, sections_without, address_map_without)
+-- the symbols of the whole program are those of the stream that the header names
+pub symbols_with : (msf : Msf) (front : DebugHeader) → debug_header msf ≡ Ok front
+    → global_symbols msf ≡ symbols_in msf front.global_symbols
+unfolding global_symbols
+symbols_with msf front is = ap (λ found. found >>= (λ h. symbols_in msf h.global_symbols)) is
 
-pub ruleset with_header = (information_with, sections_with, address_map_with)
+-- what is known without a header, and with one
+pub ruleset without_header = (information_without, sections_without, address_map_without, symbols_without)
+
+pub ruleset with_header = (information_with, sections_with, address_map_with, symbols_with)

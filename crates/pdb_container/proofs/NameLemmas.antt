@@ -5,7 +5,7 @@ use Rattle.std.proofs.lemmas.Grind.{common_steps}
 use Rattle.std.proofs.lemmas.List.{drop-drop}
 use Rattle.pdb_msf.specs.NumberLists.{number}
 use Rattle.pdb_msf.specs.declared.faults.TheConstants.{CUT, NO_STREAM}
-use Rattle.pdb_dbi.specs.Readings.{behind, nothing_read}
+use Rattle.pdb_msf.specs.Readings.{behind, nothing_read}
 use Rattle.pdb_container.specs.Info.{named_among, named_in, names, pair, pairs, pairs_place, stands_at, table_size}
 
 -- a stream that ends before the pairs

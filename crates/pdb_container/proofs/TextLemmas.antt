@@ -6,7 +6,7 @@ use Rattle.pdb_records.specs.Readings.{Read}
 use Rattle.pdb_records.specs.declared.strings.StringRef.{StringRef}
 use Rattle.pdb_msf.specs.Bytes.{text_in}
 use Rattle.pdb_msf.specs.declared.faults.TheConstants.{CUT}
-use Rattle.pdb_dbi.specs.Readings.{behind, nothing_read, whole}
+use Rattle.pdb_msf.specs.Readings.{behind, nothing_read, whole}
 use Rattle.pdb_container.specs.Strings.{all_texts, texts_up_to}
 
 -- no bytes are no texts, however many there may be

@@ -1,6 +1,9 @@
 -- What a file says of its program in the stream of debug information and in the streams that this one names.
 use Rattle.std.specs.Prelude.{ℕ, ◌==◌, Bool, false, not, List, Option, Some, None, Result, Ok, Err, if◌then◌else◌}
+use Rattle.pdb_records.specs.Readings.{Read}
 use Rattle.pdb_records.specs.declared.error.StreamError.{StreamError}
+use Rattle.pdb_records.specs.declared.symbols.Symbol.{Symbol}
+use Rattle.pdb_records.specs.declared.symbols.SymbolTable.{SymbolTable}
 use Rattle.pdb_records.specs.declared.addresses.AddressRange.{AddressRange}
 use Rattle.pdb_records.specs.declared.addresses.ImageSectionHeader.{ImageSectionHeader}
 use Rattle.pdb_records.specs.declared.debug_information.DebugInformation.{DebugInformation}
@@ -8,6 +11,7 @@ use Rattle.pdb_msf.specs.declared.container_fault.ContainerFault.{ContainerFault
 use Rattle.pdb_msf.specs.declared.faults.TheConstants.{NO_STREAM, REARRANGED}
 use Rattle.pdb_msf.specs.Faults.{◌>>=◌}
 use Rattle.pdb_msf.specs.Msf.{Msf, container, size_of, stream_of}
+use Rattle.pdb_codeview.specs.Symbols.{global_symbols as symbols_of}
 use Rattle.pdb_dbi.specs.declared.header.DebugHeader.{DebugHeader}
 use Rattle.pdb_dbi.specs.Contributions.{contributions}
 use Rattle.pdb_dbi.specs.Header.{header}
@@ -66,6 +70,17 @@ address_map_of msf front =
     if rearranges msf (optional_stream front.optional_streams.bytes 4) then Err REARRANGED else
     (sections_of msf front >>= addresses_of)
 
+-- the symbols of the whole program, in the stream of this number: 65535 stands for none
+unfoldable pub symbols_in : Msf → ℕ → Result (Read Symbol) StreamError
+symbols_in msf number = if number == 65535 then Err NO_STREAM else (do
+  stream ← stream_of msf number
+  Ok (symbols_of stream))
+
+-- the symbols of a table of them, or why there is none
+abbrev pub tabled : Result SymbolTable StreamError → Result (Read Symbol) StreamError
+tabled (Ok table) = Ok table.symbols
+tabled (Err fault) = Err fault
+
 -- the debug information of a container
 unfoldable pub debug_information : Msf → Result DebugInformation StreamError
 debug_information msf = debug_header msf >>= λ front. Ok (information_of front)
@@ -77,6 +92,10 @@ sections msf = debug_header msf >>= sections_of msf
 -- the address map of a container
 unfoldable pub address_map : Msf → Result (List AddressRange) StreamError
 address_map msf = debug_header msf >>= address_map_of msf
+
+-- the symbols of a container's whole program: SymRecordStream of the header is the number of their stream
+unfoldable pub global_symbols : Msf → Result (Read Symbol) StreamError
+global_symbols msf = debug_header msf >>= λ front. symbols_in msf front.global_symbols
 
 -- a part of a file's records: that of the container which the file is, or why it is none
 abbrev pub of_file : {A : Type 0} → (Msf → A) → List ℕ → Result A ContainerFault

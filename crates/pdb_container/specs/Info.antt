@@ -10,7 +10,7 @@ use Rattle.pdb_msf.specs.Faults.{◌>>=◌}
 use Rattle.pdb_msf.specs.NumberLists.{number, numbers}
 use Rattle.pdb_msf.specs.Streams.{bytes_of}
 use Rattle.pdb_msf.specs.declared.streams.StreamBytes.{StreamBytes}
-use Rattle.pdb_dbi.specs.Readings.{behind, nothing_read}
+use Rattle.pdb_msf.specs.Readings.{behind, nothing_read}
 use Rattle.pdb_container.specs.declared.info.Features.{Features}
 
 -- the bytes of an info stream, or why it can't be read

@@ -9,7 +9,7 @@ use Rattle.pdb_msf.specs.Bytes.{text_in}
 use Rattle.pdb_msf.specs.Faults.{◌>>=◌}
 use Rattle.pdb_msf.specs.Msf.{Msf, stream_of}
 use Rattle.pdb_msf.specs.NumberLists.{number}
-use Rattle.pdb_dbi.specs.Readings.{behind, nothing_read, whole}
+use Rattle.pdb_msf.specs.Readings.{behind, nothing_read, whole}
 use Rattle.pdb_container.specs.Info.{named_stream}
 
 -- at most so many texts, one after the other until the bytes end, each with the place at which it begins; one that has

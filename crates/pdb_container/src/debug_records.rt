@@ -2,15 +2,16 @@
 
 ghost use Rattle.std.specs.Prelude.{◌≡◌, Ok, Err, IfErr, IfOk, option_map};
 ghost use Rattle.pdb_container.specs.DebugRecords.{address_map, address_map_of, debug_header, debug_information};
-ghost use Rattle.pdb_container.specs.DebugRecords.{debug_stream};
+ghost use Rattle.pdb_container.specs.DebugRecords.{debug_stream, global_symbols};
 ghost use Rattle.pdb_container.specs.DebugRecords.{information_of, rearranges, sections, sections_of};
+ghost use Rattle.pdb_container.specs.DebugRecords.{symbols_in, tabled};
 ghost use Rattle.pdb_msf.specs.Faults.{Gives};
 ghost use Rattle.pdb_msf.specs.Streams.{bytes_of};
 ghost use Rattle.pdb_records.specs.Sections.{listed};
 
 use crate::modules::read_module;
-use crate::symbols::read_global_symbols;
 use crate::unnamed_code::{ModuleInfoResult, name_unnamed_code};
+use pdb_codeview::read_global_symbols;
 use pdb_dbi::{
     DebugHeader, ModuleStream, map_addresses, optional_stream, read_contributions, read_header,
     read_modules, read_sections,
@@ -52,6 +53,7 @@ pub fn debug_records(alloc: Global, container: &Container<'_>) -> Result<DebugRe
     ensures information { IfOk result (λ read. read.debug_information ≡ debug_information container.now) }
     ensures sections { IfOk result (λ read. listed read.sections ≡ sections container.now) }
     ensures address_map { IfOk result (λ read. read.address_map ≡ address_map container.now) }
+    ensures global_symbols { IfOk result (λ read. tabled read.global_symbols ≡ global_symbols container.now) }
     ensures memory { IfErr result (λ fault. fault ≡ Fault.OutOfMemory) }
 {
     match part_or_fault(debug_stream(alloc, container))? {
@@ -71,6 +73,7 @@ fn records_of_stream(
     ensures information { IfOk result (λ read. read.debug_information ≡ debug_information container.now) }
     ensures sections { IfOk result (λ read. listed read.sections ≡ sections container.now) }
     ensures address_map { IfOk result (λ read. read.address_map ≡ address_map container.now) }
+    ensures global_symbols { IfOk result (λ read. tabled read.global_symbols ≡ global_symbols container.now) }
     ensures memory { IfErr result (λ fault. fault ≡ Fault.OutOfMemory) }
 {
     match read_header(stream) {
@@ -101,6 +104,7 @@ fn without_debug_stream(
     ensures information { result.debug_information ≡ debug_information container.now }
     ensures sections { listed result.sections ≡ sections container.now }
     ensures address_map { result.address_map ≡ address_map container.now }
+    ensures global_symbols { tabled result.global_symbols ≡ global_symbols container.now }
 {
     DebugRecords {
         debug_information: Err(error),
@@ -121,6 +125,7 @@ fn records_of_header(
     ensures information { IfOk result (λ read. read.debug_information ≡ debug_information container.now) }
     ensures sections { IfOk result (λ read. listed read.sections ≡ sections container.now) }
     ensures address_map { IfOk result (λ read. read.address_map ≡ address_map container.now) }
+    ensures global_symbols { IfOk result (λ read. tabled read.global_symbols ≡ global_symbols container.now) }
     ensures memory { IfErr result (λ fault. fault ≡ Fault.OutOfMemory) }
 {
     let mut streams = Vec::new(alloc);
@@ -236,11 +241,15 @@ fn is_rearranged(container: &Container<'_>, number: Option<u16>) -> bool
     }
 }
 
+// The symbols of the whole program, in the stream of this number.
+#[tactic(auto, unfolding(crate::specs::DebugRecords::symbols_in))]
 fn global_symbols(
     alloc: Global,
     container: &Container<'_>,
     number: u16,
-) -> Result<SymbolTable, Fault> {
+) -> Result<SymbolTable, Fault>
+    ensures { Gives (λ table. table.symbols) result (symbols_in container.now number) }
+{
     if number == NO_NUMBER {
         return Err(Fault::Broken(NO_STREAM));
     }

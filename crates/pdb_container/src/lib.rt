@@ -16,7 +16,6 @@ mod primitives;
 mod records;
 mod refusals;
 mod strings;
-mod symbols;
 mod type_records;
 mod types;
 mod unnamed_code;

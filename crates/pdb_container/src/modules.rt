@@ -1,9 +1,8 @@
 //! A module's stream: its symbols, and the subsections of lines, files, inlinees, imports and exports.
 
-use crate::symbols::{read_symbols, split_symbol_records};
 use pdb_codeview::{
     CodeRecords, Files, ProcedureSpan, program_entries, read_exports, read_files, read_imports,
-    read_inlinees, read_lines, symbol_spans,
+    read_inlinees, read_lines, read_symbols, symbol_spans,
 };
 use pdb_dbi::{ModuleStream, Substream, take_substream};
 use pdb_msf::Bytes;
@@ -149,8 +148,7 @@ fn module_symbols(
     }
     match rest.u32() {
         Ok(SYMBOLS_FORM) => {
-            let list = split_symbol_records(alloc, rest.rest(), 4)?;
-            let mut symbols = read_symbols(alloc, &list, code)?;
+            let mut symbols = read_symbols(alloc, rest.rest(), 4, code)?;
             symbols.fault = symbols.fault.or(substream.fault);
             Ok(symbols)
         }

@@ -1,7 +1,8 @@
 //! All records of a PDB file: which streams are read, and which failed.
 
 ghost use Rattle.std.specs.Prelude.{◌≡◌, IfErr, IfOk};
-ghost use Rattle.pdb_container.specs.DebugRecords.{address_map, debug_information, of_file, sections};
+ghost use Rattle.pdb_container.specs.DebugRecords.{address_map, debug_information, global_symbols, of_file};
+ghost use Rattle.pdb_container.specs.DebugRecords.{sections, tabled};
 ghost use Rattle.pdb_container.specs.Strings.{string_table};
 ghost use Rattle.pdb_msf.specs.Faults.{Gives, Opens};
 ghost use Rattle.pdb_msf.specs.Msf.{stream_of};
@@ -43,6 +44,7 @@ pub fn read_pdb(alloc: Global, bytes: &[u8]) -> Result<PDB, ContainerFault>
     ensures information { Opens (λ pdb. pdb.debug_information) result (of_file debug_information bytes.now) }
     ensures sections { Opens (λ pdb. pdb.sections) result (of_file sections bytes.now) }
     ensures address_map { Opens (λ pdb. pdb.address_map) result (of_file address_map bytes.now) }
+    ensures global_symbols { Opens (λ pdb. tabled pdb.global_symbols) result (of_file global_symbols bytes.now) }
     ensures string_table { Opens (λ pdb. pdb.string_table) result (of_file string_table bytes.now) }
 {
     let container = Container::open(alloc, bytes)?;
@@ -55,6 +57,8 @@ pub fn read_pdb_file(alloc: Global, bytes: &[u8]) -> Result<PdbFile, ContainerFa
     ensures information { Opens (λ file. file.records.debug_information) result (of_file debug_information bytes.now) }
     ensures sections { Opens (λ file. file.records.sections) result (of_file sections bytes.now) }
     ensures address_map { Opens (λ file. file.records.address_map) result (of_file address_map bytes.now) }
+    ensures global_symbols { Opens (λ file. tabled file.records.global_symbols) result
+        (of_file global_symbols bytes.now) }
     ensures string_table { Opens (λ file. file.records.string_table) result (of_file string_table bytes.now) }
 {
     let container = Container::open(alloc, bytes)?;
@@ -76,6 +80,7 @@ fn read_records(
     ensures information { IfOk result (λ pdb. pdb.debug_information ≡ debug_information container.now) }
     ensures sections { IfOk result (λ pdb. pdb.sections ≡ sections container.now) }
     ensures address_map { IfOk result (λ pdb. pdb.address_map ≡ address_map container.now) }
+    ensures global_symbols { IfOk result (λ pdb. tabled pdb.global_symbols ≡ global_symbols container.now) }
     ensures string_table { IfOk result (λ pdb. pdb.string_table ≡ string_table container.now) }
     ensures memory { IfErr result (λ fault. fault ≡ Fault.OutOfMemory) }
 {

@@ -2,7 +2,7 @@
 
 ghost use Rattle.std.specs.Prelude.{◌≡◌, ◌<◌, ◌-◌, ◌^◌, length};
 ghost use Rattle.pdb_container.specs.Strings.{all_texts, string_table_in};
-ghost use Rattle.pdb_dbi.specs.Readings.{whole};
+ghost use Rattle.pdb_msf.specs.Readings.{whole};
 ghost use Rattle.pdb_msf.specs.Faults.{Gives};
 
 use pdb_msf::faults::{Fault, UNKNOWN_VERSION};

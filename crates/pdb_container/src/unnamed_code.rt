@@ -5,6 +5,7 @@
 
 ghost use Rattle.std.specs.Prelude.{◌≡◌, IfErr};
 
+use pdb_codeview::S_TRAMPOLINE;
 use pdb_msf::copy_name;
 use pdb_msf::faults::Fault;
 use pdb_records::{
@@ -13,9 +14,6 @@ use pdb_records::{
 };
 use std::alloc::{AllocError, Global};
 use std::collections::BTreeMap;
-
-/// The kind of a jump that leads to a function.
-pub const S_TRAMPOLINE: u16 = 0x112c;
 
 /// What is known of a module, or why it can't be read.
 pub type ModuleInfoResult = Result<Option<ModuleInfo>, StreamError>;

@@ -9,7 +9,7 @@ use Rattle.pdb_dbi.specs.Contributions.{contribution_list, contributions}
 use Rattle.pdb_dbi.specs.Header.{header}
 use Rattle.pdb_dbi.specs.ModuleList.{first_module, module_list, module_streams, modules}
 use Rattle.pdb_dbi.specs.OptionalStreams.{optional_stream}
-use Rattle.pdb_dbi.specs.Readings.{entry_list}
+use Rattle.pdb_msf.specs.Readings.{entry_list}
 use Rattle.pdb_dbi.specs.Sections.{loaded_at, section_headers}
 use Rattle.pdb_dbi.specs.Substreams.{SubstreamBytes}
 

@@ -5,7 +5,7 @@ use Rattle.std.proofs.lemmas.Grind.{common_steps}
 use Rattle.std.proofs.Math.Nat.{div-eq-sub-div, mod-eq-sub-mod, mod-eq_of_lt, div-eq_of_lt}
 use Rattle.pdb_records.specs.Readings.{Read}
 use Rattle.pdb_msf.specs.declared.faults.TheConstants.{CUT}
-use Rattle.pdb_dbi.specs.Readings.{behind, entry_list, nothing_read}
+use Rattle.pdb_msf.specs.Readings.{behind, entry_list, nothing_read}
 
 -- where a whole entry is there, the list is that entry and the list behind it
 pub first_entry : {A : Type 0} (entry : List ℕ → A) (size : ℕ) (bytes : List ℕ) → 0 < size → size ≤ length bytes

@@ -11,7 +11,7 @@ use Rattle.pdb_msf.specs.declared.faults.TheConstants.{CUT}
 use Rattle.pdb_dbi.specs.declared.module_list.ModuleStream.{ModuleStream}
 use Rattle.pdb_dbi.specs.ModuleList.{ListedModule, first_module, module_list, module_size, module_stream}
 use Rattle.pdb_dbi.specs.ModuleList.{modules_up_to, named_module}
-use Rattle.pdb_dbi.specs.Readings.{behind, nothing_read}
+use Rattle.pdb_msf.specs.Readings.{behind, nothing_read}
 
 -- what a value that may be missing is turned into, where there is one
 made_of : (value : Option (List ℕ)) (make : List ℕ → ListedModule) (made : ListedModule)

@@ -3,7 +3,7 @@ use Rattle.std.proofs.Common.{◌≡◌, ℕ, ◌<◌, List, length, Ok, Err, ap
 use Rattle.pdb_records.specs.declared.addresses.ImageSectionHeader.{ImageSectionHeader}
 use Rattle.pdb_msf.specs.declared.faults.TheConstants.{CUT}
 use Rattle.pdb_dbi.proofs.EntryLemmas.{all_read, cut_read}
-use Rattle.pdb_dbi.specs.Readings.{behind, entry_list, whole}
+use Rattle.pdb_msf.specs.Readings.{behind, entry_list, whole}
 use Rattle.pdb_dbi.specs.Sections.{section_header, section_headers}
 
 -- where nothing is left, what was read are all section headers

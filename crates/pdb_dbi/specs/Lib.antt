@@ -2,6 +2,5 @@ pub mod Contributions
 pub mod Header
 pub mod ModuleList
 pub mod OptionalStreams
-pub mod Readings
 pub mod Sections
 pub mod Substreams

@@ -7,7 +7,7 @@ use Rattle.pdb_msf.specs.declared.faults.TheConstants.{CUT}
 use Rattle.pdb_msf.specs.Bytes.{padding, text_in}
 use Rattle.pdb_msf.specs.NumberLists.{number, two_byte_number}
 use Rattle.pdb_dbi.specs.declared.module_list.ModuleStream.{ModuleStream}
-use Rattle.pdb_dbi.specs.Readings.{behind, ending, nothing_read}
+use Rattle.pdb_msf.specs.Readings.{behind, ending, nothing_read}
 use Rattle.pdb_dbi.specs.Substreams.{SubstreamBytes}
 
 -- a module of the list: its name, where its own records stand, and the bytes behind it

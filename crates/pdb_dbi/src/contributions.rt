@@ -2,12 +2,11 @@
 
 ghost use Rattle.std.specs.Prelude.{◌≡◌, ◌≤◌, length, IfErr, IfOk, IfSome};
 ghost use Rattle.pdb_dbi.specs.Contributions.{contribution, contribution_list, contribution_size, contributions};
-ghost use Rattle.pdb_dbi.specs.Readings.{entry_list};
+ghost use Rattle.pdb_msf.specs.Readings.{entry_list};
 
-use crate::readings::nothing_read;
 use crate::substreams::Substream;
 use pdb_msf::faults::{CUT, Fault, UNKNOWN_VERSION};
-use pdb_msf::{Bytes, u16_at, u32_at};
+use pdb_msf::{Bytes, nothing_read, u16_at, u32_at};
 use pdb_records::{PdbInternalSectionOffset, Reading, SectionContribution};
 use std::alloc::{AllocError, Global};
 

@@ -7,7 +7,6 @@ mod contributions;
 mod header;
 mod module_list;
 mod optional_streams;
-mod readings;
 mod sections;
 mod substreams;
 

@@ -1,5 +1,6 @@
 -- Texts, and the bytes that fill the space behind them, as streams have both.
-use Rattle.std.specs.Prelude.{ℕ, ◌-◌, ◌%◌, ◌==◌, List, take, Option, option_map}
+use Rattle.std.specs.Prelude.{ℕ, ◌-◌, ◌%◌, ◌==◌, nat_lt, List, [], ◌∷◌, take, length, Option, Some, None, option_map}
+use Rattle.std.specs.Prelude.{if◌then◌else◌}
 use Rattle.std.specs.List.{position_from}
 
 -- how many bytes stand before the first zero, where there is one
@@ -9,6 +10,11 @@ text_length bytes = position_from (λ byte. byte == 0) 0 bytes
 -- the text that these bytes begin with: those before the first zero, where there is one
 abbrev pub text_in : List ℕ → Option (List ℕ)
 text_in bytes = option_map (λ count. take count bytes) (text_length bytes)
+
+-- the text that a byte with its length stands in front of, where so many bytes are there
+abbrev pub counted_text_in : List ℕ → Option (List ℕ)
+counted_text_in [] = None
+counted_text_in (count ∷ bytes) = if nat_lt (length bytes) count then None else Some (take count bytes)
 
 -- how many bytes lead from a place to the next multiple of four
 abbrev pub padding : ℕ → ℕ

@@ -4,5 +4,6 @@ pub mod Directory
 pub mod Faults
 pub mod Msf
 pub mod NumberLists
+pub mod Readings
 pub mod Streams
 pub mod Superblock

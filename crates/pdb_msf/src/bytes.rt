@@ -1,8 +1,8 @@
 //! What is left of bytes that are read from the front: numbers of one to eight bytes, and texts.
 
 ghost use Rattle.std.specs.Prelude.{◌≡◌, ◌≤◌, ◌<◌, ◌+◌, ◌-◌, ◌==◌, length, take, drop, Some, None, IfSome, IfOk};
-ghost use Rattle.std.specs.Prelude.{IfErr, OnOk, OnErr};
-ghost use Rattle.pdb_msf.specs.Bytes.{padding, text_in, text_length};
+ghost use Rattle.std.specs.Prelude.{slice_get, IfErr, OnOk, OnErr};
+ghost use Rattle.pdb_msf.specs.Bytes.{counted_text_in, padding, text_in, text_length};
 ghost use Rattle.pdb_msf.specs.NumberLists.{number, two_byte_number};
 
 use crate::faults::CUT;
@@ -82,7 +82,13 @@ impl<'a> Bytes<'a> {
     }
 
     /// The next byte.
-    pub fn u8(&mut self) -> Result<u8, StreamError> {
+    pub fn u8(&mut self) -> Result<u8, StreamError>
+        ensures answer { IfOk result (λ byte. slice_get self.old 0 ≡ Some byte) }
+        ensures there { OnOk result (1 ≤ length self.old) }
+        ensures state { OnOk result (self.new ≡ drop 1 self.old) }
+        ensures refused { OnErr result (length self.old < 1) }
+        ensures fault { IfErr result (λ error. error ≡ CUT) }
+    {
         let taken = self.take(1)?;
         Ok(taken[0])
     }
@@ -134,7 +140,12 @@ impl<'a> Bytes<'a> {
     }
 
     /// The next text, which a byte with its length stands in front of.
-    pub fn counted_text(&mut self) -> Result<&'a [u8], StreamError> {
+    pub fn counted_text(&mut self) -> Result<&'a [u8], StreamError>
+        ensures answer { IfOk result (λ text. counted_text_in self.old ≡ Some text.now) }
+        ensures state { IfOk result (λ text. self.new ≡ drop (length text.now + 1) self.old) }
+        ensures refused { OnErr result (counted_text_in self.old ≡ None) }
+        ensures fault { IfErr result (λ error. error ≡ CUT) }
+    {
         let length = self.u8()?;
         self.take(usize::from(length))
     }

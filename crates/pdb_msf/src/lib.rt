@@ -13,6 +13,7 @@ pub mod faults;
 mod msf;
 mod names;
 mod number_lists;
+mod readings;
 mod streams;
 mod superblock;
 
@@ -21,4 +22,5 @@ pub use container_fault::{ContainerFault, other_file};
 pub use msf::Container;
 pub use names::{copy_name, offset_of};
 pub use number_lists::{bytes_from, number_at, take_numbers};
+pub use readings::nothing_read;
 pub use streams::StreamBytes;

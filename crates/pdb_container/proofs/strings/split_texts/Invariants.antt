@@ -1,6 +1,6 @@
 -- All texts are those that were read and those that are left.
 use Rattle.std.proofs.Common.{◌≡◌, ◌≤◌, ◌-◌, length}
-use Rattle.pdb_dbi.specs.Readings.{behind}
+use Rattle.pdb_msf.specs.Readings.{behind}
 use Rattle.pdb_container.specs.Strings.{all_texts, texts_up_to}
 use Rattle.pdb_container.proofs.strings.split_texts.Given as goal
 

@@ -1,7 +1,7 @@
 -- The list is what was read and what is left.
 use Rattle.std.proofs.Common.{◌≡◌, length}
 use Rattle.pdb_dbi.specs.Contributions.{contribution}
-use Rattle.pdb_dbi.specs.Readings.{behind, entry_list}
+use Rattle.pdb_msf.specs.Readings.{behind, entry_list}
 use Rattle.pdb_dbi.proofs.contributions.read_entries.Given as goal
 
 abbrev pub invariant-loop-rest : goal.invariant-loop-rest

@@ -3,7 +3,7 @@ use Rattle.std.proofs.Common.{◌≡◌, ◌∙◌, Some, None, sym}
 use Rattle.pdb_dbi.proofs.ContributionLemmas.{sized_list}
 use Rattle.pdb_dbi.proofs.contributions.read_list.Goals as goal
 use Rattle.pdb_dbi.specs.Contributions.{contribution, contribution_list}
-use Rattle.pdb_dbi.specs.Readings.{entry_list}
+use Rattle.pdb_msf.specs.Readings.{entry_list}
 
 pub returns-in-None : goal.returns-in-None
 returns-in-None c =

@@ -6,7 +6,7 @@ use Rattle.pdb_msf.specs.declared.faults.TheConstants.{CUT}
 use Rattle.pdb_dbi.proofs.ModuleLemmas.{cut_module, made_all, no_modules, one_module_more, first_of_list, shorter}
 use Rattle.pdb_dbi.proofs.module_list.read_list.Goals as goal
 use Rattle.pdb_dbi.specs.ModuleList.{ListedModule, module_list}
-use Rattle.pdb_dbi.specs.Readings.{behind}
+use Rattle.pdb_msf.specs.Readings.{behind}
 
 pub loop-rest-smaller : goal.loop-rest-smaller
 loop-rest-smaller c =

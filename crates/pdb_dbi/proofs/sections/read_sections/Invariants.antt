@@ -1,6 +1,6 @@
 -- The section headers are those that were read and those that are left.
 use Rattle.std.proofs.Common.{◌≡◌, length}
-use Rattle.pdb_dbi.specs.Readings.{behind, entry_list}
+use Rattle.pdb_msf.specs.Readings.{behind, entry_list}
 use Rattle.pdb_dbi.specs.Sections.{section_header}
 use Rattle.pdb_dbi.proofs.sections.read_sections.Given as goal
 

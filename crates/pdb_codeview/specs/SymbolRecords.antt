@@ -1,0 +1,78 @@
+-- Symbol records: how the bytes of a list of symbols are cut into them.
+use Rattle.std.specs.Prelude.{ℕ, zero, suc, ◌+◌, ◌==◌, ◌||◌, Bool, not, nat_lt, nat_le, List, [], ◌∷◌, take, drop}
+use Rattle.std.specs.Prelude.{length, filter, Option, None, Some, Result, Ok, Err, if◌then◌else◌}
+use Rattle.std.specs.List.{position_from}
+use Rattle.std.specs.Option.{unwrap_or}
+use Rattle.pdb_records.specs.Readings.{Read}
+use Rattle.pdb_records.specs.declared.error.StreamError.{StreamError}
+use Rattle.pdb_records.specs.declared.symbols.SymbolIndex.{SymbolIndex}
+use Rattle.pdb_msf.specs.declared.faults.TheConstants.{BAD_LENGTH, CUT}
+use Rattle.pdb_msf.specs.Bytes.{counted_text_in, text_in}
+use Rattle.pdb_msf.specs.NumberLists.{two_byte_number}
+use Rattle.pdb_msf.specs.Readings.{behind, nothing_read}
+use Rattle.pdb_codeview.specs.declared.symbol_records.TheConstants.{S_ALIGN, S_SKIP}
+
+-- a symbol record: where it starts in its stream, in bytes; its kind; and what stands behind the kind
+pub record SymbolBytes : Type 0 where
+  pub start : ℕ
+  pub raw_kind : ℕ
+  pub content : List ℕ
+
+-- reclen, the number of two bytes that a record begins with: how many bytes of the record stand behind it
+abbrev pub reclen : List ℕ → ℕ
+reclen bytes = two_byte_number bytes
+
+-- what stands behind reclen in the record that these bytes begin with: where they end before, the record is cut; one
+-- that has no room for its kind has a bad length
+abbrev pub behind_reclen : List ℕ → Result (List ℕ) StreamError
+behind_reclen bytes =
+    if nat_lt (length bytes) 2 then Err CUT else
+    if nat_lt (length bytes) (2 + reclen bytes) then Err CUT else
+    if nat_lt (reclen bytes) 2 then Err BAD_LENGTH else
+    Ok (take (reclen bytes) (drop 2 bytes))
+
+-- the record that starts at a place, by what stands behind reclen: rectyp, its kind, in two bytes, and its content
+abbrev pub record_at : ℕ → List ℕ → SymbolBytes
+record_at start bytes = record { start = start; raw_kind = two_byte_number bytes; content = drop 2 bytes }
+
+-- at most so many records, one after the other until the bytes end, the first of which starts at a place; one that has
+-- a fault ends them
+abbrev pub records_up_to : ℕ → ℕ → List ℕ → Read SymbolBytes
+records_up_to zero start bytes = nothing_read None
+records_up_to (suc count) start bytes =
+    if length bytes == 0 then nothing_read None else
+    elim (behind_reclen bytes) as (λ first. Read SymbolBytes) [
+      | Err fault ↦ nothing_read (Some fault)
+      | Ok first ↦ behind (record_at start first ∷ [])
+          (records_up_to count (start + (2 + length first)) (drop (2 + length first) bytes))
+    ]
+
+-- all records of these bytes: each takes four bytes or more, so there are no more of them than bytes
+unfoldable pub all_records : ℕ → List ℕ → Read SymbolBytes
+all_records start bytes = records_up_to (length bytes) start bytes
+
+-- records that fill the space up to a place (S_ALIGN) or hold one free (S_SKIP) are no symbols
+abbrev pub is_filler : SymbolBytes → Bool
+is_filler read = (read.raw_kind == S_ALIGN) || (read.raw_kind == S_SKIP)
+
+-- the symbols among records
+abbrev pub symbols_among : Read SymbolBytes → Read SymbolBytes
+symbols_among list = record { items = filter (λ read. not (is_filler read)) list.items; fault = list.fault }
+
+-- the symbols of a list before which so many bytes stand in its stream
+abbrev pub symbol_records : ℕ → List ℕ → Read SymbolBytes
+symbol_records front bytes = symbols_among (all_records front bytes)
+
+-- the position of the first symbol that starts at a place or behind it; where none does, the one behind them all
+abbrev pub position_at : List SymbolBytes → ℕ → SymbolIndex
+position_at symbols place =
+    record { 0 = unwrap_or (position_from (λ symbol. nat_le place symbol.start) 0 symbols) (length symbols) }
+
+-- a name: in kinds from 0x1100 on it ends before a zero, in older ones (_ST) a byte with its length stands in front
+abbrev pub name_in : ℕ → List ℕ → Option (List ℕ)
+name_in raw_kind bytes = if nat_lt raw_kind 0x1100 then counted_text_in bytes else text_in bytes
+
+-- the name behind the first bytes of a symbol's content, so many, where it is there
+abbrev pub name_behind : ℕ → SymbolBytes → Option (List ℕ)
+name_behind size symbol =
+    if nat_lt (length symbol.content) size then None else name_in symbol.raw_kind (drop size symbol.content)

@@ -1,0 +1,134 @@
+-- Symbols: what the content of each kind that is read says. Places are counted from behind reclen and rectyp.
+use Rattle.std.specs.Prelude.{ℕ, ◌==◌, nat_lt, List, [], ◌∷◌, drop, length, map, Option, Some, None, option_map}
+use Rattle.std.specs.Prelude.{if◌then◌else◌}
+use Rattle.pdb_records.specs.Readings.{Read}
+use Rattle.pdb_records.specs.SymbolKinds.{is_procedure_kind, is_public_kind}
+use Rattle.pdb_records.specs.declared.addresses.PdbInternalSectionOffset.{PdbInternalSectionOffset}
+use Rattle.pdb_records.specs.declared.symbols.Symbol.{Symbol}
+use Rattle.pdb_records.specs.declared.symbols.SymbolData.{SymbolData}
+use Rattle.pdb_records.specs.declared.symbols.SymbolData.TheVariants.{InlineSite, Other, Procedure, Public}
+use Rattle.pdb_records.specs.declared.symbols.SymbolData.TheVariants.{SeparatedCode, Thunk}
+use Rattle.pdb_records.specs.declared.symbol_kinds.TheConstants.{S_INLINESITE, S_INLINESITE2, S_SEPCODE, S_THUNK32}
+use Rattle.pdb_records.specs.declared.symbol_kinds.TheConstants.{S_THUNK32_ST}
+use Rattle.pdb_msf.specs.NumberLists.{number, two_byte_number}
+use Rattle.pdb_codeview.specs.declared.inline_sites.CodeRecords.{CodeRecords}
+use Rattle.pdb_codeview.specs.declared.symbols.TheConstants.{S_TRAMPOLINE}
+use Rattle.pdb_codeview.specs.InlineSites.{site_rows}
+use Rattle.pdb_codeview.specs.SymbolRecords.{SymbolBytes, name_behind, position_at, symbol_records}
+
+-- the section offset whose offset stands at one place of a symbol's content, and its section at another
+abbrev pub section_offset : ℕ → ℕ → List ℕ → PdbInternalSectionOffset
+section_offset offset section content = record {
+  section = two_byte_number (drop section content);
+  offset = number (drop offset content);
+}
+
+-- a public symbol (PUBSYM32): off at 4, seg at 8, and the name at 10
+abbrev pub public_symbol : SymbolBytes → Option SymbolData
+public_symbol symbol = option_map (λ name. Public (record {
+  offset = section_offset 4 8 symbol.content;
+  name = name;
+})) (name_behind 10 symbol)
+
+-- a procedure of a list of symbols (PROCSYM32): pEnd at 4, len at 12, typind at 24, off at 28, seg at 32, and the name
+-- at 35
+abbrev pub procedure : List SymbolBytes → SymbolBytes → Option SymbolData
+procedure symbols symbol = option_map (λ name. Procedure (record {
+  offset = section_offset 28 32 symbol.content;
+  len = number (drop 12 symbol.content);
+  name = name;
+  end = position_at symbols (number (drop 4 symbol.content));
+  type_index = record { 0 = number (drop 24 symbol.content) };
+})) (name_behind 35 symbol)
+
+-- a thunk of a list of symbols (THUNKSYM32): pEnd at 4, off at 12, seg at 16, len in two bytes at 18, and the name
+-- at 21
+abbrev pub thunk : List SymbolBytes → SymbolBytes → Option SymbolData
+thunk symbols symbol = option_map (λ name. Thunk (record {
+  offset = section_offset 12 16 symbol.content;
+  len = two_byte_number (drop 18 symbol.content);
+  name = name;
+  end = position_at symbols (number (drop 4 symbol.content));
+})) (name_behind 21 symbol)
+
+-- separated code of a list of symbols (SEPCODESYM), 28 bytes: pEnd at 4, length at 8, off at 16, offParent at 20, sect
+-- at 24 and sectParent at 26
+abbrev pub separated_code : List SymbolBytes → SymbolBytes → Option SymbolData
+separated_code symbols symbol =
+    if nat_lt (length symbol.content) 28 then None else
+    Some (SeparatedCode (record {
+      offset = section_offset 16 24 symbol.content;
+      len = number (drop 8 symbol.content);
+      parent_offset = section_offset 20 26 symbol.content;
+      end = position_at symbols (number (drop 4 symbol.content));
+    }))
+
+-- a jump (TRAMPOLINESYM), 16 bytes, is code apart from what it leads to: cbThunk in two bytes at 2, offThunk at 4,
+-- offTarget at 8, sectThunk at 12 and sectTarget at 14; no symbol closes it
+abbrev pub trampoline : SymbolBytes → Option SymbolData
+trampoline symbol =
+    if nat_lt (length symbol.content) 16 then None else
+    Some (SeparatedCode (record {
+      offset = section_offset 4 12 symbol.content;
+      len = two_byte_number (drop 2 symbol.content);
+      parent_offset = section_offset 8 14 symbol.content;
+      end = record { 0 = 0 };
+    }))
+
+-- an inline site of a list of symbols in code that starts at an offset (INLINESITESYM and INLINESITESYM2): pEnd at 4,
+-- inlinee at 8, and binaryAnnotations behind 12 bytes, or behind 16, since invocations stand before them
+abbrev pub inline_site : CodeRecords → List SymbolBytes → ℕ → ℕ → SymbolBytes → Option SymbolData
+inline_site code symbols size start symbol =
+    if nat_lt (length symbol.content) size then None else
+    Some (InlineSite (record {
+      inlinee = record { 0 = number (drop 8 symbol.content) };
+      end = position_at symbols (number (drop 4 symbol.content));
+      rows = site_rows code (number (drop 8 symbol.content)) start (drop size symbol.content);
+    }))
+
+-- what a symbol of the whole program holds: of these public symbols alone are looked into
+abbrev pub global_content : SymbolBytes → Option SymbolData
+global_content symbol = if is_public_kind symbol.raw_kind then public_symbol symbol else Some Other
+
+-- a symbol of the whole program
+abbrev pub global_symbol : SymbolBytes → Symbol
+global_symbol symbol = record { raw_kind = symbol.raw_kind; content = global_content symbol }
+
+-- the symbols of the whole program, which stand in a stream of their own
+abbrev pub global_symbols : List ℕ → Read Symbol
+global_symbols stream = record {
+  items = map global_symbol (symbol_records 0 stream).items;
+  fault = (symbol_records 0 stream).fault;
+}
+
+-- what a symbol of a module's list holds, by its kind, behind code that starts at an offset
+abbrev pub module_content : CodeRecords → List SymbolBytes → ℕ → SymbolBytes → Option SymbolData
+module_content code symbols start symbol =
+    if is_procedure_kind symbol.raw_kind then procedure symbols symbol else
+    if symbol.raw_kind == S_THUNK32 then thunk symbols symbol else
+    if symbol.raw_kind == S_THUNK32_ST then thunk symbols symbol else
+    if symbol.raw_kind == S_SEPCODE then separated_code symbols symbol else
+    if symbol.raw_kind == S_TRAMPOLINE then trampoline symbol else
+    if symbol.raw_kind == S_INLINESITE then inline_site code symbols 12 start symbol else
+    if symbol.raw_kind == S_INLINESITE2 then inline_site code symbols 16 start symbol else
+    global_content symbol
+
+-- where the code starts that sites behind a symbol stand in: the symbol's, where it is a procedure or separated code
+abbrev pub code_start : Option SymbolData → ℕ → ℕ
+code_start (Some (Procedure symbol)) before = symbol.offset.offset
+code_start (Some (SeparatedCode symbol)) before = symbol.offset.offset
+code_start content before = before
+
+-- the last symbols of a module's list, behind code that starts at an offset
+abbrev pub symbols_from : CodeRecords → List SymbolBytes → ℕ → List SymbolBytes → List Symbol
+symbols_from code symbols start [] = []
+symbols_from code symbols start (symbol ∷ rest) =
+    let content = module_content code symbols start symbol in
+    record { raw_kind = symbol.raw_kind; content = content } ∷ symbols_from code symbols (code_start content start) rest
+
+-- the symbols of a module, by the bytes of their list, with so many bytes before it in the module's stream
+abbrev pub module_symbols : CodeRecords → ℕ → List ℕ → Read Symbol
+module_symbols code front bytes = record {
+  items = symbols_from code (symbol_records front bytes).items 0 (symbol_records front bytes).items;
+  fault = (symbol_records front bytes).fault;
+}

@@ -1,0 +1,143 @@
+//! Symbol records: how the bytes of a list of symbols are cut into them, and the names at their ends.
+
+ghost use Rattle.std.specs.Prelude.{◌≡◌, ◌+◌, ◌≤◌, drop, length, Ok, IfErr, IfOk, IfSome, MatchResult, OnErr, OnOk};
+ghost use Rattle.std.specs.Prelude.{Err, option_map};
+ghost use Rattle.std.specs.List.Sorted.{IsNonDecreasingBy};
+ghost use Rattle.pdb_codeview.specs.SymbolRecords.{behind_reclen, is_filler, name_behind, name_in, position_at};
+ghost use Rattle.pdb_codeview.specs.SymbolRecords.{record_at, symbol_records};
+
+use pdb_msf::faults::{BAD_LENGTH, Fault};
+use pdb_msf::{Bytes, u16_at};
+use pdb_records::{Reading, StreamError, SymbolIndex};
+use std::alloc::Global;
+use std::marker::Model;
+
+/// The kind of a record that only fills up to a place.
+pub(crate) const S_ALIGN: u16 = 0x0402;
+
+/// The kind of a record that only holds a place free.
+pub(crate) const S_SKIP: u16 = 0x0007;
+
+/// Kinds below this one have names with their lengths in front.
+const ZERO_ENDED_NAMES: u16 = 0x1100;
+
+/// A symbol's bytes.
+#[derive(Drop)]
+pub(crate) struct SymbolRecord<'a> {
+    /// Where it starts, in bytes from the start of its stream.
+    pub(crate) start: usize,
+    pub(crate) raw_kind: u16,
+    /// What stands behind the kind.
+    pub(crate) content: &'a [u8],
+}
+
+impl<'a> Model for SymbolRecord<'a> {
+    ghost use Rattle.pdb_codeview.specs.SymbolRecords.{SymbolBytes};
+
+    ghost Value = { SymbolBytes };
+
+    ghost view = { λ r. record { start = r.start; raw_kind = r.raw_kind; content = r.content.now } };
+}
+
+impl<'a> SymbolRecord<'a> {
+    // Whether it is no symbol.
+    fn is_filler(&self) -> bool
+        ensures { result ≡ is_filler self.now }
+    {
+        self.raw_kind == S_ALIGN || self.raw_kind == S_SKIP
+    }
+
+    /// The name behind the first bytes of its content, so many, where it is there.
+    pub(crate) fn name_behind(&self, size: usize) -> Option<&'a [u8]>
+        ensures answer { option_map (λ name. name.now) result ≡ name_behind size self.now }
+        ensures there { IfSome result (λ _. size ≤ length self.now.content) }
+    {
+        let mut rest = Bytes::new(self.content);
+        match rest.take(size) {
+            Ok(_) => name_in(self.raw_kind, rest.rest()),
+            Err(_) => None,
+        }
+    }
+}
+
+// The name that these bytes begin with, in the form of this kind.
+fn name_in(raw_kind: u16, bytes: &[u8]) -> Option<&[u8]>
+    ensures { option_map (λ name. name.now) result ≡ name_in raw_kind bytes.now }
+{
+    let mut rest = Bytes::new(bytes);
+    if raw_kind < ZERO_ENDED_NAMES {
+        rest.counted_text().ok()
+    } else {
+        rest.text().ok()
+    }
+}
+
+/// The position of the first symbol that starts at a place or behind it. The symbols stand by where they start.
+pub(crate) fn position_at(symbols: &[SymbolRecord<'_>], place: u32) -> SymbolIndex
+    requires { IsNonDecreasingBy (λ symbol. symbol.start) symbols.now }
+    ensures { result ≡ position_at symbols.now place }
+{
+    SymbolIndex(symbols.partition_point(|symbol| symbol.start < place as usize))
+}
+
+/// Splits a list into its symbols. Records that only fill a place are passed over. `front` bytes stand before the list
+/// in its stream.
+pub(crate) fn split_symbol_records<'a>(
+    alloc: Global,
+    bytes: &'a [u8],
+    front: u32,
+) -> Result<Reading<SymbolRecord<'a>>, Fault>
+    ensures answer { IfOk result (λ list. list ≡ symbol_records front bytes.now) }
+    ensures ascending { IfOk result (λ list. IsNonDecreasingBy (λ symbol. symbol.start) list.items) }
+    ensures memory { IfErr result (λ fault. fault ≡ Fault.OutOfMemory) }
+{
+    let mut items = Vec::new(alloc);
+    let mut rest = Bytes::new(bytes);
+    for _ in 0..bytes.len() {
+        if rest.is_empty() {
+            break;
+        }
+        let start = front as usize + bytes.len().saturating_sub(rest.len());
+        let record = match take_behind_reclen(&mut rest) {
+            Ok(record) => record_at(start, record),
+            Err(error) => {
+                return Ok(Reading {
+                    items,
+                    fault: Some(error),
+                });
+            }
+        };
+        if !record.is_filler() {
+            items.push(record)?;
+        }
+    }
+    Ok(Reading { items, fault: None })
+}
+
+// What stands behind the length of the next record.
+fn take_behind_reclen<'a>(rest: &mut Bytes<'a>) -> Result<&'a [u8], StreamError>
+    ensures answer { MatchResult result (λ behind. behind_reclen rest.old ≡ Ok behind.now)
+        (λ error. behind_reclen rest.old ≡ Err error) }
+    ensures state { IfOk result (λ behind. rest.new ≡ drop (2 + length behind.now) rest.old) }
+    ensures least { IfOk result (λ behind. 2 ≤ length behind.now) }
+    ensures within { IfOk result (λ behind. 2 + length behind.now ≤ length rest.old) }
+{
+    let length = rest.u16()?;
+    let behind = rest.take(usize::from(length))?;
+    if length < 2 {
+        return Err(BAD_LENGTH);
+    }
+    Ok(behind)
+}
+
+// The record that starts at a place, by what stands behind its length.
+fn record_at(start: usize, behind: &[u8]) -> SymbolRecord<'_>
+    requires { 2 ≤ length behind.now }
+    ensures { result ≡ record_at start behind.now }
+{
+    SymbolRecord {
+        start,
+        raw_kind: u16_at(behind, 0),
+        content: &behind[2..],
+    }
+}

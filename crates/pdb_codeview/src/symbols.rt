@@ -1,0 +1,275 @@
+//! Symbols: procedures, public symbols, thunks, separated code, trampolines, inline sites.
+
+ghost use Rattle.std.specs.Prelude.{◌≡◌, ◌≤◌, ◌+◌, length, map, IfErr, IfOk};
+ghost use Rattle.std.specs.List.Sorted.{IsNonDecreasingBy};
+ghost use Rattle.pdb_codeview.specs.Symbols.{global_content, global_symbol, global_symbols, procedure, public_symbol};
+ghost use Rattle.pdb_codeview.specs.Symbols.{code_start, inline_site, module_content, module_symbols, section_offset};
+ghost use Rattle.pdb_codeview.specs.Symbols.{separated_code, symbols_from, thunk, trampoline};
+
+use crate::inline_sites::{CodeRecords, site_rows};
+use crate::symbol_records::{SymbolRecord, position_at, split_symbol_records};
+use pdb_msf::faults::Fault;
+use pdb_msf::{copy_name, u16_at, u32_at};
+use pdb_records::{
+    IdIndex, InlineSiteSymbol, PdbInternalSectionOffset, ProcedureSymbol, PublicSymbol, Reading,
+    S_INLINESITE, S_INLINESITE2, S_SEPCODE, S_THUNK32, S_THUNK32_ST, SeparatedCodeSymbol, Symbol,
+    SymbolData, SymbolIndex, SymbolTable, ThunkSymbol, TypeIndex, is_procedure_kind,
+    is_public_kind,
+};
+use std::alloc::Global;
+
+/// The kind of a jump that leads to a function.
+pub const S_TRAMPOLINE: u16 = 0x112c;
+
+/// The symbols of the whole program, by the bytes of their stream. Only public ones are looked into: of all others the
+/// kind alone is known.
+pub fn read_global_symbols(alloc: Global, stream: &[u8]) -> Result<SymbolTable, Fault>
+    ensures answer { IfOk result (λ table. table.symbols ≡ global_symbols stream.now) }
+    ensures memory { IfErr result (λ fault. fault ≡ Fault.OutOfMemory) }
+{
+    let list = split_symbol_records(alloc, stream, 0)?;
+    let symbols = global_list(alloc, &list)?;
+    Ok(SymbolTable { symbols })
+}
+
+// The symbols of this list, as those of the whole program.
+fn global_list(alloc: Global, list: &Reading<SymbolRecord<'_>>) -> Result<Reading<Symbol>, Fault>
+    ensures items { IfOk result (λ read. read.items ≡ map global_symbol list.now.items) }
+    ensures fault { IfOk result (λ read. read.fault ≡ list.now.fault) }
+    ensures memory { IfErr result (λ fault. fault ≡ Fault.OutOfMemory) }
+{
+    let mut items = Vec::with_capacity(alloc, list.items.len())?;
+    for symbol in &list.items {
+        items.push(global_symbol(alloc, symbol)?)?;
+    }
+    Ok(Reading {
+        items,
+        fault: list.fault,
+    })
+}
+
+fn global_symbol(alloc: Global, symbol: &SymbolRecord<'_>) -> Result<Symbol, Fault>
+    ensures answer { IfOk result (λ read. read ≡ global_symbol symbol.now) }
+    ensures memory { IfErr result (λ fault. fault ≡ Fault.OutOfMemory) }
+{
+    Ok(Symbol {
+        raw_kind: symbol.raw_kind,
+        content: global_content(alloc, symbol)?,
+    })
+}
+
+// What a symbol of the whole program holds, where it can be read.
+fn global_content(alloc: Global, symbol: &SymbolRecord<'_>) -> Result<Option<SymbolData>, Fault>
+    ensures answer { IfOk result (λ content. content ≡ global_content symbol.now) }
+    ensures memory { IfErr result (λ fault. fault ≡ Fault.OutOfMemory) }
+{
+    if is_public_kind(symbol.raw_kind) {
+        return public_symbol(alloc, symbol);
+    }
+    Ok(Some(SymbolData::Other))
+}
+
+/// The symbols of a module, by the bytes of their list, before which `front` bytes stand in the module's stream. Sites
+/// have their rows by what the module says of its code.
+pub fn read_symbols(
+    alloc: Global,
+    bytes: &[u8],
+    front: u32,
+    code: &CodeRecords,
+) -> Result<Reading<Symbol>, Fault>
+    ensures answer { IfOk result (λ read. read ≡ module_symbols code.now front bytes.now) }
+    ensures memory { IfErr result (λ fault. fault ≡ Fault.OutOfMemory) }
+{
+    let list = split_symbol_records(alloc, bytes, front)?;
+    module_list(alloc, &list, code)
+}
+
+// The symbols of this list, as those of a module.
+fn module_list(
+    alloc: Global,
+    list: &Reading<SymbolRecord<'_>>,
+    code: &CodeRecords,
+) -> Result<Reading<Symbol>, Fault>
+    requires { IsNonDecreasingBy (λ symbol. symbol.start) list.now.items }
+    ensures items { IfOk result (λ read. read.items ≡ symbols_from code.now list.now.items 0 list.now.items) }
+    ensures fault { IfOk result (λ read. read.fault ≡ list.now.fault) }
+    ensures memory { IfErr result (λ fault. fault ≡ Fault.OutOfMemory) }
+{
+    let mut items = Vec::with_capacity(alloc, list.items.len())?;
+    let mut start = 0;
+    for symbol in &list.items {
+        let content = module_content(alloc, &list.items, symbol, code, start)?;
+        start = code_start(&content, start);
+        items.push(Symbol {
+            raw_kind: symbol.raw_kind,
+            content,
+        })?;
+    }
+    Ok(Reading {
+        items,
+        fault: list.fault,
+    })
+}
+
+// Where the procedure starts, or the chunk of one, that sites behind this symbol stand in.
+fn code_start(content: &Option<SymbolData>, before: u32) -> u32
+    ensures { result ≡ code_start content.now before }
+{
+    match content {
+        Some(SymbolData::Procedure(procedure)) => procedure.offset.offset,
+        Some(SymbolData::SeparatedCode(code)) => code.offset.offset,
+        _ => before,
+    }
+}
+
+// What a symbol of a module holds, where it can be read.
+fn module_content(
+    alloc: Global,
+    symbols: &[SymbolRecord<'_>],
+    symbol: &SymbolRecord<'_>,
+    code: &CodeRecords,
+    start: u32,
+) -> Result<Option<SymbolData>, Fault>
+    requires { IsNonDecreasingBy (λ symbol. symbol.start) symbols.now }
+    ensures answer { IfOk result (λ content. content ≡ module_content code.now symbols.now start symbol.now) }
+    ensures memory { IfErr result (λ fault. fault ≡ Fault.OutOfMemory) }
+{
+    let raw_kind = symbol.raw_kind;
+    if is_procedure_kind(raw_kind) {
+        return procedure(alloc, symbols, symbol);
+    }
+    match raw_kind {
+        S_THUNK32 | S_THUNK32_ST => thunk(alloc, symbols, symbol),
+        S_SEPCODE => Ok(separated_code(symbols, symbol)),
+        S_TRAMPOLINE => Ok(trampoline(symbol)),
+        S_INLINESITE => inline_site(alloc, symbols, symbol, code, 12, start),
+        S_INLINESITE2 => inline_site(alloc, symbols, symbol, code, 16, start),
+        _ => global_content(alloc, symbol),
+    }
+}
+
+// The section offset whose offset stands at one place of a symbol's content, and the section at another.
+fn section_offset(content: &[u8], offset: usize, section: usize) -> PdbInternalSectionOffset
+    requires offset { offset + 4 ≤ length content.now }
+    requires section { section + 2 ≤ length content.now }
+    ensures { result ≡ section_offset offset section content.now }
+{
+    PdbInternalSectionOffset {
+        section: u16_at(content, section),
+        offset: u32_at(content, offset),
+    }
+}
+
+fn public_symbol(alloc: Global, symbol: &SymbolRecord<'_>) -> Result<Option<SymbolData>, Fault>
+    ensures answer { IfOk result (λ content. content ≡ public_symbol symbol.now) }
+    ensures memory { IfErr result (λ fault. fault ≡ Fault.OutOfMemory) }
+{
+    let Some(name) = symbol.name_behind(10) else {
+        return Ok(None);
+    };
+    Ok(Some(SymbolData::Public(PublicSymbol {
+        offset: section_offset(symbol.content, 4, 8),
+        name: copy_name(alloc, name)?,
+    })))
+}
+
+fn procedure(
+    alloc: Global,
+    symbols: &[SymbolRecord<'_>],
+    symbol: &SymbolRecord<'_>,
+) -> Result<Option<SymbolData>, Fault>
+    requires { IsNonDecreasingBy (λ symbol. symbol.start) symbols.now }
+    ensures answer { IfOk result (λ content. content ≡ procedure symbols.now symbol.now) }
+    ensures memory { IfErr result (λ fault. fault ≡ Fault.OutOfMemory) }
+{
+    let Some(name) = symbol.name_behind(35) else {
+        return Ok(None);
+    };
+    Ok(Some(SymbolData::Procedure(ProcedureSymbol {
+        offset: section_offset(symbol.content, 28, 32),
+        len: u32_at(symbol.content, 12),
+        name: copy_name(alloc, name)?,
+        end: position_at(symbols, u32_at(symbol.content, 4)),
+        type_index: TypeIndex(u32_at(symbol.content, 24)),
+    })))
+}
+
+fn thunk(
+    alloc: Global,
+    symbols: &[SymbolRecord<'_>],
+    symbol: &SymbolRecord<'_>,
+) -> Result<Option<SymbolData>, Fault>
+    requires { IsNonDecreasingBy (λ symbol. symbol.start) symbols.now }
+    ensures answer { IfOk result (λ content. content ≡ thunk symbols.now symbol.now) }
+    ensures memory { IfErr result (λ fault. fault ≡ Fault.OutOfMemory) }
+{
+    let Some(name) = symbol.name_behind(21) else {
+        return Ok(None);
+    };
+    Ok(Some(SymbolData::Thunk(ThunkSymbol {
+        offset: section_offset(symbol.content, 12, 16),
+        len: u16_at(symbol.content, 18),
+        name: copy_name(alloc, name)?,
+        end: position_at(symbols, u32_at(symbol.content, 4)),
+    })))
+}
+
+fn separated_code(symbols: &[SymbolRecord<'_>], symbol: &SymbolRecord<'_>) -> Option<SymbolData>
+    requires { IsNonDecreasingBy (λ symbol. symbol.start) symbols.now }
+    ensures { result ≡ separated_code symbols.now symbol.now }
+{
+    let content = symbol.content;
+    if content.len() < 28 {
+        return None;
+    }
+    Some(SymbolData::SeparatedCode(SeparatedCodeSymbol {
+        offset: section_offset(content, 16, 24),
+        len: u32_at(content, 8),
+        parent_offset: section_offset(content, 20, 26),
+        end: position_at(symbols, u32_at(content, 4)),
+    }))
+}
+
+// A jump, as code apart from the function that it leads to. No symbol closes it.
+fn trampoline(symbol: &SymbolRecord<'_>) -> Option<SymbolData>
+    ensures { result ≡ trampoline symbol.now }
+{
+    let content = symbol.content;
+    if content.len() < 16 {
+        return None;
+    }
+    Some(SymbolData::SeparatedCode(SeparatedCodeSymbol {
+        offset: section_offset(content, 4, 12),
+        len: u32::from(u16_at(content, 2)),
+        parent_offset: section_offset(content, 8, 14),
+        end: SymbolIndex(0),
+    }))
+}
+
+// A site, with what its annotations say of code that starts at this offset of its section. So many bytes stand before
+// the annotations.
+fn inline_site(
+    alloc: Global,
+    symbols: &[SymbolRecord<'_>],
+    symbol: &SymbolRecord<'_>,
+    code: &CodeRecords,
+    size: usize,
+    start: u32,
+) -> Result<Option<SymbolData>, Fault>
+    requires ascending { IsNonDecreasingBy (λ symbol. symbol.start) symbols.now }
+    requires size { 12 ≤ size }
+    ensures answer { IfOk result (λ content. content ≡ inline_site code.now symbols.now size start symbol.now) }
+    ensures memory { IfErr result (λ fault. fault ≡ Fault.OutOfMemory) }
+{
+    let content = symbol.content;
+    if content.len() < size {
+        return Ok(None);
+    }
+    let inlinee = IdIndex(u32_at(content, 8));
+    let rows = site_rows(alloc, code, inlinee, start, &content[size..])?;
+    Ok(Some(SymbolData::InlineSite(InlineSiteSymbol {
+        inlinee,
+        end: position_at(symbols, u32_at(content, 4)),
+        rows,
+    })))
+}
