@@ -5,6 +5,7 @@ use Rattle.std.proofs.lemmas.Grind.{common_steps}
 use Rattle.pdb_records.specs.Readings.{Read}
 use Rattle.pdb_records.specs.declared.error.StreamError.{StreamError}
 use Rattle.pdb_msf.specs.Readings.{behind, nothing_read}
+use Rattle.pdb_codeview.proofs.ItemListLemmas.{one_left}
 use Rattle.pdb_codeview.specs.Annotations.{ReadAnnotation, annotations, annotations_up_to, first_annotation}
 use Rattle.pdb_codeview.specs.declared.annotations.Annotation.{Annotation}
 
@@ -35,10 +36,6 @@ fault_up_to : (count : ℕ) (bytes : List ℕ) (fault : StreamError) → 0 < len
 fault_up_to count bytes fault some is =
     let there : (length bytes == 0) ≡ false = grind (arith, common_steps) in
     simp (there, is)
-
--- how many are left, where there is one
-one_left : (count counter : ℕ) → counter < count → count - counter ≡ suc (count - (counter + 1))
-one_left count counter some = omega arith
 
 -- before any is read, all are left
 pub unread : (bytes rest : List ℕ) (before : List Annotation) → before ≡ [] → rest ≡ bytes

@@ -1,11 +1,11 @@
 -- Worked examples of symbols and of the rows of inline sites, by bytes written by hand.
 use Rattle.std.proofs.Common.{◌≡◌, ℕ, List, [], ◌∷◌, ◌++◌, take, Some, None, refl}
 use Rattle.std.specs.Prelude.{codes}
-use Rattle.std.proofs.Math.ListN.{replicate}
 use Rattle.pdb_records.specs.declared.symbols.Symbol.{Symbol}
 use Rattle.pdb_records.specs.declared.symbols.SymbolData.TheVariants.{Other, Procedure, Public, SeparatedCode, Thunk}
 use Rattle.pdb_msf.specs.declared.faults.TheConstants.{APART, BAD_LENGTH, BAD_NUMBER, CUT}
 use Rattle.pdb_codeview.specs.declared.annotations.Annotation.TheVariants.{AdvanceAndLine, Length}
+use Rattle.pdb_codeview.specs.declared.files.FileEntry.{FileEntry}
 use Rattle.pdb_codeview.specs.declared.inline_sites.CodeRecords.{CodeRecords}
 use Rattle.pdb_codeview.specs.Annotations.{annotations}
 use Rattle.pdb_codeview.specs.InlineSites.{rows_by}
@@ -167,8 +167,12 @@ no_annotation : annotations (14 ∷ 1 ∷ []) ≡ record { items = []; fault = S
 unfolding annotations
 no_annotation = refl
 
+-- the entry of a file that starts there
+abbrev file_at_start : ℕ → FileEntry
+file_at_start start = record { start = start; info = record { name = record { 0 = 7 } } }
+
 -- in code that starts at 64, of a function that starts in the line 10 of the second file, whose entry starts at 24
-one_row : rows_by (Some (record { file = 24; line = 10 })) (0 ∷ 24 ∷ []) 64 two_annotations
+one_row : rows_by (Some (record { file = 24; line = 10 })) (file_at_start 0 ∷ file_at_start 24 ∷ []) 64 two_annotations
     ≡ record {
       items = record { offset = 67; length = Some 5; file_index = record { 0 = 1 }; line_start = 11 } ∷ [];
       fault = None;
@@ -177,5 +181,5 @@ unfolding annotations
 one_row = refl
 
 -- an inlined function that the module doesn't list
-no_rows : rows_by None (0 ∷ []) 64 two_annotations ≡ record { items = []; fault = None }
+no_rows : rows_by None (file_at_start 0 ∷ []) 64 two_annotations ≡ record { items = []; fault = None }
 no_rows = refl

@@ -1,7 +1,7 @@
 -- Symbol records, one by one, and positions among them.
 use Rattle.std.proofs.Common.{◌≡◌, ◌∙◌, ℕ, zero, suc, ◌+◌, ◌-◌, ◌≤◌, ◌<◌, ◌==◌, Bool, true, false, nat_lt, nat_le}
-use Rattle.std.proofs.Common.{List, [], ◌∷◌, ◌++◌, drop, length, get_or, Some, None, Ok, Err, refl, sym, ap, append_assoc}
-use Rattle.std.proofs.Common.{append-nil, length-drop, subst, arith}
+use Rattle.std.proofs.Common.{List, [], ◌∷◌, ◌++◌, drop, length, get_or, Some, None, Ok, Err, refl, sym, ap}
+use Rattle.std.proofs.Common.{append_assoc, append-nil, length-drop, subst, arith}
 use Rattle.std.proofs.Math.Seq.{get_or-append_seam}
 use Rattle.std.proofs.lemmas.List.{length-append}
 use Rattle.std.proofs.lemmas.List.Sorted.{IsNonDecreasingBy-push}
@@ -12,6 +12,7 @@ use Rattle.std.specs.Option.{unwrap_or}
 use Rattle.pdb_records.specs.Readings.{Read}
 use Rattle.pdb_records.specs.declared.error.StreamError.{StreamError}
 use Rattle.pdb_msf.specs.Readings.{behind, nothing_read}
+use Rattle.pdb_codeview.proofs.ItemListLemmas.{one_left}
 use Rattle.pdb_codeview.specs.SymbolRecords.{SymbolBytes, all_records, behind_reclen, is_filler, record_at}
 use Rattle.pdb_codeview.specs.SymbolRecords.{records_up_to, symbol_records, symbols_among}
 
@@ -68,10 +69,6 @@ fault_up_to : (count start : ℕ) (bytes : List ℕ) (fault : StreamError) → 0
 fault_up_to count start bytes fault some is =
     let there : (length bytes == 0) ≡ false = grind (arith, common_steps) in
     simp (there, is)
-
--- how many are left, where there is one
-one_left : (count counter : ℕ) → counter < count → count - counter ≡ suc (count - (counter + 1))
-one_left count counter some = omega arith
 
 -- before any is read, all are left
 pub unread : (front : ℕ) (bytes rest : List ℕ) (before : List SymbolBytes) → before ≡ [] → rest ≡ bytes

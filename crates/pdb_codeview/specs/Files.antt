@@ -1,16 +1,56 @@
 -- The files of a module.
-use Rattle.std.specs.Prelude.{ℕ, ◌^◌, ◌==◌, nat_lt, List, Option, Some, None, option_and_then, if◌then◌else◌}
+use Rattle.std.specs.Prelude.{ℕ, ◌+◌, ◌-◌, ◌^◌, ◌==◌, min, nat_lt, List, drop, length, slice_index}
+use Rattle.std.specs.Prelude.{Option, Some, None, option_and_then, Result, Ok, Err, if◌then◌else◌}
+use Rattle.pdb_records.specs.declared.error.StreamError.{StreamError}
 use Rattle.std.specs.List.{position_from}
+use Rattle.pdb_records.specs.Readings.{Read}
 use Rattle.pdb_records.specs.declared.lines.FileIndex.{FileIndex}
+use Rattle.pdb_msf.specs.Bytes.{padding}
+use Rattle.pdb_msf.specs.NumberLists.{number}
+use Rattle.pdb_msf.specs.declared.faults.TheConstants.{CUT}
+use Rattle.pdb_codeview.specs.declared.files.FileEntry.{FileEntry}
+use Rattle.pdb_codeview.specs.ItemLists.{all_items, together}
 
--- the position of the first file whose entry starts there, by where each file's entry starts in its subsection
-abbrev pub file_position : ℕ → List ℕ → Option ℕ
-file_position start starts = position_from (λ other. other == start) 0 starts
+-- the position of the first file whose entry starts there in its subsection
+abbrev pub file_position : ℕ → List FileEntry → Option ℕ
+file_position start entries = position_from (λ entry. entry.start == start) 0 entries
 
 -- a position, where it has 32 bits
 abbrev pub file_index : ℕ → Option FileIndex
 file_index position = if nat_lt position (2 ^ 32) then Some (record { 0 = position }) else None
 
 -- the file that an offset names: of several subsections of files, the first one with an entry that starts there
-abbrev pub named_file : ℕ → List ℕ → Option FileIndex
-named_file start starts = option_and_then file_index (file_position start starts)
+abbrev pub named_file : ℕ → List FileEntry → Option FileIndex
+named_file start entries = option_and_then file_index (file_position start entries)
+
+-- the file of an entry that a subsection of so many bytes ends in: where the entry starts in that, at most 2 ^ 32 - 1,
+-- and the file's name, by its key in the first four bytes
+abbrev pub file_entry : ℕ → List ℕ → FileEntry
+file_entry whole bytes = record {
+  start = min (whole - length bytes) (2 ^ 32 - 1);
+  info = record { name = record { 0 = number bytes } };
+}
+
+-- how many bytes an entry has: its first six, of which that at 4 says the size of the checksum, and the checksum
+abbrev pub entry_size : List ℕ → ℕ
+entry_size bytes = 6 + slice_index bytes 4
+
+-- what a subsection of so many bytes has behind the entry and the bytes that fill up to the next multiple of four
+abbrev pub behind_entry : ℕ → List ℕ → List ℕ
+behind_entry whole bytes =
+    let rest = drop (entry_size bytes) bytes in drop (padding (whole - length rest)) rest
+
+-- the entry that stands next in a subsection of so many bytes, and what stands behind it; one that they end in is cut
+abbrev pub first_entry : ℕ → List ℕ → Result (FileEntry × List ℕ) StreamError
+first_entry whole bytes =
+    if nat_lt (length bytes) 6 then Err CUT else
+    if nat_lt (length bytes) (entry_size bytes) then Err CUT else
+    Ok (file_entry whole bytes, behind_entry whole bytes)
+
+-- all entries of a subsection of files (DEBUG_S_FILECHKSMS)
+abbrev pub file_entries : List ℕ → Read FileEntry
+file_entries bytes = all_items (first_entry (length bytes)) bytes
+
+-- the entries of several subsections, one after the other up to the first fault
+abbrev pub all_entries : List (List ℕ) → Read FileEntry
+all_entries subsections = together file_entries subsections

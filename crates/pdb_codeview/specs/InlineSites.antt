@@ -7,6 +7,7 @@ use Rattle.pdb_records.specs.Readings.{Read}
 use Rattle.pdb_records.specs.declared.lines.FileIndex.{FileIndex}
 use Rattle.pdb_records.specs.declared.symbols.InlineRow.{InlineRow}
 use Rattle.pdb_msf.specs.Readings.{nothing_read}
+use Rattle.pdb_codeview.specs.declared.files.FileEntry.{FileEntry}
 use Rattle.pdb_codeview.specs.declared.inline_rows.RowPosition.{RowPosition}
 use Rattle.pdb_codeview.specs.declared.inline_sites.CodeRecords.{CodeRecords}
 use Rattle.pdb_codeview.specs.declared.inlinees.InlineeSource.{InlineeSource}
@@ -16,26 +17,26 @@ use Rattle.pdb_codeview.specs.Files.{named_file}
 use Rattle.pdb_codeview.specs.InlineRows.{rows_from}
 
 -- the position of the file whose entry starts there, or one that no file has
-abbrev pub file_at : List ℕ → ℕ → FileIndex
-file_at starts start = unwrap_or (named_file start starts) NO_FILE
+abbrev pub file_at : List FileEntry → ℕ → FileIndex
+file_at entries start = unwrap_or (named_file start entries) NO_FILE
 
 -- a row with the position of its file in the place of where that one's entry starts
-abbrev pub named_row : List ℕ → InlineRow → InlineRow
-named_row starts row = record row { file_index = file_at starts row.file_index.0 }
+abbrev pub named_row : List FileEntry → InlineRow → InlineRow
+named_row entries row = record row { file_index = file_at entries row.file_index.0 }
 
 -- reading the annotations of a site begins where the code starts that it stands in, and where the inlined function does
 abbrev pub first_position : InlineeSource → ℕ → RowPosition
 first_position source start = record { start = start; offset = start; file = source.file; line = source.line }
 
 -- the rows that annotations make of an inlined function, by where it starts: none where the module doesn't list it
-abbrev pub rows_by : Option InlineeSource → List ℕ → ℕ → List ℕ → Read InlineRow
-rows_by None starts start bytes = nothing_read None
-rows_by (Some source) starts start bytes = record {
-  items = map (named_row starts) (rows_from (first_position source start) None (annotations bytes).items);
+abbrev pub rows_by : Option InlineeSource → List FileEntry → ℕ → List ℕ → Read InlineRow
+rows_by None entries start bytes = nothing_read None
+rows_by (Some source) entries start bytes = record {
+  items = map (named_row entries) (rows_from (first_position source start) None (annotations bytes).items);
   fault = (annotations bytes).fault;
 }
 
 -- the rows of a site of this inlinee, in code that starts at an offset, by its annotations
 abbrev pub site_rows : CodeRecords → ℕ → ℕ → List ℕ → Read InlineRow
 site_rows code inlinee start bytes =
-    rows_by (get nat_cmp code.inlinees.sources inlinee) code.files.starts.items start bytes
+    rows_by (get nat_cmp code.inlinees.sources inlinee) code.files.entries.items start bytes

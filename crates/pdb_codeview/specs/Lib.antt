@@ -5,6 +5,7 @@ pub mod Places
 pub mod LineRows
 pub mod ProcedureSpans
 pub mod LineEntries
+pub mod ItemLists
 pub mod Files
 pub mod Inlinees
 pub mod SymbolRecords

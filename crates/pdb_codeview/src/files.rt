@@ -1,37 +1,55 @@
 //! The subsection of a module's files, which rows and sites name by where a file's entry starts.
 
-ghost use Rattle.std.specs.Prelude.{◌≡◌, ℕ, IfOk};
+ghost use Rattle.std.specs.Prelude.{◌≡◌, ◌++◌, ℕ, map, Ok, Err, IfErr, IfOk, MatchResult, OnOk};
 ghost use Rattle.std.specs.BTreeMap.{get};
 ghost use Rattle.std.specs.Ordering.{nat_cmp};
-ghost use Rattle.pdb_codeview.specs.Files.{file_position, file_index, named_file};
+ghost use Rattle.pdb_codeview.specs.Files.{all_entries, file_entries, file_index, file_position, first_entry};
+ghost use Rattle.pdb_codeview.specs.Files.{named_file};
 
 use crate::first_values::insert_first;
-use pdb_msf::faults::{Fault, early_end};
+use pdb_msf::faults::Fault;
 use pdb_msf::{Bytes, offset_of, u32_at};
 use pdb_records::{FileIndex, FileInfo, StreamError, StringRef};
 use std::alloc::{AllocError, Global};
 use std::collections::BTreeMap;
 
+/// An entry of a subsection of files.
+#[derive(Clone, Copy)]
+pub(crate) struct FileEntry {
+    /// Where it starts in its subsection, in bytes.
+    pub(crate) start: u32,
+    pub(crate) info: FileInfo,
+}
+
 /// The files that a module's code came from.
 #[derive(Drop)]
 pub struct Files {
-    /// Where the entry of each starts in its subsection.
-    starts: Vec<u32>,
+    entries: Vec<FileEntry>,
     positions: BTreeMap<u32, usize>,
-    pub files: Vec<FileInfo>,
     pub fault: Option<StreamError>,
-    ghost first: { (start : ℕ) → get nat_cmp positions start ≡ file_position start starts.items },
+    ghost first: { (start : ℕ) → get nat_cmp positions start ≡ file_position start entries.items },
 }
 
 impl Files {
     /// The position of the file whose entry starts there: of several subsections the first that has one.
     pub fn position(&self, start: u32) -> Option<FileIndex>
-        ensures { result ≡ named_file start self.now.starts.items }
+        ensures { result ≡ named_file start self.now.entries.items }
     {
         match self.positions.get(&start) {
             Some(position) => file_index(*position),
             None => None,
         }
+    }
+
+    /// A copy of what is known of each file, by position.
+    pub fn infos(&self, alloc: Global) -> Result<Vec<FileInfo>, AllocError>
+        ensures { IfOk result (λ infos. infos.items ≡ map (λ entry. entry.info) self.now.entries.items) }
+    {
+        let mut infos = Vec::with_capacity(alloc, self.entries.len())?;
+        for entry in &self.entries {
+            infos.push(entry.info)?;
+        }
+        Ok(infos)
     }
 }
 
@@ -44,55 +62,84 @@ fn file_index(position: usize) -> Option<FileIndex>
     }
 }
 
-fn first_positions(alloc: Global, starts: &[u32]) -> Result<BTreeMap<u32, usize>, AllocError>
-    ensures { IfOk result (λ positions. (start : ℕ) → get nat_cmp positions start ≡ file_position start starts.now) }
+fn first_positions(alloc: Global, entries: &[FileEntry]) -> Result<BTreeMap<u32, usize>, AllocError>
+    ensures { IfOk result (λ positions. (start : ℕ) → get nat_cmp positions start ≡ file_position start entries.now) }
 {
     let mut positions = BTreeMap::new(alloc);
-    for (position, &start) in starts.iter().enumerate() {
-        insert_first(&mut positions, start, position)?;
+    for (position, entry) in entries.iter().enumerate() {
+        insert_first(&mut positions, entry.start, position)?;
     }
     Ok(positions)
 }
 
 /// The files that the entries of these subsections name, one subsection after the other.
-pub fn read_files(alloc: Global, subsections: &[&[u8]]) -> Result<Files, Fault> {
-    let mut starts = Vec::new(alloc);
-    let mut files = Vec::new(alloc);
-    let fault = early_end(fill_subsections(subsections, &mut starts, &mut files))?;
-    let positions = first_positions(alloc, &starts)?;
+pub fn read_files(alloc: Global, subsections: &[&[u8]]) -> Result<Files, Fault>
+    ensures entries { IfOk result (λ files.
+        files.entries.items ≡ (all_entries (map (λ s. s.now) subsections.now)).items) }
+    ensures fault { IfOk result (λ files. files.fault ≡ (all_entries (map (λ s. s.now) subsections.now)).fault) }
+    ensures memory { IfErr result (λ fault. fault ≡ Fault.OutOfMemory) }
+{
+    let mut entries = Vec::new(alloc);
+    let fault = push_all_entries(subsections, &mut entries)?;
+    let positions = first_positions(alloc, &entries)?;
     Ok(Files {
-        starts,
+        entries,
         positions,
-        files,
         fault,
     })
 }
 
-fn fill_subsections(
+// Appends the entries of these subsections, up to the first fault.
+fn push_all_entries(
     subsections: &[&[u8]],
-    starts: &mut Vec<u32>,
-    files: &mut Vec<FileInfo>,
-) -> Result<(), Fault> {
+    entries: &mut Vec<FileEntry>,
+) -> Result<Option<StreamError>, AllocError>
+    ensures answer { IfOk result (λ fault. fault ≡ (all_entries (map (λ s. s.now) subsections.now)).fault) }
+    ensures state { OnOk result (entries.new.items
+        ≡ entries.old.items ++ (all_entries (map (λ s. s.now) subsections.now)).items) }
+{
     for subsection in subsections {
-        fill_files(subsection, starts, files)?;
+        let fault = push_entries(subsection, entries)?;
+        if fault.is_some() {
+            return Ok(fault);
+        }
     }
-    Ok(())
+    Ok(None)
 }
 
-fn fill_files(bytes: &[u8], starts: &mut Vec<u32>, files: &mut Vec<FileInfo>) -> Result<(), Fault> {
+// Appends the entries of a subsection.
+fn push_entries(
+    bytes: &[u8],
+    entries: &mut Vec<FileEntry>,
+) -> Result<Option<StreamError>, AllocError>
+    ensures answer { IfOk result (λ fault. fault ≡ (file_entries bytes.now).fault) }
+    ensures state { OnOk result (entries.new.items ≡ entries.old.items ++ (file_entries bytes.now).items) }
+{
     let mut rest = Bytes::new(bytes);
     for _ in 0..bytes.len() {
         if rest.is_empty() {
             break;
         }
-        let start = offset_of(bytes.len(), rest.len());
-        let front = rest.take(6)?;
-        rest.take(usize::from(front[4]))?;
-        rest.align(bytes.len());
-        starts.push(start)?;
-        files.push(FileInfo {
-            name: StringRef(u32_at(front, 0)),
-        })?;
+        match take_entry(bytes.len(), &mut rest) {
+            Ok(entry) => entries.push(entry)?,
+            Err(error) => return Ok(Some(error)),
+        }
     }
-    Ok(())
+    Ok(None)
+}
+
+// The next entry of a subsection of so many bytes.
+fn take_entry(whole: usize, rest: &mut Bytes<'_>) -> Result<FileEntry, StreamError>
+    ensures { MatchResult result (λ entry. first_entry whole rest.old ≡ Ok (entry, rest.new))
+        (λ error. first_entry whole rest.old ≡ Err error) }
+{
+    let start = offset_of(whole, rest.len());
+    let front = rest.take(6)?;
+    let name = StringRef(u32_at(front, 0));
+    rest.take(usize::from(front[4]))?;
+    rest.align(whole);
+    Ok(FileEntry {
+        start,
+        info: FileInfo { name },
+    })
 }

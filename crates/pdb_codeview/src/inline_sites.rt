@@ -54,7 +54,7 @@ fn named_rows(
     rows: &[InlineRow],
     files: &Files,
 ) -> Result<Vec<InlineRow>, AllocError>
-    ensures { IfOk result (λ named. named.items ≡ map (named_row files.now.starts.items) rows.now) }
+    ensures { IfOk result (λ named. named.items ≡ map (named_row files.now.entries.items) rows.now) }
 {
     let mut named = Vec::with_capacity(alloc, rows.len())?;
     for row in rows {

@@ -1,14 +1,16 @@
 //! The subsection of a module's inlinees: the functions that were inlined, with their source lines.
 
-ghost use Rattle.std.specs.Prelude.{◌≡◌, ℕ, IfOk};
+ghost use Rattle.std.specs.Prelude.{◌≡◌, ◌++◌, ℕ, length, map, Ok, Err, IfErr, IfOk, MatchResult, OnOk};
 ghost use Rattle.std.specs.BTreeMap.{get};
 ghost use Rattle.std.specs.Ordering.{nat_cmp};
-ghost use Rattle.pdb_codeview.specs.Inlinees.{inlinee_source};
+ghost use Rattle.pdb_codeview.specs.Inlinees.{all_inlinees, behind_inlinee, first_inlinee, inlinee, inlinee_source};
+ghost use Rattle.pdb_codeview.specs.Inlinees.{inlinees_in, listed_inlinee};
+ghost use Rattle.pdb_codeview.specs.ItemLists.{all_items};
 
 use crate::first_values::insert_first;
-use pdb_msf::faults::{Fault, UNKNOWN_VERSION, early_end};
+use pdb_msf::faults::{Fault, UNKNOWN_VERSION};
 use pdb_msf::{Bytes, u32_at};
-use pdb_records::{IdIndex, Inlinee, Reading};
+use pdb_records::{IdIndex, Inlinee, Reading, StreamError};
 use std::alloc::{AllocError, Global};
 use std::collections::BTreeMap;
 
@@ -42,15 +44,34 @@ pub struct Inlinees {
 }
 
 /// The functions that were inlined, by the bytes of their lists, one after the other.
-pub fn read_inlinees(alloc: Global, subsections: &[&[u8]]) -> Result<Inlinees, Fault> {
-    let mut items = Vec::new(alloc);
+pub fn read_inlinees(alloc: Global, subsections: &[&[u8]]) -> Result<Inlinees, Fault>
+    ensures items { IfOk result (λ read.
+        read.list.items ≡ map inlinee (all_inlinees (map (λ s. s.now) subsections.now)).items) }
+    ensures fault { IfOk result (λ read. read.list.fault ≡ (all_inlinees (map (λ s. s.now) subsections.now)).fault) }
+    ensures sources { IfOk result (λ read. (id : ℕ) → get nat_cmp read.sources id
+        ≡ inlinee_source id (all_inlinees (map (λ s. s.now) subsections.now)).items) }
+    ensures memory { IfErr result (λ fault. fault ≡ Fault.OutOfMemory) }
+{
     let mut listed = Vec::new(alloc);
-    let fault = early_end(fill_subsections(subsections, &mut items, &mut listed))?;
+    let fault = push_all_inlinees(subsections, &mut listed)?;
     let sources = first_sources(alloc, &listed)?;
+    let items = by_id(alloc, &listed)?;
     Ok(Inlinees {
         list: Reading { items, fault },
         sources,
     })
+}
+
+// These functions by their ids alone.
+fn by_id(alloc: Global, listed: &[ListedInlinee]) -> Result<Vec<Inlinee>, AllocError>
+    ensures { IfOk result (λ ids. ids.items ≡ map inlinee listed.now) }
+{
+    let mut ids = Vec::with_capacity(alloc, listed.len())?;
+    for entry in listed {
+        let index = IdIndex(entry.id);
+        ids.push(Inlinee { index })?;
+    }
+    Ok(ids)
 }
 
 fn first_sources(
@@ -66,46 +87,100 @@ fn first_sources(
     Ok(sources)
 }
 
-fn fill_subsections(
+// Appends the entries of these subsections, up to the first fault.
+fn push_all_inlinees(
     subsections: &[&[u8]],
-    list: &mut Vec<Inlinee>,
     listed: &mut Vec<ListedInlinee>,
-) -> Result<(), Fault> {
+) -> Result<Option<StreamError>, AllocError>
+    ensures answer { IfOk result (λ fault. fault ≡ (all_inlinees (map (λ s. s.now) subsections.now)).fault) }
+    ensures state { OnOk result (listed.new.items
+        ≡ listed.old.items ++ (all_inlinees (map (λ s. s.now) subsections.now)).items) }
+{
     for subsection in subsections {
-        fill_inlinees(subsection, list, listed)?;
+        let fault = push_subsection(subsection, listed)?;
+        if fault.is_some() {
+            return Ok(fault);
+        }
     }
-    Ok(())
+    Ok(None)
 }
 
-fn fill_inlinees(
+// Appends the entries of a subsection, behind the number of its form.
+fn push_subsection(
     bytes: &[u8],
-    list: &mut Vec<Inlinee>,
     listed: &mut Vec<ListedInlinee>,
-) -> Result<(), Fault> {
+) -> Result<Option<StreamError>, AllocError>
+    ensures answer { IfOk result (λ fault. fault ≡ (inlinees_in bytes.now).fault) }
+    ensures state { OnOk result (listed.new.items ≡ listed.old.items ++ (inlinees_in bytes.now).items) }
+{
     let mut rest = Bytes::new(bytes);
     if rest.is_empty() {
-        return Ok(());
+        return Ok(None);
     }
-    let form = rest.u32()?;
-    if form != ONE_FILE && form != MORE_FILES {
-        return Err(Fault::Broken(UNKNOWN_VERSION));
+    match rest.u32() {
+        Ok(form) if form == ONE_FILE || form == MORE_FILES => {
+            push_inlinees(form, rest.rest(), listed)
+        }
+        Ok(_) => Ok(Some(UNKNOWN_VERSION)),
+        Err(error) => Ok(Some(error)),
     }
+}
+
+// Appends the entries of a list of this form.
+fn push_inlinees(
+    form: u32,
+    bytes: &[u8],
+    listed: &mut Vec<ListedInlinee>,
+) -> Result<Option<StreamError>, AllocError>
+    ensures answer { IfOk result (λ fault. fault ≡ (all_items (first_inlinee form) bytes.now).fault) }
+    ensures state { OnOk result (listed.new.items
+        ≡ listed.old.items ++ (all_items (first_inlinee form) bytes.now).items) }
+{
+    let mut rest = Bytes::new(bytes);
     for _ in 0..bytes.len() {
         if rest.is_empty() {
             break;
         }
-        let front = rest.take(12)?;
-        if form == MORE_FILES {
-            let count = rest.u32()?;
-            rest.take((count as usize).saturating_mul(4))?;
+        match take_inlinee(form, &mut rest) {
+            Ok(entry) => listed.push(entry)?,
+            Err(error) => return Ok(Some(error)),
         }
-        let id = u32_at(front, 0);
-        let source = InlineeSource {
+    }
+    Ok(None)
+}
+
+// The next entry of a list of this form.
+fn take_inlinee(form: u32, rest: &mut Bytes<'_>) -> Result<ListedInlinee, StreamError>
+    ensures { MatchResult result (λ entry. first_inlinee form rest.old ≡ Ok (entry, rest.new))
+        (λ error. first_inlinee form rest.old ≡ Err error) }
+{
+    let front = rest.take(12)?;
+    pass_files(form, rest)?;
+    Ok(listed_inlinee(front))
+}
+
+// Passes over the further files of an entry, which entries of the second form have.
+fn pass_files(form: u32, rest: &mut Bytes<'_>) -> Result<(), StreamError>
+    ensures { MatchResult result (λ _. behind_inlinee form rest.old ≡ Ok rest.new)
+        (λ error. behind_inlinee form rest.old ≡ Err error) }
+{
+    if form != MORE_FILES {
+        return Ok(());
+    }
+    let count = rest.u32()?;
+    rest.take((count as usize).saturating_mul(4))?;
+    Ok(())
+}
+
+fn listed_inlinee(front: &[u8]) -> ListedInlinee
+    requires { length front.now ≡ 12 }
+    ensures { result ≡ listed_inlinee front.now }
+{
+    ListedInlinee {
+        id: u32_at(front, 0),
+        source: InlineeSource {
             file: u32_at(front, 4),
             line: u32_at(front, 8),
-        };
-        list.push(Inlinee { index: IdIndex(id) })?;
-        listed.push(ListedInlinee { id, source })?;
+        },
     }
-    Ok(())
 }

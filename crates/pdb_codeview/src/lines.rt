@@ -32,7 +32,7 @@ const NO_FILE: FileIndex = FileIndex(u32::MAX);
 
 /// The position of the file whose entry starts there, or one that no file has.
 pub fn file_at(files: &Files, start: u32) -> FileIndex
-    ensures { result ≡ file_at files.now.starts.items start }
+    ensures { result ≡ file_at files.now.entries.items start }
 {
     files.position(start).unwrap_or(NO_FILE)
 }

@@ -4,18 +4,20 @@ use Rattle.std.specs.Prelude.{Some, None, Ok, Err, true, codes}
 use Rattle.std.proofs.Math.ListN.{replicate}
 use Rattle.pdb_records.specs.declared.addresses.ImageSectionHeader.{ImageSectionHeader}
 use Rattle.pdb_records.specs.declared.debug_information.MachineType.TheVariants as kind
+use Rattle.pdb_records.specs.declared.symbols.SymbolData.TheVariants.{Public}
 use Rattle.pdb_msf.specs.declared.faults.TheConstants.{NO_STREAM, REARRANGED}
 use Rattle.pdb_msf.specs.Msf.{Msf, numbers_place, size_of, stream_of}
 use Rattle.pdb_msf.specs.NumberLists.{listed}
 use Rattle.pdb_msf.specs.Streams.{stream_inside}
+use Rattle.pdb_msf.specs.Readings.{entry_list}
+use Rattle.pdb_codeview.specs.SymbolRecords.{all_records}
 use Rattle.pdb_dbi.specs.Contributions.{contribution_list}
 use Rattle.pdb_dbi.specs.Header.{header}
 use Rattle.pdb_dbi.specs.ModuleList.{module_list}
 use Rattle.pdb_dbi.specs.OptionalStreams.{optional_stream}
-use Rattle.pdb_msf.specs.Readings.{entry_list}
 use Rattle.pdb_dbi.specs.Sections.{section_headers}
 use Rattle.pdb_container.specs.DebugRecords.{address_map, address_map_of, debug_header, debug_information, debug_stream}
-use Rattle.pdb_container.specs.DebugRecords.{sections, sections_of}
+use Rattle.pdb_container.specs.DebugRecords.{global_symbols, sections, sections_of, symbols_in}
 
 -- a number below 256, as two bytes and as four
 abbrev short : ℕ → List ℕ
@@ -107,3 +109,32 @@ nowhere_loaded = refl
 no_information : debug_information (record named { sizes = 0 ∷ 0 ∷ 0 ∷ 0 ∷ 40 ∷ [] }) ≡ Err NO_STREAM
 unfolding debug_information debug_header debug_stream size_of
 no_information = refl
+
+-- a public symbol (S_PUB32) of 20 bytes: pubsymflags of a function, off 16, seg 1, and the name
+abbrev public_draw : List ℕ
+public_draw = 18 ∷ 0 ∷ 14 ∷ 17 ∷ [] ++ small 2 ++ small 16 ++ short 1 ++ codes "draw" ++ 0 ∷ 0 ∷ []
+
+-- the same streams, but that the one with the number 0, which SymRecordStream names, has this symbol
+abbrev with_symbol : Msf
+with_symbol = record {
+  file = named.file ++ block_of public_draw;
+  block_size = 512;
+  directory = small 5 ++ small 20 ++ small 0 ++ small 0 ++ small 76 ++ small 40 ++ small 3 ++ small 1 ++ small 2;
+  sizes = 20 ∷ 0 ∷ 0 ∷ 76 ∷ 40 ∷ [];
+}
+
+one_symbol : global_symbols with_symbol ≡ Ok (record {
+  items = record {
+    raw_kind = 0x110e;
+    content = Some (Public (record { offset = record { section = 1; offset = 16 }; name = codes "draw" }));
+  } ∷ [];
+  fault = None;
+})
+unfolding global_symbols symbols_in debug_header debug_stream stream_of size_of listed stream_inside numbers_place
+    header all_records
+one_symbol = refl
+
+no_symbols : global_symbols named ≡ Ok (record { items = []; fault = None })
+unfolding global_symbols symbols_in debug_header debug_stream stream_of size_of listed stream_inside numbers_place
+    header all_records
+no_symbols = refl

@@ -180,7 +180,7 @@ fn read_line_program(
         }
     }
     let entries = program_entries(alloc, lines, procedures)?;
-    let files = Vec::from_slice(alloc, &files.files)?;
+    let files = files.infos(alloc)?;
     Ok(LineProgram { entries, files })
 }
 

@@ -1,6 +1,6 @@
 //! Copies of names, and offsets in what is read.
 
-ghost use Rattle.std.specs.Prelude.{◌≡◌, IfErr, IfOk};
+ghost use Rattle.std.specs.Prelude.{◌≡◌, ◌-◌, ◌^◌, min, IfErr, IfOk};
 
 use crate::faults::Fault;
 use pdb_records::RawString;
@@ -15,6 +15,8 @@ pub fn copy_name(alloc: Global, name: &[u8]) -> Result<RawString, Fault>
 }
 
 /// How far a reading has come: the bytes of the whole that are no longer left.
-pub fn offset_of(whole: usize, left: usize) -> u32 {
+pub fn offset_of(whole: usize, left: usize) -> u32
+    ensures { result ≡ min (whole - left) (2 ^ 32 - 1) }
+{
     u32::try_from(whole.saturating_sub(left)).unwrap_or(u32::MAX)
 }

@@ -11,4 +11,5 @@ use Rattle.pdb_codeview.proofs.files.first_positions.Given as goal
 abbrev pub invariant-loop-position : goal.invariant-loop-position
 invariant-loop-position l = (asked : ℕ)
     → option_or (get nat_cmp l.positions asked)
-    (position_from (λ other. other == asked) l.position (drop l.position l.starts)) ≡ file_position asked l.starts
+    (position_from (λ entry. entry.start == asked) l.position (drop l.position l.entries))
+    ≡ file_position asked l.entries

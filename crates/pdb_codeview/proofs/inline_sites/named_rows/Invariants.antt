@@ -4,5 +4,5 @@ use Rattle.pdb_codeview.specs.InlineSites.{named_row}
 use Rattle.pdb_codeview.proofs.inline_sites.named_rows.Given as goal
 
 abbrev pub invariant-loop-row : goal.invariant-loop-row
-invariant-loop-row l = map (named_row l.files.starts.items) l.rows
-    ≡ l.named.items ++ map (named_row l.files.starts.items) (drop l.row-index l.rows)
+invariant-loop-row l = map (named_row l.files.entries.items) l.rows
+    ≡ l.named.items ++ map (named_row l.files.entries.items) (drop l.row-index l.rows)

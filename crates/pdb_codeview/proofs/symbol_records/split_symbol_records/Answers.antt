@@ -16,8 +16,8 @@ loop-init c =
     let all : length c.new-rest.result ≡ length c.args.bytes.now = ap length c.new-rest.ensures in
     let none : length c.new-items.result.items ≡ 0 = ap length c.new-items.ensures.items in
     record {
-      symbols = unread c.args.front c.args.bytes.now c.new-rest.result c.new-items.result.items c.new-items.ensures.items
-          c.new-rest.ensures;
+      symbols = unread c.args.front c.args.bytes.now c.new-rest.result c.new-items.result.items
+          c.new-items.ensures.items c.new-rest.ensures;
       inside = omega (arith, all);
       ascending = IsNonDecreasingBy-short (λ symbol. symbol.start) c.new-items.result.items (omega (arith, none));
       before = λ d some. absurd (omega (arith, none, some));

@@ -1,0 +1,30 @@
+-- Lists of items, one after the other until the bytes end, and such lists in several subsections.
+use Rattle.std.specs.Prelude.{ℕ, zero, suc, ◌==◌, List, [], ◌∷◌, length, Option, Some, None, Result, Ok, Err}
+use Rattle.std.specs.Prelude.{if◌then◌else◌}
+use Rattle.pdb_records.specs.Readings.{Read}
+use Rattle.pdb_records.specs.declared.error.StreamError.{StreamError}
+use Rattle.pdb_msf.specs.Readings.{behind, nothing_read}
+
+-- at most so many items until the bytes end, each read with what stands behind it; one that has a fault ends them
+abbrev pub items_up_to : {A : Type 0} → (List ℕ → Result (A × List ℕ) StreamError) → ℕ → List ℕ → Read A
+items_up_to first zero bytes = nothing_read None
+items_up_to {A = A} first (suc count) bytes =
+    if length bytes == 0 then nothing_read None else
+    elim (first bytes) as (λ read. Read A) [
+      | Err fault ↦ nothing_read (Some fault)
+      | Ok read ↦ behind (read.0 ∷ []) (items_up_to first count read.1)
+    ]
+
+-- all items of these bytes: each takes one byte or more, so there are no more of them than bytes
+unfoldable pub all_items : {A : Type 0} → (List ℕ → Result (A × List ℕ) StreamError) → List ℕ → Read A
+all_items first bytes = items_up_to first (length bytes) bytes
+
+-- what is read behind a list that ends by this fault: nothing more, where there is one
+abbrev pub unless_broken : {A : Type 0} → Option StreamError → List A → Read A → Read A
+unless_broken None items rest = behind items rest
+unless_broken (Some fault) items rest = record { items = items; fault = Some fault }
+
+-- the items of several lists, one list after the other up to the first fault
+abbrev pub together : {A : Type 0} → (List ℕ → Read A) → List (List ℕ) → Read A
+together items [] = nothing_read None
+together items (bytes ∷ rest) = unless_broken (items bytes).fault (items bytes).items (together items rest)
