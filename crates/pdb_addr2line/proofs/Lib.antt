@@ -8,5 +8,6 @@ pub mod FunctionLemmas
 pub mod FunctionStepLemmas
 pub mod StartLemmas
 pub mod NumberListLemmas
+pub mod FirstNumberLemmas
 pub mod RunLemmas
 pub mod FoundLemmas

@@ -217,6 +217,15 @@ impl<'a, P: ModuleProvider> Context<'a, P> {
         names.into_type_formatter()
     }
 
+    /// Gives the memory back of what was found so far. Every answer is as before, and what is asked next takes as long
+    /// as at first: for programs that ask for long, or for the whole of a large program.
+    pub fn clear_caches(&mut self)
+        ensures unchanged { self.new ≡ self.old }
+    {
+        self.caches = Caches::new(self.alloc, self.provider);
+        self.names.clear_caches();
+    }
+
     /// How many starts of functions are known from public symbols, contributions and ends of sections.
     /// Starts with no name and ends of sections count too.
     pub fn function_count(&self) -> usize

@@ -28,6 +28,7 @@ mod function_laws;
 mod functions;
 pub mod laws;
 mod lookups;
+mod next_start;
 pub mod parts;
 mod run_calls;
 mod start_addresses;

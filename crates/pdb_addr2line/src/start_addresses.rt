@@ -118,7 +118,7 @@ impl<'a, P: ModuleProvider> Context<'a, P> {
 
     // The same, by the records.
     #[tactic(auto, using(crate::proofs::StartLemmas::with_starts_append))]
-    fn find_start_addresses(&mut self) -> Result<Vec<u32>>
+    pub(crate) fn find_start_addresses(&mut self) -> Result<Vec<u32>>
         ensures answer { MatchResult result
             (λ v. v.items ≡ start_addresses P.info self.old.inputs)
             (λ e. e ≡ OutOfMemory) }

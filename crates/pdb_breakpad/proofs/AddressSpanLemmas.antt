@@ -36,7 +36,8 @@ content_with_last address (first ∷ spans) span =
     grind (arith, common_steps, others)
 
 -- behind all others stands this one
-at_end : {T : Type 0} (spans : List (Span T)) (span : Span T) → slice_get (spans ++ span ∷ []) (length spans) ≡ Some span
+at_end : {T : Type 0} (spans : List (Span T)) (span : Span T)
+    → slice_get (spans ++ span ∷ []) (length spans) ≡ Some span
 at_end [] span = refl
 at_end (first ∷ spans) span = at_end spans span
 

@@ -5,6 +5,7 @@ use Rattle.pdb_frames.specs.Frame.{FramesInfo}
 use Rattle.pdb_breakpad.specs.declared.function_records.FunctionRecords.{FunctionRecords}
 use Rattle.pdb_breakpad.specs.declared.numbers.Numbers.{Numbers}
 use Rattle.pdb_breakpad.specs.AddressSpans.{content_at}
+use Rattle.pdb_breakpad.specs.FrameSource.{KeepsAnswers}
 use Rattle.pdb_breakpad.specs.FunctionRecords.{Reads}
 use Rattle.pdb_breakpad.specs.Functions.{IsAnswer, Shows, turned}
 use Rattle.pdb_breakpad.specs.InlineRecords.{calls_at}
@@ -23,7 +24,7 @@ shows_answer answers source numbers records address found is read =
 -- the same of a source whose answers are those of another
 pub answers_of_first : {S : Type 0} (answers : S → ℕ → Option FramesInfo → Type 0) (first source : S) (address : ℕ)
     (found : FramesInfo)
-    → ((other : ℕ) (answer : Option FramesInfo) → answers source other answer → answers first other answer)
+    → KeepsAnswers answers first source
     → IsAnswer answers source address (Some found) → IsAnswer answers first address (Some found)
 answers_of_first answers first source address found inputs is =
     (is.0, inputs address (Some is.0) is.1, is.2)

@@ -1,5 +1,6 @@
 -- What a reader is shown by numbered calls and places.
-use Rattle.std.proofs.Common.{◌≡◌, ◌∙◌, ℕ, zero, suc, ◌+◌, ◌-◌, ◌≤◌, ◌<◌, List, [], ◌∷◌, ◌++◌, map, take, length, slice_get, get_or}
+use Rattle.std.proofs.Common.{◌≡◌, ◌∙◌, ℕ, zero, suc, ◌+◌, ◌-◌, ◌≤◌, ◌<◌, List, [], ◌∷◌, ◌++◌, map, take, length}
+use Rattle.std.proofs.Common.{slice_get, get_or}
 use Rattle.std.proofs.Common.{Option, Some, None, option_map, refl, sym, ap, subst, arith}
 use Rattle.std.specs.Prelude.{is_some, if◌then◌else◌}
 use Rattle.std.specs.List.{AllZip}
@@ -19,7 +20,8 @@ use Rattle.pdb_breakpad.specs.InlineRecords.{calls_at}
 use Rattle.pdb_breakpad.specs.NumberedCode.{AreCalls, IsCall, IsCode, IsOptionalPlace}
 use Rattle.pdb_breakpad.specs.NumberedCode.{KeepsAllNames}
 use Rattle.pdb_breakpad.specs.ShownFrames.{ShownCall, ShownFrame, ShownPlace, answer_shown, calls_between, calls_in}
-use Rattle.pdb_breakpad.specs.ShownFrames.{innermost_place, own_name, own_place, place_of, shown_up_to, stack_read, stack_shown}
+use Rattle.pdb_breakpad.specs.ShownFrames.{innermost_place, own_name, own_place, place_of, shown_up_to}
+use Rattle.pdb_breakpad.specs.ShownFrames.{stack_read, stack_shown}
 
 -- the last of a list is the last of what stands behind its first
 last_behind_first : {A : Type 0} (first second : A) (others : List A)
@@ -37,7 +39,8 @@ read_as_shown frame [] = refl
 read_as_shown frame (inner ∷ frames) =
     ap (λ place. stack_read frame.function (calls_between frame (inner ∷ frames)) (option_and_then own_place place))
     (last_behind_first frame inner frames)
-    ∙ ap (λ stack. record { function = frame.function; place = Some (place_of frame) } ∷ stack) (read_as_shown inner frames)
+    ∙ ap (λ stack. record { function = frame.function; place = Some (place_of frame) } ∷ stack)
+    (read_as_shown inner frames)
 
 -- the same with the name of the function
 own_stack : (frames : List FrameInfo)
@@ -131,7 +134,8 @@ still_reads old new before records address shown keeps name calls place read = (
     (
       subst (λ all. AreCalls new all read.0) (sym calls) (keeps_calls old new _ read.0 keeps read.1.1.0),
       (
-        subst (λ there. IsOptionalPlace new there read.1.0) (sym place) (keeps_place old new _ read.1.0 keeps read.1.1.1.0),
+        subst (λ there. IsOptionalPlace new there read.1.0) (sym place)
+            (keeps_place old new _ read.1.0 keeps read.1.1.1.0),
         ap (λ own. stack_read own read.0 read.1.0) (sym name) ∙ read.1.1.1.1,
       ),
     ),
@@ -219,7 +223,8 @@ next_call old new calls frames level call outer inner below outer_is inner_is ke
     let some : level < length (calls_in texts) = omega (arith, below, calls_count texts, count) in
     let within : level + 1 < length texts = omega (arith, below, count) in
     let first : get_or texts level (frame_text outer) ≡ frame_text outer
-    = get_or-map frame_text frames level outer (frame_text outer) (omega (arith, below)) ∙ sym (ap frame_text outer_is) in
+    = get_or-map frame_text frames level outer (frame_text outer) (omega (arith, below))
+    ∙ sym (ap frame_text outer_is) in
     let second : get_or texts (suc level) (frame_text outer) ≡ frame_text inner
     = get_or-map frame_text frames (suc level) inner (frame_text outer) (omega (arith, below))
     ∙ sym (ap frame_text (inner_is ∙ ap (λ n. get_or frames n inner) (omega arith))) in

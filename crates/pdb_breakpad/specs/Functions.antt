@@ -17,6 +17,7 @@ IsAnswer answers source address (Some found) = (answer : FramesInfo) × answers 
     × (found ≡ turned answer)
 
 -- a reader of a function's records is shown at an address what is answered there: the symbol file is right at it
-abbrev pub Shows : {S : Type 0} → (S → ℕ → Option FramesInfo → Type 0) → S → Numbers → FunctionRecords → ℕ → Type 0
+abbrev pub Shows : {S : Type 0} → (S → ℕ → Option FramesInfo → Type 0) → S → Numbers → FunctionRecords → ℕ
+    → Type 0
 Shows answers source numbers records address = (answer : FramesInfo) × answers source address (Some answer)
     × Reads numbers records address (answer_shown (turned answer))

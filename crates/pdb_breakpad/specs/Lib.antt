@@ -1,4 +1,5 @@
 pub mod AddressSpans
+pub mod FrameSource
 pub mod FrameTexts
 pub mod FunctionRecords
 pub mod Functions

@@ -2,6 +2,7 @@
 
 ghost use Rattle.std.specs.Prelude.{◌≡◌, ℕ, Option, Ok, IfOk};
 ghost use Rattle.pdb_frames.specs.Frame.{FramesInfo};
+ghost use Rattle.pdb_breakpad.specs.FrameSource.{KeepsAnswers};
 
 use pdb_addr2line::{Context, FunctionFrames, ModuleProvider, Result};
 
@@ -12,14 +13,16 @@ pub trait FrameSource<'a> {
 
     /// Where functions start, ascending and each once.
     fn start_addresses(&mut self) -> Result<Vec<u32>>
-        ensures inputs { (address : ℕ) (answer : Option FramesInfo)
-            → answers self.new address answer → answers self.old address answer };
+        ensures inputs { KeepsAnswers answers self.old self.new };
 
     /// The functions in whose code an address lies, from inside to outside. `None` where no function is known there.
     fn find_frames(&mut self, address: u32) -> Result<Option<FunctionFrames<'a>>>
         ensures answer { IfOk result (λ found. answers self.old address found) }
-        ensures inputs { (other : ℕ) (answer : Option FramesInfo)
-            → answers self.new other answer → answers self.old other answer };
+        ensures inputs { KeepsAnswers answers self.old self.new };
+
+    /// Gives the memory back of what was found so far, where it is held for later questions.
+    fn clear_caches(&mut self)
+        ensures inputs { KeepsAnswers answers self.old self.new };
 }
 
 impl<'a, P: ModuleProvider> FrameSource<'a> for Context<'a, P> {
@@ -33,5 +36,9 @@ impl<'a, P: ModuleProvider> FrameSource<'a> for Context<'a, P> {
 
     fn find_frames(&mut self, address: u32) -> Result<Option<FunctionFrames<'a>>> {
         Context::find_frames(self, address)
+    }
+
+    fn clear_caches(&mut self) {
+        Context::clear_caches(self);
     }
 }

@@ -1,9 +1,10 @@
 //! The walk over all addresses of functions, and the records of the functions that it comes to.
 
-ghost use Rattle.std.specs.Prelude.{◌≡◌, ◌≤◌, ℕ, Option, None, IfOk, IfSome, IfNone};
-ghost use Rattle.pdb_frames.specs.Frame.{FramesInfo};
+ghost use Rattle.std.specs.Prelude.{◌≡◌, ◌≤◌, ℕ, None, IfOk, IfSome, IfNone};
+ghost use Rattle.pdb_breakpad.specs.FrameSource.{KeepsAnswers};
 ghost use Rattle.pdb_breakpad.specs.Functions.{IsAnswer, Shows};
 
+use crate::cache_shares::CacheShare;
 use crate::faults::SymbolFileFault;
 use crate::frame_source::FrameSource;
 use crate::function_records::FunctionRecords;
@@ -12,20 +13,23 @@ use pdb_addr2line::{FunctionFrames, Result as FramesResult};
 use std::alloc::Global;
 use std::io;
 
-/// Writes the records of all functions: from each start on, as far as an address has an answer, each address once.
+/// Writes the records of all functions: from each of these starts on, which ascend, as far as an address has an answer,
+/// each address once.
 pub(crate) fn write_functions<'a, S: FrameSource<'a>, W: io::Write>(
     alloc: Global,
     out: &mut W,
     source: &mut S,
     numbers: &mut Numbers,
+    starts: &[u32],
 ) -> Result<(), SymbolFileFault> {
-    let starts = source.start_addresses()?;
+    let mut share = CacheShare::new(starts.len());
     let mut behind = 0;
-    for &start in &starts {
+    for &start in starts {
         if behind <= u64::from(start) {
-            behind = write_functions_from(alloc, out, source, numbers, start)?;
+            behind = write_functions_from(alloc, out, source, numbers, &mut share, start)?;
         }
     }
+    source.clear_caches();
     Ok(())
 }
 
@@ -36,6 +40,7 @@ fn write_functions_from<'a, S: FrameSource<'a>, W: io::Write>(
     out: &mut W,
     source: &mut S,
     numbers: &mut Numbers,
+    share: &mut CacheShare,
     start: u32,
 ) -> Result<u64, SymbolFileFault> {
     let mut address = start;
@@ -45,6 +50,7 @@ fn write_functions_from<'a, S: FrameSource<'a>, W: io::Write>(
         };
         let text = records.text(alloc)?;
         out.write_all(text.as_bytes())?;
+        share.count_function(source);
         let Some(behind) = records.last().checked_add(1) else {
             break;
         };
@@ -59,8 +65,7 @@ fn ask<'a, S: FrameSource<'a>>(
     address: u32,
 ) -> FramesResult<Option<FunctionFrames<'a>>>
     ensures answer { IfOk result (λ found. IsAnswer S.answers source.old address found) }
-    ensures inputs { (other : ℕ) (answer : Option FramesInfo)
-        → S.answers source.new other answer → S.answers source.old other answer }
+    ensures inputs { KeepsAnswers S.answers source.old source.new }
 {
     let mut found = source.find_frames(address)?;
     if let Some(answer) = &mut found {
@@ -69,8 +74,8 @@ fn ask<'a, S: FrameSource<'a>>(
     Ok(found)
 }
 
-// The function over an address, as far as the addresses behind it have answers of the same one. `None` where no function
-// is known there. A reader of its records is shown at each of its addresses what the source answers there.
+// The function over an address, as far as the addresses behind it have answers of the same one. `None` where no
+// function is known there. A reader of its records is shown at each of its addresses what the source answers there.
 fn walk_function<'a, S: FrameSource<'a>>(
     alloc: Global,
     source: &mut S,

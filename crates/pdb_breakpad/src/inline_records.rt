@@ -107,7 +107,8 @@ impl InlineRecords {
 
     // Adds a call inside of all others.
     fn push_level(&mut self, address: u32, call: InlinedCall) -> Result<(), AllocError>
-        ensures { OnOk result (self.new ≡ self.old ++ (record { content = call; start = address; last = address } ∷ []) ∷ []) }
+        ensures { OnOk result (self.new
+            ≡ self.old ++ (record { content = call; start = address; last = address } ∷ []) ∷ []) }
     {
         let mut spans = AddressSpans::new(self.alloc);
         spans.begin(address, call)?;
@@ -124,16 +125,16 @@ impl InlineRecords {
             }
         }
         records.sort_by_key(|listed| (listed.span.start, listed.level))?;
-        for record in &records {
-            push_record(text, record)?;
+        for inline_record in &records {
+            push_record(text, inline_record)?;
         }
         Ok(())
     }
 }
 
 // Appends the record of an inlined call.
-fn push_record(text: &mut String, record: &InlineRecord) -> Result<(), AllocError> {
-    let InlineRecord { level, span } = record;
+fn push_record(text: &mut String, inline_record: &InlineRecord) -> Result<(), AllocError> {
+    let InlineRecord { level, span } = inline_record;
     let InlinedCall {
         place: Place { file, line },
         origin,

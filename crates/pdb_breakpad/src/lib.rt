@@ -5,6 +5,7 @@
 #![tactic(auto)]
 
 mod address_spans;
+mod cache_shares;
 mod faults;
 mod frame_source;
 mod frame_texts;

@@ -11,7 +11,8 @@ use std::io;
 /// Writes the symbol file of a program to a writer, and has it hand on what it holds back.
 ///
 /// The addresses are gone over twice: first the files and the names get their numbers, and then the functions are
-/// written, one after the other. So no more is held than these numbers, and one function's records.
+/// written, one after the other. So no more is held than where functions start, these numbers, one function's records,
+/// and what the source caches of a share of the functions: of an eighth of them, or of 4,096 where these are more.
 ///
 /// # Errors
 ///
@@ -24,9 +25,10 @@ pub fn write_symbol_file<'a, S: FrameSource<'a>, W: io::Write>(
     source: &mut S,
 ) -> Result<(), SymbolFileFault> {
     let mut numbers = Numbers::new(alloc);
-    write_functions(alloc, &mut io::sink(), source, &mut numbers)?;
+    let starts = source.start_addresses()?;
+    write_functions(alloc, &mut io::sink(), source, &mut numbers, &starts)?;
     write_front(alloc, out, module, &numbers)?;
-    write_functions(alloc, out, source, &mut numbers)?;
+    write_functions(alloc, out, source, &mut numbers, &starts)?;
     out.flush()?;
     Ok(())
 }

@@ -93,8 +93,8 @@ fn is_answered_over(alloc: Global, data: &ContextPdbData<'_>, list: CallList<'_>
     }
 }
 
-/// Whether a context answers a list, at once and one by one, and the formatter that it gives back then answers the
-/// sizes in it.
+/// Whether a context answers a list, at once and one by one, and has its functions by their start addresses, and the
+/// formatter that it gives back then answers the sizes in it.
 fn is_answered_by<P: ModuleProvider>(
     alloc: Global,
     context: Context<'_, P>,
@@ -102,7 +102,8 @@ fn is_answered_by<P: ModuleProvider>(
 ) -> bool {
     let mut context = context;
     let is_answered = is_answered(alloc, &mut context, list)
-        && is_answered_one_by_one(alloc, &mut context, list);
+        && is_answered_one_by_one(alloc, &mut context, list)
+        && starts_lead_to_functions(alloc, &mut context);
     let mut formatter = context.into_type_formatter();
     is_answered && answers_sizes(&mut formatter, list)
 }
@@ -132,6 +133,57 @@ fn functions_of<P: ModuleProvider>(
         found.push(function?)?;
     }
     Ok(found)
+}
+
+/// The functions of a context, from one start address to the next.
+fn functions_by_starts<P: ModuleProvider>(
+    alloc: Global,
+    context: &mut Context<'_, P>,
+) -> Result<Vec<Function>, Error> {
+    let mut found = Vec::new(alloc);
+    let mut untried = Some(0);
+    for _ in 0..=u32::MAX {
+        let Some(address) = untried else {
+            break;
+        };
+        let Some(start) = context.next_start_address(address)? else {
+            break;
+        };
+        if let Some(function) = context.find_function(start)? {
+            found.push(function)?;
+        }
+        untried = start.checked_add(1);
+    }
+    Ok(found)
+}
+
+/// Whether functions are the same, one by one.
+fn are_equal(functions: &[Function], others: &[Function]) -> bool {
+    for (position, function) in functions.iter().enumerate() {
+        let Some(other) = others.get(position) else {
+            return false;
+        };
+        let is_at_same_place = function.start_rva == other.start_rva
+            && function.end_rva == other.end_rva;
+        if !is_at_same_place || function.name != other.name {
+            return false;
+        }
+    }
+    functions.len() == others.len()
+}
+
+/// Whether a context has the same functions by their start addresses.
+fn starts_lead_to_functions<P: ModuleProvider>(
+    alloc: Global,
+    context: &mut Context<'_, P>,
+) -> bool {
+    match (
+        functions_of(alloc, context),
+        functions_by_starts(alloc, context),
+    ) {
+        (Ok(functions), Ok(found)) => are_equal(&functions, &found),
+        _ => false,
+    }
 }
 
 /// Asks a context by the call's own method, and appends the answer.
@@ -207,7 +259,7 @@ fn answers_sizes<P: ModuleProvider>(
 }
 
 /// Whether a context of parts, whose provider counts, answers a list twice and asks the provider at the first time
-/// alone.
+/// alone, and once more when its caches are cleared.
 fn is_asked_once(
     alloc: Global,
     data: &ContextPdbData<'_>,
@@ -224,7 +276,8 @@ fn is_asked_once(
     }
 }
 
-/// Whether a context answers a list twice and asks its provider at the first time alone.
+/// Whether a context answers a list twice and asks its provider at the first time alone, and once more when its caches
+/// are cleared.
 fn asks_once<P: ModuleProvider>(
     alloc: Global,
     context: &mut Context<'_, P>,
@@ -233,5 +286,10 @@ fn asks_once<P: ModuleProvider>(
 ) -> bool {
     let is_answered_first = is_answered(alloc, context, list);
     let first = asked.get();
-    is_answered_first && first > 0 && is_answered(alloc, context, list) && asked.get() == first
+    let is_answered_again = is_answered(alloc, context, list);
+    let again = asked.get();
+    context.clear_caches();
+    let is_answered_anew = is_answered(alloc, context, list);
+    let all = is_answered_first && is_answered_again && is_answered_anew;
+    all && first > 0 && again == first && asked.get() > first
 }

@@ -98,6 +98,14 @@ impl<'a, P: ModuleProvider> FunctionNames<'a, P> {
         formatter
     }
 
+    /// Gives the memory of the names back that are cached. They are printed again when they are asked for.
+    pub fn clear_caches(&mut self)
+        ensures unchanged { self.new ≡ self.old }
+    {
+        self.signatures = CachedSignatures::new(self.alloc, self.signatures.provider);
+        self.ids = CachedTexts::new(self.alloc);
+    }
+
     /// The formatter's modules, in their order.
     pub fn modules(&self) -> &[Module]
         ensures { result.now ≡ self.now.type_inputs.modules }

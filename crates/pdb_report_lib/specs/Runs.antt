@@ -81,7 +81,7 @@ pub record EndsOverSomeFile {A : Type 0} (asked : Asked) (before after : SinkSta
   pub same : Keeps written.held after.held
   pub unchanged : after.failed ≡ written.failed
 
--- a sink took what it does over the bytes of some file and of its module files, and refused to hand it on
+-- a sink takes what it does over the bytes of some file and of its module files, and refuses to hand it on
 pub record EndsAtFlush (A : Type 0) (asked : Asked) (before after : SinkState) : Type 0 where
   pub bytes : List ℕ
   pub files : List (List ℕ)
@@ -106,8 +106,8 @@ pub record StopsAtModule (asked : Asked) (before after : SinkState) (path : List
   pub shown : IsWantedPath asked.path (module_files_of bytes) path
   pub same : after ≡ before
 
--- why a run ends early whose words ask for something: a file can't be read, and is shown by its path, or memory ran
--- out before a text was written; or it ends over what the files hold; or the sink refused to hand the texts on
+-- why a run ends early whose words ask for something: a file can't be read, and is shown by its path, or memory runs
+-- out before a text is written; or it ends over what the files hold; or the sink refuses to hand the texts on
 abbrev pub StopsAsked : Type 0 → Asked → SinkState → SinkState → Stop → Type 0
 StopsAsked A asked before after Usage = ⊥
 StopsAsked A asked before after (Refused error) =

@@ -1,4 +1,4 @@
-//! The line on standard error for an address with the base of a program in it, where a PDB file alone doesn't say the base.
+//! The line on standard error for an address with a program's base in it, where a PDB file alone doesn't say that.
 
 use crate::symbol_names::SymbolNames;
 

@@ -84,4 +84,8 @@ impl<'a, R: Eprint + AllocGlobal> FrameSource<'a> for FileFrames<'_, 'a, '_, R> 
         }
         Ok(found)
     }
+
+    fn clear_caches(&mut self) {
+        self.context.clear_caches();
+    }
 }

@@ -22,7 +22,8 @@ const PDB_FILE: [u8; 14] = *b"Microsoft C/C+";
 /// The records of a file, and what a reader of them wants to be told.
 #[derive(Drop)]
 pub struct InputFile {
-    /// The path of the file that the records are of: a PDB file that was found for a program, or the one that was named.
+    /// The path of the file that the records are of: a PDB file that was found for a program, or the one that was
+    /// named.
     pub path: String,
     pub records: PDB,
     /// Why nothing can be answered over the records, where the file is a PDB file that shows why.
@@ -167,8 +168,8 @@ pub fn read_file<R: Files + AllocGlobal>(rt: &R, path: &str) -> Result<Vec<u8>, 
     }
 }
 
-/// The bytes of a file that another file names. A folder, a device or a pipe is refused: what is in a file must not have
-/// the reader wait, or read without an end.
+/// The bytes of a file that another file names. A folder, a device or a pipe is refused: what is in a file must not
+/// have the reader wait, or read without an end.
 pub fn read_regular_file<R: Files + AllocGlobal>(rt: &R, path: &str) -> io::Result<Vec<u8>> {
     if fs::metadata(rt, path)?.is_file() {
         fs::read(rt, path)

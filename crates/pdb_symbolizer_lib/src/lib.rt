@@ -2,7 +2,8 @@
 //!
 //! [`run_words`] takes the words of a command line, reads the file that they name, and prints an answer for each
 //! address in the styles of `llvm-symbolizer`; or it writes the records of the file as a records file, or its functions
-//! as a Breakpad symbol file; or it answers requests of the symbolication API. The program hands in the words, and standard input and output by its runtime.
+//! as a Breakpad symbol file; or it answers requests of the symbolication API. The program hands in the words, and
+//! standard input and output by its runtime.
 #![tactic(auto)]
 
 mod addresses;

@@ -28,8 +28,8 @@ pub enum Naming {
     ByCommandLine,
 }
 
-/// The request of a text: `CODE` or `DATA` if any, the file where each names one, which may stand in quotation marks, and
-/// the address. What stands behind that counts for nothing.
+/// The request of a text: `CODE` or `DATA` if any, the file where each names one, which may stand in quotation marks,
+/// and the address. What stands behind that counts for nothing.
 pub fn parse_request(text: &str, naming: Naming, digits: Digits) -> Option<Request<'_>> {
     let (sort, rest) = sort_of(text);
     let (file, rest) = match naming {

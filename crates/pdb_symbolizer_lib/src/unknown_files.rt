@@ -12,8 +12,8 @@ use pdb_addr2line::pdb::{
 use std::alloc::{AllocError, Global};
 use std::rt::Files;
 
-/// Opens a file of which addresses are answered. Where it can't be opened, and an option names it, the cause is printed,
-/// and the file is taken as one without records. Another build than is expected is refused all the same.
+/// Opens a file of which addresses are answered. Where it can't be opened, and an option names it, the cause is
+/// printed, and the file is taken as one without records. Another build than is expected is refused all the same.
 pub fn open_answered_file<R: Files + Print + Eprint + AllocGlobal>(
     rt: &R,
     status_line: &StatusLine,

@@ -1,6 +1,6 @@
 -- A reader is shown at each address so far what is answered there.
-use Rattle.std.proofs.Common.{◌≡◌, ◌≤◌, ℕ, Option}
-use Rattle.pdb_frames.specs.Frame.{FramesInfo}
+use Rattle.std.proofs.Common.{◌≡◌, ◌≤◌, ℕ}
+use Rattle.pdb_breakpad.specs.FrameSource.{KeepsAnswers}
 use Rattle.pdb_breakpad.specs.FunctionRecords.{InOrder, IsNumbered}
 use Rattle.pdb_breakpad.specs.Functions.{Shows}
 use Rattle.pdb_breakpad.proofs.functions.walk_function.Given as goal
@@ -13,8 +13,7 @@ invariant-loop-before g l =
       start : l.records.start ≡ l.start;
       shows : (address : ℕ) → l.start ≤ address → address ≤ l.records.last
           → Shows answers l.fn.source l.numbers l.records address;
-      inputs : (other : ℕ) (answer : Option FramesInfo)
-          → answers l.source other answer → answers l.fn.source other answer;
+      inputs : KeepsAnswers answers l.fn.source l.source;
       order : InOrder l.records;
       numbered : IsNumbered l.numbers l.records;
     }
