@@ -16,6 +16,7 @@ folder=$(cd "$folder" && pwd)
 bindings="$top/bindings"
 shapes="$top/crates/pdb_symbolizer/data/shapes.pdb"
 files="$top/crates/pdb_container_tests/data"
+modules="$top/crates/pdb_report_tests/data/modules"
 failed=0
 
 (cd "$top/crates/pdb_c" && rt lib)
@@ -59,10 +60,10 @@ for build in 'c11 gcc -std=c11' 'c++17 g++ -std=c++17 -x c++'; do
         "$1" -fsanitize=address,undefined -o "$folder/${program}_${name}_sanitized" "$folder/$program.o" \
             "$folder/liblimberlime.a"
     done
-    try "$folder/test_$name" "$shapes" "$files"
-    try "$folder/test_${name}_sanitized" "$shapes" "$files"
+    try "$folder/test_$name" "$shapes" "$files" "$modules"
+    try "$folder/test_${name}_sanitized" "$shapes" "$files" "$modules"
     try valgrind --quiet --error-exitcode=99 --leak-check=full --show-leak-kinds=all --errors-for-leak-kinds=all \
-        "$folder/test_$name" "$shapes" "$files"
+        "$folder/test_$name" "$shapes" "$files" "$modules"
     prints_the_stack "$folder/stack_$name"
     prints_the_stack "$folder/stack_${name}_sanitized"
 done

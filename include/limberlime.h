@@ -1,10 +1,12 @@
 /* Limberlime: functions, files, lines and inlined calls at addresses of a Windows program.
  *
- * limberlime_open_pdb reads a PDB file, and limberlime_open a records file (docs/FORMAT.md), once into a handle.
- * limberlime_find_frames and limberlime_find_function answer an address of it as data. limberlime_frames_of and
- * limberlime_names_of write a text into a buffer of the caller's: the very text that the program pdb_report prints of
- * such records. limberlime_frames and limberlime_names do so over the bytes of a records file, which they read at each
- * call. Link libpdb_c.a and the kit's liblibc_c.a, or the one library that the Makefile in bindings makes of both.
+ * limberlime_open_pdb reads a PDB file, and limberlime_open a records file (docs/FORMAT.md), once into a handle;
+ * limberlime_open_records reads a records file that names module files. limberlime_find_frames and
+ * limberlime_find_function answer an address of it as data, limberlime_find_all_frames answers many, and
+ * limberlime_next_function goes over all functions. limberlime_frames_of and limberlime_names_of write a text into a
+ * buffer of the caller's: the very text that the program pdb_report prints of such records. limberlime_frames and
+ * limberlime_names do so over the bytes of a records file, which they read at each call. Link libpdb_c.a and the kit's
+ * liblibc_c.a, or the one library that the Makefile in bindings makes of both.
  *
  * What the caller owes: each pointer is null, or valid for as many elements as its length says and aligned for them,
  * until the call returns. Nobody writes meanwhile what a call reads, and nobody else uses what it writes: the buffer,
@@ -24,6 +26,7 @@
 #include <stddef.h>
 #include <stdint.h>
 #include <stdlib.h>
+#include <string.h>
 
 /* How the functions below are defined: each file that includes this has its own. A file that makes a shared library of
  * them says so before, by a definition of its own (bindings/library.c). */
@@ -45,7 +48,7 @@ enum limberlime_refusal {
     LIMBERLIME_NOT_JSON = -3,
     /* The JSON text holds no records: a value is absent, of another sort, or out of range. pdb_report says where. */
     LIMBERLIME_NO_RECORDS = -4,
-    /* The records file names module files, which no call here reads. */
+    /* The records file names module files, and limberlime_open_records alone takes these. */
     LIMBERLIME_MODULE_FILES = -5,
     /* The records are refused, as where two modules claim the same bytes, or a stream of them failed. */
     LIMBERLIME_RECORDS_REFUSED = -6,
@@ -82,7 +85,9 @@ enum limberlime_refusal {
     /* A stream is broken that nothing can be answered without. */
     LIMBERLIME_BROKEN_STREAM = -22,
     /* The PDB file doesn't say which build it is of. */
-    LIMBERLIME_NO_DEBUG_ID = -23
+    LIMBERLIME_NO_DEBUG_ID = -23,
+    /* The caller can't read a module file that the records file names. */
+    LIMBERLIME_CANNOT_READ_MODULE = -24
 };
 
 /* A function in whose code an address lies: the one that was called, or one whose body was inlined there. Texts are
@@ -143,16 +148,18 @@ struct limberlime_rooms {
     size_t text_capacity;
 };
 
-/* Records that were opened, in memory of the library's that the handle owns, or none. */
+/* Records that were opened, and a context that answers over them and borrows from them, both in memory of the library's
+ * that the handle owns, or none. */
 struct limberlime_handle {
-    /* Null where the handle is closed. The library's alone, to write and to follow. */
+    /* Both are the library's alone, to write and to follow. The second is null where the handle is closed. */
     void *records;
+    void *context;
     /* Those of the functions below alone, to write and to follow. */
     struct limberlime_rooms rooms;
 };
 
 /* A handle that was never opened, as `struct limberlime_handle handle = LIMBERLIME_CLOSED;`. */
-#define LIMBERLIME_CLOSED { NULL, { NULL, NULL, 0, NULL, 0 } }
+#define LIMBERLIME_CLOSED { NULL, NULL, { NULL, NULL, 0, NULL, 0 } }
 
 /* The calls as the library has them. They are given no null pointer; the functions below see to that. */
 int64_t limberlime_frames_unchecked(const uint8_t *records, size_t records_length, const uint32_t *addresses,
@@ -160,6 +167,11 @@ int64_t limberlime_frames_unchecked(const uint8_t *records, size_t records_lengt
 int64_t limberlime_names_unchecked(const uint8_t *records, size_t records_length, const uint32_t *addresses,
                                    size_t address_count, uint8_t *buffer, size_t capacity, size_t *wanted);
 int64_t limberlime_open_unchecked(const uint8_t *records, size_t records_length, struct limberlime_handle *handle);
+int64_t limberlime_module_files_unchecked(const uint8_t *records, size_t records_length, uint8_t *buffer,
+                                          size_t capacity, size_t *wanted);
+int64_t limberlime_open_records_unchecked(const uint8_t *records, size_t records_length, const uint8_t *contents,
+                                          size_t contents_length, const size_t *lengths, size_t count,
+                                          struct limberlime_handle *handle);
 int64_t limberlime_frames_of_unchecked(struct limberlime_handle *handle, const uint32_t *addresses,
                                        size_t address_count, uint8_t *buffer, size_t capacity, size_t *wanted);
 int64_t limberlime_names_of_unchecked(struct limberlime_handle *handle, const uint32_t *addresses,
@@ -167,12 +179,16 @@ int64_t limberlime_names_of_unchecked(struct limberlime_handle *handle, const ui
 int64_t limberlime_open_pdb_unchecked(const uint8_t *pdb, size_t pdb_length, struct limberlime_handle *handle);
 int64_t limberlime_debug_id_unchecked(const uint8_t *pdb, size_t pdb_length, uint8_t *buffer, size_t capacity,
                                       size_t *wanted);
+int64_t limberlime_machine_unchecked(const uint8_t *pdb, size_t pdb_length);
 int64_t limberlime_find_frames_unchecked(struct limberlime_handle *handle, uint32_t address,
                                          struct limberlime_row *rows, size_t row_capacity, uint8_t *texts,
                                          size_t text_capacity, struct limberlime_found *found);
 int64_t limberlime_find_function_unchecked(struct limberlime_handle *handle, uint32_t address,
                                            struct limberlime_row *rows, size_t row_capacity, uint8_t *texts,
                                            size_t text_capacity, struct limberlime_found *found);
+int64_t limberlime_next_start_unchecked(struct limberlime_handle *handle, uint32_t address,
+                                        struct limberlime_row *rows, size_t row_capacity, uint8_t *texts,
+                                        size_t text_capacity, struct limberlime_found *found);
 void limberlime_close_unchecked(struct limberlime_handle *handle);
 
 /* What a number that a call answers says in words, as a text that stays. An empty one where it is no refusal. */
@@ -202,6 +218,7 @@ LIMBERLIME_FUNCTION const char *limberlime_refusal_text(int64_t answer)
     case LIMBERLIME_REARRANGED: return "rearranged addresses (OMAP)";
     case LIMBERLIME_BROKEN_STREAM: return "a broken stream";
     case LIMBERLIME_NO_DEBUG_ID: return "no debug id";
+    case LIMBERLIME_CANNOT_READ_MODULE: return "cannot read a module file";
     default: return "";
     }
 }
@@ -258,6 +275,123 @@ LIMBERLIME_FUNCTION int64_t limberlime_open(const uint8_t *records, size_t recor
     return limberlime_open_unchecked(records, records_length, handle);
 }
 
+/* A number that doubles until it is no less than another. */
+static inline size_t limberlime_capacity(size_t capacity, size_t wanted)
+{
+    while (capacity < wanted && capacity <= SIZE_MAX / 2)
+        capacity *= 2;
+    return capacity < wanted ? wanted : capacity;
+}
+
+/* Hands in a module file of a records file.
+ *
+ * caller: what limberlime_open_records was given for it.
+ * name: the file's name, with a 0 behind it: a path by itself where it begins with a slash, and else from the folder of
+ *     the records file on.
+ * bytes, length: where the file's bytes lie, which stay there until the next call of it, and how many there are.
+ *
+ * Answers 0, or another number where the file can't be read.
+ */
+typedef int (*limberlime_module_file_call)(void *caller, const char *name, const uint8_t **bytes, size_t *length);
+
+/* The contents of module files, one behind the other. */
+struct limberlime_contents {
+    uint8_t *bytes;
+    size_t length;
+    size_t capacity;
+    size_t *lengths;
+    size_t count;
+};
+
+/* Puts the bytes of a file behind the others. Whether there was memory for them. */
+static inline int limberlime_append(struct limberlime_contents *contents, const uint8_t *bytes, size_t length)
+{
+    size_t wanted = contents->length + length;
+    if (contents->capacity < wanted) {
+        size_t capacity = limberlime_capacity(contents->capacity, wanted);
+        uint8_t *grown = (uint8_t *)realloc(contents->bytes, capacity);
+        if (grown == NULL)
+            return 0;
+        contents->bytes = grown;
+        contents->capacity = capacity;
+    }
+    if (length > 0)
+        memcpy(contents->bytes + contents->length, bytes, length);
+    contents->length = wanted;
+    contents->lengths[contents->count++] = length;
+    return 1;
+}
+
+/* Has the caller hand in the files of these names, each of which has a 0 behind it. */
+static inline int64_t limberlime_gather(const uint8_t *names, size_t names_length,
+                                        limberlime_module_file_call module_file, void *caller,
+                                        struct limberlime_contents *contents)
+{
+    for (size_t start = 0; start < names_length;) {
+        const char *name = (const char *)names + start;
+        const uint8_t *bytes = NULL;
+        size_t length = 0;
+        if (module_file(caller, name, &bytes, &length) != 0 || (bytes == NULL && length > 0))
+            return LIMBERLIME_CANNOT_READ_MODULE;
+        if (!limberlime_append(contents, bytes, length))
+            return LIMBERLIME_OUT_OF_MEMORY;
+        start += strlen(name) + 1;
+    }
+    return 0;
+}
+
+/* Opens a records file by the names of its module files, in rooms that are made for the names and the contents. */
+static inline int64_t limberlime_open_named(const uint8_t *records, size_t records_length, uint8_t *names,
+                                            size_t names_length, limberlime_module_file_call module_file, void *caller,
+                                            struct limberlime_contents *contents, struct limberlime_handle *handle)
+{
+    size_t wanted;
+    int64_t answer = LIMBERLIME_OUT_OF_MEMORY;
+    if (names != NULL && contents->bytes != NULL && contents->lengths != NULL)
+        answer = limberlime_module_files_unchecked(records, records_length, names, names_length, &wanted);
+    if (answer >= 0)
+        answer = limberlime_gather(names, names_length, module_file, caller, contents);
+    if (answer == 0)
+        return limberlime_open_records_unchecked(records, records_length, contents->bytes, contents->length,
+                                                 contents->lengths, contents->count, handle);
+    limberlime_close_unchecked(handle);
+    return answer;
+}
+
+/* Reads the records in the bytes of a records file, and of the module files that it names, into a handle.
+ *
+ * module_file, caller: hands in each module file, in the order in which the records file names them. It makes no call
+ *     with this handle.
+ *
+ * All else is as of limberlime_open. Where a module file can't be read the answer is LIMBERLIME_CANNOT_READ_MODULE.
+ */
+LIMBERLIME_FUNCTION int64_t limberlime_open_records(const uint8_t *records, size_t records_length,
+                                                    limberlime_module_file_call module_file, void *caller,
+                                                    struct limberlime_handle *handle)
+{
+    struct limberlime_contents contents = {NULL, 0, 1024, NULL, 0};
+    uint8_t none = 0;
+    uint8_t *names;
+    size_t names_length = 0;
+    int64_t answer;
+    if (records == NULL || module_file == NULL || handle == NULL)
+        return LIMBERLIME_NULL_POINTER;
+    answer = limberlime_module_files_unchecked(records, records_length, &none, 0, &names_length);
+    if (answer < 0 && answer != LIMBERLIME_BUFFER_TOO_SMALL) {
+        limberlime_close_unchecked(handle);
+        return answer;
+    }
+    names = (uint8_t *)malloc(names_length + 1);
+    contents.bytes = (uint8_t *)malloc(contents.capacity);
+    contents.lengths = (size_t *)calloc(names_length + 1, sizeof *contents.lengths);
+    answer = limberlime_open_named(records, records_length, names, names_length, module_file, caller, &contents,
+                                   handle);
+    free(names);
+    free(contents.bytes);
+    free(contents.lengths);
+    return answer;
+}
+
 /* Reads the records in the bytes of a PDB file into a handle, for all calls with a handle.
  *
  * pdb, pdb_length: the bytes of a PDB file. They are not needed any more once the call has returned.
@@ -288,12 +422,14 @@ LIMBERLIME_FUNCTION int64_t limberlime_debug_id(const uint8_t *pdb, size_t pdb_l
     return limberlime_debug_id_unchecked(pdb, pdb_length, buffer, capacity, wanted);
 }
 
-/* A number that doubles until it is no less than another. */
-static inline size_t limberlime_capacity(size_t capacity, size_t wanted)
+/* Answers the number of the processor that a PDB file's program is for, as programs have it: 0x8664 for x86_64, 0x14c
+ * for x86, 0xaa64 for Arm64, and 0 where the file doesn't say it; or a number of enum limberlime_refusal.
+ */
+LIMBERLIME_FUNCTION int64_t limberlime_machine(const uint8_t *pdb, size_t pdb_length)
 {
-    while (capacity < wanted && capacity <= SIZE_MAX / 2)
-        capacity *= 2;
-    return capacity < wanted ? wanted : capacity;
+    if (pdb == NULL)
+        return LIMBERLIME_NULL_POINTER;
+    return limberlime_machine_unchecked(pdb, pdb_length);
 }
 
 /* Makes room for an answer of this size. Whether there was memory for it. */
@@ -364,7 +500,9 @@ static inline int64_t limberlime_find(limberlime_find_call call, struct limberli
 
 /* Finds the frames over an address: the functions in whose code it lies, with files and lines, from inside to outside.
  *
- * handle: open. It holds the same records afterwards, also where the call is refused.
+ * handle: open. It holds the same records afterwards, also where the call is refused, and keeps what was read of them
+ *     for this answer, so that later questions cost less. A part of the records that was met broken has failed from
+ *     then on; what stands on it is answered as before, by the same refusal or with the same names absent.
  * address: relative to where the program is loaded, in bytes.
  * frames: what is found. It is written where the answer is 0, and else left as it is.
  *
@@ -382,6 +520,35 @@ LIMBERLIME_FUNCTION int64_t limberlime_find_frames(struct limberlime_handle *han
     return limberlime_find(limberlime_find_frames_unchecked, handle, address, frames);
 }
 
+/* Is given the answer of limberlime_find_frames to an address, and the frames where it is 0, which stay until it
+ * returns. It makes no call with the handle. Answers 0 to be given the next one, or another number to stop.
+ */
+typedef int (*limberlime_frames_call)(void *caller, uint32_t address, int64_t answer,
+                                      const struct limberlime_frames *frames);
+
+/* Finds the frames over a list of addresses, and hands each answer to a call of the caller's, in order.
+ *
+ * each, caller: what is given the answers, and what it is given with them.
+ *
+ * Answers how many addresses were asked for, which is address_count unless the caller stopped, or
+ * LIMBERLIME_NULL_POINTER.
+ */
+LIMBERLIME_FUNCTION int64_t limberlime_find_all_frames(struct limberlime_handle *handle, const uint32_t *addresses,
+                                                       size_t address_count, limberlime_frames_call each, void *caller)
+{
+    size_t asked = 0;
+    int goes_on = 1;
+    if (handle == NULL || addresses == NULL || each == NULL)
+        return LIMBERLIME_NULL_POINTER;
+    while (goes_on && asked < address_count) {
+        struct limberlime_frames frames;
+        uint32_t address = addresses[asked++];
+        int64_t answer = limberlime_find_frames(handle, address, &frames);
+        goes_on = each(caller, address, answer, answer == 0 ? &frames : NULL) == 0;
+    }
+    return (int64_t)asked;
+}
+
 /* Finds the function over an address, as the one frame of itself, with no file and no line. All else is as of
  * limberlime_find_frames. It needs no lines, and so no LIMBERLIME_ADDRESS_REFUSED is answered.
  */
@@ -391,6 +558,36 @@ LIMBERLIME_FUNCTION int64_t limberlime_find_function(struct limberlime_handle *h
     if (handle == NULL || frames == NULL)
         return LIMBERLIME_NULL_POINTER;
     return limberlime_find(limberlime_find_function_unchecked, handle, address, frames);
+}
+
+/* Finds the next of all functions by where they start, as limberlime_find_function has it.
+ *
+ * next: the address from which on the next start is looked for, 0 at first. Where the answer is 0 it is the one behind
+ *     the start that was found.
+ *
+ * frames->count is 0 behind the last function. The first such question to a handle reads where all functions start.
+ */
+LIMBERLIME_FUNCTION int64_t limberlime_next_function(struct limberlime_handle *handle, uint64_t *next,
+                                                     struct limberlime_frames *frames)
+{
+    static const struct limberlime_frames none = {0, NULL, 0, 0, 0};
+    if (handle == NULL || next == NULL || frames == NULL)
+        return LIMBERLIME_NULL_POINTER;
+    while (*next <= UINT32_MAX) {
+        uint32_t start;
+        int64_t answer = limberlime_find(limberlime_next_start_unchecked, handle, (uint32_t)*next, frames);
+        if (answer != 0 || frames->count == 0)
+            return answer;
+        start = frames->start;
+        answer = limberlime_find_function(handle, start, frames);
+        if (answer != 0)
+            return answer;
+        *next = (uint64_t)start + 1;
+        if (frames->count != 0)
+            return 0;
+    }
+    *frames = none;
+    return 0;
 }
 
 /* Writes what limberlime_frames does of the bytes that the handle was opened with. The handle holds the same records

@@ -1,9 +1,9 @@
 /* Sees that each refusal is answered by its number, and what a handle answers of a small program.
  *
- *     test SHAPES FOLDER
+ *     test SHAPES FOLDER MODULES
  *
- * They are crates/pdb_symbolizer/data/shapes.pdb and crates/pdb_container_tests/data. The status is 1 where an answer
- * is another than is wanted.
+ * They are crates/pdb_symbolizer/data/shapes.pdb, crates/pdb_container_tests/data and
+ * crates/pdb_report_tests/data/modules. The status is 1 where an answer is another than is wanted.
  */
 #include <stdio.h>
 #include <string.h>
@@ -103,6 +103,29 @@ static void shapes(const uint8_t *pdb, size_t length)
     limberlime_close(&handle);
 }
 
+static void functions(const uint8_t *pdb, size_t length)
+{
+    static const uint32_t starts[] = {0x1000, 0x1020, 0x10e0, 0x1110, 0x1150, 0x1190, 0x1260};
+    struct limberlime_handle handle = LIMBERLIME_CLOSED;
+    struct limberlime_frames frames;
+    uint64_t next = 0;
+    size_t named = 0;
+    expect("it opens", limberlime_open_pdb(pdb, length, &handle) == 0);
+    do {
+        expect("a function is answered", limberlime_next_function(&handle, &next, &frames) == 0);
+        if (frames.count == 1 && frames.frames[0].function != NULL) {
+            expect("its start", named < 7 && frames.start == starts[named]);
+            named++;
+        }
+    } while (frames.count != 0);
+    expect("all functions come", named == 7);
+    expect("then none do", limberlime_next_function(&handle, &next, &frames) == 0 && frames.count == 0);
+    limberlime_close(&handle);
+    next = 0;
+    expect("it is closed", limberlime_next_function(&handle, &next, &frames) == LIMBERLIME_CLOSED_HANDLE);
+    limberlime_close(&handle);
+}
+
 static void null_pointers(const uint8_t *pdb, size_t length)
 {
     struct limberlime_handle handle = LIMBERLIME_CLOSED;
@@ -129,9 +152,93 @@ static void debug_ids(const uint8_t *pdb, size_t length)
     expect("none of a text", limberlime_debug_id(buffer, 32, buffer + 32, 8, &wanted) == LIMBERLIME_NOT_A_PDB_FILE);
 }
 
+static void machines(const uint8_t *pdb, size_t length)
+{
+    expect("a processor", limberlime_machine(pdb, length) == 0x8664);
+    expect("none of a text", limberlime_machine(pdb, 16) == LIMBERLIME_NOT_A_PDB_FILE);
+    expect("none of no bytes", limberlime_machine(NULL, 16) == LIMBERLIME_NULL_POINTER);
+}
+
+/* Where module files are read, and the bytes of the last one. */
+struct folder {
+    const char *path;
+    uint8_t *bytes;
+};
+
+static int hand_in(void *caller, const char *name, const uint8_t **bytes, size_t *length)
+{
+    struct folder *folder = (struct folder *)caller;
+    free(folder->bytes);
+    folder->bytes = read_file(folder->path, name, length);
+    *bytes = folder->bytes;
+    return 0;
+}
+
+static int hand_in_nothing(void *caller, const char *name, const uint8_t **bytes, size_t *length)
+{
+    (void)caller, (void)name, (void)bytes, (void)length;
+    return 1;
+}
+
+static void module_files(const char *path)
+{
+    static const uint32_t addresses[] = {0x1010, 0x1050};
+    static const char wanted_text[] = "0x1010 - f\xef\xbf\xbd 0x1010..0x1050\n0x1050 - g 0x1050..0x1090\n";
+    struct limberlime_handle handle = LIMBERLIME_CLOSED;
+    struct folder folder = {path, NULL};
+    uint8_t text[256];
+    size_t length, wanted;
+    uint8_t *records = read_file(path, "two.json", &length);
+    expect("module files are wanted", limberlime_open(records, length, &handle) == LIMBERLIME_MODULE_FILES);
+    expect("none is handed in", limberlime_open_records(records, length, hand_in_nothing, NULL, &handle)
+           == LIMBERLIME_CANNOT_READ_MODULE);
+    expect("it is closed", limberlime_names_of(&handle, addresses, 2, text, sizeof text, &wanted)
+           == LIMBERLIME_CLOSED_HANDLE);
+    expect("they are handed in", limberlime_open_records(records, length, hand_in, &folder, &handle) == 0);
+    expect("the names are answered", limberlime_names_of(&handle, addresses, 2, text, sizeof text, &wanted)
+           == (int64_t)sizeof wanted_text - 1);
+    expect("the names' text", memcmp(text, wanted_text, sizeof wanted_text - 1) == 0);
+    expect("no module files", limberlime_open_records((const uint8_t *)"{", 1, hand_in, &folder, &handle)
+           == LIMBERLIME_NOT_JSON);
+    expect("no call", limberlime_open_records(records, length, NULL, NULL, &handle) == LIMBERLIME_NULL_POINTER);
+    limberlime_close(&handle);
+    free(folder.bytes);
+    free(records);
+}
+
+/* What was handed over of a list of addresses, and after how many answers it stops. */
+struct answers {
+    size_t given;
+    size_t most;
+    size_t frames;
+};
+
+static int add_answer(void *caller, uint32_t address, int64_t answer, const struct limberlime_frames *frames)
+{
+    struct answers *answers = (struct answers *)caller;
+    expect("addresses come in order", address == (answers->given == 0 ? 0x1136u : 0x10u));
+    expect("each is answered", answer == 0 && frames != NULL);
+    answers->frames += frames == NULL ? 0 : frames->count;
+    answers->given++;
+    return answers->given == answers->most;
+}
+
+static void lists(const uint8_t *pdb, size_t length)
+{
+    static const uint32_t addresses[] = {0x1136, 0x10};
+    struct limberlime_handle handle = LIMBERLIME_CLOSED;
+    struct answers all = {0, 3, 0}, first = {0, 1, 0};
+    expect("it opens", limberlime_open_pdb(pdb, length, &handle) == 0);
+    expect("a list is asked for", limberlime_find_all_frames(&handle, addresses, 2, add_answer, &all) == 2);
+    expect("all frames come", all.given == 2 && all.frames == 3);
+    expect("a caller may stop", limberlime_find_all_frames(&handle, addresses, 2, add_answer, &first) == 1);
+    expect("then no more come", first.given == 1);
+    limberlime_close(&handle);
+}
+
 int main(int argc, char **argv)
 {
-    if (argc != 3)
+    if (argc != 4)
         return 2;
     size_t length;
     uint8_t *pdb = read_file(argv[1], "", &length);
@@ -139,6 +246,10 @@ int main(int argc, char **argv)
     shapes(pdb, length);
     null_pointers(pdb, length);
     debug_ids(pdb, length);
+    machines(pdb, length);
+    functions(pdb, length);
+    lists(pdb, length);
+    module_files(argv[3]);
     free(pdb);
     return failures == 0 ? 0 : 1;
 }

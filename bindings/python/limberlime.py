@@ -14,9 +14,9 @@ from __future__ import annotations
 import ctypes
 import ctypes.util
 import os
-from typing import Iterator, NamedTuple, Optional, Sequence
+from typing import Callable, Iterator, NamedTuple, Optional, Sequence
 
-__all__ = ["Frame", "Frames", "Program", "Refusal", "debug_id"]
+__all__ = ["Frame", "Frames", "Function", "Program", "Refusal", "debug_id", "machine"]
 
 _BUFFER_TOO_SMALL = -9
 _FIRST_BYTES = 1024
@@ -28,7 +28,12 @@ class _Rooms(ctypes.Structure):
 
 
 class _Handle(ctypes.Structure):
-    _fields_ = [("records", ctypes.c_void_p), ("rooms", _Rooms)]
+    _fields_ = [("records", ctypes.c_void_p), ("context", ctypes.c_void_p), ("rooms", _Rooms)]
+
+
+# caller, name, where the file's bytes and their number are put
+_ModuleFileCall = ctypes.CFUNCTYPE(ctypes.c_int, ctypes.c_void_p, ctypes.c_char_p, ctypes.POINTER(ctypes.c_void_p),
+                                   ctypes.POINTER(ctypes.c_size_t))
 
 
 class _Frame(ctypes.Structure):
@@ -52,10 +57,12 @@ def _load() -> ctypes.CDLL:
     buffer = [ctypes.c_char_p, size, ctypes.POINTER(size)]
     addresses = [ctypes.POINTER(ctypes.c_uint32), size]
     calls = {
-        "open": [*text, handle], "open_pdb": [*text, handle], "debug_id": [*text, *buffer],
+        "open": [*text, handle], "open_records": [*text, _ModuleFileCall, ctypes.c_void_p, handle],
+        "open_pdb": [*text, handle], "debug_id": [*text, *buffer], "machine": text,
         "frames_of": [handle, *addresses, *buffer], "names_of": [handle, *addresses, *buffer],
         "find_frames": [handle, ctypes.c_uint32, ctypes.POINTER(_Frames)],
         "find_function": [handle, ctypes.c_uint32, ctypes.POINTER(_Frames)],
+        "next_function": [handle, ctypes.POINTER(ctypes.c_uint64), ctypes.POINTER(_Frames)],
     }
     for name, arguments in calls.items():
         call = getattr(library, f"limberlime_{name}")
@@ -84,6 +91,14 @@ class Frame(NamedTuple):
     function: Optional[str]
     file: Optional[str]
     line: Optional[int]
+
+
+class Function(NamedTuple):
+    """A function's first address, the address behind its last, or None where that is not known, and its name."""
+
+    start: int
+    end: Optional[int]
+    name: Optional[str]
 
 
 class Frames(Sequence[Frame]):
@@ -125,9 +140,19 @@ class Program:
         return cls._opened(_library.limberlime_open_pdb, pdb)
 
     @classmethod
-    def open_records(cls, records: bytes) -> Program:
-        """Reads the bytes of a records file."""
-        return cls._opened(_library.limberlime_open, records)
+    def open_records(cls, records: bytes, module_file: Optional[Callable[[str], bytes]] = None) -> Program:
+        """Reads the bytes of a records file. Where it names module files, `module_file` answers the bytes of each by
+        its name: a path by itself where that begins with a slash, and else from the folder of the records file on.
+        What it raises is raised."""
+        if module_file is None:
+            return cls._opened(_library.limberlime_open, records)
+        program, files, records = cls(), _ModuleFiles(module_file), bytes(records)
+        answer = _library.limberlime_open_records(records, len(records), files.call, None,
+                                                  ctypes.byref(program._handle))
+        if files.error is not None:
+            raise files.error
+        _answered(answer)
+        return program
 
     @classmethod
     def _opened(cls, call, data: bytes) -> Program:
@@ -138,11 +163,17 @@ class Program:
 
     def frames(self, address: int) -> Frames:
         """The functions in whose code an address lies, with files and lines, the innermost inlined one first."""
-        return self._found(_library.limberlime_find_frames, address)
+        return self._found(_library.limberlime_find_frames, _address(address))
 
     def function(self, address: int) -> Frames:
         """The function in whose code an address lies, as the one frame of itself, with no file and no line."""
-        return self._found(_library.limberlime_find_function, address)
+        return self._found(_library.limberlime_find_function, _address(address))
+
+    def functions(self) -> Iterator[Function]:
+        """The functions of the program, by where they start."""
+        following = ctypes.c_uint64(0)
+        while found := self._found(_library.limberlime_next_function, ctypes.byref(following)):
+            yield Function(found.start, found.end, found[0].function)
 
     def report_frames(self, addresses: Sequence[int]) -> str:
         """The text that `pdb_report RECORDS frames ADDRESS..` prints of these addresses."""
@@ -165,9 +196,9 @@ class Program:
     def __del__(self) -> None:
         self.close()
 
-    def _found(self, call, address: int) -> Frames:
+    def _found(self, call, asked) -> Frames:
         found = _Frames()
-        _answered(call(ctypes.byref(self._handle), _address(address), ctypes.byref(found)))
+        _answered(call(ctypes.byref(self._handle), asked, ctypes.byref(found)))
         frames = [_frame(found.frames[index]) for index in range(found.count)]
         return Frames(frames, found.start, found.end if found.end_known else None)
 
@@ -176,10 +207,36 @@ class Program:
         return _text(lambda *buffer: call(ctypes.byref(self._handle), numbers, len(addresses), *buffer))
 
 
+class _ModuleFiles:
+    """Hands in module files by their names, and holds the bytes of the last one."""
+
+    def __init__(self, read: Callable[[str], bytes]) -> None:
+        self._read, self._bytes = read, b""
+        self.error: Optional[Exception] = None
+        self.call = _ModuleFileCall(self._hand_in)
+
+    def _hand_in(self, _caller, name: bytes, data, length) -> int:
+        try:
+            self._bytes = bytes(self._read(name.decode()))
+        except Exception as error:  # it is raised again behind the library's call
+            self.error = error
+            return 1
+        data[0] = ctypes.cast(ctypes.c_char_p(self._bytes), ctypes.c_void_p)
+        length[0] = len(self._bytes)
+        return 0
+
+
 def debug_id(pdb: bytes) -> str:
     """The debug id of a PDB file, by which a program, a symbol server and a crash report name it."""
     pdb = bytes(pdb)
     return _text(lambda *buffer: _library.limberlime_debug_id(pdb, len(pdb), *buffer))
+
+
+def machine(pdb: bytes) -> int:
+    """The number of the processor that a PDB file's program is for, as programs have it: 0x8664 for x86_64, 0x14c for
+    x86, 0xaa64 for Arm64, and 0 where the file doesn't say it."""
+    pdb = bytes(pdb)
+    return _answered(_library.limberlime_machine(pdb, len(pdb)))
 
 
 def _address(address: int) -> int:

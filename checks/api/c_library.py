@@ -53,7 +53,9 @@ def refusal(program, path, data, command, ended):
         return "not a JSON text" if str(fault) == "not a JSON text" else "no records"
     if ended.status == 2:
         return "not a JSON text" if ended.stderr.endswith(f"{path}: not a JSON text\n") else "no records"
-    return "records refused" if run([program, path, command]).status else "address refused"
+    if run([program, path, command]).status:
+        return "the records are refused"
+    return "the records of the address's module are refused"
 
 
 def wanted(program, path, data, words):

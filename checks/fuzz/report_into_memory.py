@@ -1,13 +1,14 @@
 #!/usr/bin/env python3
 """Writes reports into memory that grows, with each growth refused, and reports every run that ends otherwise than it may.
 
-Usage: report_into_memory.py
+Usage: report_into_memory.py [PROGRAM]
 
 The program writes through a buffer that it makes at its start, so none of its growths is one of the writer's. Here a
 small program with a vector for its writer is made in a copy of the repository, proved and built by `rt run`, and run
-over some cases of refused_growths.py with each of their growths refused. Where the vector's own growth is refused, the
-report has to end with `cannot write`, which must be seen; else it ends as the program may. What the vector held then
-is printed: whole texts of the first addresses, or behind `cannot write` any beginning of the whole text.
+over some cases of refused_growths.py with each of their growths refused; PROGRAM is one that was built before. Where
+the vector's own growth is refused, the report has to end with `cannot write`, which must be seen; else it ends as the
+program may. What the vector held then is printed: whole texts of the first addresses, or behind `cannot write` any
+beginning of the whole text.
 """
 import pathlib
 import shutil
@@ -90,11 +91,12 @@ def into_memory(case, run):
     return outcome(case, run)
 
 
-def main():
+def main(program=None):
     seen, growths = Counter(), 0
     with tempfile.TemporaryDirectory() as folder:
         folder = pathlib.Path(folder)
-        program, library, counts_file = built(folder), compiled(folder), folder / "counts"
+        program = pathlib.Path(program).resolve() if program else built(folder)
+        library, counts_file = compiled(folder), folder / "counts"
         for case in (case for case in cases() if f"{case.name} ".startswith(CASES)):
             run = ask(program, case.words, case.folder, library, counts_file)
             if outcome(case, run) != AS_WANTED:
@@ -115,6 +117,6 @@ def main():
 
 
 if __name__ == "__main__":
-    if len(sys.argv) != 1:
+    if len(sys.argv) > 2:
         sys.exit(__doc__)
-    sys.exit(main())
+    sys.exit(main(*sys.argv[1:]))

@@ -1,4 +1,4 @@
-/* What the examples read: a file, the addresses of a command line, and a refusal's name. */
+/* What the examples read: a file, and the addresses of a command line. */
 #ifndef INPUT_H
 #define INPUT_H
 
@@ -7,23 +7,6 @@
 #include <stdlib.h>
 
 #include "limberlime.h"
-
-static inline const char *refusal_name(int64_t refusal)
-{
-    switch (refusal) {
-    case LIMBERLIME_NULL_POINTER: return "null pointer";
-    case LIMBERLIME_NO_ADDRESSES: return "no addresses";
-    case LIMBERLIME_NOT_JSON: return "not a JSON text";
-    case LIMBERLIME_NO_RECORDS: return "no records";
-    case LIMBERLIME_MODULE_FILES: return "module files";
-    case LIMBERLIME_RECORDS_REFUSED: return "records refused";
-    case LIMBERLIME_ADDRESS_REFUSED: return "address refused";
-    case LIMBERLIME_OUT_OF_MEMORY: return "out of memory";
-    case LIMBERLIME_BUFFER_TOO_SMALL: return "buffer too small";
-    case LIMBERLIME_CLOSED_HANDLE: return "closed handle";
-    default: return "unknown refusal";
-    }
-}
 
 /* The whole file at a path, which the caller frees, or null. It is never null for an empty file. */
 static inline uint8_t *read_file(const char *path, size_t *length)

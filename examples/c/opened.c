@@ -44,7 +44,7 @@ static int print_answers(opened_call call, struct limberlime_handle *handle, con
             fwrite(buffer.bytes, 1, (size_t)length, stdout);
     }
     if (length < 0)
-        fprintf(stderr, "opened: %s\n", refusal_name(length));
+        fprintf(stderr, "opened: %s\n", limberlime_refusal_text(length));
     free(buffer.bytes);
     return length < 0 ? 1 : 0;
 }
@@ -56,7 +56,7 @@ static int print_opened(opened_call call, const uint8_t *records, size_t length,
     struct limberlime_handle handle = LIMBERLIME_CLOSED;
     int64_t answer = limberlime_open(records, length, &handle);
     if (answer < 0) {
-        fprintf(stderr, "opened: %s\n", refusal_name(answer));
+        fprintf(stderr, "opened: %s\n", limberlime_refusal_text(answer));
         return 1;
     }
     int status = print_answers(call, &handle, addresses, count);

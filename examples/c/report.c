@@ -27,7 +27,7 @@ static int print_report(report_call call, const uint8_t *records, size_t records
         }
     }
     if (length < 0)
-        fprintf(stderr, "report: %s\n", refusal_name(length));
+        fprintf(stderr, "report: %s\n", limberlime_refusal_text(length));
     else
         fwrite(buffer, 1, (size_t)length, stdout);
     free(buffer);

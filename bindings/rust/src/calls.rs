@@ -5,10 +5,11 @@ use crate::refusals::Refusal;
 use std::ffi::c_void;
 use std::ptr;
 
-/// The handle of an opening. Its pointer is null where it is closed, and the library's alone.
+/// The handle of an opening. Its pointers are the library's alone, and the second is null where it is closed.
 #[repr(C)]
 pub(crate) struct Handle {
     records: *mut c_void,
+    context: *mut c_void,
 }
 
 /// Where a text stands among the texts of an answer. One that isn't known starts at the greatest number there is.
@@ -46,6 +47,26 @@ type FindFunction =
 
 extern "C" {
     fn limberlime_open_unchecked(records: *const u8, length: usize, handle: *mut Handle) -> i64;
+
+    fn limberlime_module_files_unchecked(
+        records: *const u8,
+        length: usize,
+        buffer: *mut u8,
+        capacity: usize,
+        wanted: *mut usize,
+    ) -> i64;
+
+    fn limberlime_open_records_unchecked(
+        records: *const u8,
+        length: usize,
+        contents: *const u8,
+        contents_length: usize,
+        lengths: *const usize,
+        count: usize,
+        handle: *mut Handle,
+    ) -> i64;
+
+    fn limberlime_machine_unchecked(pdb: *const u8, length: usize) -> i64;
 
     fn limberlime_open_pdb_unchecked(pdb: *const u8, length: usize, handle: *mut Handle) -> i64;
 
@@ -95,6 +116,16 @@ extern "C" {
         wanted: *mut usize,
     ) -> i64;
 
+    fn limberlime_next_start_unchecked(
+        handle: *mut Handle,
+        address: u32,
+        rows: *mut Row,
+        row_capacity: usize,
+        texts: *mut u8,
+        text_capacity: usize,
+        found: *mut Found,
+    ) -> i64;
+
     fn limberlime_close_unchecked(handle: *mut Handle);
 }
 
@@ -116,6 +147,7 @@ impl Handle {
     fn closed() -> Handle {
         Handle {
             records: ptr::null_mut(),
+            context: ptr::null_mut(),
         }
     }
 
@@ -130,6 +162,34 @@ impl Handle {
         let mut handle = Handle::closed();
         // SAFETY: as in `open_pdb`.
         let answer = unsafe { limberlime_open_unchecked(records.as_ptr(), records.len(), &mut handle) };
+        length_of(answer).map(|_| handle)
+    }
+
+    pub(crate) fn open_records_with(
+        records: &[u8],
+        mut module_file: impl FnMut(&str) -> Option<Vec<u8>>,
+    ) -> Result<Handle, Refusal> {
+        let mut contents = Vec::new();
+        let mut lengths = Vec::new();
+        for name in module_files(records)?.split_terminator('\0') {
+            let file = module_file(name).ok_or(Refusal::CannotReadModule)?;
+            contents.extend_from_slice(&file);
+            lengths.push(file.len());
+        }
+        let mut handle = Handle::closed();
+        // SAFETY: the pointers are the slice's and the vectors', with their lengths, and the handle is closed, as
+        // before its first call.
+        let answer = unsafe {
+            limberlime_open_records_unchecked(
+                records.as_ptr(),
+                records.len(),
+                contents.as_ptr(),
+                contents.len(),
+                lengths.as_ptr(),
+                lengths.len(),
+                &mut handle,
+            )
+        };
         length_of(answer).map(|_| handle)
     }
 
@@ -176,6 +236,29 @@ pub(crate) fn debug_id(pdb: &[u8]) -> Result<String, Refusal> {
     })
 }
 
+/// The names of the module files that a records file wants, each with a 0 behind it.
+fn module_files(records: &[u8]) -> Result<String, Refusal> {
+    text_of(FIRST_BYTES, |buffer, wanted| {
+        // SAFETY: the pointers are the slices' and the reference's, with their lengths.
+        unsafe {
+            limberlime_module_files_unchecked(
+                records.as_ptr(),
+                records.len(),
+                buffer.as_mut_ptr(),
+                buffer.len(),
+                wanted,
+            )
+        }
+    })
+}
+
+/// The number of the processor that a PDB file's program is for.
+pub(crate) fn machine(pdb: &[u8]) -> Result<u16, Refusal> {
+    // SAFETY: the pointer is the slice's, with its length.
+    let answer = unsafe { limberlime_machine_unchecked(pdb.as_ptr(), pdb.len()) };
+    u16::try_from(answer).map_err(|_| Refusal::of_number(answer))
+}
+
 /// A length that was answered, or the refusal of its number.
 fn length_of(answer: i64) -> Result<usize, Refusal> {
     usize::try_from(answer).map_err(|_| Refusal::of_number(answer))
@@ -199,6 +282,7 @@ fn text_of(capacity: usize, mut call: impl FnMut(&mut [u8], &mut usize) -> i64) 
 pub(crate) enum FindCall {
     Frames,
     Function,
+    NextStart,
 }
 
 impl FindCall {
@@ -206,6 +290,7 @@ impl FindCall {
         match self {
             FindCall::Frames => limberlime_find_frames_unchecked,
             FindCall::Function => limberlime_find_function_unchecked,
+            FindCall::NextStart => limberlime_next_start_unchecked,
         }
     }
 }

@@ -20,9 +20,11 @@
 
 mod calls;
 mod frames;
+mod functions;
 mod refusals;
 
 pub use frames::{Frame, Frames, Iter};
+pub use functions::{Function, Functions};
 pub use refusals::Refusal;
 
 use calls::{FindCall, Handle, Rooms};
@@ -74,6 +76,20 @@ impl Program {
         Ok(Program::of(Handle::open_records(records)?))
     }
 
+    /// Reads the records in the bytes of a records file and of the module files that it names. Each of these is handed
+    /// in by its name, in the order in which the file names them: a path by itself where it begins with a slash, and
+    /// else from the folder of the records file on.
+    ///
+    /// # Errors
+    ///
+    /// [`Refusal::CannotReadModule`] where a module file isn't handed in, and those of [`Program::open_records`].
+    pub fn open_records_with(
+        records: &[u8],
+        module_file: impl FnMut(&str) -> Option<Vec<u8>>,
+    ) -> Result<Program, Refusal> {
+        Ok(Program::of(Handle::open_records_with(records, module_file)?))
+    }
+
     fn of(handle: Handle) -> Program {
         Program {
             handle,
@@ -110,6 +126,27 @@ impl Program {
     /// ```
     pub fn function(&mut self, address: u32) -> Result<Frames<'_>, Refusal> {
         self.rooms.find(&mut self.handle, FindCall::Function, address)
+    }
+
+    /// The functions of the program, by where they start.
+    ///
+    /// ```
+    /// # fn main() -> Result<(), Box<dyn std::error::Error>> {
+    /// # let file = std::fs::read("../../crates/pdb_symbolizer/data/shapes.pdb")?;
+    /// # let mut program = limberlime::Program::open_pdb(&file)?;
+    /// let functions = program.functions().collect::<Result<Vec<_>, _>>()?;
+    /// assert!(functions.iter().any(|function| function.name.as_deref() == Some("Framed::draw(int)")));
+    /// # Ok(())
+    /// # }
+    /// ```
+    pub fn functions(&mut self) -> Functions<'_> {
+        Functions::of(self)
+    }
+
+    /// The first address from this one on at which a function starts.
+    fn next_start(&mut self, address: u32) -> Result<Option<u32>, Refusal> {
+        let found = self.rooms.find(&mut self.handle, FindCall::NextStart, address)?;
+        Ok((!found.is_empty()).then_some(found.start()))
     }
 
     /// The text that `pdb_report RECORDS frames ADDRESS..` prints of these addresses.
@@ -154,4 +191,14 @@ impl fmt::Debug for Program {
 /// ```
 pub fn debug_id(pdb: &[u8]) -> Result<String, Refusal> {
     calls::debug_id(pdb)
+}
+
+/// The number of the processor that a PDB file's program is for, as programs have it: 0x8664 for x86_64, 0x14c for x86,
+/// 0xaa64 for Arm64. It is 0 where the file doesn't say it.
+///
+/// # Errors
+///
+/// [`Refusal::NoDebugId`] where the file doesn't say which build it is of, or what the bytes are that are no PDB file.
+pub fn machine(pdb: &[u8]) -> Result<u16, Refusal> {
+    calls::machine(pdb)
 }

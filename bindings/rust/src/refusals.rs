@@ -12,7 +12,8 @@ pub enum Refusal {
     NotJson,
     /// The JSON text holds no records.
     NoRecords,
-    /// The records file names module files, which no call here reads.
+    /// The records file names module files, and [`open_records_with`](crate::Program::open_records_with) alone takes
+    /// these.
     ModuleFiles,
     /// The records are refused, as where two modules claim the same bytes.
     RecordsRefused,
@@ -46,12 +47,14 @@ pub enum Refusal {
     BrokenStream,
     /// The PDB file doesn't say which build it is of.
     NoDebugId,
+    /// The caller can't read a module file that the records file names.
+    CannotReadModule,
     /// A number that this version doesn't know.
     Unknown(i64),
 }
 
 /// Each refusal with the number that the library answers for it, and its text.
-const REFUSALS: [(i64, Refusal, &str); 20] = [
+const REFUSALS: [(i64, Refusal, &str); 21] = [
     (-2, Refusal::NoAddresses, "no addresses"),
     (-3, Refusal::NotJson, "not a JSON text"),
     (-4, Refusal::NoRecords, "no records"),
@@ -88,6 +91,7 @@ const REFUSALS: [(i64, Refusal, &str); 20] = [
     (-21, Refusal::Rearranged, "rearranged addresses (OMAP)"),
     (-22, Refusal::BrokenStream, "a broken stream"),
     (-23, Refusal::NoDebugId, "no debug id"),
+    (-24, Refusal::CannotReadModule, "cannot read a module file"),
 ];
 
 impl Refusal {

@@ -1,10 +1,11 @@
 //! Questions to a small program, and what is refused.
 
-use limberlime::{debug_id, Frame, Program, Refusal};
+use limberlime::{debug_id, machine, Frame, Program, Refusal};
 use std::fs;
 
 const SHAPES: &str = "../../crates/pdb_symbolizer/data/shapes.pdb";
 const FILES: &str = "../../crates/pdb_container_tests/data";
+const MODULES: &str = "../../crates/pdb_report_tests/data/modules";
 
 fn shapes() -> Program {
     Program::open_pdb(&fs::read(SHAPES).expect("the file is there")).expect("it opens")
@@ -32,6 +33,23 @@ fn inlined_calls_come_from_inside_to_outside() {
     assert_eq!(frames.iter().collect::<Vec<_>>(), wanted);
     assert_eq!(frames.iter().next_back(), Some(wanted[2]));
     assert_eq!(frames.iter().len(), 3);
+}
+
+#[test]
+fn functions_come_by_where_they_start() {
+    let mut program = shapes();
+    let functions = program
+        .functions()
+        .collect::<Result<Vec<_>, _>>()
+        .expect("it is answered");
+    let named: Vec<_> = functions
+        .iter()
+        .filter(|function| function.name.is_some())
+        .collect();
+    let starts: Vec<_> = named.iter().map(|function| function.start).collect();
+    assert_eq!(starts, [0x1000, 0x1020, 0x10e0, 0x1110, 0x1150, 0x1190, 0x1260]);
+    assert_eq!(named[3].end, Some(0x114e));
+    assert_eq!(named[3].name.as_deref(), Some("Framed::draw(int)"));
 }
 
 #[test]
@@ -75,6 +93,20 @@ fn files_that_are_none_are_refused_as_what_they_are() {
 }
 
 #[test]
+fn module_files_are_handed_in_by_their_names() {
+    let read = |name: &str| fs::read(format!("{MODULES}/{name}"));
+    let records = read("two.json").expect("the file is there");
+    assert_eq!(Program::open_records(&records).err(), Some(Refusal::ModuleFiles));
+    let none = Program::open_records_with(&records, |_| None);
+    assert_eq!(none.err(), Some(Refusal::CannotReadModule));
+    let mut program = Program::open_records_with(&records, |name| read(name).ok()).expect("it opens");
+    assert_eq!(
+        program.report_names(&[0x1010, 0x1050]).as_deref(),
+        Ok("0x1010 - f\u{fffd} 0x1010..0x1050\n0x1050 - g 0x1050..0x1090\n")
+    );
+}
+
+#[test]
 fn a_file_says_which_build_it_is_of() {
     let bytes = fs::read(SHAPES).expect("the file is there");
     assert_eq!(
@@ -82,4 +114,6 @@ fn a_file_says_which_build_it_is_of() {
         Ok("6B32B94164959A524C4C44205044422E1")
     );
     assert_eq!(debug_id(b"MZ").err(), Some(Refusal::Program));
+    assert_eq!(machine(&bytes), Ok(0x8664));
+    assert_eq!(machine(b"MZ").err(), Some(Refusal::Program));
 }

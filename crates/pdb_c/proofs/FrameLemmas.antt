@@ -1,30 +1,159 @@
--- From what a context answers to what a question finds over records.
-use Rattle.std.proofs.Common.{◌≡◌, [], refl, sym, ap}
-use Rattle.std.specs.Prelude.{◌≢◌, Result, Ok, Err}
+-- From what a context answers and remembers to what a question finds and leaves.
+use Rattle.std.proofs.Common.{◌≡◌, ℕ, List, [], ◌∷◌, refl, ap, Bor}
+use Rattle.std.specs.Prelude.{Option, Some, None, Result, Ok, Err, Vec}
+use Rattle.std.specs.declared.alloc.Global.{Global}
 use Rattle.pdb_records.specs.Records.{Records}
-use Rattle.pdb_types.specs.declared.error.Error.{Error}
-use Rattle.pdb_types.specs.declared.error.Error.TheVariants.{OutOfMemory}
-use Rattle.pdb_addr2line.specs.ContextInputs.{ContextInputs, ContextState}
+use Rattle.pdb_types.specs.Outcomes.{and_then}
+use Rattle.pdb_addr2line.specs.ContextInputs.{ContextState}
+use Rattle.pdb_report_lib.specs.declared.reports.Command.{Command}
 use Rattle.pdb_c.specs.declared.refusals.Refusal.{Refusal}
-use Rattle.pdb_c.specs.declared.refusals.Refusal.TheVariants as refusal
+use Rattle.pdb_c.specs.declared.refusals.Refusal.TheVariants.{Closed}
+use Rattle.pdb_c.specs.declared.found_frames.FoundFrames.{FoundFrames}
 use Rattle.pdb_c.specs.declared.found_frames.Question.{Question}
-use Rattle.pdb_c.specs.Refusals.{refusal_of_records}
-use Rattle.pdb_c.specs.FrameAnswers.{answer_in, answer_over}
-use Rattle.pdb_c.proofs.TextLemmas.{not_memory, is_other}
+use Rattle.pdb_c.specs.declared.found_frames.Question.TheVariants as question
+use Rattle.pdb_c.specs.FoundFrames.{Shown, shown_text, shown_view}
+use Rattle.pdb_c.specs.FrameAnswers.{shown_result}
+use Rattle.pdb_c.specs.Texts.{Agrees}
+use Rattle.pdb_c.specs.Answers.{gathered}
+use Rattle.pdb_c.specs.Questions.{report_asked, answer_of_handle, text_of_handle, IsLeftBy, IsLeftByReport}
+use Rattle.pdb_c.specs.Questions.{LeavesHandle, LeavesReported, AnswersHandle, AnswersHeld}
 
--- a question over records is one to a context of theirs of which no part has failed
-pub asked_over : (made : Result (ContextInputs Records) Error) (context : ContextState Records) (asked : Question)
-    → made ≡ Ok context.inputs → context.failed ≡ [] → context.code_failed ≡ []
-    → answer_over made asked ≡ answer_in context asked
-asked_over made context asked is failed code_failed =
-    let same : record { inputs = context.inputs; failed = []; code_failed = [] } ≡ context =
-    λ i. record { inputs = context.inputs; failed = sym failed i; code_failed = sym code_failed i } in
-    rw is (ap (λ c. answer_in c asked) same)
+-- the texts that are shown
+abbrev texts_in : Result Shown Refusal → List ℕ
+texts_in (Ok shown) = shown.texts
+texts_in (Err refusal) = []
 
--- records with no context
-pub question_refused : (made : Result (ContextInputs Records) Error) (asked : Question) (error : Error)
-    → (error ≢ OutOfMemory → made ≡ Err error) → refusal_of_records error ≢ refusal.OutOfMemory
-    → answer_over made asked ≡ Err (refusal_of_records error)
-question_refused made asked error gives other =
-    let known : error ≢ OutOfMemory = not_memory refusal.RecordsRefused error other in
-    rw (gives known, is_other refusal.RecordsRefused error known) refl
+-- what is shown of a text is that text
+pub text_shown : (asked : Result (List ℕ) Refusal) (found : FoundFrames)
+    → and_then asked (λ text. Ok (shown_text text)) ≡ Ok (shown_view found) → asked ≡ Ok found.texts.items
+text_shown (Ok text) found is = ap Ok (ap texts_in is)
+text_shown (Err refusal) found is = absurd cc
+
+-- a text that is refused is refused alike where it is shown
+pub text_not_shown : (asked : Result (List ℕ) Refusal) (refusal : Refusal)
+    → and_then asked (λ text. Ok (shown_text text)) ≡ Err refusal → asked ≡ Err refusal
+text_not_shown (Ok text) refusal is = absurd cc
+text_not_shown (Err other) refusal is =
+    let same : other ≡ refusal = cc in
+    ap Err same
+
+-- what a report leaves by whether it was answered, whatever the answer is
+pub report_left : {A B : Type 0} (a : A) (b : B) (before after : ContextState Records) (command : Command)
+    (addresses : List ℕ) → IsLeftByReport (Ok a) before after command addresses
+    → IsLeftByReport (Ok b) before after command addresses
+report_left a b before after command [] left = left
+report_left a b before after command (address ∷ addresses) left = left
+
+-- the same of a refusal, whatever was asked
+pub refusal_left : (A B : Type 0) (refusal : Refusal) (before after : ContextState Records) (command : Command)
+    (addresses : List ℕ) → IsLeftByReport {A = A} (Err refusal) before after command addresses
+    → IsLeftByReport {A = B} (Err refusal) before after command addresses
+refusal_left A B refusal before after command [] left = left
+refusal_left A B refusal before after command (address ∷ addresses) left = left
+
+-- a result and another agree by whether they are answers, and in their refusal
+pub data Alike {A B : Type 0} : Result A Refusal → Result B Refusal → Type 0 where
+  answers : (a : A) (b : B) → Alike (Ok a) (Ok b)
+  refusals : (refusal : Refusal) → Alike (Err refusal) (Err refusal)
+
+-- what a report leaves is the same for both
+left_alike : {A B : Type 0} (r : Result A Refusal) (s : Result B Refusal) (before after : ContextState Records)
+    (command : Command) (addresses : List ℕ) → Alike r s
+    → IsLeftByReport r before after command addresses → IsLeftByReport s before after command addresses
+left_alike {A = A} {B = B} r s before after command addresses (answers a b) left =
+    report_left a b before after command addresses left
+left_alike {A = A} {B = B} r s before after command addresses (refusals why) left =
+    refusal_left A B why before after command addresses left
+
+-- and so is what a question leaves
+question_alike : {A B : Type 0} (r : Result A Refusal) (s : Result B Refusal) (before : ContextState Records)
+    (asked : Question) (after : ContextState Records) → Alike r s
+    → IsLeftBy r before asked after → IsLeftBy s before asked after
+question_alike r s before (question.Frames address) after (answers a b) left = left
+question_alike r s before (question.Frames address) after (refusals why) left = left
+question_alike r s before (question.Function address) after (answers a b) left = left
+question_alike r s before (question.Function address) after (refusals why) left = left
+question_alike r s before (question.NextStart address) after alike left = left
+question_alike r s before (question.Report command addresses) after alike left =
+    left_alike r s before after command addresses.now alike left
+
+-- and what a handle holds
+pub handle_alike : {A B : Type 0} (r : Result A Refusal) (s : Result B Refusal)
+    (held : Option (ContextState Records)) (asked : Question) (held' : Option (ContextState Records)) → Alike r s
+    → LeavesHandle r held asked held' → LeavesHandle s held asked held'
+handle_alike r s None asked held' alike left = left
+handle_alike r s (Some context) asked (Some after) alike left = question_alike r s context asked after alike left
+handle_alike r s (Some context) asked None alike left = left
+
+-- and what it holds once it was asked for a text
+pub reported_alike : {A B : Type 0} (r : Result A Refusal) (s : Result B Refusal)
+    (held : Option (ContextState Records)) (command : Command) (addresses : Bor (List ℕ))
+    (held' : Option (ContextState Records)) → Alike r s
+    → LeavesHandle r held (question.Report command addresses) held'
+    → LeavesReported s held command addresses.now held'
+reported_alike r s None command addresses held' alike left = left
+reported_alike r s (Some context) command addresses (Some after) alike left =
+    left_alike r s context after command addresses.now alike left
+reported_alike r s (Some context) command addresses None alike left = left
+
+pub texts_alike : {A B : Type 0} (r : Result A Refusal) (s : Result B Refusal)
+    (held : Option (ContextState Records)) (command : Command) (addresses : List ℕ)
+    (held' : Option (ContextState Records)) → Alike r s
+    → LeavesReported r held command addresses held' → LeavesReported s held command addresses held'
+texts_alike r s None command addresses held' alike left = left
+texts_alike r s (Some context) command addresses (Some after) alike left =
+    left_alike r s context after command addresses alike left
+texts_alike r s (Some context) command addresses None alike left = left
+
+-- what was found is alike as it is shown, and a text as its bytes
+pub shown_alike : (found : Result FoundFrames Refusal) → Alike found (shown_result found)
+shown_alike (Ok found) = answers found (shown_view found)
+shown_alike (Err why) = refusals why
+
+pub gathered_alike : (found : Result (Vec ℕ Global) Refusal) → Alike found (gathered found)
+gathered_alike (Ok text) = answers text text.items
+gathered_alike (Err why) = refusals why
+
+-- what is found agrees as it is shown
+pub shown_agrees : (found : Result FoundFrames Refusal) (wanted : Result Shown Refusal)
+    → Agrees shown_view found wanted → Agrees (λ shown. shown) (shown_result found) wanted
+shown_agrees (Ok found) wanted is = is
+shown_agrees (Err why) wanted is = is
+
+pub gathered_agrees : (found : Result (Vec ℕ Global) Refusal) (wanted : Result (List ℕ) Refusal)
+    → Agrees (λ (text : Vec ℕ Global). text.items) found wanted → Agrees (λ text. text) (gathered found) wanted
+gathered_agrees (Ok text) wanted is = is
+gathered_agrees (Err why) wanted is = is
+
+-- a handle whose context was not asked is closed
+pub closed_answers : (held : Option (ContextState Records)) (asked : Question) → AnswersHeld None held asked
+    → AnswersHandle (Err Closed) held asked
+closed_answers None asked told = λ other. refl
+closed_answers (Some context) asked told = absurd told
+
+pub closed_leaves : {A : Type 0} (result : Result A Refusal) (held held' : Option (ContextState Records))
+    (asked : Question) → AnswersHeld None held asked → held' ≡ held → LeavesHandle result held asked held'
+closed_leaves result None held' asked told is = is
+closed_leaves result (Some context) held' asked told is = absurd told
+
+-- a handle whose context was asked is open
+pub open_answers : (result : Result FoundFrames Refusal) (held : Option (ContextState Records)) (asked : Question)
+    → AnswersHeld (Some result) held asked → AnswersHandle result held asked
+open_answers result None asked told = absurd told
+open_answers result (Some context) asked told = told
+
+-- the text that a handle answers
+pub text_told : (held : Option (ContextState Records)) (command : Command) (addresses : Bor (List ℕ))
+    (found : FoundFrames) → answer_of_handle held (question.Report command addresses) ≡ Ok (shown_view found)
+    → text_of_handle command held addresses.now ≡ Ok found.texts.items
+text_told None command addresses found is = absurd cc
+text_told (Some context) command addresses found is = text_shown (report_asked command context addresses.now) found is
+
+pub text_not_told : (held : Option (ContextState Records)) (command : Command) (addresses : Bor (List ℕ))
+    (why : Refusal) → answer_of_handle held (question.Report command addresses) ≡ Err why
+    → text_of_handle command held addresses.now ≡ Err why
+text_not_told None command addresses why is =
+    let same : Closed ≡ why = cc in
+    ap (λ r. Err r) same
+text_not_told (Some context) command addresses why is =
+    text_not_shown (report_asked command context addresses.now) why is

@@ -1,71 +1,141 @@
--- From what an opening reads to the text of its handle.
-use Rattle.std.proofs.Common.{◌≡◌, ℕ, List, [], ◌∷◌, refl, ap, subst, w64, to_z, of_z}
-use Rattle.std.specs.Prelude.{Option, None, Some, Result, Ok, Err}
+-- From what an opening reads to what its handle holds, and to the text of it.
+use Rattle.std.proofs.Common.{◌≡◌, ◌∙◌, ℕ, List, [], ◌∷◌, refl, sym, ap, w64, to_z, of_z}
+use Rattle.std.specs.Prelude.{ℤ, pos, Option, None, Some, Result, Ok, Err}
 use Rattle.pdb_records.specs.Records.{Records}
 use Rattle.pdb_types.specs.declared.error.Error.{Error}
 use Rattle.pdb_types.specs.Outcomes.{and_then, unless}
-use Rattle.pdb_addr2line.specs.ContextInputs.{ContextInputs}
+use Rattle.pdb_addr2line.specs.ContextInputs.{ContextInputs, ContextState}
 use Rattle.pdb_addr2line.specs.ContextData.{records_refusal, default_flags, context_of}
+use Rattle.pdb_addr2line.specs.Calls.{fresh}
 use Rattle.pdb_report_lib.specs.declared.reports.Command.{Command}
 use Rattle.pdb_report_lib.specs.FileReports.{opened}
 use Rattle.pdb_c.specs.declared.refusals.Refusal.{Refusal}
 use Rattle.pdb_c.specs.declared.refusals.Refusal.TheVariants as refusal
 use Rattle.pdb_c.specs.Refusals.{code}
-use Rattle.pdb_c.specs.Texts.{records_in, text_over, asked_text}
-use Rattle.pdb_c.specs.Openings.{if_made, with_context, HasContext, records_to_open, text_of_handle}
+use Rattle.pdb_c.specs.Texts.{records_in, text_of_context, text_over, asked_text}
+use Rattle.pdb_c.specs.Openings.{unless_refused, accepted_records, fresh_context, context_over}
+use Rattle.pdb_c.specs.Openings.{context_to_open, held_by, LeavesOpened, LeavesSome, LeavesFile, Opens}
+use Rattle.pdb_c.specs.Questions.{text_of_handle}
 
--- the records that are answered are those that were given
-same_records : {A : Type 0} (made : Result A Error) (given records : Records)
-    → if_made made given ≡ Ok records → given ≡ records
-same_records (Ok context) given records is = cc
-same_records (Err error) given records is = absurd cc
+-- the text of a context over records of which no part has failed is that over the records
+text_alike : (command : Command) (made : Result (ContextInputs Records) Error) (context : ContextState Records)
+    (addresses : List ℕ) → fresh_context made ≡ Ok context
+    → text_over command made addresses ≡ text_of_context command context addresses
+text_alike command (Ok inputs) context addresses is =
+    let same : fresh inputs ≡ context = cc in
+    ap (λ c. text_of_context command c addresses) same
+text_alike command (Err error) context addresses is = absurd cc
 
--- records of which a context could be made have streams that could be read
-accepted : {A : Type 0} (refused : Option Error) (made : Result A Error) (given records : Records)
-    → if_made (unless refused made) given ≡ Ok records → unless refused made ≡ made
-accepted None made given records is = refl
-accepted (Some error) made given records is = absurd cc
+-- the same of records that may be refused
+opened_alike : (command : Command) (refused : Option Error) (records : Records) (context : ContextState Records)
+    (addresses : List ℕ) → and_then (unless_refused refused records) context_over ≡ Ok context
+    → text_over command (unless refused (context_of default_flags records)) addresses
+    ≡ text_of_context command context addresses
+opened_alike command None records context addresses is =
+    text_alike command (context_of default_flags records) context addresses is
+opened_alike command (Some error) records context addresses is = absurd cc
 
--- what is read to be opened is what was read, and it has a context
-read_to_open : (read : Result Records Refusal) (records : Records)
-    → and_then read with_context ≡ Ok records → read ≡ Ok records
-read_to_open (Ok given) records is = ap Ok (same_records (opened given) given records is)
-read_to_open (Err why) records is = absurd cc
+-- the same of records that were read
+read_alike : (command : Command) (read : Result Records Refusal) (context : ContextState Records)
+    (addresses : List ℕ) → and_then (and_then read accepted_records) context_over ≡ Ok context
+    → and_then read (λ records. text_over command (opened records) addresses)
+    ≡ text_of_context command context addresses
+read_alike command (Ok records) context addresses is =
+    opened_alike command (records_refusal records) records context addresses is
+read_alike command (Err why) context addresses is = absurd cc
 
--- records that are handed out since they have a context have one
-pub has_context : (given records : Records) → with_context given ≡ Ok records → HasContext records
-has_context given records is =
-    let same : given ≡ records = same_records (opened given) given records is in
-    subst (λ r. with_context r ≡ Ok records) same is
-
--- records that were opened are asked as their bytes are
-pub asked_alike : (command : Command) (bytes addresses : List ℕ) (records : Records)
-    → records_to_open bytes ≡ Ok records
-    → text_of_handle command (Some records) addresses ≡ asked_text command bytes addresses
-asked_alike command bytes [] records is = refl
-asked_alike command bytes (address ∷ addresses) records is =
-    let read : records_in bytes ≡ Ok records = read_to_open (records_in bytes) records is in
-    let open_again : with_context records ≡ Ok records = rw read at is in
-    let same : opened records ≡ context_of default_flags records =
-    accepted (records_refusal records) (context_of default_flags records) records records open_again in
-    rw (read, same) refl
+-- a handle that holds the context over their records is asked as their bytes are
+pub asked_alike : (command : Command) (bytes addresses : List ℕ) (context : ContextState Records)
+    → context_to_open bytes [] ≡ Ok context
+    → text_of_handle command (Some context) addresses ≡ asked_text command bytes addresses
+asked_alike command bytes [] context is = refl
+asked_alike command bytes (address ∷ addresses) context is =
+    sym (read_alike command (records_in bytes []) context (address ∷ addresses) is)
 
 -- there is no text over records that have no context
-no_text : (command : Command) (made : Result (ContextInputs Records) Error) (records : Records) (addresses : List ℕ)
-    (why : Refusal) → if_made made records ≡ Err why → text_over command made addresses ≡ Err why
-no_text command (Ok context) records addresses why is = absurd cc
-no_text command (Err error) records addresses why is =
+no_text : (command : Command) (made : Result (ContextInputs Records) Error) (addresses : List ℕ) (why : Refusal)
+    → fresh_context made ≡ Err why → text_over command made addresses ≡ Err why
+no_text command (Ok context) addresses why is = absurd cc
+no_text command (Err error) addresses why is =
+    let same : refusal.RecordsRefused ≡ why = cc in
+    ap (λ r. Err r) same
+
+-- the same of records that may be refused
+refused_text : (command : Command) (refused : Option Error) (records : Records) (addresses : List ℕ) (why : Refusal)
+    → and_then (unless_refused refused records) context_over ≡ Err why
+    → text_over command (unless refused (context_of default_flags records)) addresses ≡ Err why
+refused_text command None records addresses why is =
+    no_text command (context_of default_flags records) addresses why is
+refused_text command (Some error) records addresses why is =
     let same : refusal.RecordsRefused ≡ why = cc in
     ap (λ r. Err r) same
 
 -- bytes that can't be opened are refused alike
 pub refused_alike : (command : Command) (read : Result Records Refusal) (addresses : List ℕ) (why : Refusal)
-    → and_then read with_context ≡ Err why
+    → and_then (and_then read accepted_records) context_over ≡ Err why
     → and_then read (λ records. text_over command (opened records) addresses) ≡ Err why
-refused_alike command (Ok records) addresses why is = no_text command (opened records) records addresses why is
+refused_alike command (Ok records) addresses why is =
+    refused_text command (records_refusal records) records addresses why is
 refused_alike command (Err other) addresses why is =
     let same : other ≡ why = cc in
     ap (λ r. Err r) same
+
+-- records whose streams could be read are accepted
+pub accepts : (records : Records) → records_refusal records ≡ None → accepted_records records ≡ Ok records
+accepts records is = ap (λ r. unless_refused r records) is
+
+-- records of which a stream could not be read are refused
+pub refuses : (records : Records) (error : Error) → records_refusal records ≡ Some error
+    → accepted_records records ≡ Err refusal.RecordsRefused
+refuses records error is = ap (λ r. unless_refused r records) is
+
+-- where nothing is held for a refusal, it is that of the context
+pub not_held : (wanted : Result (ContextState Records) Refusal) (why : Refusal)
+    → held_by wanted ≡ Err why → wanted ≡ Err why
+not_held (Ok context) why is = absurd cc
+not_held (Err other) why is =
+    let same : other ≡ why = cc in
+    ap (λ r. Err r) same
+
+-- what a handle holds once the records of bytes were put into it
+pub records_left : {A : Type 0} (result : Result A Refusal) (read : Result Records Refusal) (records : Records)
+    (held held' : Option (ContextState Records)) → read ≡ Ok records
+    → LeavesOpened result (context_over records) held held'
+    → LeavesOpened result (and_then read context_over) held held'
+records_left result read records held held' is left = rw is left
+
+-- a handle that holds a context over records
+some_held : {A : Type 0} (answer : A) (records : Records) (wanted : Result (ContextState Records) Refusal)
+    (held : Option (ContextState Records)) → context_over records ≡ wanted
+    → (held' : Option (ContextState Records)) → held_by wanted ≡ Ok held' → LeavesSome (Ok answer) held held'
+some_held answer records (Ok context) held made (Some other) is =
+    let same : context ≡ other = cc in
+    record { records = records; made = made ∙ ap (λ c. Ok c) same }
+some_held answer records (Ok context) held made None is = absurd cc
+some_held answer records (Err why) held made held' is = absurd cc
+
+-- what a handle holds once some records were put into it
+pub some_left : {A : Type 0} (result : Result A Refusal) (records : Records)
+    (held held' : Option (ContextState Records))
+    → LeavesOpened result (context_over records) held held' → LeavesSome result held held'
+some_left (Ok answer) records held (Some context) left =
+    some_held answer records (context_over records) held refl (Some context) left
+some_left (Ok answer) records held None left = some_held answer records (context_over records) held refl None left
+some_left (Err why) records held held' left = left.0
+
+-- the opening of a PDB file that was answered
+pub file_left : {A : Type 0} (answer : A) (held held' : Option (ContextState Records))
+    → LeavesSome (Ok answer) held held' → LeavesFile held' (pos 0)
+file_left answer held (Some context) left = (left, refl)
+file_left answer held None left = absurd left
+
+-- an opening that was answered
+pub opens : (wanted : Result (ContextState Records) Refusal) (held : Option (ContextState Records)) (answer : ℤ)
+    → answer ≡ pos 0 → held_by wanted ≡ Ok held → Opens wanted held answer
+opens (Ok context) held answer is left =
+    let same : held ≡ Some context = cc in
+    record { found = Ok context; agrees = refl; left = (same, is) }
+opens (Err why) held answer is left = absurd cc
 
 -- the numbers of refusals fit the answer's type
 pub code_fits : (why : Refusal) → to_z w64 (of_z w64 (code why)) ≡ code why

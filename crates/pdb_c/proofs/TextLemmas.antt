@@ -6,8 +6,10 @@ use Rattle.pdb_types.specs.declared.error.Error.{Error}
 use Rattle.pdb_types.specs.declared.error.Error.TheVariants.{OutOfMemory}
 use Rattle.pdb_types.specs.Outcomes.{and_then, unless}
 use Rattle.pdb_types.specs.TypeInputs.{ProviderInfos}
-use Rattle.pdb_addr2line.specs.ContextInputs.{ContextInputs}
-use Rattle.pdb_addr2line.specs.ContextData.{records_refusal, info_at, default_flags, context_of}
+use Rattle.pdb_frames.specs.CodeParts.{CodeParts}
+use Rattle.pdb_addr2line.specs.ContextInputs.{ContextInputs, ContextState}
+use Rattle.pdb_addr2line.specs.ContextData.{records_refusal, default_flags, context_of}
+use Rattle.pdb_addr2line.specs.Calls.{fresh}
 use Rattle.pdb_json_values.specs.Faults.{Fault, IsFaultOf}
 use Rattle.pdb_json_values.specs.declared.faults.RecordFault.{RecordFault}
 use Rattle.pdb_json_values.specs.declared.faults.RecordFault.TheVariants as fault
@@ -16,7 +18,7 @@ use Rattle.pdb_report_lib.specs.declared.reports.Command.TheVariants.{Names, Fra
 use Rattle.pdb_report_lib.specs.declared.reports.Command.TheVariants as wanted
 use Rattle.pdb_report_lib.specs.declared.reports.ReportFault.{ReportFault}
 use Rattle.pdb_report_lib.specs.declared.reports.ReportFault.TheVariants.{Lookup, Write}
-use Rattle.pdb_report_lib.specs.FileReports.{opened, text_over_records, EndsOverRecords}
+use Rattle.pdb_report_lib.specs.FileReports.{opened}
 use Rattle.pdb_report_lib.specs.Sinks.{SinkState}
 use Rattle.pdb_report_lib.specs.Reports.{addresses_text, function_text, stack_text, report_text, TakesText, EndsAt}
 use Rattle.pdb_report_lib.specs.Reports.{EndsEarly}
@@ -25,7 +27,8 @@ use Rattle.pdb_c.specs.declared.refusals.Refusal.TheVariants as refusal
 use Rattle.pdb_c.specs.Refusals.{refusal_of, refusal_of_fault, refusal_or_memory, refusal_of_records}
 use Rattle.pdb_c.specs.Refusals.{refusal_of_report}
 use Rattle.std.specs.Result.{IsErrAnd}
-use Rattle.pdb_c.specs.Texts.{with_refusal, text_over, Agrees}
+use Rattle.pdb_c.specs.Texts.{with_refusal, text_of_context, text_over, Agrees}
+use Rattle.pdb_c.specs.Questions.{infos}
 
 -- two texts in a row, of which the second has an error wherever its start is a text
 joined_refused : (first front rest : Result (List ℕ) Error) (error : Error) (texts : List ℕ)
@@ -71,16 +74,15 @@ addresses_refused f addresses before after error other ends =
     (λ b is. text_refused f addresses ends.done ends.address error b ends.next is (ends.refused other))
 
 -- a report that ends early at a look-up, but not where memory ran out, has that look-up's error for its text
-pub report_refused : {P : Type 0} (info : P → ProviderInfos) (inputs : ContextInputs P) (command : Command)
-    (addresses : List ℕ)
-    (before after : SinkState) (error : Error)
-    → error ≢ OutOfMemory → EndsEarly info inputs [] command addresses before after (Lookup error)
-    → report_text info inputs [] command addresses ≡ Err error
-report_refused info inputs Names addresses before after error other ends =
+pub report_refused : {P : Type 0} (info : P → ProviderInfos) (inputs : ContextInputs P) (failed : CodeParts)
+    (command : Command) (addresses : List ℕ) (before after : SinkState) (error : Error)
+    → error ≢ OutOfMemory → EndsEarly info inputs failed command addresses before after (Lookup error)
+    → report_text info inputs failed command addresses ≡ Err error
+report_refused info inputs failed Names addresses before after error other ends =
     addresses_refused (function_text info inputs) addresses before after error other ends
-report_refused info inputs Frames addresses before after error other ends =
-    addresses_refused (stack_text info inputs []) addresses before after error other ends
-report_refused info inputs wanted.List addresses before after error other ends = absurd (other ends.memory)
+report_refused info inputs failed Frames addresses before after error other ends =
+    addresses_refused (stack_text info inputs failed) addresses before after error other ends
+report_refused info inputs failed wanted.List addresses before after error other ends = absurd (other ends.memory)
 
 -- the text that an empty sink took is what it holds
 pub report_taken : (text : Result (List ℕ) Error) (before after : SinkState) (held : List ℕ)
@@ -122,39 +124,42 @@ context_refused command made addresses error gives other =
     rw (gives no_memory, is_other refusal.RecordsRefused error no_memory) refl
 
 -- an address that is refused
-pub address_refused : (command : Command) (made : Result (ContextInputs Records) Error) (inputs : ContextInputs Records)
-    (addresses : List ℕ) (before after : SinkState) (why : ReportFault)
-    → made ≡ Ok inputs
-    → EndsOverRecords inputs command addresses before after why
+pub address_refused : (command : Command) (context : ContextState Records) (addresses : List ℕ)
+    (before after : SinkState) (why : ReportFault)
+    → EndsEarly infos context.inputs context.code_failed command addresses before after why
     → refusal_of_report why ≢ refusal.OutOfMemory
-    → text_over command made addresses ≡ Err (refusal_of_report why)
-address_refused command made inputs addresses before after (Lookup error) is ends other =
+    → text_of_context command context addresses ≡ Err (refusal_of_report why)
+address_refused command context addresses before after (Lookup error) ends other =
     let no_memory = not_memory refusal.AddressRefused error other in
-    let info : Records → ProviderInfos = λ records index m. info_at records index in
     let refusal_at : Refusal → Result (List ℕ) Refusal = λ why. Err why in
     let convert : Result (List ℕ) Error → Result (List ℕ) Refusal = with_refusal (λ e. refusal.AddressRefused) in
-    let text : text_over_records inputs command addresses ≡ Err error =
-    report_refused info inputs command addresses before after error no_memory ends in
-    let over : text_over command made addresses ≡ convert (text_over_records inputs command addresses) =
-    ap (λ m. text_over command m addresses) is in
-    over ∙ (ap convert text ∙ ap refusal_at (sym (is_other refusal.AddressRefused error no_memory)))
-address_refused command made inputs addresses before after Write is ends other = absurd (other refl)
+    let text : report_text infos context.inputs context.code_failed command addresses ≡ Err error =
+    report_refused infos context.inputs context.code_failed command addresses before after error no_memory ends in
+    ap convert text ∙ ap refusal_at (sym (is_other refusal.AddressRefused error no_memory))
+address_refused command context addresses before after Write ends other = absurd (other refl)
 
 -- a text that was gathered whole, by a sink that was empty
-pub text_gathered : (command : Command) (made : Result (ContextInputs Records) Error) (inputs : ContextInputs Records)
-    (addresses : List ℕ) (before after start : SinkState) (held : List ℕ)
-    → made ≡ Ok inputs → before ≡ start → start.held ≡ Some [] → Some held ≡ after.held
-    → TakesText (text_over_records inputs command addresses) before after
-    → text_over command made addresses ≡ Ok held
-text_gathered command made inputs addresses before after start held is starts empty holds taken =
+pub text_gathered : (command : Command) (context : ContextState Records) (addresses : List ℕ)
+    (before after start : SinkState) (held : List ℕ)
+    → before ≡ start → start.held ≡ Some [] → Some held ≡ after.held
+    → TakesText (report_text infos context.inputs context.code_failed command addresses) before after
+    → text_of_context command context addresses ≡ Ok held
+text_gathered command context addresses before after start held starts empty holds taken =
     let held_of : SinkState → Option (List ℕ) = λ s. s.held in
     let convert : Result (List ℕ) Error → Result (List ℕ) Refusal = with_refusal (λ e. refusal.AddressRefused) in
-    let text : text_over_records inputs command addresses ≡ Ok held =
-    report_taken (text_over_records inputs command addresses) before after held (ap held_of starts ∙ empty)
-    holds taken in
-    let over : text_over command made addresses ≡ convert (text_over_records inputs command addresses) =
-    ap (λ m. text_over command m addresses) is in
-    over ∙ ap convert text
+    let text : report_text infos context.inputs context.code_failed command addresses ≡ Ok held =
+    report_taken (report_text infos context.inputs context.code_failed command addresses) before after held
+    (ap held_of starts ∙ empty) holds taken in
+    ap convert text
+
+-- the text over records is that of their context, of which no part has failed
+pub text_of_fresh : (command : Command) (made : Result (ContextInputs Records) Error) (context : ContextState Records)
+    (addresses : List ℕ) → made ≡ Ok context.inputs → context.failed ≡ [] → context.code_failed ≡ []
+    → text_over command made addresses ≡ text_of_context command context addresses
+text_of_fresh command made context addresses is failed code_failed =
+    let same : fresh context.inputs ≡ context =
+    λ i. record { inputs = context.inputs; failed = sym failed i; code_failed = sym code_failed i } in
+    rw is (ap (λ c. text_of_context command c addresses) same)
 
 -- records of which a stream failed have no context
 pub stream_failed : (records : Records) (error : Error)
@@ -167,3 +172,9 @@ pub matches : {A B : Type 0} (seen : A → B) (r : Result A Refusal) (why : Refu
 matches seen (Ok a) why definition is at_why = absurd is
 matches seen (Err given) why definition is at_why =
     subst (λ w. w ≢ refusal.OutOfMemory → definition ≡ Err w) (sym is) at_why
+
+-- what is so of a refusal is so of a result that is it
+pub ends_with : {A : Type 0} (r : Result A Refusal) (why : Refusal) (P : Result A Refusal → Type 0)
+    → IsErrAnd r (λ given. given ≡ why) → P (Err why) → P r
+ends_with (Ok a) why P is so = absurd is
+ends_with (Err given) why P is so = subst (λ w. P (Err w)) (sym is) so

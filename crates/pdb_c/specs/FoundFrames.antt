@@ -33,6 +33,10 @@ shown_view found = record {
   texts = found.texts.items;
 }
 
+-- the text of a report, as it is shown: no function and no rows
+abbrev pub shown_text : List ℕ → Shown
+shown_text text = record { start = 0; end = None; rows = []; texts = text }
+
 -- a function as frames: itself alone, with no file and no line
 abbrev pub frames_of_function : FunctionInfo → FramesInfo
 frames_of_function f = record {
@@ -40,6 +44,10 @@ frames_of_function f = record {
   end_rva = f.end_rva;
   frames = record { function = f.name; file = None; line = None } ∷ [];
 }
+
+-- a function of which nothing is known but where it starts
+abbrev pub start_alone : ℕ → FunctionInfo
+start_alone start = record { start_rva = start; end_rva = None; name = None }
 
 -- a list with another put at its start
 abbrev pub put_at_start : {A : Type 0} → List A → List A → List A

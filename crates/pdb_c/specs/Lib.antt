@@ -2,7 +2,10 @@ pub mod Refusals
 pub mod Texts
 pub mod Answers
 pub mod Handles
+pub mod Machines
+pub mod ModuleFiles
 pub mod Openings
 pub mod FrameRows
 pub mod FoundFrames
+pub mod Questions
 pub mod FrameAnswers

@@ -1,57 +1,82 @@
--- What an opening reads, what its handle is asked for, and how an opening ends.
-use Rattle.std.specs.Prelude.{◌≡◌, ℕ, ℤ, pos, List, [], ◌∷◌, Option, None, Some, Result, Ok, Err}
+-- What an opening reads, the context that it makes, and how it ends.
+use Rattle.std.specs.Prelude.{◌≡◌, ◌≢◌, ℕ, ℤ, pos, List, Option, None, Some, Result, Ok, Err}
 use Rattle.pdb_records.specs.Records.{Records}
 use Rattle.pdb_types.specs.declared.error.Error.{Error}
 use Rattle.pdb_types.specs.Outcomes.{and_then}
-use Rattle.pdb_addr2line.specs.ContextData.{default_flags, context_of}
-use Rattle.pdb_report_lib.specs.declared.reports.Command.{Command}
-use Rattle.pdb_report_lib.specs.FileReports.{opened}
+use Rattle.pdb_addr2line.specs.ContextInputs.{ContextInputs, ContextState}
+use Rattle.pdb_addr2line.specs.ContextData.{records_refusal, default_flags, context_of}
+use Rattle.pdb_addr2line.specs.Calls.{fresh}
 use Rattle.pdb_c.specs.declared.refusals.Refusal.{Refusal}
-use Rattle.pdb_c.specs.declared.refusals.Refusal.TheVariants.{Closed, NoAddresses, RecordsRefused}
+use Rattle.pdb_c.specs.declared.refusals.Refusal.TheVariants.{RecordsRefused, OutOfMemory}
 use Rattle.pdb_c.specs.Refusals.{code}
-use Rattle.pdb_c.specs.Texts.{Agrees, records_in, text_over}
+use Rattle.pdb_c.specs.Texts.{Agrees, records_in}
 
--- records of which a context could be made, and else the refusal of records that have none
-abbrev pub if_made : {A : Type 0} → Result A Error → Records → Result Records Refusal
-if_made (Ok context) records = Ok records
-if_made (Err error) records = Err RecordsRefused
+-- records whose streams could be read, and else their refusal
+abbrev pub unless_refused : Option Error → Records → Result Records Refusal
+unless_refused None records = Ok records
+unless_refused (Some error) records = Err RecordsRefused
 
--- records that have a context, and else their refusal
-abbrev pub with_context : Records → Result Records Refusal
-with_context records = if_made (opened records) records
+-- records over which a context can be sought, and else their refusal
+abbrev pub accepted_records : Records → Result Records Refusal
+accepted_records records = unless_refused (records_refusal records) records
 
--- the records that an opening reads in the bytes of a records file, or why it is refused
-abbrev pub records_to_open : List ℕ → Result Records Refusal
-records_to_open bytes = and_then (records_in bytes) with_context
+-- a context over inputs, of which no part has failed, and else the refusal of records that have none
+abbrev pub fresh_context : Result (ContextInputs Records) Error → Result (ContextState Records) Refusal
+fresh_context (Ok inputs) = Ok (fresh inputs)
+fresh_context (Err error) = Err RecordsRefused
 
--- the text that a handle is asked for: refused where the handle is closed, and where there are no addresses
-abbrev pub text_of_handle : Command → Option Records → List ℕ → Result (List ℕ) Refusal
-text_of_handle command None addresses = Err Closed
-text_of_handle command (Some records) [] = Err NoAddresses
-text_of_handle command (Some records) (address ∷ addresses) =
-    text_over command (context_of default_flags records) (address ∷ addresses)
+-- the context over records whose streams could be read, of which no part has failed
+abbrev pub context_over : Records → Result (ContextState Records) Refusal
+context_over records = fresh_context (context_of default_flags records)
 
--- what an opening leaves of records or of a refusal: what the handle holds, and the answer
-abbrev pub Leaves : Result Records Refusal → Option Records → ℤ → Type 0
-Leaves (Ok records) held answer = (held ≡ Some records) × (answer ≡ pos 0)
+-- the records that an opening reads in the bytes of a records file and of its module files, or why it is refused
+abbrev pub records_to_open : List ℕ → List (List ℕ) → Result Records Refusal
+records_to_open bytes files = and_then (records_in bytes files) accepted_records
+
+-- the context that an opening makes over them, or why it is refused
+abbrev pub context_to_open : List ℕ → List (List ℕ) → Result (ContextState Records) Refusal
+context_to_open bytes files = and_then (records_to_open bytes files) context_over
+
+-- what a handle holds that holds this context
+abbrev pub held_by : Result (ContextState Records) Refusal → Result (Option (ContextState Records)) Refusal
+held_by (Ok context) = Ok (Some context)
+held_by (Err refusal) = Err refusal
+
+-- what a handle holds once records were put into it: the context over them, or else what it held
+abbrev pub LeavesOpened : {A : Type 0} → Result A Refusal → Result (ContextState Records) Refusal
+    → (held held' : Option (ContextState Records)) → Type 0
+LeavesOpened (Ok answer) wanted held held' = held_by wanted ≡ Ok held'
+LeavesOpened (Err refusal) wanted held held' = (held' ≡ held) × (refusal ≢ OutOfMemory → wanted ≡ Err refusal)
+
+-- what an opening leaves of a context or of a refusal: what the handle holds, and the answer
+abbrev pub Leaves : Result (ContextState Records) Refusal → Option (ContextState Records) → ℤ → Type 0
+Leaves (Ok context) held answer = (held ≡ Some context) × (answer ≡ pos 0)
 Leaves (Err refusal) held answer = (held ≡ None) × (answer ≡ code refusal)
 
 -- how an opening ends: as of what the bytes hold, unless memory ran out
-pub record Opens (wanted : Result Records Refusal) (held : Option Records) (answer : ℤ) : Type 0 where
-  pub found : Result Records Refusal
-  pub agrees : Agrees (λ records. records) found wanted
+pub record Opens (wanted : Result (ContextState Records) Refusal) (held : Option (ContextState Records)) (answer : ℤ)
+    : Type 0 where
+  pub found : Result (ContextState Records) Refusal
+  pub agrees : Agrees (λ context. context) found wanted
   pub left : Leaves found held answer
 
--- records of which a context can be made
-abbrev pub HasContext : Records → Type 0
-HasContext records = with_context records ≡ Ok records
+-- a context over some records, of which no part has failed
+pub record OverRecords (context : ContextState Records) : Type 0 where
+  pub records : Records
+  pub made : context_over records ≡ Ok context
+
+-- what a handle holds once the records of some PDB file were put into it: a context over them, or else what it held
+abbrev pub LeavesSome : {A : Type 0} → Result A Refusal → (held held' : Option (ContextState Records)) → Type 0
+LeavesSome (Ok answer) held (Some context) = OverRecords context
+LeavesSome (Ok answer) held None = ⊥
+LeavesSome (Err refusal) held held' = held' ≡ held
 
 -- an answer that is the number of a refusal
 pub record RefusedBy (answer : ℤ) : Type 0 where
   pub why : Refusal
   pub is : answer ≡ code why
 
--- what the opening of a PDB file leaves: records that have a context, and 0; or no records, and why
-abbrev pub LeavesFile : Option Records → ℤ → Type 0
-LeavesFile (Some records) answer = HasContext records × (answer ≡ pos 0)
+-- what the opening of a PDB file leaves: a context of which no part has failed, and 0; or none, and why
+abbrev pub LeavesFile : Option (ContextState Records) → ℤ → Type 0
+LeavesFile (Some context) answer = OverRecords context × (answer ≡ pos 0)
 LeavesFile None answer = RefusedBy answer

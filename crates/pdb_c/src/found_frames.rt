@@ -1,19 +1,24 @@
 //! What a question for frames or for a function finds, as rows and texts in memory.
 ghost use Rattle.std.specs.Prelude.{◌≡◌, None, Some, option_map, IfOk};
 ghost use Rattle.pdb_function_info.specs.Function.{function_view};
-ghost use Rattle.pdb_c.specs.FoundFrames.{shown, shown_view, frames_of_function, sizes};
+ghost use Rattle.pdb_c.specs.FoundFrames.{shown, shown_view, shown_text, frames_of_function, sizes, start_alone};
 
 use crate::frame_rows::{FrameRow, append_frames};
 use pdb_addr2line::{Frame, Function, FunctionFrames};
+use pdb_report_lib::Command;
 use std::alloc::{AllocError, Global};
 
-/// What is asked about an address.
+/// What a context is asked.
 #[derive(Clone, Copy)]
-pub(crate) enum Question {
-    /// The functions in whose code it lies, from inside to outside.
+pub(crate) enum Question<'q> {
+    /// The functions in whose code an address lies, from inside to outside.
     Frames(u32),
-    /// The function whose code it lies in.
+    /// The function whose code an address lies in.
     Function(u32),
+    /// The first function that starts at an address or behind it, of which nothing else is asked.
+    NextStart(u32),
+    /// The text of a report of addresses.
+    Report(Command, &'q [u32]),
 }
 
 /// How large an answer is, and the addresses of its function.
@@ -43,13 +48,26 @@ pub(crate) fn sizes(found: &FoundFrames) -> FoundFunction
     }
 }
 
-/// What a question finds: its function's addresses, rows and texts.
+/// What a question finds: its function's addresses, rows and texts. A report has no function and no rows, and its texts
+/// are the one text of the report.
 #[derive(Drop)]
 pub(crate) struct FoundFrames {
     pub(crate) start: u32,
     pub(crate) end: Option<u32>,
     pub(crate) rows: Vec<FrameRow>,
     pub(crate) texts: Vec<u8>,
+}
+
+// The text of a report.
+pub(crate) fn found_text(alloc: Global, text: Vec<u8>) -> FoundFrames
+    ensures { shown_view result ≡ shown_text text.items }
+{
+    FoundFrames {
+        start: 0,
+        end: None,
+        rows: Vec::new(alloc),
+        texts: text,
+    }
 }
 
 // No function at all.
@@ -115,6 +133,20 @@ fn frames_of_function(
         end_rva,
         frames,
     })
+}
+
+// A function of which nothing is known but where it starts, where one starts.
+pub(crate) fn function_from(start: Option<u32>) -> Option<Function>
+    ensures { option_map function_view result ≡ option_map start_alone start }
+{
+    match start {
+        Some(start) => Some(Function {
+            start_rva: start,
+            end_rva: None,
+            name: None,
+        }),
+        None => None,
+    }
 }
 
 // What is found of a function, where there is one.

@@ -1,88 +1,146 @@
-//! Asks a context for frames or a function, and writes what is found into the caller's rooms.
-ghost use Rattle.std.specs.Prelude.{◌≡◌, Ok};
-ghost use Rattle.pdb_addr2line.specs.ContextData.{default_flags, context_of};
+//! Asks a context, and writes what is found into the caller's rooms.
+ghost use Rattle.std.specs.Prelude.{◌≡◌, Ok, OnOk, MatchResult, option_map};
+ghost use Rattle.pdb_function_info.specs.Function.{function_view};
+ghost use Rattle.pdb_addr2line.specs.Calls.{after_frames};
+ghost use Rattle.pdb_addr2line.specs.Functions.{after_function, OnlyGainsBroken};
+ghost use Rattle.pdb_addr2line.specs.Lookups.{function_at};
 ghost use Rattle.pdb_c.specs.FoundFrames.{shown_view};
-ghost use Rattle.pdb_c.specs.FrameAnswers.{answer_in, answer_over, answer_of_handle, shown_result, LeavesFrames};
+ghost use Rattle.pdb_c.specs.FrameAnswers.{shown_result, LeavesFrames};
+ghost use Rattle.pdb_c.specs.Questions.{infos, frames_over, answer_in, report_asked};
+ghost use Rattle.pdb_c.specs.Questions.{IsLeftByCall, IsLeftBy, IsLeftByReport};
 ghost use Rattle.pdb_c.specs.Texts.{Agrees};
-ghost use Rattle.pdb_c.specs.declared.found_frames.Question.TheVariants.{Frames, Function};
+ghost use Rattle.pdb_c.specs.declared.found_frames.Question.TheVariants.{Frames, NextStart};
+ghost use Rattle.pdb_c.specs.declared.found_frames.Question.TheVariants.{Function as of_function};
+ghost use Rattle.pdb_c.specs.declared.refusals.Refusal.TheVariants.{OutOfMemory};
 
 use crate::found_frames::{
-    FoundFrames, FoundFunction, Question, found_frames, found_function, sizes,
+    FoundFrames, FoundFunction, Question, found_frames, found_function, found_text, function_from,
+    sizes,
 };
 use crate::frame_rows::FrameRow;
-use crate::handle::Handle;
 use crate::refusals::Refusal;
-use pdb_addr2line::{Context, ContextPdbData, Error};
+use crate::texts::report_in;
+use pdb_addr2line::{Context, ContextPdbData, Error, Function, FunctionFrames};
+use pdb_report_lib::Command;
 use std::alloc::Global;
+
+// The frames over an address. What the context met broken on the way is broken.
+fn look_up_frames<'a>(
+    context: &mut Context<'a, ContextPdbData<'static>>,
+    address: u32,
+) -> Result<Option<FunctionFrames<'a>>, Refusal>
+    ensures answer { Agrees (λ found. found) result (frames_over context.old address) }
+    ensures state { IsLeftByCall result context.old (after_frames infos context.old address) context.new }
+    ensures gains { OnOk result (OnlyGainsBroken infos context.old context.new) }
+{
+    match context.find_frames(address) {
+        Ok(found) => Ok(found),
+        Err(Error::OutOfMemory) => Err(Refusal::OutOfMemory),
+        Err(_) => Err(Refusal::AddressRefused),
+    }
+}
+
+// The function over an address. What the context met broken on the way is broken.
+fn look_up(
+    context: &mut Context<'_, ContextPdbData<'static>>,
+    address: u32,
+) -> Result<Option<Function>, Refusal>
+    ensures answer { MatchResult result
+        (λ found. option_map function_view found ≡ function_at infos context.old.inputs address)
+        (λ refusal. refusal ≡ OutOfMemory) }
+    ensures state { OnOk result (context.new ≡ after_function infos context.old address) }
+    ensures gains { OnlyGainsBroken infos context.old context.new }
+{
+    match context.find_function(address) {
+        Ok(found) => Ok(found),
+        Err(_) => Err(Refusal::OutOfMemory),
+    }
+}
 
 // What a context finds of the frames over an address.
 fn frames_in(
     alloc: Global,
-    context: &mut Context<'_, ContextPdbData<'_>>,
+    context: &mut Context<'_, ContextPdbData<'static>>,
     address: u32,
 ) -> Result<FoundFrames, Refusal>
-    ensures { Agrees shown_view result (answer_in context.old (Frames address)) }
+    ensures answer { Agrees shown_view result (answer_in context.old (Frames address)) }
+    ensures state { IsLeftBy result context.old (Frames address) context.new }
 {
-    match context.find_frames(address) {
-        Ok(found) => Ok(found_frames(alloc, &found)?),
-        Err(Error::OutOfMemory) => Err(Refusal::OutOfMemory),
-        Err(_) => Err(Refusal::AddressRefused),
+    let found = look_up_frames(context, address)?;
+    match found_frames(alloc, &found) {
+        Ok(found) => Ok(found),
+        Err(_) => Err(Refusal::OutOfMemory),
     }
 }
 
 // What a context finds of the function over an address.
 fn function_in(
     alloc: Global,
-    context: &mut Context<'_, ContextPdbData<'_>>,
+    context: &mut Context<'_, ContextPdbData<'static>>,
     address: u32,
 ) -> Result<FoundFrames, Refusal>
-    ensures { Agrees shown_view result (answer_in context.old (Function address)) }
+    ensures answer { Agrees shown_view result (answer_in context.old (of_function address)) }
+    ensures state { IsLeftBy result context.old (of_function address) context.new }
 {
-    let found = context.find_function(address)?;
-    Ok(found_function(alloc, found)?)
+    let found = look_up(context, address)?;
+    match found_function(alloc, found) {
+        Ok(found) => Ok(found),
+        Err(_) => Err(Refusal::OutOfMemory),
+    }
+}
+
+// Where the next function starts that a context knows, as the frame of a function of which nothing else is known.
+fn next_start_in(
+    alloc: Global,
+    context: &mut Context<'_, ContextPdbData<'static>>,
+    address: u32,
+) -> Result<FoundFrames, Refusal>
+    ensures answer { Agrees shown_view result (answer_in context.old (NextStart address)) }
+    ensures state { IsLeftBy result context.old (NextStart address) context.new }
+{
+    let Ok(start) = context.next_start_address(address) else {
+        return Err(Refusal::OutOfMemory);
+    };
+    match found_function(alloc, function_from(start)) {
+        Ok(found) => Ok(found),
+        Err(_) => Err(Refusal::OutOfMemory),
+    }
+}
+
+// The text of a report of a context, which has to be of at least one address.
+fn report_asked(
+    alloc: Global,
+    context: &mut Context<'_, ContextPdbData<'static>>,
+    command: Command,
+    addresses: &[u32],
+) -> Result<Vec<u8>, Refusal>
+    ensures answer { Agrees (λ text. text.items) result (report_asked command context.old addresses.now) }
+    ensures state { IsLeftByReport result context.old context.new command addresses.now }
+{
+    if addresses.is_empty() {
+        return Err(Refusal::NoAddresses);
+    }
+    report_in(alloc, context, command, addresses)
 }
 
 // What a context answers to a question.
-fn answer_in(
+pub(crate) fn answer_in(
     alloc: Global,
-    context: &mut Context<'_, ContextPdbData<'_>>,
-    question: Question,
+    context: &mut Context<'_, ContextPdbData<'static>>,
+    question: Question<'_>,
 ) -> Result<FoundFrames, Refusal>
-    ensures { Agrees shown_view result (answer_in context.old question) }
+    ensures answer { Agrees shown_view result (answer_in context.old question.entry) }
+    ensures state { IsLeftBy result context.old question.entry context.new }
 {
     match question {
         Question::Frames(address) => frames_in(alloc, context, address),
         Question::Function(address) => function_in(alloc, context, address),
+        Question::NextStart(address) => next_start_in(alloc, context, address),
+        Question::Report(command, addresses) => {
+            let text = report_asked(alloc, context, command, addresses)?;
+            Ok(found_text(alloc, text))
+        }
     }
-}
-
-// What a question finds over records.
-fn answer_over(
-    alloc: Global,
-    records: &ContextPdbData<'_>,
-    question: Question,
-) -> Result<FoundFrames, Refusal>
-    ensures { Agrees shown_view result (answer_over (context_of default_flags records.now) question) }
-{
-    let mut context = records.make_context()?;
-    answer_in(alloc, &mut context, question)
-}
-
-// What a question finds over the records that a handle holds, which it holds afterwards too.
-pub(crate) fn answer_of_handle(
-    alloc: Global,
-    handle: &mut Handle,
-    question: Question,
-) -> Result<FoundFrames, Refusal>
-    ensures answer { Agrees shown_view result (answer_of_handle handle.old.held question) }
-    ensures unchanged { handle.new.held ≡ handle.old.held }
-{
-    let Some(records) = handle.take(alloc) else {
-        return Err(Refusal::Closed);
-    };
-    let found = answer_over(alloc, &records, question);
-    handle.put(records);
-    found
 }
 
 // Writes what is found to the start of the caller's rooms where it fits there, and says how large it is.

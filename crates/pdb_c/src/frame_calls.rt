@@ -1,10 +1,9 @@
 //! The calls for C that answer frames and functions as data.
-ghost use Rattle.std.specs.Prelude.{◌≡◌};
-ghost use Rattle.pdb_c.specs.FrameAnswers.{answer_of_handle, EndsWithFrames};
-ghost use Rattle.pdb_c.specs.declared.found_frames.Question.TheVariants.{Frames, Function};
+ghost use Rattle.pdb_c.specs.FrameAnswers.{EndsWithFrames};
+ghost use Rattle.pdb_c.specs.declared.found_frames.Question.TheVariants.{Frames, Function, NextStart};
 
 use crate::found_frames::{FoundFunction, Question};
-use crate::frame_answers::{answer_of_handle, answer_with_frames};
+use crate::frame_answers::answer_with_frames;
 use crate::frame_rows::FrameRow;
 use crate::handle::Handle;
 use std::alloc::Global;
@@ -13,7 +12,7 @@ use std::alloc::Global;
 /// innermost first, and the texts that rows lead to, each with a 0 behind it. `size` says how many there are of both,
 /// and which function it is. Answers 0, also where no function lies there, and then there are no rows. Where there is
 /// no answer, or it is larger than the rooms, nothing is written to these, and the answer is the refusal's number. The
-/// handle holds what it held.
+/// handle holds the same records, and its context remembers what it met broken.
 #[unsafe(no_mangle)]
 pub extern "C" fn limberlime_find_frames_unchecked(
     alloc: Global,
@@ -23,11 +22,10 @@ pub extern "C" fn limberlime_find_frames_unchecked(
     texts: &mut [u8],
     size: &mut FoundFunction,
 ) -> i64
-    ensures answer { EndsWithFrames (answer_of_handle handle.old.held (Frames address))
+    ensures { EndsWithFrames handle.old.held handle.new.held (Frames address)
         rows.old rows.new texts.old texts.new size.new result }
-    ensures unchanged { handle.new.held ≡ handle.old.held }
 {
-    let found = answer_of_handle(alloc, handle, Question::Frames(address));
+    let found = handle.answer(alloc, Question::Frames(address));
     answer_with_frames(found, rows, texts, size)
 }
 
@@ -42,10 +40,27 @@ pub extern "C" fn limberlime_find_function_unchecked(
     texts: &mut [u8],
     size: &mut FoundFunction,
 ) -> i64
-    ensures answer { EndsWithFrames (answer_of_handle handle.old.held (Function address))
+    ensures { EndsWithFrames handle.old.held handle.new.held (Function address)
         rows.old rows.new texts.old texts.new size.new result }
-    ensures unchanged { handle.new.held ≡ handle.old.held }
 {
-    let found = answer_of_handle(alloc, handle, Question::Function(address));
+    let found = handle.answer(alloc, Question::Function(address));
+    answer_with_frames(found, rows, texts, size)
+}
+
+/// Writes where the first function starts from an address on: a row for it alone, with no name, no file and no line,
+/// and no row where none starts there or behind. All else is as of [`limberlime_find_frames_unchecked`].
+#[unsafe(no_mangle)]
+pub extern "C" fn limberlime_next_start_unchecked(
+    alloc: Global,
+    handle: &mut Handle,
+    address: u32,
+    rows: &mut [FrameRow],
+    texts: &mut [u8],
+    size: &mut FoundFunction,
+) -> i64
+    ensures { EndsWithFrames handle.old.held handle.new.held (NextStart address)
+        rows.old rows.new texts.old texts.new size.new result }
+{
+    let found = handle.answer(alloc, Question::NextStart(address));
     answer_with_frames(found, rows, texts, size)
 }

@@ -1,30 +1,39 @@
-//! The handle of an opening, which lies in memory of the caller's and owns the records that it holds.
-ghost use Rattle.std.specs.Prelude.{◌≡◌, Option, None, Some, option_map};
+//! The handle of an opening, which lies in memory of the caller's and owns records and a context over them.
+ghost use Rattle.std.specs.Prelude.{◌≡◌, Option, None};
 ghost use Rattle.pdb_records.specs.Records.{Records};
+ghost use Rattle.pdb_addr2line.specs.ContextInputs.{ContextState};
+ghost use Rattle.pdb_c.specs.Texts.{Agrees};
+ghost use Rattle.pdb_c.specs.Openings.{context_over, held_by, LeavesOpened};
+ghost use Rattle.pdb_c.specs.Questions.{AnswersHeld, LeavesHeld, AnswersHandle, LeavesHandle};
 
-mod loose;
+pub(crate) mod loose;
 
+use crate::contexts::{context_over, give_back, refuse};
+use crate::found_frames::{FoundFrames, Question};
+use crate::frame_answers::answer_in;
+use crate::refusals::Refusal;
 use loose::Loose;
-use pdb_addr2line::ContextPdbData;
+use pdb_addr2line::{Context, ContextPdbData};
 use std::alloc::Global;
 use std::marker::Model;
 use std::mem::replace;
 use std::ptr::null_mut;
 
-/// Records that were opened, behind a pointer, or none, where the pointer is null. No type that leads to a list
-/// may cross to C, so the pointer's own type names nothing.
+/// Records that were opened and a context over them, each behind a pointer, or none, where the second pointer is null.
+/// No type that leads to a list may cross to C, so the pointers' own type names nothing.
 #[repr(C)]
 pub struct Handle {
-    at: *mut u8,
+    records: *mut u8,
+    context: *mut u8,
     alloc: Global,
-    /// The records that are held.
-    pub ghost held: { Option Records },
+    /// The context that is held.
+    pub ghost held: { Option (ContextState Records) },
 }
 
 impl Model for Handle {
     ghost use Rattle.pdb_c.specs.Handles.{holds};
 
-    ghost also_owns = { λ h. holds h.alloc h.at h.held };
+    ghost also_owns = { λ h. holds h.alloc h.records h.context h.held };
 }
 
 impl Handle {
@@ -33,68 +42,100 @@ impl Handle {
         ensures { result.held ≡ None }
     {
         Handle {
-            at: null_mut(),
+            records: null_mut(),
+            context: null_mut(),
             alloc,
         }
     }
 
-    // A handle that holds these records.
-    fn holding(records: Loose<ContextPdbData<'static>, Global>) -> Handle
-        ensures { result.held ≡ Some records.entry.value }
+    // A handle that holds these records and a context over them.
+    fn over(records: Loose<ContextPdbData<'static>, Global>) -> Result<Handle, Refusal>
+        ensures { Agrees (λ handle. handle.held) result (held_by (context_over records.entry.value)) }
     {
         let Loose { at, alloc } = records;
-        Handle {
-            at: at as *mut u8,
-            alloc,
+        match context_over(alloc, unsafe { &*at }) {
+            Ok(Loose { at: context, alloc }) => Ok(Handle {
+                records: at as *mut u8,
+                context: context as *mut u8,
+                alloc,
+            }),
+            Err(refusal) => Err(refuse(Loose { at, alloc }, refusal)),
         }
     }
 
-    // The records that the handle held, if it held any.
-    fn into_loose(self) -> Option<Loose<ContextPdbData<'static>, Global>>
-        ensures { option_map (λ records. records.value) result ≡ self.held }
+    // What the context answers to a question, if there is one.
+    fn ask(&mut self, alloc: Global, question: Question<'_>) -> Option<Result<FoundFrames, Refusal>>
+        ensures answer { AnswersHeld result self.old.held question.entry }
+        ensures state { LeavesHeld result self.old.held question.entry self.new.held }
     {
-        let Handle { at, alloc } = self;
-        if at.is_null() {
+        let context = self.context as *mut Context<'_, ContextPdbData<'static>>;
+        if context.is_null() {
             None
         } else {
+            unsafe { Some(answer_in(alloc, &mut *context, question)) }
+        }
+    }
+
+    // Gives the context back, and hands out the records, if there are any.
+    fn into_records(self) -> Option<Loose<ContextPdbData<'static>, Global>> {
+        let Handle {
+            records,
+            context,
+            alloc,
+        } = self;
+        if context.is_null() {
+            None
+        } else {
+            give_back(Loose {
+                at: context as *mut Context<'_, ContextPdbData<'static>>,
+                alloc,
+            });
             Some(Loose {
-                at: at as *mut ContextPdbData<'static>,
+                at: records as *mut ContextPdbData<'static>,
                 alloc,
             })
         }
     }
 
-    // Holds from now on what another handle holds, and hands out what it held before.
-    fn exchange(&mut self, next: Handle) -> Option<Box<ContextPdbData<'static>>>
-        ensures answer { option_map (λ records. records.value) result ≡ self.old.held }
-        ensures state { self.new.held ≡ next.held }
+    // Holds from now on what another handle holds, and gives back what it held before.
+    fn exchange(&mut self, next: Handle)
+        ensures { self.new.held ≡ next.held }
     {
-        match replace(self, next).into_loose() {
-            Some(records) => Some(records.into_box()),
-            None => None,
+        if let Some(records) = replace(self, next).into_records() {
+            drop(records.into_box());
         }
     }
 
-    // Hands out the records that are held, if there are any. The handle is closed from now on.
-    pub(crate) fn take(&mut self, alloc: Global) -> Option<Box<ContextPdbData<'static>>>
-        ensures answer { option_map (λ records. records.value) result ≡ self.old.held }
-        ensures state { self.new.held ≡ None }
-    {
-        self.exchange(Handle::closed(alloc))
-    }
-
-    // Holds these records from now on, and gives those back that were held before.
-    pub(crate) fn put(&mut self, records: Box<ContextPdbData<'static>>)
-        ensures { self.new.held ≡ Some records.entry.value }
-    {
-        drop(self.exchange(Handle::holding(Loose::of(records))));
-    }
-
-    // Gives the records back that are held, if there are any.
+    // Gives back what is held, if there is anything.
     pub(crate) fn close(&mut self, alloc: Global)
         ensures { self.new.held ≡ None }
     {
-        drop(self.take(alloc));
+        self.exchange(Handle::closed(alloc));
+    }
+
+    // Holds these records and a context over them from now on, and gives back what it held before. Where the records
+    // have no context, it holds what it held.
+    pub(crate) fn open(&mut self, records: Box<ContextPdbData<'static>>) -> Result<(), Refusal>
+        ensures { LeavesOpened result (context_over records.entry.value) self.old.held self.new.held }
+    {
+        let next = Handle::over(Loose::of(records))?;
+        self.exchange(next);
+        Ok(())
+    }
+
+    // What is answered to a question.
+    pub(crate) fn answer(
+        &mut self,
+        alloc: Global,
+        question: Question<'_>,
+    ) -> Result<FoundFrames, Refusal>
+        ensures answer { AnswersHandle result self.old.held question.entry }
+        ensures state { LeavesHandle result self.old.held question.entry self.new.held }
+    {
+        match self.ask(alloc, question) {
+            Some(found) => found,
+            None => Err(Refusal::Closed),
+        }
     }
 }
 

@@ -1,13 +1,14 @@
 //! The calls for C that open records, ask about those that are open, and close them.
 
-ghost use Rattle.std.specs.Prelude.{◌≡◌, None};
+ghost use Rattle.std.specs.Prelude.{◌≡◌, [], None};
 ghost use Rattle.pdb_report_lib.specs.declared.reports.Command.TheVariants.{Names, Frames};
-ghost use Rattle.pdb_c.specs.Answers.{Ends};
-ghost use Rattle.pdb_c.specs.Openings.{records_to_open, text_of_handle, Opens};
+ghost use Rattle.pdb_c.specs.Openings.{context_to_open, Opens};
+ghost use Rattle.pdb_c.specs.Questions.{EndsWithText};
 
 use crate::answers::answer;
 use crate::handle::Handle;
-use crate::openings::{records_to_open, text_of_handle};
+use crate::openings::text_of_handle;
+use crate::records_calls::open_with_contents;
 use pdb_report_lib::Command;
 use std::alloc::Global;
 
@@ -19,22 +20,15 @@ pub extern "C" fn limberlime_open_unchecked(
     records: &[u8],
     handle: &mut Handle,
 ) -> i64
-    ensures { Opens (records_to_open records.now) handle.new.held result }
+    ensures { Opens (context_to_open records.now []) handle.new.held result }
 {
-    handle.close(alloc);
-    match records_to_open(alloc, records) {
-        Ok(opened) => {
-            handle.put(opened);
-            0
-        }
-        Err(refusal) => refusal.code(),
-    }
+    open_with_contents(alloc, records, &[], &[], handle)
 }
 
 /// Writes the lines of the frames over addresses to the caller's buffer, as `pdb_report RECORDS frames ADDRESS...`
 /// prints them of the records that a handle holds, and answers the text's length in bytes; `wanted` is that length
 /// too. Where there is no such text, or it is longer than the buffer, nothing is written, and the answer is the
-/// refusal's number. The handle holds what it held.
+/// refusal's number. The handle holds the same records, and its context remembers what it met broken.
 #[unsafe(no_mangle)]
 pub extern "C" fn limberlime_frames_of_unchecked(
     alloc: Global,
@@ -43,9 +37,8 @@ pub extern "C" fn limberlime_frames_of_unchecked(
     buffer: &mut [u8],
     wanted: &mut usize,
 ) -> i64
-    ensures answer { Ends (text_of_handle Frames handle.old.held addresses.now)
+    ensures { EndsWithText handle.old.held handle.new.held Frames addresses.now
         buffer.old buffer.new wanted.new result }
-    ensures unchanged { handle.new.held ≡ handle.old.held }
 {
     let found = text_of_handle(alloc, Command::Frames, handle, addresses);
     answer(found, buffer, wanted)
@@ -61,9 +54,8 @@ pub extern "C" fn limberlime_names_of_unchecked(
     buffer: &mut [u8],
     wanted: &mut usize,
 ) -> i64
-    ensures answer { Ends (text_of_handle Names handle.old.held addresses.now)
+    ensures { EndsWithText handle.old.held handle.new.held Names addresses.now
         buffer.old buffer.new wanted.new result }
-    ensures unchanged { handle.new.held ≡ handle.old.held }
 {
     let found = text_of_handle(alloc, Command::Names, handle, addresses);
     answer(found, buffer, wanted)

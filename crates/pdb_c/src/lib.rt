@@ -6,6 +6,7 @@
 
 mod answers;
 mod calls;
+mod contexts;
 mod found_frames;
 mod frame_answers;
 mod frame_calls;
@@ -13,15 +14,21 @@ mod frame_rows;
 mod handle;
 mod handle_calls;
 mod laws;
+mod machine_calls;
+mod module_files;
 mod openings;
 mod pdb_calls;
 mod pdb_openings;
+mod records_calls;
 mod refusals;
 mod texts;
 
 pub use calls::{limberlime_frames_unchecked, limberlime_names_unchecked};
 pub use found_frames::FoundFunction;
-pub use frame_calls::{limberlime_find_frames_unchecked, limberlime_find_function_unchecked};
+pub use frame_calls::{
+    limberlime_find_frames_unchecked, limberlime_find_function_unchecked,
+    limberlime_next_start_unchecked,
+};
 pub use frame_rows::{FrameRow, TextPlace};
 pub use handle::Handle;
 pub use handle_calls::{
@@ -29,5 +36,7 @@ pub use handle_calls::{
     limberlime_open_unchecked,
 };
 pub use laws::a_handle_is_answered_as_its_bytes_are;
+pub use machine_calls::limberlime_machine_unchecked;
 pub use pdb_calls::{limberlime_debug_id_unchecked, limberlime_open_pdb_unchecked};
+pub use records_calls::{limberlime_module_files_unchecked, limberlime_open_records_unchecked};
 pub use refusals::Refusal;

@@ -4,7 +4,7 @@ ghost use Rattle.pdb_c.specs.Openings.{LeavesFile};
 
 use crate::answers::answer;
 use crate::handle::Handle;
-use crate::pdb_openings::{debug_id_text, pdb_to_open};
+use crate::pdb_openings::{debug_id_text, open_pdb};
 use std::alloc::Global;
 
 /// Reads the records in the bytes of a PDB file into a handle, and answers 0. Where nothing can be answered over them
@@ -18,11 +18,8 @@ pub extern "C" fn limberlime_open_pdb_unchecked(
     ensures { LeavesFile handle.new.held result }
 {
     handle.close(alloc);
-    match pdb_to_open(alloc, pdb) {
-        Ok(opened) => {
-            handle.put(opened);
-            0
-        }
+    match open_pdb(alloc, pdb, handle) {
+        Ok(()) => 0,
         Err(refusal) => refusal.code(),
     }
 }

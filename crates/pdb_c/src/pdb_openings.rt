@@ -1,10 +1,9 @@
 //! PDB files that are read once, for many questions, and which build one is of.
-ghost use Rattle.std.specs.Prelude.{IfOk};
-ghost use Rattle.pdb_c.specs.Openings.{HasContext};
+ghost use Rattle.pdb_c.specs.Openings.{LeavesSome};
 
-use crate::openings::with_context;
+use crate::handle::Handle;
+use crate::openings::accepted_records;
 use crate::refusals::Refusal;
-use pdb_addr2line::ContextPdbData;
 use pdb_addr2line::pdb::PDB;
 use pdb_container::{PdbFile, read_identity, read_pdb_file};
 use pdb_identity::DebugId;
@@ -33,19 +32,13 @@ fn repaired_records(alloc: Global, bytes: &[u8]) -> Result<PDB, Refusal> {
     }
 }
 
-// The records of a PDB file, in memory of their own.
-pub(crate) fn pdb_to_open(
-    alloc: Global,
-    bytes: &[u8],
-) -> Result<Box<ContextPdbData<'static>>, Refusal>
-    ensures { IfOk result (λ records. HasContext records.value) }
+// Puts the records of a PDB file into a closed handle.
+pub(crate) fn open_pdb(alloc: Global, bytes: &[u8], handle: &mut Handle) -> Result<(), Refusal>
+    ensures { LeavesSome result handle.old.held handle.new.held }
 {
     let records = repaired_records(alloc, bytes)?;
-    let context_data = with_context(alloc, records)?;
-    match Box::new(alloc, context_data) {
-        Ok(records) => Ok(records),
-        Err(_) => Err(Refusal::OutOfMemory),
-    }
+    let records = accepted_records(alloc, records)?;
+    handle.open(records)
 }
 
 // The text of a debug id, as symbol servers have it.

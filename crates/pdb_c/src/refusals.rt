@@ -20,7 +20,7 @@ pub enum Refusal {
     NotJson,
     /// The JSON text holds no records: a value is absent, of another sort, or out of range.
     NoRecords,
-    /// The records file names module files, which no call here reads.
+    /// The records file names another number of module files than there are contents of.
     ModuleFiles,
     /// The records are refused, as where two modules claim the same bytes.
     RecordsRefused,

@@ -1,18 +1,35 @@
 //! The text of a report, gathered in memory over the bytes of a records file or over records.
 
 ghost use Rattle.pdb_addr2line.specs.ContextData.{default_flags, context_of};
+ghost use Rattle.pdb_json.specs.ModuleFiles.{contents};
 ghost use Rattle.pdb_report_lib.specs.FileReports.{opened};
-ghost use Rattle.pdb_c.specs.Texts.{Agrees, records_in, text_over, text_in, asked_text};
+ghost use Rattle.pdb_c.specs.Texts.{Agrees, records_in, text_of_context, text_over, text_in, asked_text};
+ghost use Rattle.pdb_c.specs.Questions.{IsLeftWithText};
 
 use crate::refusals::Refusal;
-use pdb_addr2line::ContextPdbData;
 use pdb_addr2line::pdb::PDB;
-use pdb_json::read_records;
+use pdb_addr2line::{Context, ContextPdbData};
+use pdb_json::read_records_with;
 use pdb_report_lib::{Command, Out, report};
 use std::alloc::Global;
 
+// The text of a report of a context.
+pub(crate) fn report_in(
+    alloc: Global,
+    context: &mut Context<'_, ContextPdbData<'_>>,
+    command: Command,
+    addresses: &[u32],
+) -> Result<Vec<u8>, Refusal>
+    ensures answer { Agrees (λ text. text.items) result (text_of_context command context.old addresses.now) }
+    ensures state { IsLeftWithText result context.old context.new command addresses.now }
+{
+    let mut out = Out::new(Vec::new(alloc));
+    report(alloc, context, command, addresses, &mut out)?;
+    Ok(out.into_inner())
+}
+
 // The text of a report over records whose streams were read.
-pub(crate) fn text_over(
+fn text_over(
     alloc: Global,
     command: Command,
     context_data: &ContextPdbData<'_>,
@@ -22,9 +39,7 @@ pub(crate) fn text_over(
         (text_over command (context_of default_flags context_data.now) addresses.now) }
 {
     let mut context = context_data.make_context()?;
-    let mut out = Out::new(Vec::new(alloc));
-    report(alloc, &mut context, command, addresses, &mut out)?;
-    Ok(out.into_inner())
+    report_in(alloc, &mut context, command, addresses)
 }
 
 // The text of a report over records.
@@ -40,11 +55,11 @@ fn text_of_records(
     text_over(alloc, command, &context_data, addresses)
 }
 
-// The records in the bytes of a records file.
-pub(crate) fn records_in(alloc: Global, bytes: &[u8]) -> Result<PDB, Refusal>
-    ensures { Agrees (λ records. records) result (records_in bytes.now) }
+// The records in the bytes of a records file and of its module files.
+pub(crate) fn records_in(alloc: Global, bytes: &[u8], files: &[Vec<u8>]) -> Result<PDB, Refusal>
+    ensures { Agrees (λ records. records) result (records_in bytes.now (contents files.now)) }
 {
-    let records = read_records(alloc, bytes)?;
+    let records = read_records_with(alloc, bytes, files)?;
     Ok(records)
 }
 
@@ -57,7 +72,7 @@ fn text_in(
 ) -> Result<Vec<u8>, Refusal>
     ensures { Agrees (λ text. text.items) result (text_in command bytes.now addresses.now) }
 {
-    let records = records_in(alloc, bytes)?;
+    let records = records_in(alloc, bytes, &[])?;
     text_of_records(alloc, command, records, addresses)
 }
 

@@ -1,4 +1,4 @@
--- `closed` puts null beside the allocator.
+-- `closed` puts two null pointers beside the allocator.
 use Rattle.std.proofs.Common.{◌≡◌, List, [], ◌∷◌, ◌++◌, refl, sym, subst}
 use mir.Val.{Val}
 use base.Logic.{SProp, ent, emp, id⊢}
@@ -21,8 +21,7 @@ use denote.Triple.Walked.{Stays, stay_dropped, walk_of, Goes-dropped}
 use Rattle.core.proofs.cell.Inside.{one}
 use Rattle.std.specs.Prelude.{None}
 use Rattle.std.proofs.raw_atomic.Walks.{proved_at, leaves}
-use Rattle.pdb_c.proofs.LooseValues.{both}
-use Rattle.pdb_c.proofs.HandleValues.{Z, LZ, handle_good, handle_in}
+use Rattle.pdb_c.proofs.HandleValues.{Z, LZ, three, handle_good, handle_in}
 use Rattle.pdb_c.specs.contracts.handle.Handle.closed.{ended, clauses}
 use Rattle.pdb_c.specs.contracts.handle.Handle.closed.Key.{name as #self}
 use Rattle.pdb_c.proofs.handle.Handle.closed.Statement.{statement}
@@ -46,16 +45,18 @@ closed_spec 𝓤 𝓛 𝓜 𝓡 wired =
     let toks = ‵ ftrue in
     let v = one (layout Z) z.0.4.0 ((LZ.lawful 𝓛).typed a z.0.4.0 are.0) in
     let h = v.0 in
-    let w : Val = both (ptr_val null_ptr) h in
+    let w : Val = three (ptr_val null_ptr) (ptr_val null_ptr) h in
     qed 𝓛 ((toks ⊛ ‵ (owns (types_at En.signature.params κs) z.0.3 z.0.4)) ∷ raw ((c κs z.0.3).requires z.1) ∷ [])
     ∵ split ! $ move ! (1 ∷ []) $ fsplit ! $
     rewrite ! 0 (λ (us : List Val). ‵ (Z.own_val a us)) v.1 refl $
     suffices ! (Run (h ∷ [])) (subst (λ (us : List Val). ent 𝓤 (Run (h ∷ [])) (Run us)) (sym (λ i. v.1 i ++ []))
     (id⊢ 𝓤 (Run (h ∷ [])))) $
     enter ! 𝓣.C 𝓣.Λ fn (h ∷ []) Post $ alloc_all ! (λ l. pass_all ! refl (v.2, tt) $
-    sets ! (agg ! (and_then ! (lit ! tt) (and_then ! (get ! refl) (no_more !)))) refl (handle_good null_ptr h v.2) $
-    feq_i ! Ptr null_ptr null_ptr refl $ handle_in ! null_ptr h a None $
+    sets ! (agg ! (and_then ! (lit ! tt) (and_then ! (lit ! tt) (and_then ! (get ! refl) (no_more !))))) refl
+    (handle_good null_ptr null_ptr h v.2) $
+    feq_i ! Ptr null_ptr null_ptr refl $ handle_in ! null_ptr null_ptr h a None $
     use0 𝓛 (raw (fact 𝓤 (None ≡ None))) (fact_i 𝓤 _ (emp 𝓤) refl) $ nothing ! $ nothing ! $ fjoin ! $
     returns ! (look_at ! 0 refl) $ free_all ! refl $ move ! (4 ∷ 0 ∷ 2 ∷ 1 ∷ []) $ move ! (4 ∷ []) $ drop ! $
     move ! (4 ∷ []) $ drop ! $
-    by ! (leaves 𝓛 En hs c z w (record { at = null_ptr; alloc = a; held = None }) (tt, tt) (tt, tt))))
+    by ! (leaves 𝓛 En hs c z w (record { records = null_ptr; context = null_ptr; alloc = a; held = None }) (tt, tt)
+    (tt, tt))))

@@ -1,0 +1,72 @@
+//! The functions of a program, by where they start.
+
+use crate::frames::Frames;
+use crate::refusals::Refusal;
+use crate::Program;
+use std::iter::FusedIterator;
+
+/// A function's addresses, relative to where the program is loaded, and its name.
+#[derive(Debug, Clone, PartialEq, Eq, Hash)]
+pub struct Function {
+    /// Where it starts.
+    pub start: u32,
+    /// The address of the first byte behind it, where it is known.
+    pub end: Option<u32>,
+    /// Its name, where one is known.
+    pub name: Option<String>,
+}
+
+impl Function {
+    /// The function that was found, if one was.
+    fn of(found: Frames<'_>) -> Option<Function> {
+        found.iter().next().map(|frame| Function {
+            start: found.start(),
+            end: found.end(),
+            name: frame.function.map(String::from),
+        })
+    }
+}
+
+/// The functions of a program, one by one. Behind a refusal there are no more.
+#[derive(Debug)]
+pub struct Functions<'p> {
+    program: &'p mut Program,
+    /// The first address that wasn't looked at yet.
+    next: Option<u32>,
+}
+
+impl<'p> Functions<'p> {
+    pub(crate) fn of(program: &'p mut Program) -> Self {
+        Functions {
+            program,
+            next: Some(0),
+        }
+    }
+
+    /// The first function that starts at an address or behind it.
+    fn from(&mut self, address: u32) -> Result<Option<Function>, Refusal> {
+        let mut untried = Some(address);
+        while let Some(address) = untried {
+            let Some(start) = self.program.next_start(address)? else {
+                break;
+            };
+            untried = start.checked_add(1);
+            if let Some(function) = Function::of(self.program.function(start)?) {
+                self.next = untried;
+                return Ok(Some(function));
+            }
+        }
+        Ok(None)
+    }
+}
+
+impl Iterator for Functions<'_> {
+    type Item = Result<Function, Refusal>;
+
+    fn next(&mut self) -> Option<Self::Item> {
+        let address = self.next.take()?;
+        self.from(address).transpose()
+    }
+}
+
+impl FusedIterator for Functions<'_> {}

@@ -1,0 +1,36 @@
+//! Contexts over records that a handle owns, in memory of their own.
+ghost use Rattle.std.specs.Prelude.{◌≡◌};
+ghost use Rattle.pdb_c.specs.Texts.{Agrees};
+ghost use Rattle.pdb_c.specs.Openings.{context_over};
+
+use crate::handle::loose::Loose;
+use crate::refusals::Refusal;
+use pdb_addr2line::{Context, ContextPdbData};
+use std::alloc::Global;
+
+// A context over records, of which no part has failed.
+pub(crate) fn context_over<'a>(
+    alloc: Global,
+    records: &'a ContextPdbData<'static>,
+) -> Result<Loose<Context<'a, ContextPdbData<'static>>, Global>, Refusal>
+    ensures { Agrees (λ context. context.value) result (context_over records.now) }
+{
+    let context = records.make_context()?;
+    match Box::new(alloc, context) {
+        Ok(context) => Ok(Loose::of(context)),
+        Err(_) => Err(Refusal::OutOfMemory),
+    }
+}
+
+// Gives a context back.
+pub(crate) fn give_back(context: Loose<Context<'_, ContextPdbData<'static>>, Global>) {
+    drop(context.into_box());
+}
+
+// Gives records back that have no context, and answers why.
+pub(crate) fn refuse(records: Loose<ContextPdbData<'static>, Global>, refusal: Refusal) -> Refusal
+    ensures { result ≡ refusal }
+{
+    drop(records.into_box());
+    refusal
+}

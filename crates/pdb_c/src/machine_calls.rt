@@ -1,0 +1,29 @@
+//! The call for C for the processor that the program of a PDB file is for.
+ghost use Rattle.pdb_c.specs.Machines.{machine_number, EndsWithNumber};
+ghost use Rattle.pdb_c.specs.Texts.{Agrees};
+
+use crate::refusals::Refusal;
+use pdb_container::read_identity;
+use std::alloc::Global;
+
+// The number of the processor that the program of a PDB file is for.
+fn machine_number(alloc: Global, pdb: &[u8]) -> Result<u16, Refusal>
+    ensures { Agrees (λ number. number) result (machine_number pdb.now) }
+{
+    let Some(identity) = read_identity(alloc, pdb)? else {
+        return Err(Refusal::NoDebugId);
+    };
+    Ok(identity.machine.map_or(0, |machine| machine.0))
+}
+
+/// Answers the number of the processor that the program of a PDB file is for, as programs have it, and 0 where the file
+/// doesn't say it; or the refusal's number.
+#[unsafe(no_mangle)]
+pub extern "C" fn limberlime_machine_unchecked(alloc: Global, pdb: &[u8]) -> i64
+    ensures { EndsWithNumber (machine_number pdb.now) result }
+{
+    match machine_number(alloc, pdb) {
+        Ok(number) => i64::from(number),
+        Err(refusal) => refusal.code(),
+    }
+}
