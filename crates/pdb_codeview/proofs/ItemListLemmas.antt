@@ -8,14 +8,14 @@ use Rattle.pdb_msf.specs.Readings.{behind, nothing_read}
 use Rattle.pdb_codeview.specs.ItemLists.{all_items, items_up_to}
 
 -- no bytes are no items, however many there may be
-none_up_to : {A : Type 0} (first : List ℕ → Result (A × List ℕ) StreamError) (count : ℕ) (bytes : List ℕ)
+pub none_up_to : {A : Type 0} (first : List ℕ → Result (A × List ℕ) StreamError) (count : ℕ) (bytes : List ℕ)
     → length bytes ≡ 0 → items_up_to first count bytes ≡ nothing_read None
 none_up_to first zero bytes none = refl
 none_up_to first (suc count) [] none = refl
 none_up_to first (suc count) (x ∷ xs) none = absurd (omega arith)
 
 -- where there is an item, at most so many are that one and those behind it
-first_up_to : {A : Type 0} (first : List ℕ → Result (A × List ℕ) StreamError) (count : ℕ) (bytes : List ℕ)
+pub first_up_to : {A : Type 0} (first : List ℕ → Result (A × List ℕ) StreamError) (count : ℕ) (bytes : List ℕ)
     (read : A × List ℕ) → 0 < length bytes → first bytes ≡ Ok read
     → items_up_to first (suc count) bytes ≡ behind (read.0 ∷ []) (items_up_to first count read.1)
 first_up_to first count bytes read some is =
@@ -23,7 +23,7 @@ first_up_to first count bytes read some is =
     simp (there, is)
 
 -- an item that has a fault is none
-fault_up_to : {A : Type 0} (first : List ℕ → Result (A × List ℕ) StreamError) (count : ℕ) (bytes : List ℕ)
+pub fault_up_to : {A : Type 0} (first : List ℕ → Result (A × List ℕ) StreamError) (count : ℕ) (bytes : List ℕ)
     (fault : StreamError) → 0 < length bytes → first bytes ≡ Err fault
     → items_up_to first (suc count) bytes ≡ nothing_read (Some fault)
 fault_up_to first count bytes fault some is =

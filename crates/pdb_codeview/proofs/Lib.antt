@@ -3,5 +3,6 @@ mod FileExamples
 mod LineExamples
 pub mod AnnotationLemmas
 pub mod ItemListLemmas
+pub mod LineLemmas
 mod SymbolExamples
 pub mod SymbolRecordLemmas

@@ -6,9 +6,8 @@ use Rattle.pdb_records.specs.declared.symbols.SymbolData.TheVariants.{Other, Pro
 use Rattle.pdb_msf.specs.declared.faults.TheConstants.{APART, BAD_LENGTH, BAD_NUMBER, CUT}
 use Rattle.pdb_codeview.specs.declared.annotations.Annotation.TheVariants.{AdvanceAndLine, Length}
 use Rattle.pdb_codeview.specs.declared.files.FileEntry.{FileEntry}
-use Rattle.pdb_codeview.specs.declared.inline_sites.CodeRecords.{CodeRecords}
 use Rattle.pdb_codeview.specs.Annotations.{annotations}
-use Rattle.pdb_codeview.specs.InlineSites.{rows_by}
+use Rattle.pdb_codeview.specs.InlineSites.{ModuleCode, rows_by}
 use Rattle.pdb_codeview.specs.SymbolRecords.{all_records}
 use Rattle.pdb_codeview.specs.Symbols.{global_symbols, module_symbols}
 
@@ -78,7 +77,7 @@ end_symbol = 2 ∷ 0 ∷ 6 ∷ 0 ∷ []
 
 -- behind four bytes of its stream the list has a procedure up to 48, a filler up to 56, and the end of the procedure,
 -- which is the first symbol at 48 or behind it
-procedure_and_end : (code : CodeRecords) → module_symbols code 4 (procedure_f 48 ++ filler ++ end_symbol) ≡ record {
+procedure_and_end : (code : ModuleCode) → module_symbols code 4 (procedure_f 48 ++ filler ++ end_symbol) ≡ record {
   items = record {
     raw_kind = 0x1110;
     content = Some (Procedure (record {
@@ -95,7 +94,7 @@ unfolding all_records
 procedure_and_end code = refl
 
 -- S_THUNK32: pParent, pEnd, pNext, off 32, seg 1, len 5, ord, and the name
-a_thunk : (code : CodeRecords)
+a_thunk : (code : ModuleCode)
     → module_symbols code 4 (25 ∷ 0 ∷ 2 ∷ 17 ∷ [] ++ small 0 ++ small 31 ++ small 0 ++ small 32 ++ short 1 ++ short 5
     ++ 0 ∷ [] ++ codes "t" ++ 0 ∷ [])
     ≡ record {
@@ -114,7 +113,7 @@ unfolding all_records
 a_thunk code = refl
 
 -- S_SEPCODE: pParent, pEnd, length 9, scf, off 128, offParent 64, sect 2 and sectParent 1
-separated : (code : CodeRecords)
+separated : (code : ModuleCode)
     → module_symbols code 4 (30 ∷ 0 ∷ 50 ∷ 17 ∷ [] ++ small 0 ++ small 36 ++ small 9 ++ small 0 ++ small 128 ++ small 64
     ++ short 2 ++ short 1)
     ≡ record {
@@ -133,7 +132,7 @@ unfolding all_records
 separated code = refl
 
 -- S_TRAMPOLINE: trampType, cbThunk 5, offThunk 8, offTarget 64, sectThunk 2 and sectTarget 1
-a_jump : (code : CodeRecords)
+a_jump : (code : ModuleCode)
     → module_symbols code 4 (18 ∷ 0 ∷ 44 ∷ 17 ∷ [] ++ short 0 ++ short 5 ++ small 8 ++ small 64 ++ short 2 ++ short 1)
     ≡ record {
       items = record {

@@ -1,11 +1,41 @@
--- What a module takes from others.
-use Rattle.std.specs.Prelude.{ℕ, List, drop}
+-- What a module takes from others, and what it offers to them.
+use Rattle.std.specs.Prelude.{ℕ, ◌*◌, nat_lt, List, take, drop, length, Result, Ok, Err, if◌then◌else◌}
 use Rattle.pdb_records.specs.Imports.{Imported}
-use Rattle.pdb_msf.specs.NumberLists.{number, numbers}
+use Rattle.pdb_records.specs.declared.error.StreamError.{StreamError}
+use Rattle.pdb_msf.specs.declared.faults.TheConstants.{CUT}
+use Rattle.pdb_msf.specs.Faults.{◌>>=◌}
+use Rattle.pdb_msf.specs.NumberLists.{listed, number}
+use Rattle.pdb_msf.specs.Readings.{whole}
+use Rattle.pdb_codeview.specs.ItemLists.{all_items}
 
--- the import that these bytes begin with: the key of the other module's name, how many numbers follow, and those
-abbrev pub first_import : List ℕ → Imported
-first_import bytes = record {
-  module_name = record { 0 = number bytes };
-  locals = numbers (number (drop 4 bytes)) (drop 4 (drop 4 bytes));
-}
+-- the import of so many numbers that stands first behind the key of the other module's name and their count, and what
+-- stands behind it
+abbrev pub import_of : ℕ → ℕ → List ℕ → Result (Imported × List ℕ) StreamError
+import_of name count bytes = do
+  locals ← listed count bytes
+  Ok (record { module_name = record { 0 = name }; locals = locals }, drop (4 * count) bytes)
+
+-- the import that stands first, and what stands behind it: the key of the other module's name, how many numbers follow,
+-- and those
+abbrev pub first_import : List ℕ → Result (Imported × List ℕ) StreamError
+first_import bytes =
+    if nat_lt (length bytes) 4 then Err CUT else
+    if nat_lt (length (drop 4 bytes)) 4 then Err CUT else
+    import_of (number bytes) (number (drop 4 bytes)) (drop 4 (drop 4 bytes))
+
+-- what a module takes from others, by the bytes of its subsection (DEBUG_S_CROSSSCOPEIMPORTS): one import that is cut
+-- fails them all
+abbrev pub imports : List ℕ → Result (List Imported) StreamError
+imports bytes = whole (all_items first_import bytes)
+
+-- the export that stands first, and what stands behind it: the number under which a module offers a type or an id, and
+-- the index of that at 4
+abbrev pub first_export : List ℕ → Result ((ℕ × ℕ) × List ℕ) StreamError
+first_export bytes =
+    if nat_lt (length bytes) 8 then Err CUT else
+    Ok ((number (take 8 bytes), number (drop 4 (take 8 bytes))), drop 8 bytes)
+
+-- what a module offers to others, by the bytes of its subsection (DEBUG_S_CROSSSCOPEEXPORTS): one export that is cut
+-- fails them all
+abbrev pub exports : List ℕ → Result (List (ℕ × ℕ)) StreamError
+exports bytes = whole (all_items first_export bytes)

@@ -16,6 +16,15 @@ use Rattle.pdb_codeview.specs.Annotations.{annotations}
 use Rattle.pdb_codeview.specs.Files.{named_file}
 use Rattle.pdb_codeview.specs.InlineRows.{rows_from}
 
+-- what sites refer to: the module's files, and where each function starts whose body stands in the module's code
+pub record ModuleCode : Type 0 where
+  pub files : List FileEntry
+  pub sources : ℕ → Option InlineeSource
+
+-- what the records of a module's code say of that
+abbrev pub code_of : CodeRecords → ModuleCode
+code_of code = record { files = code.files.entries.items; sources = λ id. get nat_cmp code.inlinees.sources id }
+
 -- the position of the file whose entry starts there, or one that no file has
 abbrev pub file_at : List FileEntry → ℕ → FileIndex
 file_at entries start = unwrap_or (named_file start entries) NO_FILE
@@ -37,6 +46,5 @@ rows_by (Some source) entries start bytes = record {
 }
 
 -- the rows of a site of this inlinee, in code that starts at an offset, by its annotations
-abbrev pub site_rows : CodeRecords → ℕ → ℕ → List ℕ → Read InlineRow
-site_rows code inlinee start bytes =
-    rows_by (get nat_cmp code.inlinees.sources inlinee) code.files.entries.items start bytes
+abbrev pub site_rows : ModuleCode → ℕ → ℕ → List ℕ → Read InlineRow
+site_rows code inlinee start bytes = rows_by (code.sources inlinee) code.files start bytes

@@ -3,6 +3,7 @@ pub mod InlineRows
 pub mod CrossModules
 pub mod Places
 pub mod LineRows
+pub mod Lines
 pub mod ProcedureSpans
 pub mod LineEntries
 pub mod ItemLists

@@ -11,9 +11,8 @@ use Rattle.pdb_records.specs.declared.symbols.SymbolData.TheVariants.{SeparatedC
 use Rattle.pdb_records.specs.declared.symbol_kinds.TheConstants.{S_INLINESITE, S_INLINESITE2, S_SEPCODE, S_THUNK32}
 use Rattle.pdb_records.specs.declared.symbol_kinds.TheConstants.{S_THUNK32_ST}
 use Rattle.pdb_msf.specs.NumberLists.{number, two_byte_number}
-use Rattle.pdb_codeview.specs.declared.inline_sites.CodeRecords.{CodeRecords}
 use Rattle.pdb_codeview.specs.declared.symbols.TheConstants.{S_TRAMPOLINE}
-use Rattle.pdb_codeview.specs.InlineSites.{site_rows}
+use Rattle.pdb_codeview.specs.InlineSites.{ModuleCode, site_rows}
 use Rattle.pdb_codeview.specs.SymbolRecords.{SymbolBytes, name_behind, position_at, symbol_records}
 
 -- the section offset whose offset stands at one place of a symbol's content, and its section at another
@@ -77,7 +76,7 @@ trampoline symbol =
 
 -- an inline site of a list of symbols in code that starts at an offset (INLINESITESYM and INLINESITESYM2): pEnd at 4,
 -- inlinee at 8, and binaryAnnotations behind 12 bytes, or behind 16, since invocations stand before them
-abbrev pub inline_site : CodeRecords → List SymbolBytes → ℕ → ℕ → SymbolBytes → Option SymbolData
+abbrev pub inline_site : ModuleCode → List SymbolBytes → ℕ → ℕ → SymbolBytes → Option SymbolData
 inline_site code symbols size start symbol =
     if nat_lt (length symbol.content) size then None else
     Some (InlineSite (record {
@@ -102,7 +101,7 @@ global_symbols stream = record {
 }
 
 -- what a symbol of a module's list holds, by its kind, behind code that starts at an offset
-abbrev pub module_content : CodeRecords → List SymbolBytes → ℕ → SymbolBytes → Option SymbolData
+abbrev pub module_content : ModuleCode → List SymbolBytes → ℕ → SymbolBytes → Option SymbolData
 module_content code symbols start symbol =
     if is_procedure_kind symbol.raw_kind then procedure symbols symbol else
     if symbol.raw_kind == S_THUNK32 then thunk symbols symbol else
@@ -120,14 +119,14 @@ code_start (Some (SeparatedCode symbol)) before = symbol.offset.offset
 code_start content before = before
 
 -- the last symbols of a module's list, behind code that starts at an offset
-abbrev pub symbols_from : CodeRecords → List SymbolBytes → ℕ → List SymbolBytes → List Symbol
+abbrev pub symbols_from : ModuleCode → List SymbolBytes → ℕ → List SymbolBytes → List Symbol
 symbols_from code symbols start [] = []
 symbols_from code symbols start (symbol ∷ rest) =
     let content = module_content code symbols start symbol in
     record { raw_kind = symbol.raw_kind; content = content } ∷ symbols_from code symbols (code_start content start) rest
 
 -- the symbols of a module, by the bytes of their list, with so many bytes before it in the module's stream
-abbrev pub module_symbols : CodeRecords → ℕ → List ℕ → Read Symbol
+abbrev pub module_symbols : ModuleCode → ℕ → List ℕ → Read Symbol
 module_symbols code front bytes = record {
   items = symbols_from code (symbol_records front bytes).items 0 (symbol_records front bytes).items;
   fault = (symbol_records front bytes).fault;

@@ -1,7 +1,7 @@
 //! An inline site's rows, beginning with the line and the file of its inlinee.
 
 ghost use Rattle.std.specs.Prelude.{◌≡◌, map, IfErr, IfOk};
-ghost use Rattle.pdb_codeview.specs.InlineSites.{named_row, site_rows};
+ghost use Rattle.pdb_codeview.specs.InlineSites.{code_of, named_row, site_rows};
 
 use crate::annotations::read_annotations;
 use crate::files::Files;
@@ -29,7 +29,7 @@ pub fn site_rows(
     start: u32,
     annotations: &[u8],
 ) -> Result<Reading<InlineRow>, Fault>
-    ensures answer { IfOk result (λ rows. rows ≡ site_rows code.now inlinee.0 start annotations.now) }
+    ensures answer { IfOk result (λ rows. rows ≡ site_rows (code_of code.now) inlinee.0 start annotations.now) }
     ensures memory { IfErr result (λ fault. fault ≡ Fault.OutOfMemory) }
 {
     let Some(source) = code.inlinees.sources.get(&inlinee.0) else {

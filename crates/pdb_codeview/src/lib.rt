@@ -25,5 +25,6 @@ pub use inline_sites::CodeRecords;
 pub use inlinees::{Inlinees, read_inlinees};
 pub use line_entries::program_entries;
 pub use lines::{LineSubsection, read_lines};
-pub use procedure_spans::{ProcedureSpan, symbol_spans};
+pub use places::place;
+pub use procedure_spans::{ProcedureSpan, span_of, symbol_spans};
 pub use symbols::{S_TRAMPOLINE, read_global_symbols, read_symbols};

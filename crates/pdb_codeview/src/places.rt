@@ -16,7 +16,7 @@ pub(crate) trait HasPlace {
 }
 
 /// A section offset as a number: sections stand one behind the other, each 4 GiB behind the one before.
-pub(crate) fn place(section_offset: PdbInternalSectionOffset) -> u64
+pub fn place(section_offset: PdbInternalSectionOffset) -> u64
     ensures answer { result ≡ place section_offset }
     ensures small { result < 2 ^ 48 }
 {

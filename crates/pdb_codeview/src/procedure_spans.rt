@@ -54,7 +54,8 @@ fn span(start: PdbInternalSectionOffset, len: u32) -> Option<ProcedureSpan>
     Some(ProcedureSpan { start, len })
 }
 
-fn span_of(content: &Option<SymbolData>) -> Option<ProcedureSpan>
+/// The bytes of the code that a symbol's content shows: of a procedure, a thunk, or code apart from its procedure.
+pub fn span_of(content: &Option<SymbolData>) -> Option<ProcedureSpan>
     ensures { result ≡ span_of content.now }
 {
     match content {

@@ -2,6 +2,7 @@
 
 ghost use Rattle.std.specs.Prelude.{◌≡◌, ◌≤◌, ◌+◌, length, map, IfErr, IfOk};
 ghost use Rattle.std.specs.List.Sorted.{IsNonDecreasingBy};
+ghost use Rattle.pdb_codeview.specs.InlineSites.{code_of};
 ghost use Rattle.pdb_codeview.specs.Symbols.{global_content, global_symbol, global_symbols, procedure, public_symbol};
 ghost use Rattle.pdb_codeview.specs.Symbols.{code_start, inline_site, module_content, module_symbols, section_offset};
 ghost use Rattle.pdb_codeview.specs.Symbols.{separated_code, symbols_from, thunk, trampoline};
@@ -77,7 +78,7 @@ pub fn read_symbols(
     front: u32,
     code: &CodeRecords,
 ) -> Result<Reading<Symbol>, Fault>
-    ensures answer { IfOk result (λ read. read ≡ module_symbols code.now front bytes.now) }
+    ensures answer { IfOk result (λ read. read ≡ module_symbols (code_of code.now) front bytes.now) }
     ensures memory { IfErr result (λ fault. fault ≡ Fault.OutOfMemory) }
 {
     let list = split_symbol_records(alloc, bytes, front)?;
@@ -91,7 +92,7 @@ fn module_list(
     code: &CodeRecords,
 ) -> Result<Reading<Symbol>, Fault>
     requires { IsNonDecreasingBy (λ symbol. symbol.start) list.now.items }
-    ensures items { IfOk result (λ read. read.items ≡ symbols_from code.now list.now.items 0 list.now.items) }
+    ensures items { IfOk result (λ read. read.items ≡ symbols_from (code_of code.now) list.now.items 0 list.now.items) }
     ensures fault { IfOk result (λ read. read.fault ≡ list.now.fault) }
     ensures memory { IfErr result (λ fault. fault ≡ Fault.OutOfMemory) }
 {
@@ -131,7 +132,7 @@ fn module_content(
     start: u32,
 ) -> Result<Option<SymbolData>, Fault>
     requires { IsNonDecreasingBy (λ symbol. symbol.start) symbols.now }
-    ensures answer { IfOk result (λ content. content ≡ module_content code.now symbols.now start symbol.now) }
+    ensures answer { IfOk result (λ content. content ≡ module_content (code_of code.now) symbols.now start symbol.now) }
     ensures memory { IfErr result (λ fault. fault ≡ Fault.OutOfMemory) }
 {
     let raw_kind = symbol.raw_kind;
@@ -258,7 +259,8 @@ fn inline_site(
 ) -> Result<Option<SymbolData>, Fault>
     requires ascending { IsNonDecreasingBy (λ symbol. symbol.start) symbols.now }
     requires size { 12 ≤ size }
-    ensures answer { IfOk result (λ content. content ≡ inline_site code.now symbols.now size start symbol.now) }
+    ensures answer { IfOk result (λ content.
+        content ≡ inline_site (code_of code.now) symbols.now size start symbol.now) }
     ensures memory { IfErr result (λ fault. fault ≡ Fault.OutOfMemory) }
 {
     let content = symbol.content;

@@ -3,5 +3,8 @@ pub mod DebugLemmas
 pub mod FeatureLemmas
 mod InfoExamples
 pub mod InfoLemmas
+mod ModuleExamples
 pub mod NameLemmas
+pub mod RecordLemmas
 pub mod TextLemmas
+mod TypeExamples

@@ -1,5 +1,6 @@
 -- What a file says of its program in the stream of debug information and in the streams that this one names.
-use Rattle.std.specs.Prelude.{ℕ, ◌==◌, Bool, false, not, List, Option, Some, None, Result, Ok, Err, if◌then◌else◌}
+use Rattle.std.specs.Prelude.{ℕ, ◌==◌, Bool, false, not, List, [], length, Option, Some, None, Result, Ok, Err}
+use Rattle.std.specs.Prelude.{if◌then◌else◌}
 use Rattle.pdb_records.specs.Readings.{Read}
 use Rattle.pdb_records.specs.declared.error.StreamError.{StreamError}
 use Rattle.pdb_records.specs.declared.symbols.Symbol.{Symbol}
@@ -15,9 +16,11 @@ use Rattle.pdb_codeview.specs.Symbols.{global_symbols as symbols_of}
 use Rattle.pdb_dbi.specs.declared.header.DebugHeader.{DebugHeader}
 use Rattle.pdb_dbi.specs.Contributions.{contributions}
 use Rattle.pdb_dbi.specs.Header.{header}
-use Rattle.pdb_dbi.specs.ModuleList.{modules}
+use Rattle.pdb_dbi.specs.ModuleList.{module_streams, modules}
 use Rattle.pdb_dbi.specs.OptionalStreams.{optional_stream}
 use Rattle.pdb_dbi.specs.Sections.{loaded_at, section_headers}
+use Rattle.pdb_container.specs.ModulePlaces.{ModuleOrFault, modules_read}
+use Rattle.pdb_container.specs.UnnamedCode.{named_modules}
 
 -- whether this is the size of a stream without bytes
 abbrev pub is_no_size : Result ℕ StreamError → Bool
@@ -96,6 +99,22 @@ address_map msf = debug_header msf >>= address_map_of msf
 -- the symbols of a container's whole program: SymRecordStream of the header is the number of their stream
 unfoldable pub global_symbols : Msf → Result (Read Symbol) StreamError
 global_symbols msf = debug_header msf >>= λ front. symbols_in msf front.global_symbols
+
+-- what is known of each module of a header's list, with names for code without one: these have no more bytes than the
+-- file
+abbrev pub modules_of : Msf → DebugHeader → List ModuleOrFault
+modules_of msf front =
+    named_modules (length msf.file) (symbols_in msf front.global_symbols)
+    (modules_read msf (module_streams front.modules))
+
+-- the modules of a header, none where that can't be read
+abbrev pub modules_by : Msf → Result DebugHeader StreamError → List ModuleOrFault
+modules_by msf (Ok front) = modules_of msf front
+modules_by msf (Err fault) = []
+
+-- what is known of each module of a container
+unfoldable pub module_infos : Msf → List ModuleOrFault
+module_infos msf = modules_by msf (debug_header msf)
 
 -- a part of a file's records: that of the container which the file is, or why it is none
 abbrev pub of_file : {A : Type 0} → (Msf → A) → List ℕ → Result A ContainerFault

@@ -1,4 +1,10 @@
 pub mod DebugRecords
+pub mod Functions
 pub mod Identity
 pub mod Info
+pub mod ModulePlaces
+pub mod Modules
+pub mod Records
 pub mod Strings
+pub mod TypeRecords
+pub mod UnnamedCode

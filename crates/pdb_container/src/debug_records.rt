@@ -1,26 +1,26 @@
 //! What the stream of debug information leads to: modules, contributions, sections, addresses, symbols, their streams.
 
-ghost use Rattle.std.specs.Prelude.{◌≡◌, Ok, Err, IfErr, IfOk, option_map};
+ghost use Rattle.std.specs.Prelude.{◌≡◌, ◌++◌, Ok, Err, IfErr, IfOk, OnOk, option_map};
 ghost use Rattle.pdb_container.specs.DebugRecords.{address_map, address_map_of, debug_header, debug_information};
 ghost use Rattle.pdb_container.specs.DebugRecords.{debug_stream, global_symbols};
-ghost use Rattle.pdb_container.specs.DebugRecords.{information_of, rearranges, sections, sections_of};
+ghost use Rattle.pdb_container.specs.DebugRecords.{information_of, module_infos, rearranges, sections, sections_of};
 ghost use Rattle.pdb_container.specs.DebugRecords.{symbols_in, tabled};
+ghost use Rattle.pdb_container.specs.ModulePlaces.{modules_read};
+ghost use Rattle.pdb_dbi.specs.ModuleList.{module_streams};
 ghost use Rattle.pdb_msf.specs.Faults.{Gives};
 ghost use Rattle.pdb_msf.specs.Streams.{bytes_of};
 ghost use Rattle.pdb_records.specs.Sections.{listed};
 
-use crate::modules::read_module;
-use crate::unnamed_code::{ModuleInfoResult, name_unnamed_code};
+use crate::module_places::{ModuleInfoResult, module_places, read_module_info};
+use crate::unnamed_code::name_unnamed_code;
 use pdb_codeview::read_global_symbols;
 use pdb_dbi::{
     DebugHeader, ModuleStream, map_addresses, optional_stream, read_contributions, read_header,
     read_modules, read_sections,
 };
-use pdb_msf::faults::{Fault, NO_STREAM, REARRANGED, TOO_LONG, part_or_fault};
+use pdb_msf::faults::{Fault, NO_STREAM, REARRANGED, part_or_fault};
 use pdb_msf::{Container, StreamBytes};
-use pdb_records::{
-    AddressMap, DebugInformation, ImageSectionHeader, ModuleInfo, StreamError, SymbolTable,
-};
+use pdb_records::{AddressMap, DebugInformation, ImageSectionHeader, StreamError, SymbolTable};
 use std::alloc::Global;
 
 /// The number of the stream of debug information.
@@ -54,6 +54,7 @@ pub fn debug_records(alloc: Global, container: &Container<'_>) -> Result<DebugRe
     ensures sections { IfOk result (λ read. listed read.sections ≡ sections container.now) }
     ensures address_map { IfOk result (λ read. read.address_map ≡ address_map container.now) }
     ensures global_symbols { IfOk result (λ read. tabled read.global_symbols ≡ global_symbols container.now) }
+    ensures modules { IfOk result (λ read. read.module_infos.items ≡ module_infos container.now) }
     ensures memory { IfErr result (λ fault. fault ≡ Fault.OutOfMemory) }
 {
     match part_or_fault(debug_stream(alloc, container))? {
@@ -74,6 +75,7 @@ fn records_of_stream(
     ensures sections { IfOk result (λ read. listed read.sections ≡ sections container.now) }
     ensures address_map { IfOk result (λ read. read.address_map ≡ address_map container.now) }
     ensures global_symbols { IfOk result (λ read. tabled read.global_symbols ≡ global_symbols container.now) }
+    ensures modules { IfOk result (λ read. read.module_infos.items ≡ module_infos container.now) }
     ensures memory { IfErr result (λ fault. fault ≡ Fault.OutOfMemory) }
 {
     match read_header(stream) {
@@ -105,6 +107,7 @@ fn without_debug_stream(
     ensures sections { listed result.sections ≡ sections container.now }
     ensures address_map { result.address_map ≡ address_map container.now }
     ensures global_symbols { tabled result.global_symbols ≡ global_symbols container.now }
+    ensures modules { result.module_infos.items ≡ module_infos container.now }
 {
     DebugRecords {
         debug_information: Err(error),
@@ -126,6 +129,7 @@ fn records_of_header(
     ensures sections { IfOk result (λ read. listed read.sections ≡ sections container.now) }
     ensures address_map { IfOk result (λ read. read.address_map ≡ address_map container.now) }
     ensures global_symbols { IfOk result (λ read. tabled read.global_symbols ≡ global_symbols container.now) }
+    ensures modules { IfOk result (λ read. read.module_infos.items ≡ module_infos container.now) }
     ensures memory { IfErr result (λ fault. fault ≡ Fault.OutOfMemory) }
 {
     let mut streams = Vec::new(alloc);
@@ -155,6 +159,7 @@ fn debug_information(
     streams: &mut Vec<ModuleStream>,
 ) -> Result<DebugInformation, Fault>
     ensures answer { IfOk result (λ read. read ≡ information_of header.now) }
+    ensures state { OnOk result (streams.new.items ≡ streams.old.items ++ module_streams header.now.modules) }
     ensures memory { IfErr result (λ fault. fault ≡ Fault.OutOfMemory) }
 {
     let modules = read_modules(alloc, &header.modules, streams)?;
@@ -257,38 +262,20 @@ fn global_symbols(
     read_global_symbols(alloc, stream.as_slice())
 }
 
+// What is known of each module.
+#[tactic(auto, unfolding(crate::specs::ModulePlaces::modules_read))]
 fn module_infos(
     alloc: Global,
     container: &Container<'_>,
     streams: &[ModuleStream],
 ) -> Result<Vec<ModuleInfoResult>, Fault>
-    ensures { IfErr result (λ fault. fault ≡ Fault.OutOfMemory) }
+    ensures answer { IfOk result (λ infos. infos.items ≡ modules_read container.now streams.now) }
+    ensures memory { IfErr result (λ fault. fault ≡ Fault.OutOfMemory) }
 {
-    let mut infos = Vec::with_capacity(alloc, streams.len())?;
-    let mut left = container.file_length();
-    for module in streams {
-        infos.push(part_or_fault(module_info(alloc, container, *module, &mut left))?)?;
+    let places = module_places(alloc, container, streams)?;
+    let mut infos = Vec::with_capacity(alloc, places.len())?;
+    for place in &places {
+        infos.push(read_module_info(alloc, container, *place)?)?;
     }
     Ok(infos)
-}
-
-// What is known of a module, where it has a stream. Of the streams of all modules no more bytes are read than the file
-// has: so many are left.
-fn module_info(
-    alloc: Global,
-    container: &Container<'_>,
-    module: ModuleStream,
-    left: &mut usize,
-) -> Result<Option<ModuleInfo>, Fault> {
-    if module.stream == NO_NUMBER {
-        return Ok(None);
-    }
-    let number = u32::from(module.stream);
-    let size = container.stream_size(number).unwrap_or(0) as usize;
-    if *left < size {
-        return Err(Fault::Broken(TOO_LONG));
-    }
-    *left -= size;
-    let stream = container.stream(alloc, number)?;
-    Ok(Some(read_module(alloc, module, stream.as_slice())?))
 }

@@ -5,19 +5,15 @@
 //! [`faults`].
 #![tactic(auto)]
 
-mod aggregates;
 mod debug_records;
+mod functions;
 mod identity;
-mod ids;
 mod info;
+mod module_places;
 mod modules;
-mod numbers;
-mod primitives;
 mod records;
 mod refusals;
 mod strings;
-mod type_records;
-mod types;
 mod unnamed_code;
 
 pub use identity::{PdbIdentity, read_identity};

@@ -1,16 +1,25 @@
 //! A module's stream: its symbols, and the subsections of lines, files, inlinees, imports and exports.
 
+ghost use Rattle.std.specs.Prelude.{◌≡◌, ◌++◌, length, Ok, Err, map, option_map, IfErr, IfOk, MatchResult, OnOk};
+ghost use Rattle.pdb_msf.specs.Faults.{Gives};
+ghost use Rattle.pdb_codeview.specs.InlineSites.{code_of};
+ghost use Rattle.pdb_codeview.specs.ItemLists.{all_items};
+ghost use Rattle.pdb_container.specs.Modules.{all_of_kind, code_in, exports_of, files_of, first_of_kind};
+ghost use Rattle.pdb_container.specs.Modules.{first_or_empty, first_subsection, imports_of, inlinees_of, line_program};
+ghost use Rattle.pdb_container.specs.Modules.{line_subsections, module_in, module_in_parts, subsections, symbols_in};
+
 use pdb_codeview::{
-    CodeRecords, Files, ProcedureSpan, program_entries, read_exports, read_files, read_imports,
+    CodeRecords, Files, LineSubsection, program_entries, read_exports, read_files, read_imports,
     read_inlinees, read_lines, read_symbols, symbol_spans,
 };
 use pdb_dbi::{ModuleStream, Substream, take_substream};
-use pdb_msf::Bytes;
-use pdb_msf::faults::{Fault, UNKNOWN_VERSION, early_end, part_or_fault};
+use pdb_msf::faults::{Fault, UNKNOWN_VERSION, part_or_fault};
+use pdb_msf::{Bytes, nothing_read};
 use pdb_records::{
     CrossModuleExports, CrossModuleImports, LineProgram, ModuleInfo, Reading, StreamError, Symbol,
 };
 use std::alloc::{AllocError, Global};
+use std::marker::Model;
 
 /// The form of symbols that is known, as the number in front of them.
 const SYMBOLS_FORM: u32 = 4;
@@ -26,66 +35,46 @@ const IMPORTS: u32 = 0xf7;
 const EXPORTS: u32 = 0xf8;
 
 /// A subsection of what is known of a module's code: lines, files, inlinees, imports or exports.
-#[derive(Clone, Copy)]
+#[derive(Drop)]
 struct Subsection<'a> {
     kind: u32,
-    bytes: &'a [u8],
+    content: &'a [u8],
 }
 
-/// The subsections of a module, and why they end early, if they do.
-#[derive(Drop)]
-struct Subsections<'a> {
-    list: Vec<Subsection<'a>>,
-    fault: Option<StreamError>,
-}
+impl<'a> Model for Subsection<'a> {
+    ghost use Rattle.pdb_container.specs.Modules.{SubsectionBytes};
 
-impl<'a> Subsections<'a> {
-    /// The bytes of the first subsection of this kind.
-    fn first(&self, kind: u32) -> Option<&'a [u8]> {
-        for subsection in &self.list {
-            if subsection.kind == kind {
-                return Some(subsection.bytes);
-            }
-        }
-        None
-    }
+    ghost Value = { SubsectionBytes };
 
-    /// The bytes of all subsections of this kind.
-    fn all(&self, alloc: Global, kind: u32) -> Result<Vec<&'a [u8]>, AllocError> {
-        let mut all = Vec::new(alloc);
-        for subsection in &self.list {
-            if subsection.kind == kind {
-                all.push(subsection.bytes)?;
-            }
-        }
-        Ok(all)
-    }
-
-    /// The bytes of the first subsection of this kind, none where there is no such one and all were read.
-    fn first_or_empty(&self, kind: u32) -> Result<&'a [u8], StreamError> {
-        match (self.first(kind), self.fault) {
-            (Some(bytes), _) => Ok(bytes),
-            (None, None) => Ok(&[]),
-            (None, Some(error)) => Err(error),
-        }
-    }
+    ghost view = { λ s. record { kind = s.kind; content = s.content.now } };
 }
 
 /// What is known of a module, by the bytes of its stream.
-pub fn read_module(
-    alloc: Global,
-    module: ModuleStream,
-    stream: &[u8],
-) -> Result<ModuleInfo, Fault> {
+#[tactic(auto, unfolding(crate::specs::Modules::module_in))]
+pub fn read_module(alloc: Global, place: ModuleStream, stream: &[u8]) -> Result<ModuleInfo, Fault>
+    ensures answer { IfOk result (λ info. info ≡ module_in place stream.now) }
+    ensures memory { IfErr result (λ fault. fault ≡ Fault.OutOfMemory) }
+{
     let mut bytes = Bytes::new(stream);
-    let symbols = take_substream(&mut bytes, module.symbols);
-    take_substream(&mut bytes, module.old_lines);
-    let lines = take_substream(&mut bytes, module.lines);
+    let symbols = take_substream(&mut bytes, place.symbols);
+    take_substream(&mut bytes, place.old_lines);
+    let lines = take_substream(&mut bytes, place.lines);
+    read_parts(alloc, &symbols, &lines)
+}
+
+// What the symbols of a module and its subsections say.
+fn read_parts(
+    alloc: Global,
+    symbols: &Substream<'_>,
+    lines: &Substream<'_>,
+) -> Result<ModuleInfo, Fault>
+    ensures answer { IfOk result (λ info. info ≡ module_in_parts symbols.now lines.now) }
+    ensures memory { IfErr result (λ fault. fault ≡ Fault.OutOfMemory) }
+{
     let subsections = read_subsections(alloc, lines)?;
     let code = read_code(alloc, &subsections)?;
     let symbols = module_symbols(alloc, symbols, &code)?;
-    let procedures = symbol_spans(alloc, &symbols.items)?;
-    let program = read_line_program(alloc, &subsections, &code.files, procedures);
+    let program = read_line_program(alloc, &subsections, &code.files, &symbols.items);
     let line_program = part_or_fault(program)?;
     let imports = part_or_fault(module_imports(alloc, &subsections))?;
     let exports = part_or_fault(module_exports(alloc, &subsections))?;
@@ -99,36 +88,108 @@ pub fn read_module(
     })
 }
 
-fn read_subsections<'a>(alloc: Global, substream: Substream<'a>) -> Result<Subsections<'a>, Fault> {
-    let mut list = Vec::new(alloc);
-    let fault = early_end(fill_subsections(substream.bytes, &mut list))?;
-    Ok(Subsections {
-        list,
+// The subsections of a substream, one after the other.
+fn read_subsections<'a>(
+    alloc: Global,
+    substream: &Substream<'a>,
+) -> Result<Reading<Subsection<'a>>, AllocError>
+    ensures { IfOk result (λ read. read ≡ subsections substream.now) }
+{
+    let mut items = Vec::new(alloc);
+    let fault = push_subsections(substream.bytes, &mut items)?;
+    Ok(Reading {
+        items,
         fault: fault.or(substream.fault),
     })
 }
 
-fn fill_subsections<'a>(bytes: &'a [u8], list: &mut Vec<Subsection<'a>>) -> Result<(), Fault> {
+// Appends the subsections that these bytes are.
+fn push_subsections<'a>(
+    bytes: &'a [u8],
+    list: &mut Vec<Subsection<'a>>,
+) -> Result<Option<StreamError>, AllocError>
+    ensures answer { IfOk result (λ fault. fault ≡ (all_items (first_subsection (length bytes.now)) bytes.now).fault) }
+    ensures state { OnOk result (list.new.items
+        ≡ list.old.items ++ (all_items (first_subsection (length bytes.now)) bytes.now).items) }
+{
     let mut rest = Bytes::new(bytes);
     for _ in 0..bytes.len() {
         if rest.is_empty() {
             break;
         }
-        let kind = rest.u32()?;
-        let length = rest.u32()?;
-        let content = rest.take(length as usize)?;
-        rest.align(bytes.len());
-        list.push(Subsection {
-            kind,
-            bytes: content,
-        })?;
+        match take_subsection(bytes.len(), &mut rest) {
+            Ok(subsection) => list.push(subsection)?,
+            Err(error) => return Ok(Some(error)),
+        }
     }
-    Ok(())
+    Ok(None)
 }
 
-fn read_code(alloc: Global, subsections: &Subsections<'_>) -> Result<CodeRecords, Fault> {
-    let files = read_files(alloc, &subsections.all(alloc, FILES)?)?;
-    let mut inlinees = read_inlinees(alloc, &subsections.all(alloc, INLINEES)?)?;
+// The next subsection of a substream of so many bytes.
+fn take_subsection<'a>(whole: usize, rest: &mut Bytes<'a>) -> Result<Subsection<'a>, StreamError>
+    ensures { MatchResult result (λ subsection. first_subsection whole rest.old ≡ Ok (subsection, rest.new))
+        (λ error. first_subsection whole rest.old ≡ Err error) }
+{
+    let kind = rest.u32()?;
+    let length = rest.u32()?;
+    let content = rest.take(length as usize)?;
+    rest.align(whole);
+    Ok(Subsection { kind, content })
+}
+
+// The content of the first subsection of this kind.
+fn first_of_kind<'a>(list: &[Subsection<'a>], kind: u32) -> Option<&'a [u8]>
+    ensures { option_map (λ content. content.now) result ≡ first_of_kind kind list.now }
+{
+    for subsection in list {
+        if subsection.kind == kind {
+            return Some(subsection.content);
+        }
+    }
+    None
+}
+
+// The contents of all subsections of this kind.
+fn all_of_kind<'a>(
+    alloc: Global,
+    list: &[Subsection<'a>],
+    kind: u32,
+) -> Result<Vec<&'a [u8]>, AllocError>
+    ensures { IfOk result (λ all. map (λ content. content.now) all.items ≡ all_of_kind kind list.now) }
+{
+    let mut all = Vec::new(alloc);
+    for subsection in list {
+        if subsection.kind == kind {
+            all.push(subsection.content)?;
+        }
+    }
+    Ok(all)
+}
+
+// The content of the first subsection of this kind, none where there is no such one and all were read.
+fn first_or_empty<'a>(
+    subsections: &Reading<Subsection<'a>>,
+    kind: u32,
+) -> Result<&'a [u8], StreamError>
+    ensures { MatchResult result (λ content. first_or_empty kind subsections.now ≡ Ok content.now)
+        (λ error. first_or_empty kind subsections.now ≡ Err error) }
+{
+    match (first_of_kind(&subsections.items, kind), subsections.fault) {
+        (Some(content), _) => Ok(content),
+        (None, None) => Ok(&[]),
+        (None, Some(error)) => Err(error),
+    }
+}
+
+// What sites refer to: files, and the functions whose bodies stand in the module's code.
+fn read_code(alloc: Global, subsections: &Reading<Subsection<'_>>) -> Result<CodeRecords, Fault>
+    ensures code { IfOk result (λ code. code_of code ≡ code_in subsections.now) }
+    ensures files { IfOk result (λ code. code.files.fault ≡ (files_of subsections.now).fault) }
+    ensures inlinees { IfOk result (λ code. code.inlinees.list ≡ inlinees_of subsections.now) }
+    ensures memory { IfErr result (λ fault. fault ≡ Fault.OutOfMemory) }
+{
+    let files = read_files(alloc, &all_of_kind(alloc, &subsections.items, FILES)?)?;
+    let mut inlinees = read_inlinees(alloc, &all_of_kind(alloc, &subsections.items, INLINEES)?)?;
     inlinees.list.fault = inlinees.list.fault.or(subsections.fault);
     Ok(CodeRecords { files, inlinees })
 }
@@ -136,15 +197,15 @@ fn read_code(alloc: Global, subsections: &Subsections<'_>) -> Result<CodeRecords
 // The symbols behind the number of their form. They end early where the stream does.
 fn module_symbols(
     alloc: Global,
-    substream: Substream<'_>,
+    substream: &Substream<'_>,
     code: &CodeRecords,
-) -> Result<Reading<Symbol>, Fault> {
+) -> Result<Reading<Symbol>, Fault>
+    ensures answer { IfOk result (λ read. read ≡ symbols_in (code_of code.now) substream.now) }
+    ensures memory { IfErr result (λ fault. fault ≡ Fault.OutOfMemory) }
+{
     let mut rest = Bytes::new(substream.bytes);
     if rest.is_empty() {
-        return Ok(Reading {
-            items: Vec::new(alloc),
-            fault: substream.fault,
-        });
+        return Ok(nothing_read(alloc, substream.fault));
     }
     match rest.u32() {
         Ok(SYMBOLS_FORM) => {
@@ -152,48 +213,64 @@ fn module_symbols(
             symbols.fault = symbols.fault.or(substream.fault);
             Ok(symbols)
         }
-        Ok(_) => Ok(Reading {
-            items: Vec::new(alloc),
-            fault: Some(UNKNOWN_VERSION),
-        }),
-        Err(error) => Ok(Reading {
-            items: Vec::new(alloc),
-            fault: Some(error),
-        }),
+        Ok(_) => Ok(nothing_read(alloc, Some(UNKNOWN_VERSION))),
+        Err(error) => Ok(nothing_read(alloc, Some(error))),
     }
 }
 
 // The rows of all functions, and the files. A broken list of subsections or of files fails them all.
 fn read_line_program(
     alloc: Global,
-    subsections: &Subsections<'_>,
+    subsections: &Reading<Subsection<'_>>,
     files: &Files,
-    procedures: Vec<ProcedureSpan>,
-) -> Result<LineProgram, Fault> {
+    symbols: &[Symbol],
+) -> Result<LineProgram, Fault>
+    requires items { files.now.entries.items ≡ (files_of subsections.now).items }
+    requires fault { files.now.fault ≡ (files_of subsections.now).fault }
+    ensures { Gives (λ program. program) result (line_program subsections.now symbols.now) }
+{
     if let Some(error) = subsections.fault.or(files.fault) {
         return Err(Fault::Broken(error));
     }
-    let mut lines = Vec::new(alloc);
-    for subsection in &subsections.list {
-        if subsection.kind == LINES {
-            lines.push(read_lines(alloc, subsection.bytes, files)?)?;
-        }
+    let bytes = all_of_kind(alloc, &subsections.items, LINES)?;
+    let lines = read_all_lines(alloc, &bytes, files)?;
+    let procedures = symbol_spans(alloc, symbols)?;
+    Ok(LineProgram {
+        entries: program_entries(alloc, lines, procedures)?,
+        files: files.infos(alloc)?,
+    })
+}
+
+// All subsections of lines.
+fn read_all_lines(
+    alloc: Global,
+    subsections: &[&[u8]],
+    files: &Files,
+) -> Result<Vec<LineSubsection>, Fault>
+    ensures { Gives (λ lines. lines.items) result
+        (line_subsections files.now.entries.items (map (λ s. s.now) subsections.now)) }
+{
+    let mut lines = Vec::with_capacity(alloc, subsections.len())?;
+    for bytes in subsections {
+        lines.push(read_lines(alloc, bytes, files)?)?;
     }
-    let entries = program_entries(alloc, lines, procedures)?;
-    let files = files.infos(alloc)?;
-    Ok(LineProgram { entries, files })
+    Ok(lines)
 }
 
 fn module_imports(
     alloc: Global,
-    subsections: &Subsections<'_>,
-) -> Result<CrossModuleImports, Fault> {
-    read_imports(alloc, subsections.first_or_empty(IMPORTS)?)
+    subsections: &Reading<Subsection<'_>>,
+) -> Result<CrossModuleImports, Fault>
+    ensures { Gives (λ read. read) result (imports_of subsections.now) }
+{
+    read_imports(alloc, first_or_empty(subsections, IMPORTS)?)
 }
 
 fn module_exports(
     alloc: Global,
-    subsections: &Subsections<'_>,
-) -> Result<CrossModuleExports, Fault> {
-    read_exports(alloc, subsections.first_or_empty(EXPORTS)?)
+    subsections: &Reading<Subsection<'_>>,
+) -> Result<CrossModuleExports, Fault>
+    ensures { Gives (λ read. read) result (exports_of subsections.now) }
+{
+    read_exports(alloc, first_or_empty(subsections, EXPORTS)?)
 }

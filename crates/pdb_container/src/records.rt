@@ -1,21 +1,20 @@
 //! All records of a PDB file: which streams are read, and which failed.
 
 ghost use Rattle.std.specs.Prelude.{◌≡◌, IfErr, IfOk};
-ghost use Rattle.pdb_container.specs.DebugRecords.{address_map, debug_information, global_symbols, of_file};
-ghost use Rattle.pdb_container.specs.DebugRecords.{sections, tabled};
+ghost use Rattle.pdb_container.specs.Records.{records, records_of};
 ghost use Rattle.pdb_container.specs.Strings.{string_table};
+ghost use Rattle.pdb_container.specs.TypeRecords.{id_information, type_information};
 ghost use Rattle.pdb_msf.specs.Faults.{Gives, Opens};
 ghost use Rattle.pdb_msf.specs.Msf.{stream_of};
 
 use crate::debug_records::debug_records;
-use crate::ids::read_ids;
 use crate::info::InfoStream;
 use crate::refusals::{Refusal, refusal_of};
 use crate::strings::read_strings;
-use crate::types::read_types;
 use pdb_msf::faults::{Fault, NO_STREAM, part_or_fault};
 use pdb_msf::{Container, ContainerFault};
 use pdb_records::{IdInformation, PDB, StringTable, TypeInformation};
+use pdb_tpi::{no_ids, read_ids, read_types};
 use std::alloc::Global;
 
 /// The numbers of the streams that stand at fixed places.
@@ -41,11 +40,7 @@ pub struct PdbFile {
 /// An error where the file is none, or is cut short before the end of its directory, or its streams are longer than the
 /// file together, or there is no memory. All else that is broken is a failed stream or a fault in the records.
 pub fn read_pdb(alloc: Global, bytes: &[u8]) -> Result<PDB, ContainerFault>
-    ensures information { Opens (λ pdb. pdb.debug_information) result (of_file debug_information bytes.now) }
-    ensures sections { Opens (λ pdb. pdb.sections) result (of_file sections bytes.now) }
-    ensures address_map { Opens (λ pdb. pdb.address_map) result (of_file address_map bytes.now) }
-    ensures global_symbols { Opens (λ pdb. tabled pdb.global_symbols) result (of_file global_symbols bytes.now) }
-    ensures string_table { Opens (λ pdb. pdb.string_table) result (of_file string_table bytes.now) }
+    ensures { Opens (λ pdb. pdb) result (records_of bytes.now) }
 {
     let container = Container::open(alloc, bytes)?;
     let info = InfoStream::read(alloc, &container)?;
@@ -54,12 +49,7 @@ pub fn read_pdb(alloc: Global, bytes: &[u8]) -> Result<PDB, ContainerFault>
 
 /// The records of a PDB file, and what a reader of them wants to be told. The errors are those of [`read_pdb`].
 pub fn read_pdb_file(alloc: Global, bytes: &[u8]) -> Result<PdbFile, ContainerFault>
-    ensures information { Opens (λ file. file.records.debug_information) result (of_file debug_information bytes.now) }
-    ensures sections { Opens (λ file. file.records.sections) result (of_file sections bytes.now) }
-    ensures address_map { Opens (λ file. file.records.address_map) result (of_file address_map bytes.now) }
-    ensures global_symbols { Opens (λ file. tabled file.records.global_symbols) result
-        (of_file global_symbols bytes.now) }
-    ensures string_table { Opens (λ file. file.records.string_table) result (of_file string_table bytes.now) }
+    ensures { Opens (λ file. file.records) result (records_of bytes.now) }
 {
     let container = Container::open(alloc, bytes)?;
     let info = InfoStream::read(alloc, &container)?;
@@ -71,17 +61,14 @@ pub fn read_pdb_file(alloc: Global, bytes: &[u8]) -> Result<PdbFile, ContainerFa
     })
 }
 
+#[tactic(auto, using(crate::proofs::RecordLemmas::table_of_tabled))]
 fn read_records(
     alloc: Global,
     container: &Container<'_>,
     info: &InfoStream<'_>,
 ) -> Result<PDB, Fault>
     requires { info.now ≡ stream_of container.now 1 }
-    ensures information { IfOk result (λ pdb. pdb.debug_information ≡ debug_information container.now) }
-    ensures sections { IfOk result (λ pdb. pdb.sections ≡ sections container.now) }
-    ensures address_map { IfOk result (λ pdb. pdb.address_map ≡ address_map container.now) }
-    ensures global_symbols { IfOk result (λ pdb. tabled pdb.global_symbols ≡ global_symbols container.now) }
-    ensures string_table { IfOk result (λ pdb. pdb.string_table ≡ string_table container.now) }
+    ensures answer { IfOk result (λ pdb. pdb ≡ records container.now) }
     ensures memory { IfErr result (λ fault. fault ≡ Fault.OutOfMemory) }
 {
     let string_table = part_or_fault(read_texts(alloc, container, info))?;
@@ -115,23 +102,30 @@ fn read_texts(
     read_strings(alloc, names.as_slice())
 }
 
-fn type_information(alloc: Global, container: &Container<'_>) -> Result<TypeInformation, Fault> {
+#[tactic(auto, unfolding(crate::specs::TypeRecords::type_information))]
+fn type_information(alloc: Global, container: &Container<'_>) -> Result<TypeInformation, Fault>
+    ensures { Gives (λ types. types) result (type_information container.now) }
+{
     let stream = container.stream(alloc, TYPES)?;
-    read_types(alloc, stream.as_slice())
+    read_types(alloc, stream)
 }
 
 // The ids. A file that doesn't list that it has ids, as those from before there were any, has none.
+#[tactic(auto, unfolding(crate::specs::TypeRecords::id_information))]
 fn id_information(
     alloc: Global,
     container: &Container<'_>,
     info: &InfoStream<'_>,
-) -> Result<IdInformation, Fault> {
+) -> Result<IdInformation, Fault>
+    requires { info.now ≡ stream_of container.now 1 }
+    ensures { Gives (λ ids. ids) result (id_information container.now) }
+{
     if !info.features().ids {
-        return read_ids(alloc, &[]);
+        return Ok(no_ids(alloc));
     }
     match part_or_fault(container.stream(alloc, IDS))? {
-        Ok(stream) => read_ids(alloc, stream.as_slice()),
-        Err(NO_STREAM) => read_ids(alloc, &[]),
+        Ok(stream) => read_ids(alloc, stream),
+        Err(NO_STREAM) => Ok(no_ids(alloc)),
         Err(error) => Err(Fault::Broken(error)),
     }
 }

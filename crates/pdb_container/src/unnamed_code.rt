@@ -3,178 +3,285 @@
 //! Further chunks of a function and the jumps of incremental links: each jump, and each chunk that the list has
 //! elsewhere than behind its function, becomes such a procedure.
 
-ghost use Rattle.std.specs.Prelude.{◌≡◌, IfErr};
+ghost use Rattle.std.specs.Prelude.{◌≡◌, ◌++◌, ℕ, List, None, IfErr, IfOk, OnOk};
+ghost use Rattle.std.specs.BTreeMap.{get};
+ghost use Rattle.std.specs.Option.{option_copied, option_or};
+ghost use Rattle.std.specs.Ordering.{nat_cmp};
+ghost use Rattle.pdb_records.specs.declared.symbols.Symbol.{Symbol};
+ghost use Rattle.pdb_codeview.specs.Places.{place};
+ghost use Rattle.pdb_codeview.specs.ProcedureSpans.{span_of};
+ghost use Rattle.pdb_container.specs.DebugRecords.{tabled};
+ghost use Rattle.pdb_container.specs.Functions.{any_function, function_at, seen, symbols_of};
+ghost use Rattle.pdb_container.specs.UnnamedCode.{apart, apart_from, changed_at, code_apart, code_from, code_of_module};
+ghost use Rattle.pdb_container.specs.UnnamedCode.{named, named_in, named_module, named_modules, named_symbol, namings};
+ghost use Rattle.pdb_container.specs.UnnamedCode.{own_function, procedure_of, start_or};
 
-use pdb_codeview::S_TRAMPOLINE;
+use crate::functions::{Functions, NamedFunction, all_functions, functions_of};
+use crate::module_places::ModuleInfoResult;
+use pdb_codeview::{S_TRAMPOLINE, place, span_of};
 use pdb_msf::copy_name;
 use pdb_msf::faults::Fault;
 use pdb_records::{
-    ModuleInfo, PdbInternalSectionOffset, ProcedureSymbol, RawString, S_SEPCODE, S_THUNK32,
-    SeparatedCodeSymbol, StreamError, Symbol, SymbolData, SymbolIndex, SymbolTable, TypeIndex,
+    ModuleInfo, ProcedureSymbol, RawString, S_SEPCODE, S_THUNK32, SeparatedCodeSymbol, StreamError,
+    Symbol, SymbolData, SymbolTable, TypeIndex,
 };
 use std::alloc::{AllocError, Global};
-use std::collections::BTreeMap;
+use std::marker::Model;
 
-/// What is known of a module, or why it can't be read.
-pub type ModuleInfoResult = Result<Option<ModuleInfo>, StreamError>;
-
-/// Where a symbol stands: its module, and its position among the symbols of that.
-#[derive(Clone, Copy)]
-struct SymbolPlace {
-    module_index: usize,
+/// Code of a module that has no name.
+#[derive(Drop)]
+struct ApartCode<'m> {
+    /// The position of its symbol.
     position: usize,
+    raw_kind: u16,
+    code: &'m SeparatedCodeSymbol,
+}
+
+impl<'m> Model for ApartCode<'m> {
+    ghost use Rattle.pdb_container.specs.UnnamedCode.{CodeApart};
+
+    ghost Value = { CodeApart };
+
+    ghost view = { λ c. record { position = c.position; raw_kind = c.raw_kind; code = c.code.now } };
 }
 
 /// Code that becomes a procedure of its own.
-#[derive(Clone, Copy)]
-struct UnnamedCode {
-    place: SymbolPlace,
-    offset: PdbInternalSectionOffset,
-    len: u32,
-    end: SymbolIndex,
-    /// Where the function starts that it is of.
-    function: PdbInternalSectionOffset,
+#[derive(Drop)]
+struct UnnamedCode<'m> {
+    module_index: usize,
+    position: usize,
+    code: &'m SeparatedCodeSymbol,
+    /// The function of a chunk, where its own module lists it.
+    own: Option<NamedFunction<'m>>,
 }
 
-/// A function by its name and its type.
-#[derive(Clone, Copy)]
-struct NamedFunction<'a> {
-    name: &'a RawString,
-    type_index: TypeIndex,
+impl<'m> Model for UnnamedCode<'m> {
+    ghost use Rattle.pdb_container.specs.Functions.{seen};
+    ghost use Rattle.pdb_container.specs.UnnamedCode.{CodeOfModule};
+
+    ghost Value = { CodeOfModule };
+
+    ghost view = { λ c. record {
+      module_index = c.module_index;
+      position = c.position;
+      code = c.code.now;
+      own = seen c.own;
+    } };
 }
 
-/// Functions by where they start.
-type Functions<'a> = BTreeMap<PdbInternalSectionOffset, NamedFunction<'a>>;
+/// What becomes of a symbol.
+#[derive(Drop)]
+struct Naming {
+    module_index: usize,
+    position: usize,
+    procedure: ProcedureSymbol,
+}
 
 /// Makes procedures of the code without a name, where its function is known. They take no more bytes of names
 /// together than there is room for, and what finds no room stays as it is.
+#[tactic(auto, unfolding(crate::specs::UnnamedCode::named_modules))]
 pub fn name_unnamed_code(
     alloc: Global,
     modules: &mut [ModuleInfoResult],
     global_symbols: &Result<SymbolTable, StreamError>,
     room: usize,
 ) -> Result<(), Fault>
-    ensures { IfErr result (λ fault. fault ≡ Fault.OutOfMemory) }
+    ensures state { OnOk result (modules.new ≡ named_modules room (tabled global_symbols.now) modules.old) }
+    ensures memory { IfErr result (λ fault. fault ≡ Fault.OutOfMemory) }
 {
-    let list = list_unnamed_code(alloc, modules)?;
-    if list.is_empty() {
-        return Ok(());
-    }
-    let procedures = procedures_of(alloc, &list, modules, global_symbols, room)?;
-    for (place, procedure) in procedures {
-        put_procedure(modules, place, procedure);
+    let namings = list_namings(alloc, modules, global_symbols, room)?;
+    for naming in namings {
+        name_code(modules, naming);
     }
     Ok(())
 }
 
-fn list_unnamed_code(
+// What becomes of the symbols of code without a name.
+fn list_namings(
     alloc: Global,
     modules: &[ModuleInfoResult],
-) -> Result<Vec<UnnamedCode>, AllocError> {
-    let mut list = Vec::new(alloc);
-    for (module_index, read) in modules.iter().enumerate() {
-        if let Ok(Some(info)) = read {
-            fill_unnamed_code(module_index, &info.symbols.items, &mut list)?;
-        }
+    global_symbols: &Result<SymbolTable, StreamError>,
+    room: usize,
+) -> Result<Vec<Naming>, Fault>
+    ensures answer { IfOk result (λ list. list.items
+        ≡ namings (any_function modules.now (tabled global_symbols.now)) room (code_from 0 modules.now)) }
+    ensures memory { IfErr result (λ fault. fault ≡ Fault.OutOfMemory) }
+{
+    let codes = list_unnamed_code(alloc, modules)?;
+    if codes.is_empty() {
+        return Ok(Vec::new(alloc));
     }
-    Ok(list)
+    let functions = all_functions(alloc, modules, global_symbols)?;
+    namings_of(alloc, &codes, &functions, room)
 }
 
-fn fill_unnamed_code(
+// The code without a name of all modules.
+fn list_unnamed_code<'m>(
+    alloc: Global,
+    modules: &'m [ModuleInfoResult],
+) -> Result<Vec<UnnamedCode<'m>>, AllocError>
+    ensures { IfOk result (λ codes. codes.items ≡ code_from 0 modules.now) }
+{
+    let mut codes = Vec::new(alloc);
+    for (module_index, read) in modules.iter().enumerate() {
+        push_unnamed_code(alloc, module_index, symbols_of(read), &mut codes)?;
+    }
+    Ok(codes)
+}
+
+// The symbols of a module that was read.
+fn symbols_of(read: &ModuleInfoResult) -> &[Symbol]
+    ensures { result.now ≡ symbols_of read.now }
+{
+    match read {
+        Ok(Some(info)) => &info.symbols.items,
+        _ => &[],
+    }
+}
+
+// Appends the code without a name of a module's symbols.
+fn push_unnamed_code<'m>(
+    alloc: Global,
     module_index: usize,
-    symbols: &[Symbol],
-    list: &mut Vec<UnnamedCode>,
-) -> Result<(), AllocError> {
-    let mut before = None;
-    for (position, symbol) in symbols.iter().enumerate() {
-        if let Some(code) = code_elsewhere(symbol, before) {
-            list.push(unnamed_code(
-                SymbolPlace {
-                    module_index,
-                    position,
-                },
-                code,
-            ))?;
-        }
-        before = code_start(symbol, before);
+    symbols: &'m [Symbol],
+    codes: &mut Vec<UnnamedCode<'m>>,
+) -> Result<(), AllocError>
+    ensures { OnOk result (codes.new.items ≡ codes.old.items ++ code_of_module module_index symbols.now) }
+{
+    let apart = list_apart_code(alloc, symbols)?;
+    if apart.is_empty() {
+        return Ok(());
+    }
+    let functions = functions_of(alloc, symbols)?;
+    for code in &apart {
+        codes.push(UnnamedCode {
+            module_index,
+            position: code.position,
+            code: code.code,
+            own: own_function(&functions, code.raw_kind, code.code),
+        })?;
     }
     Ok(())
+}
+
+// The function of code of this kind, where it is a chunk and its own module lists it.
+fn own_function<'m>(
+    functions: &Functions<'m>,
+    raw_kind: u16,
+    code: &SeparatedCodeSymbol,
+) -> Option<NamedFunction<'m>>
+    ensures { (symbols : List Symbol)
+        → ((asked : ℕ) → seen (get nat_cmp functions.now asked) ≡ function_at asked symbols)
+        → seen result ≡ own_function symbols raw_kind code.now }
+{
+    if raw_kind != S_SEPCODE {
+        return None;
+    }
+    functions.get(&place(code.parent_offset)).copied()
+}
+
+// The code of a module's symbols that stands apart from its function.
+fn list_apart_code<'m>(
+    alloc: Global,
+    symbols: &'m [Symbol],
+) -> Result<Vec<ApartCode<'m>>, AllocError>
+    ensures { IfOk result (λ apart. apart.items ≡ apart_from 0 None symbols.now) }
+{
+    let mut apart = Vec::new(alloc);
+    let mut before = None;
+    for (position, symbol) in symbols.iter().enumerate() {
+        if let Some(code) = code_apart(symbol.raw_kind, before, &symbol.content) {
+            apart.push(ApartCode {
+                position,
+                raw_kind: symbol.raw_kind,
+                code,
+            })?;
+        }
+        before = start_or(before, &symbol.content);
+    }
+    Ok(apart)
 }
 
 // The code of a symbol, where it stands elsewhere than behind the code that starts where its function does.
-fn code_elsewhere<'s>(
-    symbol: &'s Symbol,
-    before: Option<PdbInternalSectionOffset>,
-) -> Option<&'s SeparatedCodeSymbol> {
-    match (&symbol.content, symbol.raw_kind) {
-        (Some(SymbolData::SeparatedCode(code)), S_TRAMPOLINE) => Some(code),
-        (Some(SymbolData::SeparatedCode(code)), S_SEPCODE) => match before {
-            Some(start) if start == code.parent_offset => None,
-            _ => Some(code),
-        },
+fn code_apart(
+    raw_kind: u16,
+    before: Option<u64>,
+    content: &Option<SymbolData>,
+) -> Option<&SeparatedCodeSymbol>
+    ensures { option_copied result ≡ code_apart raw_kind before content.now }
+{
+    match content {
+        Some(SymbolData::SeparatedCode(code)) => {
+            let chunk = raw_kind == S_SEPCODE && before != Some(place(code.parent_offset));
+            if raw_kind == S_TRAMPOLINE || chunk {
+                Some(code)
+            } else {
+                None
+            }
+        }
         _ => None,
     }
 }
 
 // Where the code starts of the last symbol that has some, this one among them.
-fn code_start(
-    symbol: &Symbol,
-    before: Option<PdbInternalSectionOffset>,
-) -> Option<PdbInternalSectionOffset> {
-    match &symbol.content {
-        Some(SymbolData::Procedure(procedure)) if procedure.len > 0 => Some(procedure.offset),
-        Some(SymbolData::Thunk(thunk)) if thunk.len > 0 => Some(thunk.offset),
-        Some(SymbolData::SeparatedCode(code)) if code.len > 0 => Some(code.offset),
-        _ => before,
-    }
-}
-
-fn unnamed_code(place: SymbolPlace, code: &SeparatedCodeSymbol) -> UnnamedCode {
-    UnnamedCode {
-        place,
-        offset: code.offset,
-        len: code.len,
-        end: code.end,
-        function: code.parent_offset,
-    }
-}
-
-// The procedures that stand for the code, each with its place.
-fn procedures_of<'m>(
-    alloc: Global,
-    list: &[UnnamedCode],
-    modules: &'m [ModuleInfoResult],
-    global_symbols: &'m Result<SymbolTable, StreamError>,
-    room: usize,
-) -> Result<Vec<(SymbolPlace, ProcedureSymbol)>, Fault>
-    ensures { IfErr result (λ fault. fault ≡ Fault.OutOfMemory) }
+fn start_or(before: Option<u64>, content: &Option<SymbolData>) -> Option<u64>
+    ensures { result ≡ start_or before (span_of content.now) }
 {
-    let functions = functions(alloc, modules, global_symbols)?;
-    let mut procedures = Vec::new(alloc);
+    match span_of(content) {
+        Some(span) => Some(place(span.start)),
+        None => before,
+    }
+}
+
+// What becomes of the symbols of code, where names may take so many bytes.
+fn namings_of<'m>(
+    alloc: Global,
+    codes: &[UnnamedCode<'m>],
+    functions: &Functions<'m>,
+    room: usize,
+) -> Result<Vec<Naming>, Fault>
+    ensures answer { IfOk result (λ list.
+        list.items ≡ namings (λ asked. seen (get nat_cmp functions.now asked)) room codes.now) }
+    ensures memory { IfErr result (λ fault. fault ≡ Fault.OutOfMemory) }
+{
+    let mut list = Vec::new(alloc);
     let mut left = room;
-    for code in list {
-        let Some(function) = functions.get(&code.function) else {
+    for code in codes {
+        let Some(function) = function_for(code, functions) else {
             continue;
         };
         let name = function.name;
         if name.0.len() <= left {
             left -= name.0.len();
-            procedures.push((
-                code.place,
-                procedure(alloc, *code, name, function.type_index)?,
-            ))?;
+            list.push(Naming {
+                module_index: code.module_index,
+                position: code.position,
+                procedure: procedure_of(alloc, code.code, name, function.type_index)?,
+            })?;
         }
     }
-    Ok(procedures)
+    Ok(list)
 }
 
-fn procedure(
+// The function that code is of.
+fn function_for<'m>(code: &UnnamedCode<'m>, functions: &Functions<'m>) -> Option<NamedFunction<'m>>
+    ensures { seen result
+        ≡ option_or code.now.own (seen (get nat_cmp functions.now (place code.now.code.parent_offset))) }
+{
+    match code.own {
+        Some(function) => Some(function),
+        None => functions.get(&place(code.code.parent_offset)).copied(),
+    }
+}
+
+fn procedure_of(
     alloc: Global,
-    code: UnnamedCode,
+    code: &SeparatedCodeSymbol,
     name: &RawString,
     type_index: TypeIndex,
 ) -> Result<ProcedureSymbol, Fault>
-    ensures { IfErr result (λ fault. fault ≡ Fault.OutOfMemory) }
+    ensures answer { IfOk result (λ procedure. procedure ≡ procedure_of code.now name.now type_index) }
+    ensures memory { IfErr result (λ fault. fault ≡ Fault.OutOfMemory) }
 {
     Ok(ProcedureSymbol {
         offset: code.offset,
@@ -185,66 +292,38 @@ fn procedure(
     })
 }
 
-// Of each start the first procedure that the modules list, else the first public symbol.
-fn functions<'m>(
-    alloc: Global,
-    modules: &'m [ModuleInfoResult],
-    global_symbols: &'m Result<SymbolTable, StreamError>,
-) -> Result<Functions<'m>, AllocError> {
-    let mut functions = BTreeMap::new(alloc);
-    for read in modules {
-        if let Ok(Some(info)) = read {
-            add_functions(&mut functions, &info.symbols.items)?;
-        }
-    }
-    if let Ok(table) = global_symbols {
-        add_functions(&mut functions, &table.symbols.items)?;
-    }
-    Ok(functions)
-}
-
-fn add_functions<'m>(
-    functions: &mut Functions<'m>,
-    symbols: &'m [Symbol],
-) -> Result<(), AllocError> {
-    for symbol in symbols {
-        if let Some((start, function)) = named_function(symbol)
-            && !functions.contains_key(&start)
-        {
-            functions.insert(start, function)?;
-        }
-    }
-    Ok(())
-}
-
-fn named_function(symbol: &Symbol) -> Option<(PdbInternalSectionOffset, NamedFunction<'_>)> {
-    match &symbol.content {
-        Some(SymbolData::Procedure(procedure)) => Some((
-            procedure.offset,
-            NamedFunction {
-                name: &procedure.name,
-                type_index: procedure.type_index,
-            },
-        )),
-        Some(SymbolData::Public(public)) => Some((
-            public.offset,
-            NamedFunction {
-                name: &public.name,
-                type_index: TypeIndex(0),
-            },
-        )),
-        _ => None,
+// Puts a procedure in the place of a symbol.
+fn name_code(modules: &mut [ModuleInfoResult], naming: Naming)
+    ensures { modules.new ≡ named modules.old naming }
+{
+    let index = naming.module_index;
+    if index < modules.len() {
+        name_in_module(&mut modules[index], naming.position, naming.procedure);
     }
 }
 
-// Puts a procedure in the place of a symbol. Of a jump the kind becomes one that has code.
-fn put_procedure(modules: &mut [ModuleInfoResult], place: SymbolPlace, procedure: ProcedureSymbol) {
-    if let Some(Ok(Some(info))) = modules.get_mut(place.module_index)
-        && let Some(symbol) = info.symbols.items.get_mut(place.position)
-    {
-        if symbol.raw_kind == S_TRAMPOLINE {
-            symbol.raw_kind = S_THUNK32;
-        }
-        symbol.content = Some(SymbolData::Procedure(procedure));
+fn name_in_module(read: &mut ModuleInfoResult, position: usize, procedure: ProcedureSymbol)
+    ensures { read.new ≡ named_module position procedure read.old }
+{
+    if let Ok(Some(info)) = read {
+        name_in(info, position, procedure);
     }
+}
+
+fn name_in(info: &mut ModuleInfo, position: usize, procedure: ProcedureSymbol)
+    ensures { info.new ≡ named_in position procedure info.old }
+{
+    if let Some(symbol) = info.symbols.items.get_mut(position) {
+        name_symbol(symbol, procedure);
+    }
+}
+
+// Of a jump the kind becomes one that has code.
+fn name_symbol(symbol: &mut Symbol, procedure: ProcedureSymbol)
+    ensures { symbol.new ≡ named_symbol procedure symbol.old }
+{
+    if symbol.raw_kind == S_TRAMPOLINE {
+        symbol.raw_kind = S_THUNK32;
+    }
+    symbol.content = Some(SymbolData::Procedure(procedure));
 }

@@ -1,8 +1,9 @@
 """PDB files in other forms than the usual one, by their bytes, and the records that are wanted of them: of other ages,
 of other sizes of blocks, with other lengths."""
 import more_kinds
-from kinds import (SECTIONS, container, contribution, debug_stream, info_stream, item_stream, module_header,
-                   more_streams, records, section_header, string_stream, u16, u32)
+from kinds import (SECTIONS, Symbols, container, contribution, debug_stream, info_stream, item_stream, module_header,
+                   more_streams, put_chunk, put_procedure, put_trampoline, records, section_header, string_stream, u16,
+                   u32)
 
 NO_SYMBOLS = {"symbols": [], "line_program": {"entries": [], "files": []}, "inlinees": [], "imports": [], "exports": []}
 LONG = 0xF13151E4
@@ -62,5 +63,38 @@ def names_only():
     return container(streams, 16384), ["names only", records()]
 
 
+def chunks_of_two_modules():
+    """Two modules that both list a procedure where the functions of chunks start: each chunk goes by that of its own
+    module, where that lists one, and a jump by that of the first module."""
+    first, second = Symbols(u32(4)), Symbols(u32(4))
+    put_procedure(first, 0x1110, 0x100, b"first")
+    first.close(6)
+    put_procedure(first, 0x1110, 0x120, b"next")
+    first.close(6)
+    put_chunk(first, 0x500, 0x100, "first")
+    first.close(6)
+    put_chunk(first, 0x508, 0x140, "other")
+    first.close(6)
+    put_chunk(second, 0x510, 0x100, "second")
+    second.close(6)
+    put_procedure(second, 0x1110, 0x140, b"other")
+    second.close(6)
+    put_procedure(second, 0x1110, 0x100, b"second")
+    second.close(6)
+    put_procedure(second, 0x1110, 0x100, b"third")
+    second.close(6)
+    put_chunk(second, 0x518, 0x120, "next")
+    second.close(6)
+    put_trampoline(second, 0x600, 0x100, "first", 0x1009)
+    modules = module_header(10, len(first.data), 0, b"a.obj") + module_header(11, len(second.data), 0, b"b.obj")
+    streams = [b"", info_stream(), item_stream([]), debug_stream(modules, b""), item_stream([]), string_stream(), b"",
+               None, b"", SECTIONS, first.data, second.data]
+    wanted = records(
+        debug_information={"machine_type": "Amd64", "modules": [{"name": "a.obj"}, {"name": "b.obj"}],
+                           "section_contributions": []},
+        module_infos=[{**NO_SYMBOLS, "symbols": it.wanted} for it in (first, second)])
+    return container(streams), [wanted]
+
+
 FILES = [("more_kinds.pdb", more_kinds.whole), ("before_ids.pdb", before_ids), ("first_with_ids.pdb", first_with_ids), ("many_streams.pdb", many_streams),
-         ("names_only.pdb", names_only)]
+         ("names_only.pdb", names_only), ("chunks_of_two_modules.pdb", chunks_of_two_modules)]

@@ -1,0 +1,7 @@
+-- The modules are those where what was listed so far became of symbols.
+use Rattle.std.proofs.Common.{◌≡◌, fold}
+use Rattle.pdb_container.specs.UnnamedCode.{named}
+use Rattle.pdb_container.proofs.unnamed_code.name_unnamed_code.Given as goal
+
+abbrev pub invariant-loop-naming : goal.invariant-loop-naming
+invariant-loop-naming l = l.modules ≡ fold named l.initial.modules l.yielded

@@ -1,0 +1,153 @@
+-- Code without a name of its own, chunks and jumps: it becomes procedures that go by their function's name.
+use Rattle.std.specs.Prelude.{ℕ, ◌+◌, ◌-◌, ◌==◌, nat_le, List, [], ◌∷◌, ◌++◌, length, map, fold, slice_get, slice_set}
+use Rattle.std.specs.Prelude.{Option, Some, None, option_map, option_to_list, Result, Ok, if◌then◌else◌}
+use Rattle.std.specs.Option.{option_or}
+use Rattle.pdb_records.specs.Readings.{Read}
+use Rattle.pdb_records.specs.declared.error.StreamError.{StreamError}
+use Rattle.pdb_records.specs.declared.modules.ModuleInfo.{ModuleInfo}
+use Rattle.pdb_records.specs.declared.symbols.ProcedureSymbol.{ProcedureSymbol}
+use Rattle.pdb_records.specs.declared.symbols.SeparatedCodeSymbol.{SeparatedCodeSymbol}
+use Rattle.pdb_records.specs.declared.symbols.Symbol.{Symbol}
+use Rattle.pdb_records.specs.declared.symbols.SymbolData.{SymbolData}
+use Rattle.pdb_records.specs.declared.symbols.SymbolData.TheVariants.{Procedure, SeparatedCode}
+use Rattle.pdb_records.specs.declared.symbol_kinds.TheConstants.{S_SEPCODE, S_THUNK32}
+use Rattle.pdb_records.specs.declared.types.TypeIndex.{TypeIndex}
+use Rattle.pdb_codeview.specs.declared.procedure_spans.ProcedureSpan.{ProcedureSpan}
+use Rattle.pdb_codeview.specs.declared.symbols.TheConstants.{S_TRAMPOLINE}
+use Rattle.pdb_codeview.specs.Places.{is_at, place}
+use Rattle.pdb_codeview.specs.ProcedureSpans.{span_of}
+use Rattle.pdb_container.specs.declared.unnamed_code.Naming.{Naming}
+use Rattle.pdb_container.specs.Functions.{FunctionStart, any_function, function_at, symbols_of}
+use Rattle.pdb_container.specs.ModulePlaces.{ModuleOrFault}
+
+-- code of a module that has no name: the position of its symbol, the symbol's kind, and what that says of the code
+pub record CodeApart : Type 0 where
+  pub position : ℕ
+  pub raw_kind : ℕ
+  pub code : SeparatedCodeSymbol
+
+-- code without a name: the index of its module, the position of its symbol there, what that says of the code, and the
+-- function of a chunk, where its own module lists it
+pub record CodeOfModule : Type 0 where
+  pub module_index : ℕ
+  pub position : ℕ
+  pub code : SeparatedCodeSymbol
+  pub own : Option FunctionStart
+
+-- code apart from its function, by the symbol's kind: a jump, or a chunk, unless the code in front of it starts where
+-- its function does
+abbrev pub apart : ℕ → Option ℕ → SeparatedCodeSymbol → Option SeparatedCodeSymbol
+apart raw_kind before code =
+    if raw_kind == S_TRAMPOLINE then Some code else
+    if raw_kind == S_SEPCODE then (if is_at before (place code.parent_offset) then None else Some code) else
+    None
+
+-- the code that a symbol of this kind and content shows apart from its function, behind code that starts at a place
+abbrev pub code_apart : ℕ → Option ℕ → Option SymbolData → Option SeparatedCodeSymbol
+code_apart raw_kind before (Some (SeparatedCode code)) = apart raw_kind before code
+code_apart raw_kind before content = None
+
+-- where code starts that may be there, or where the code before it did
+abbrev pub start_or : Option ℕ → Option ProcedureSpan → Option ℕ
+start_or before None = before
+start_or before (Some span) = Some (place span.start)
+
+-- the code apart among the last symbols of a module, from this position on, behind code that starts at a place
+abbrev pub apart_from : ℕ → Option ℕ → List Symbol → List CodeApart
+apart_from position before [] = []
+apart_from position before (symbol ∷ symbols) =
+    option_to_list (option_map (λ code. record { position = position; raw_kind = symbol.raw_kind; code = code })
+    (code_apart symbol.raw_kind before symbol.content))
+    ++ apart_from (position + 1) (start_or before (span_of symbol.content)) symbols
+
+-- the function of code of this kind, where its own module's symbols list it: of a chunk the first there where its
+-- function starts
+abbrev pub own_function : List Symbol → ℕ → SeparatedCodeSymbol → Option FunctionStart
+own_function symbols raw_kind code =
+    if raw_kind == S_SEPCODE then function_at (place code.parent_offset) symbols else None
+
+-- code apart, in the module with this index and these symbols
+abbrev pub code_in_module : ℕ → List Symbol → CodeApart → CodeOfModule
+code_in_module index symbols apart = record {
+  module_index = index;
+  position = apart.position;
+  code = apart.code;
+  own = own_function symbols apart.raw_kind apart.code;
+}
+
+-- the code without a name of a module's symbols
+abbrev pub code_of_module : ℕ → List Symbol → List CodeOfModule
+code_of_module index symbols = map (code_in_module index symbols) (apart_from 0 None symbols)
+
+-- the code without a name of modules that are numbered from here on
+abbrev pub code_from : ℕ → List ModuleOrFault → List CodeOfModule
+code_from index [] = []
+code_from index (read ∷ modules) = code_of_module index (symbols_of read) ++ code_from (index + 1) modules
+
+-- the procedure that stands for code, with its function's name and type
+abbrev pub procedure_of : SeparatedCodeSymbol → List ℕ → TypeIndex → ProcedureSymbol
+procedure_of code name type_index = record {
+  offset = code.offset;
+  len = code.len;
+  name = name;
+  end = code.end;
+  type_index = type_index;
+}
+
+-- what becomes of the symbol of code that is of this function
+abbrev pub naming : CodeOfModule → FunctionStart → Naming
+naming code function = record {
+  module_index = code.module_index;
+  position = code.position;
+  procedure = procedure_of code.code function.name function.type_index;
+}
+
+-- what becomes of the symbols of code, by the functions that start at places, where names may take so many bytes: what
+-- has no function stays, and so does what finds no room
+abbrev pub namings : (ℕ → Option FunctionStart) → ℕ → List CodeOfModule → List Naming
+namings function_there room [] = []
+namings function_there room (code ∷ codes) =
+    elim (option_or code.own (function_there (place code.code.parent_offset))) as (λ found. List Naming) [
+      | None ↦ namings function_there room codes
+      | Some function ↦
+          if nat_le (length function.name) room
+          then naming code function ∷ namings function_there (room - length function.name) codes
+          else namings function_there room codes
+    ]
+
+-- the kind of a symbol that becomes a procedure: of a jump that of a thunk, which has code
+abbrev pub named_kind : ℕ → ℕ
+named_kind raw_kind = if raw_kind == S_TRAMPOLINE then S_THUNK32 else raw_kind
+
+-- a symbol that becomes this procedure
+abbrev pub named_symbol : ProcedureSymbol → Symbol → Symbol
+named_symbol procedure symbol =
+    record { raw_kind = named_kind symbol.raw_kind; content = Some (Procedure procedure) }
+
+-- the list with what becomes of an element, where there is one
+abbrev pub changed_at : {A : Type 0} → ℕ → (A → A) → List A → List A
+changed_at {A = A} position change items =
+    elim (slice_get items position) as (λ found. List A) [
+      | None ↦ items
+      | Some item ↦ slice_set items position (change item)
+    ]
+
+-- what is known of a module, where the symbol at a position becomes this procedure
+abbrev pub named_in : ℕ → ProcedureSymbol → ModuleInfo → ModuleInfo
+named_in position procedure info = record info {
+  symbols = record info.symbols { items = changed_at position (named_symbol procedure) info.symbols.items };
+}
+
+-- the same of a module that was read
+abbrev pub named_module : ℕ → ProcedureSymbol → ModuleOrFault → ModuleOrFault
+named_module position procedure (Ok (Some info)) = Ok (Some (named_in position procedure info))
+named_module position procedure read = read
+
+-- modules where a symbol becomes a procedure
+abbrev pub named : List ModuleOrFault → Naming → List ModuleOrFault
+named modules naming = changed_at naming.module_index (named_module naming.position naming.procedure) modules
+
+-- modules where code without a name goes by its function's, as far as names find room
+unfoldable pub named_modules : ℕ → Result (Read Symbol) StreamError → List ModuleOrFault → List ModuleOrFault
+named_modules room globals modules =
+    fold named modules (namings (any_function modules globals) room (code_from 0 modules))

@@ -1,0 +1,81 @@
+//! Where the records of each module stand, and whether they are read: the module's stream, if it has one.
+
+ghost use Rattle.std.specs.Prelude.{◌≡◌, IfErr, IfOk};
+ghost use Rattle.pdb_msf.specs.Faults.{Gives};
+ghost use Rattle.pdb_container.specs.ModulePlaces.{left_behind, module_of, module_places, place_within};
+
+use crate::modules::read_module;
+use pdb_dbi::ModuleStream;
+use pdb_msf::Container;
+use pdb_msf::faults::{Fault, TOO_LONG, part_or_fault};
+use pdb_records::{ModuleInfo, StreamError};
+use std::alloc::{AllocError, Global};
+
+/// The number that stands for no stream.
+const NO_NUMBER: u16 = 0xffff;
+
+/// What is known of a module, or why it can't be read.
+pub type ModuleInfoResult = Result<Option<ModuleInfo>, StreamError>;
+
+/// Where the records of a module stand, `None` of a module without records, or why they aren't read.
+pub type ModulePlace = Result<Option<ModuleStream>, StreamError>;
+
+/// Where the records of each module stand. Of the streams of all modules no more bytes are read than the file has: the
+/// records of a module aren't read whose stream is longer than what the streams before it leave of that.
+pub fn module_places(
+    alloc: Global,
+    container: &Container<'_>,
+    streams: &[ModuleStream],
+) -> Result<Vec<ModulePlace>, AllocError>
+    ensures { IfOk result (λ places. places.items ≡ module_places container.now streams.now) }
+{
+    let mut places = Vec::with_capacity(alloc, streams.len())?;
+    let mut left = container.file_length();
+    for place in streams {
+        places.push(place_within(container, *place, &mut left))?;
+    }
+    Ok(places)
+}
+
+// Where the records of a module stand, where so many bytes may still be read.
+fn place_within(container: &Container<'_>, place: ModuleStream, left: &mut usize) -> ModulePlace
+    ensures answer { result ≡ place_within container.now left.old place }
+    ensures state { left.new ≡ left_behind container.now left.old place }
+{
+    if place.stream == NO_NUMBER {
+        return Ok(None);
+    }
+    let size = container.stream_size(u32::from(place.stream)).unwrap_or(0) as usize;
+    if *left < size {
+        return Err(TOO_LONG);
+    }
+    *left -= size;
+    Ok(Some(place))
+}
+
+/// What is known of a module whose records stand there, or why they can't be read.
+pub fn read_module_info(
+    alloc: Global,
+    container: &Container<'_>,
+    place: ModulePlace,
+) -> Result<ModuleInfoResult, Fault>
+    ensures answer { IfOk result (λ read. read ≡ module_of container.now place) }
+    ensures memory { IfErr result (λ fault. fault ≡ Fault.OutOfMemory) }
+{
+    part_or_fault(placed_module(alloc, container, place))
+}
+
+// What is known of a module whose records stand there.
+fn placed_module(
+    alloc: Global,
+    container: &Container<'_>,
+    place: ModulePlace,
+) -> Result<Option<ModuleInfo>, Fault>
+    ensures { Gives (λ read. read) result (module_of container.now place) }
+{
+    let Some(place) = place? else {
+        return Ok(None);
+    };
+    let stream = container.stream(alloc, u32::from(place.stream))?;
+    Ok(Some(read_module(alloc, place, stream.as_slice())?))
+}

@@ -1,0 +1,8 @@
+pub mod ContentLemmas
+pub mod IndexLemmas
+pub mod ItemLemmas
+pub mod NumberLemmas
+pub mod PrimitiveLemmas
+mod StreamExamples
+mod TypeExamples
+pub mod TypeRecordLemmas

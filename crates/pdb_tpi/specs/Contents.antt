@@ -1,0 +1,19 @@
+-- What items hold, or why one alone can't be read.
+use Rattle.std.specs.Prelude.{Result, Ok, Err, alloc_error}
+use Rattle.std.specs.declared.alloc.AllocError.{AllocError}
+use Rattle.pdb_records.specs.declared.error.Error.{Error}
+use Rattle.pdb_records.specs.declared.error.Error.TheVariants.{Stream}
+use Rattle.pdb_records.specs.declared.error.StreamError.{StreamError}
+use Rattle.pdb_msf.specs.declared.faults.Fault.{Fault}
+use Rattle.pdb_msf.specs.declared.faults.Fault.TheVariants.{Broken, OutOfMemory}
+
+-- the content of an item: what its record says, or the record's fault as the item's error
+abbrev pub or_error : {T : Type 0} → Result T StreamError → Result T Error
+or_error (Ok content) = Ok content
+or_error (Err fault) = Err (Stream fault)
+
+-- the content of an item by what reading it came to; out of memory stays out of memory
+abbrev pub content_of : {T : Type 0} → Result T Fault → Result (Result T Error) AllocError
+content_of (Ok content) = Ok (Ok content)
+content_of (Err (Broken fault)) = Ok (Err (Stream fault))
+content_of (Err OutOfMemory) = Err alloc_error

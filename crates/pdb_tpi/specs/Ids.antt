@@ -1,0 +1,111 @@
+-- Ids: what the content of each kind that is read says. Places are counted from behind the kind.
+use Rattle.std.specs.Prelude.{ℕ, ◌==◌, nat_lt, List, drop, length, slice_get, codes}
+use Rattle.std.specs.Prelude.{Option, Some, None, option_map, Result, Ok, Err, if◌then◌else◌}
+use Rattle.pdb_records.specs.declared.error.Error.{Error}
+use Rattle.pdb_records.specs.declared.error.Error.TheVariants.{UnimplementedTypeKind}
+use Rattle.pdb_records.specs.declared.error.StreamError.{StreamError}
+use Rattle.pdb_records.specs.declared.ids.IdData.{IdData}
+use Rattle.pdb_records.specs.declared.ids.IdData.TheVariants as id
+use Rattle.pdb_records.specs.declared.ids.IdIndex.{IdIndex}
+use Rattle.pdb_records.specs.declared.types.Item.{Item}
+use Rattle.pdb_records.specs.declared.types.ItemInformation.{ItemInformation}
+use Rattle.pdb_msf.specs.declared.faults.TheConstants.{CUT}
+use Rattle.pdb_msf.specs.Faults.{◌>>=◌}
+use Rattle.pdb_msf.specs.NumberLists.{number}
+use Rattle.pdb_msf.specs.Readings.{nothing_read}
+use Rattle.pdb_tpi.specs.declared.ids.IdKind.{IdKind}
+use Rattle.pdb_tpi.specs.declared.ids.IdKind.TheVariants as leaf
+use Rattle.pdb_tpi.specs.Contents.{or_error}
+use Rattle.pdb_tpi.specs.IndexLists.{index_list}
+use Rattle.pdb_tpi.specs.Names.{name_in}
+use Rattle.pdb_tpi.specs.TypeRecords.{TypeBytes}
+use Rattle.pdb_tpi.specs.TypeStream.{TypeList, index_at, items_from, type_list}
+
+-- the kinds that have a name in the records, by the numbers of their leaves: LF_FUNC_ID, LF_MFUNC_ID, LF_BUILDINFO,
+-- LF_SUBSTR_LIST, LF_STRING_ID, LF_UDT_SRC_LINE and LF_UDT_MOD_SRC_LINE
+abbrev pub id_kind : ℕ → Option IdKind
+id_kind number =
+    if number == 0x1601 then Some leaf.Function else
+    if number == 0x1602 then Some leaf.MemberFunction else
+    if number == 0x1603 then Some leaf.BuildInfo else
+    if number == 0x1604 then Some leaf.StringList else
+    if number == 0x1605 then Some leaf.String else
+    if number == 0x1606 then Some leaf.UserDefinedTypeSource else
+    if number == 0x1607 then Some leaf.UserDefinedTypeSource else
+    None
+
+-- an index that names a scope: 0 names none
+abbrev pub optional_scope : ℕ → Option IdIndex
+optional_scope index = if index == 0 then None else Some (record { 0 = index })
+
+-- LF_FUNC_ID (lfFuncId): scopeId at 0, type at 4, and name at 8
+unfoldable pub function : List ℕ → Result IdData StreamError
+function bytes =
+    if nat_lt (length bytes) 8 then Err CUT else
+    (name_in (drop 8 bytes) >>= λ name. Ok (id.Function (record {
+      scope = optional_scope (number bytes);
+      function_type = record { 0 = number (drop 4 bytes) };
+      name = name.0;
+    })))
+
+-- LF_MFUNC_ID (lfMFuncId): parentType at 0, type at 4, and name at 8
+unfoldable pub member_function : List ℕ → Result IdData StreamError
+member_function bytes =
+    if nat_lt (length bytes) 8 then Err CUT else
+    (name_in (drop 8 bytes) >>= λ name. Ok (id.MemberFunction (record {
+      parent = record { 0 = number bytes };
+      function_type = record { 0 = number (drop 4 bytes) };
+      name = name.0;
+    })))
+
+-- LF_SUBSTR_LIST: count, and as many indices
+unfoldable pub string_list : List ℕ → Result IdData StreamError
+string_list bytes = index_list bytes >>= λ substrings. Ok (id.StringList substrings)
+
+-- LF_STRING_ID (lfStringId): name at 4, behind the id of a list of strings
+unfoldable pub string : List ℕ → Result IdData StreamError
+string bytes =
+    if nat_lt (length bytes) 4 then Err CUT else
+    (name_in (drop 4 bytes) >>= λ name. Ok (id.String (record { name = name.0 })))
+
+-- what a record of a kind that has a name says: two kinds have nothing but the name
+abbrev pub data_of : IdKind → List ℕ → Result IdData StreamError
+data_of leaf.Function bytes = function bytes
+data_of leaf.MemberFunction bytes = member_function bytes
+data_of leaf.StringList bytes = string_list bytes
+data_of leaf.String bytes = string bytes
+data_of leaf.BuildInfo bytes = Ok (id.Other (codes "BuildInfo"))
+data_of leaf.UserDefinedTypeSource bytes = Ok (id.Other (codes "UserDefinedTypeSource"))
+
+-- what a record of this kind says, if the kind has a name
+abbrev pub data_by : ℕ → Option IdKind → List ℕ → Result IdData Error
+data_by number None bytes = Err (UnimplementedTypeKind number)
+data_by number (Some known) bytes = or_error (data_of known bytes)
+
+-- what a record of an id says, by its kind and what stands behind it
+unfoldable pub id_data : ℕ → List ℕ → Result IdData Error
+id_data number bytes = data_by number (id_kind number) bytes
+
+-- the id of a record, whose index is by its position
+abbrev pub id_item : ℕ → ℕ → TypeBytes → Item IdIndex IdData
+id_item first position bytes = record {
+  index = record { 0 = index_at first position };
+  content = id_data bytes.kind bytes.content;
+}
+
+-- the id at a position of a list, if the list has one there
+abbrev pub id_at : TypeList → ℕ → Option (Item IdIndex IdData)
+id_at list position = option_map (id_item list.first position) (slice_get list.records position)
+
+-- all ids of a list
+abbrev pub all_ids : TypeList → ItemInformation IdIndex IdData
+all_ids list = record { items = record { items = items_from (id_item list.first) 0 list.records; fault = list.fault } }
+
+-- a list without ids
+abbrev pub no_ids : ItemInformation IdIndex IdData
+no_ids = record { items = nothing_read None }
+
+-- the ids of a stream: one without bytes has none
+abbrev pub ids_of : List ℕ → Result (ItemInformation IdIndex IdData) StreamError
+ids_of stream =
+    if length stream == 0 then Ok no_ids else (type_list stream >>= λ list. Ok (all_ids list))

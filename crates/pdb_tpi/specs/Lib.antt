@@ -1,0 +1,11 @@
+pub mod Aggregates
+pub mod Contents
+pub mod Header
+pub mod Ids
+pub mod IndexLists
+pub mod Names
+pub mod Numbers
+pub mod Primitives
+pub mod TypeRecords
+pub mod TypeStream
+pub mod Types

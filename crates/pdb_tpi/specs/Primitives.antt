@@ -1,0 +1,38 @@
+-- Primitives: the types that the compiler brings, which have no record, with their kinds of pointers.
+use Rattle.std.specs.Prelude.{ℕ, ◌+◌, ◌*◌, nat_lt, List, [], ◌∷◌, map, Ok}
+use Rattle.std.specs.List.{flat_map, range_with_len}
+use Rattle.pdb_records.specs.declared.types.Item.{Item}
+use Rattle.pdb_records.specs.declared.types.PrimitiveKind.{PrimitiveKind}
+use Rattle.pdb_records.specs.declared.types.PrimitiveKind.TheVariants as kind
+use Rattle.pdb_records.specs.declared.types.TypeData.{TypeData}
+use Rattle.pdb_records.specs.declared.types.TypeData.TheVariants.{Primitive}
+use Rattle.pdb_records.specs.declared.types.TypeIndex.{TypeIndex}
+
+-- the primitives by the lowest byte of their indices (T_NOTYPE, T_VOID, T_HRESULT, T_CHAR and so on)
+unfoldable pub primitive_kinds : List (ℕ × PrimitiveKind)
+primitive_kinds =
+    (0x00, kind.NoType) ∷ (0x03, kind.Void) ∷ (0x08, kind.HRESULT) ∷ (0x10, kind.Char) ∷ (0x11, kind.Short) ∷
+    (0x12, kind.Long) ∷ (0x13, kind.Quad) ∷ (0x14, kind.Octa) ∷ (0x20, kind.UChar) ∷ (0x21, kind.UShort) ∷
+    (0x22, kind.ULong) ∷ (0x23, kind.UQuad) ∷ (0x24, kind.UOcta) ∷ (0x30, kind.Bool8) ∷ (0x31, kind.Bool16) ∷
+    (0x32, kind.Bool32) ∷ (0x33, kind.Bool64) ∷ (0x40, kind.F32) ∷ (0x41, kind.F64) ∷ (0x42, kind.F80) ∷
+    (0x43, kind.F128) ∷ (0x44, kind.F48) ∷ (0x45, kind.F32PP) ∷ (0x46, kind.F16) ∷ (0x50, kind.Complex32) ∷
+    (0x51, kind.Complex64) ∷ (0x52, kind.Complex80) ∷ (0x53, kind.Complex128) ∷ (0x68, kind.I8) ∷
+    (0x69, kind.U8) ∷ (0x70, kind.RChar) ∷ (0x71, kind.WChar) ∷ (0x72, kind.I16) ∷ (0x73, kind.U16) ∷
+    (0x74, kind.I32) ∷ (0x75, kind.U32) ∷ (0x76, kind.I64) ∷ (0x77, kind.U64) ∷ (0x78, kind.I128) ∷
+    (0x79, kind.U128) ∷ (0x7a, kind.RChar16) ∷ (0x7b, kind.RChar32) ∷ (0x7c, kind.Char8) ∷ []
+
+-- a primitive in a mode: the second byte of an index is the mode, which is 0 for the primitive itself (CV_TM_DIRECT),
+-- and else says how the primitive is pointed to
+abbrev pub primitive : ℕ → ℕ × PrimitiveKind → Item TypeIndex TypeData
+primitive mode listed = record {
+  index = record { 0 = mode * 256 + listed.0 };
+  content = Ok (Primitive (record { kind = listed.1; indirection = nat_lt 0 mode }));
+}
+
+-- primitives in one mode
+abbrev pub primitives_in : List (ℕ × PrimitiveKind) → ℕ → List (Item TypeIndex TypeData)
+primitives_in kinds mode = map (primitive mode) kinds
+
+-- all primitives, in the eight modes from CV_TM_DIRECT to CV_TM_NPTR128, one mode after the other
+unfoldable pub primitives : List (Item TypeIndex TypeData)
+primitives = flat_map (primitives_in primitive_kinds) (range_with_len 0 8)

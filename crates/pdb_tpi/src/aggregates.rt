@@ -1,0 +1,162 @@
+//! Type records of classes, structs, interfaces, unions and enumerations, in both layouts.
+
+ghost use Rattle.std.specs.Prelude.{◌≡◌};
+ghost use Rattle.pdb_msf.specs.Faults.{Gives};
+ghost use Rattle.pdb_tpi.specs.Aggregates.{class, class_by, enumerate, enumeration, newer_class, newer_union};
+ghost use Rattle.pdb_tpi.specs.Aggregates.{sized_names, union, union_by, unique_name};
+
+use crate::names::take_name;
+use crate::numbers::{take_size, take_variant};
+use pdb_msf::faults::Fault;
+use pdb_msf::{Bytes, u16_at, u32_at};
+use pdb_records::{
+    ClassKind, ClassType, EnumerateType, EnumerationType, RawString, TypeData, TypeIndex, UnionType,
+};
+use std::alloc::Global;
+
+/// The bit of a type's properties that says that it is only a forward reference.
+const FORWARD_REFERENCE: u16 = 0x80;
+
+/// The bit of a type's properties that says that a unique name stands behind its name.
+const UNIQUE_NAME: u16 = 0x200;
+
+/// What stands behind the indices of a class or a union.
+#[derive(Drop)]
+pub(crate) struct SizedNames {
+    pub(crate) size: u64,
+    pub(crate) name: RawString,
+    pub(crate) unique_name: Option<RawString>,
+}
+
+/// A class, a struct or an interface.
+#[tactic(auto, unfolding(crate::specs::Aggregates::class))]
+pub(crate) fn class(alloc: Global, class_kind: ClassKind, bytes: &[u8]) -> Result<TypeData, Fault>
+    ensures { Gives (λ read. read) result (class class_kind bytes.now) }
+{
+    let mut rest = Bytes::new(bytes);
+    rest.take(16)?;
+    let properties = u16_at(bytes, 2);
+    let named = take_names(alloc, properties, &mut rest)?;
+    Ok(class_by(class_kind, properties, named))
+}
+
+/// A class, a struct or an interface of the newer layout: the properties in four bytes, three indices, and how many
+/// members it has.
+#[tactic(auto, unfolding(crate::specs::Aggregates::newer_class))]
+pub(crate) fn newer_class(
+    alloc: Global,
+    class_kind: ClassKind,
+    bytes: &[u8],
+) -> Result<TypeData, Fault>
+    ensures { Gives (λ read. read) result (newer_class class_kind bytes.now) }
+{
+    let mut rest = Bytes::new(bytes);
+    rest.take(18)?;
+    let properties = u16_at(bytes, 0);
+    let named = take_names(alloc, properties, &mut rest)?;
+    Ok(class_by(class_kind, properties, named))
+}
+
+// A class of these properties, with this size and these names.
+fn class_by(class_kind: ClassKind, properties: u16, named: SizedNames) -> TypeData
+    ensures { result ≡ class_by class_kind properties named }
+{
+    TypeData::Class(ClassType {
+        class_kind,
+        name: named.name,
+        unique_name: named.unique_name,
+        size: named.size,
+        forward_reference: properties & FORWARD_REFERENCE != 0,
+    })
+}
+
+/// A union.
+#[tactic(auto, unfolding(crate::specs::Aggregates::union))]
+pub(crate) fn union(alloc: Global, bytes: &[u8]) -> Result<TypeData, Fault>
+    ensures { Gives (λ read. read) result (union bytes.now) }
+{
+    let mut rest = Bytes::new(bytes);
+    rest.take(8)?;
+    let properties = u16_at(bytes, 2);
+    let named = take_names(alloc, properties, &mut rest)?;
+    Ok(union_by(properties, named))
+}
+
+/// A union of the newer layout: the properties in four bytes, an index, and how many members it has.
+#[tactic(auto, unfolding(crate::specs::Aggregates::newer_union))]
+pub(crate) fn newer_union(alloc: Global, bytes: &[u8]) -> Result<TypeData, Fault>
+    ensures { Gives (λ read. read) result (newer_union bytes.now) }
+{
+    let mut rest = Bytes::new(bytes);
+    rest.take(10)?;
+    let properties = u16_at(bytes, 0);
+    let named = take_names(alloc, properties, &mut rest)?;
+    Ok(union_by(properties, named))
+}
+
+// A union of these properties, with this size and these names.
+fn union_by(properties: u16, named: SizedNames) -> TypeData
+    ensures { result ≡ union_by properties named }
+{
+    TypeData::Union(UnionType {
+        name: named.name,
+        unique_name: named.unique_name,
+        size: named.size,
+        forward_reference: properties & FORWARD_REFERENCE != 0,
+    })
+}
+
+// The size and the names of a class or a union of these properties.
+#[tactic(auto, unfolding(crate::specs::Aggregates::sized_names))]
+fn take_names(alloc: Global, properties: u16, rest: &mut Bytes<'_>) -> Result<SizedNames, Fault>
+    ensures { Gives (λ named. named) result (sized_names properties rest.old) }
+{
+    let size = take_size(rest)?;
+    let name = take_name(alloc, rest)?;
+    let unique_name = take_unique_name(alloc, properties, rest)?;
+    Ok(SizedNames {
+        size,
+        name,
+        unique_name,
+    })
+}
+
+// The next name, where these properties say that it is there.
+fn take_unique_name(
+    alloc: Global,
+    properties: u16,
+    rest: &mut Bytes<'_>,
+) -> Result<Option<RawString>, Fault>
+    ensures { Gives (λ name. name) result (unique_name properties rest.old) }
+{
+    if properties & UNIQUE_NAME == 0 {
+        return Ok(None);
+    }
+    Ok(Some(take_name(alloc, rest)?))
+}
+
+/// An enumeration.
+#[tactic(auto, unfolding(crate::specs::Aggregates::enumeration))]
+pub(crate) fn enumeration(alloc: Global, bytes: &[u8]) -> Result<TypeData, Fault>
+    ensures { Gives (λ read. read) result (enumeration bytes.now) }
+{
+    let mut rest = Bytes::new(bytes);
+    rest.take(12)?;
+    let name = take_name(alloc, &mut rest)?;
+    Ok(TypeData::Enumeration(EnumerationType {
+        name,
+        underlying_type: TypeIndex(u32_at(bytes, 4)),
+    }))
+}
+
+/// One value of an enumeration.
+#[tactic(auto, unfolding(crate::specs::Aggregates::enumerate))]
+pub(crate) fn enumerate(alloc: Global, bytes: &[u8]) -> Result<TypeData, Fault>
+    ensures { Gives (λ read. read) result (enumerate bytes.now) }
+{
+    let mut rest = Bytes::new(bytes);
+    rest.take(2)?;
+    let value = take_variant(&mut rest)?;
+    let name = take_name(alloc, &mut rest)?;
+    Ok(TypeData::Enumerate(EnumerateType { name, value }))
+}

@@ -1,0 +1,19 @@
+//! What items hold, or why one alone can't be read.
+
+ghost use Rattle.std.specs.Prelude.{◌≡◌};
+ghost use Rattle.pdb_tpi.specs.Contents.{content_of};
+
+use pdb_msf::faults::Fault;
+use pdb_records::Error;
+use std::alloc::AllocError;
+
+/// The content of an item, or why it alone has none.
+pub(crate) fn content_of<T>(outcome: Result<T, Fault>) -> Result<Result<T, Error>, AllocError>
+    ensures { result ≡ content_of outcome }
+{
+    match outcome {
+        Ok(content) => Ok(Ok(content)),
+        Err(Fault::Broken(error)) => Ok(Err(Error::Stream(error))),
+        Err(Fault::OutOfMemory) => Err(AllocError),
+    }
+}

@@ -1,0 +1,47 @@
+//! The header of a stream of types or of ids, and where it has the records behind it.
+
+ghost use Rattle.std.specs.Prelude.{◌≡◌};
+ghost use Rattle.pdb_tpi.specs.Header.{type_header};
+
+use pdb_msf::faults::{CUT, POINTS_NOWHERE, UNKNOWN_VERSION};
+use pdb_msf::u32_at;
+use pdb_records::StreamError;
+
+/// The bytes of the header that are looked at.
+const HEADER: usize = 20;
+
+/// The version of a list of types or ids that is known.
+const VERSION: u32 = 20_040_203;
+
+/// What the header of a stream of types or of ids says of the records behind it.
+#[derive(Clone, Copy)]
+pub(crate) struct TypeHeader {
+    /// Where they begin, in bytes.
+    pub(crate) header_size: u32,
+    /// The index of the first one.
+    pub(crate) type_index_begin: u32,
+    /// How many bytes they have together.
+    pub(crate) type_record_bytes: u32,
+}
+
+/// The header of a stream.
+#[tactic(auto, unfolding(crate::specs::Header::type_header))]
+pub(crate) fn read_header(stream: &[u8]) -> Result<TypeHeader, StreamError>
+    ensures { result ≡ type_header stream.now }
+{
+    if stream.len() < HEADER {
+        return Err(CUT);
+    }
+    if u32_at(stream, 0) != VERSION {
+        return Err(UNKNOWN_VERSION);
+    }
+    let header_size = u32_at(stream, 4);
+    if stream.len() < header_size as usize {
+        return Err(POINTS_NOWHERE);
+    }
+    Ok(TypeHeader {
+        header_size,
+        type_index_begin: u32_at(stream, 8),
+        type_record_bytes: u32_at(stream, 16),
+    })
+}

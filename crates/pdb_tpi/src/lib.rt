@@ -1,0 +1,21 @@
+//! The types and the ids of a PDB file (TPI and IPI): the records of a stream of either, and what each of them says.
+//!
+//! What each of their bytes means is defined in `specs/`, and each call answers that, or that there was no memory.
+#![tactic(auto)]
+
+mod aggregates;
+mod contents;
+mod header;
+mod ids;
+mod index_lists;
+mod names;
+mod numbers;
+mod primitives;
+mod type_records;
+mod type_stream;
+mod types;
+
+pub use ids::{no_ids, read_ids};
+pub use primitives::primitive_types;
+pub use type_stream::TypeStream;
+pub use types::read_types;

@@ -1,0 +1,95 @@
+//! The types that every program has without a record, with their kinds of pointers.
+
+ghost use Rattle.std.specs.Prelude.{◌≡◌, ◌++◌, IfOk, OnOk};
+ghost use Rattle.pdb_tpi.specs.Primitives.{primitive, primitives, primitives_in};
+
+use pdb_records::{Item, PrimitiveKind, PrimitiveType, TypeData, TypeIndex};
+use std::alloc::{AllocError, Global};
+
+/// The types that the compiler brings, by their numbers.
+static PRIMITIVES: [(u8, PrimitiveKind); 43] = [
+    (0x00, PrimitiveKind::NoType),
+    (0x03, PrimitiveKind::Void),
+    (0x08, PrimitiveKind::HRESULT),
+    (0x10, PrimitiveKind::Char),
+    (0x11, PrimitiveKind::Short),
+    (0x12, PrimitiveKind::Long),
+    (0x13, PrimitiveKind::Quad),
+    (0x14, PrimitiveKind::Octa),
+    (0x20, PrimitiveKind::UChar),
+    (0x21, PrimitiveKind::UShort),
+    (0x22, PrimitiveKind::ULong),
+    (0x23, PrimitiveKind::UQuad),
+    (0x24, PrimitiveKind::UOcta),
+    (0x30, PrimitiveKind::Bool8),
+    (0x31, PrimitiveKind::Bool16),
+    (0x32, PrimitiveKind::Bool32),
+    (0x33, PrimitiveKind::Bool64),
+    (0x40, PrimitiveKind::F32),
+    (0x41, PrimitiveKind::F64),
+    (0x42, PrimitiveKind::F80),
+    (0x43, PrimitiveKind::F128),
+    (0x44, PrimitiveKind::F48),
+    (0x45, PrimitiveKind::F32PP),
+    (0x46, PrimitiveKind::F16),
+    (0x50, PrimitiveKind::Complex32),
+    (0x51, PrimitiveKind::Complex64),
+    (0x52, PrimitiveKind::Complex80),
+    (0x53, PrimitiveKind::Complex128),
+    (0x68, PrimitiveKind::I8),
+    (0x69, PrimitiveKind::U8),
+    (0x70, PrimitiveKind::RChar),
+    (0x71, PrimitiveKind::WChar),
+    (0x72, PrimitiveKind::I16),
+    (0x73, PrimitiveKind::U16),
+    (0x74, PrimitiveKind::I32),
+    (0x75, PrimitiveKind::U32),
+    (0x76, PrimitiveKind::I64),
+    (0x77, PrimitiveKind::U64),
+    (0x78, PrimitiveKind::I128),
+    (0x79, PrimitiveKind::U128),
+    (0x7a, PrimitiveKind::RChar16),
+    (0x7b, PrimitiveKind::RChar32),
+    (0x7c, PrimitiveKind::Char8),
+];
+
+/// How many ways there are to point to a primitive, of which the first is not to.
+const MODES: u8 = 8;
+
+/// All primitives, each with its seven kinds of pointers, under the indices that stand for them everywhere.
+pub fn primitive_types(alloc: Global) -> Result<Vec<Item<TypeIndex, TypeData>>, AllocError>
+    ensures { IfOk result (λ items. items.items ≡ primitives) }
+{
+    let mut items = Vec::new(alloc);
+    for mode in 0..MODES {
+        push_primitives(&PRIMITIVES, mode, &mut items)?;
+    }
+    Ok(items)
+}
+
+// Appends these primitives in one mode.
+fn push_primitives(
+    kinds: &[(u8, PrimitiveKind)],
+    mode: u8,
+    items: &mut Vec<Item<TypeIndex, TypeData>>,
+) -> Result<(), AllocError>
+    ensures { OnOk result (items.new.items ≡ items.old.items ++ primitives_in kinds.now mode) }
+{
+    for &(number, kind) in kinds {
+        items.push(primitive(mode, number, kind))?;
+    }
+    Ok(())
+}
+
+// The primitive with this number, in one mode.
+fn primitive(mode: u8, number: u8, kind: PrimitiveKind) -> Item<TypeIndex, TypeData>
+    ensures { result ≡ primitive mode (number, kind) }
+{
+    Item {
+        index: TypeIndex(u32::from(mode) * 256 + u32::from(number)),
+        content: Ok(TypeData::Primitive(PrimitiveType {
+            kind,
+            indirection: mode > 0,
+        })),
+    }
+}

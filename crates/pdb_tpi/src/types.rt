@@ -1,0 +1,301 @@
+//! Types: pointers, modifiers, procedures, methods, arrays, lists of arguments, and what is not printed.
+
+ghost use Rattle.std.specs.Prelude.{◌≡◌, ◌≤◌, ◌+◌, length, IfErr, IfOk};
+ghost use Rattle.pdb_msf.specs.Faults.{Gives};
+ghost use Rattle.pdb_msf.specs.Streams.{bytes_of};
+ghost use Rattle.pdb_records.specs.declared.types.TypeData.TheVariants as type;
+ghost use Rattle.pdb_tpi.specs.Types.{all_types, argument_list, array, data_of, is_constructor, member_function};
+ghost use Rattle.pdb_tpi.specs.Types.{modifier, optional_type, pointer, pointer_mode, pointer_size, procedure};
+ghost use Rattle.pdb_tpi.specs.Types.{type_at, type_data, type_kind, types_of};
+
+use crate::aggregates::{class, enumerate, enumeration, newer_class, newer_union, union};
+use crate::contents::content_of;
+use crate::index_lists::read_indices;
+use crate::numbers::take_size;
+use crate::primitives::primitive_types;
+use crate::type_records::TypeRecord;
+use crate::type_stream::TypeStream;
+use pdb_msf::faults::{BAD_NUMBER, CUT, Fault};
+use pdb_msf::{Bytes, StreamBytes, u16_at, u32_at};
+use pdb_records::{
+    ArgumentList, ArrayType, ClassKind, Error, Item, ItemInformation, MemberFunctionType,
+    ModifierType, PointerMode, PointerType, ProcedureType, Reading, StreamError, TypeData,
+    TypeIndex, TypeInformation, UnhandledType,
+};
+use std::alloc::{AllocError, Global};
+
+/// The bit of a function's flags that says that it is a constructor.
+const CONSTRUCTOR: u8 = 2;
+
+/// The kinds of types that have a name in the records.
+#[derive(Clone, Copy)]
+pub(crate) enum TypeKind {
+    Modifier,
+    Pointer,
+    Procedure,
+    MemberFunction,
+    ArgumentList,
+    Enumerate,
+    Array,
+    Class(ClassKind),
+    Union,
+    Enumeration,
+    /// A class of the newer layout.
+    NewerClass(ClassKind),
+    /// A union of the newer layout.
+    NewerUnion,
+    FieldList,
+    Bitfield,
+    MethodList,
+    VirtualFunctionTable,
+}
+
+/// The types of a stream, with the primitives in front of them. The errors are those of [`TypeStream::read`].
+pub fn read_types(alloc: Global, stream: StreamBytes<'_>) -> Result<TypeInformation, Fault>
+    ensures { Gives (λ types. types) result (types_of (bytes_of stream.entry)) }
+{
+    let list = TypeStream::read(alloc, stream)?;
+    Ok(list.all_types(alloc)?)
+}
+
+impl TypeStream<'_> {
+    /// All types, with the primitives in front of them.
+    pub fn all_types(&self, alloc: Global) -> Result<TypeInformation, AllocError>
+        ensures { IfOk result (λ types. types ≡ all_types self.now) }
+    {
+        let mut items = primitive_types(alloc)?;
+        items.reserve(self.len())?;
+        for position in 0..self.len() {
+            if let Some(item) = self.type_at(alloc, position)? {
+                items.push(item)?;
+            }
+        }
+        Ok(ItemInformation {
+            items: Reading {
+                items,
+                fault: self.fault(),
+            },
+        })
+    }
+
+    /// The type that the record at a position is, or `None` behind the last one. A record that can't be read is an item
+    /// with an error.
+    pub fn type_at(
+        &self,
+        alloc: Global,
+        position: usize,
+    ) -> Result<Option<Item<TypeIndex, TypeData>>, AllocError>
+        ensures { IfOk result (λ item. item ≡ type_at self.now position) }
+    {
+        let Some(entry) = self.record(position) else {
+            return Ok(None);
+        };
+        Ok(Some(Item {
+            index: TypeIndex(self.index_at(position)),
+            content: type_content(alloc, &entry)?,
+        }))
+    }
+}
+
+// What the record of a type says, or why it can't be read.
+#[tactic(auto, using(crate::proofs::ContentLemmas::given_content), unfolding(crate::specs::Types::type_data))]
+fn type_content(
+    alloc: Global,
+    entry: &TypeRecord<'_>,
+) -> Result<Result<TypeData, Error>, AllocError>
+    ensures { IfOk result (λ content. content ≡ type_data entry.now.kind entry.now.content) }
+{
+    match type_kind(entry.kind) {
+        Some(kind) => content_of(type_data(alloc, kind, entry.content)),
+        None => Ok(Err(Error::UnimplementedTypeKind(entry.kind))),
+    }
+}
+
+// The kind of type that a number is, if it is one that is read.
+fn type_kind(number: u16) -> Option<TypeKind>
+    ensures { result ≡ type_kind number }
+{
+    match number {
+        0x1001 => Some(TypeKind::Modifier),
+        0x1002 => Some(TypeKind::Pointer),
+        0x1008 => Some(TypeKind::Procedure),
+        0x1009 => Some(TypeKind::MemberFunction),
+        0x1201 => Some(TypeKind::ArgumentList),
+        0x1502 => Some(TypeKind::Enumerate),
+        0x1503 => Some(TypeKind::Array),
+        0x1504 => Some(TypeKind::Class(ClassKind::Class)),
+        0x1505 => Some(TypeKind::Class(ClassKind::Struct)),
+        0x1519 => Some(TypeKind::Class(ClassKind::Interface)),
+        0x1506 => Some(TypeKind::Union),
+        0x1507 => Some(TypeKind::Enumeration),
+        0x1608 => Some(TypeKind::NewerClass(ClassKind::Class)),
+        0x1609 => Some(TypeKind::NewerClass(ClassKind::Struct)),
+        0x160b => Some(TypeKind::NewerClass(ClassKind::Interface)),
+        0x160a => Some(TypeKind::NewerUnion),
+        0x1203 => Some(TypeKind::FieldList),
+        0x1205 => Some(TypeKind::Bitfield),
+        0x1206 => Some(TypeKind::MethodList),
+        0x151d => Some(TypeKind::VirtualFunctionTable),
+        _ => None,
+    }
+}
+
+// What a record of this kind says.
+fn type_data(alloc: Global, kind: TypeKind, bytes: &[u8]) -> Result<TypeData, Fault>
+    ensures { Gives (λ read. read) result (data_of kind bytes.now) }
+{
+    match kind {
+        TypeKind::Modifier => Ok(modifier(bytes)?),
+        TypeKind::Pointer => Ok(pointer(bytes)?),
+        TypeKind::Procedure => Ok(procedure(bytes)?),
+        TypeKind::MemberFunction => Ok(member_function(bytes)?),
+        TypeKind::ArgumentList => argument_list(alloc, bytes),
+        TypeKind::Enumerate => enumerate(alloc, bytes),
+        TypeKind::Array => array(alloc, bytes),
+        TypeKind::Class(class_kind) => class(alloc, class_kind, bytes),
+        TypeKind::Union => union(alloc, bytes),
+        TypeKind::Enumeration => enumeration(alloc, bytes),
+        TypeKind::NewerClass(class_kind) => newer_class(alloc, class_kind, bytes),
+        TypeKind::NewerUnion => newer_union(alloc, bytes),
+        TypeKind::FieldList => unhandled(alloc, "FieldList"),
+        TypeKind::Bitfield => unhandled(alloc, "Bitfield"),
+        TypeKind::MethodList => unhandled(alloc, "MethodList"),
+        TypeKind::VirtualFunctionTable => unhandled(alloc, "VirtualFunctionTable"),
+    }
+}
+
+// A type of which the name of its kind is all that is read.
+fn unhandled(alloc: Global, kind_name: &str) -> Result<TypeData, Fault>
+    ensures answer { IfOk result (λ read. read ≡ type.Other kind_name.now) }
+    ensures memory { IfErr result (λ fault. fault ≡ Fault.OutOfMemory) }
+{
+    let kind_name = String::from_str(alloc, kind_name)?;
+    Ok(TypeData::Other(UnhandledType { kind_name }))
+}
+
+#[tactic(auto, unfolding(crate::specs::Types::modifier))]
+fn modifier(bytes: &[u8]) -> Result<TypeData, StreamError>
+    ensures { result ≡ modifier bytes.now }
+{
+    if bytes.len() < 6 {
+        return Err(CUT);
+    }
+    Ok(TypeData::Modifier(ModifierType {
+        underlying_type: TypeIndex(u32_at(bytes, 0)),
+        constant: u16_at(bytes, 4) & 1 != 0,
+    }))
+}
+
+#[tactic(auto, unfolding(crate::specs::Types::pointer))]
+fn pointer(bytes: &[u8]) -> Result<TypeData, StreamError>
+    ensures { result ≡ pointer bytes.now }
+{
+    if bytes.len() < 8 {
+        return Err(CUT);
+    }
+    let attributes = u32_at(bytes, 4);
+    Ok(TypeData::Pointer(PointerType {
+        underlying_type: TypeIndex(u32_at(bytes, 0)),
+        mode: pointer_mode(attributes)?,
+        is_const: attributes & 0x400 != 0,
+        size: pointer_size(attributes),
+    }))
+}
+
+fn pointer_mode(attributes: u32) -> Result<PointerMode, StreamError>
+    ensures { result ≡ pointer_mode attributes }
+{
+    match attributes / 32 % 8 {
+        0 => Ok(PointerMode::Pointer),
+        1 => Ok(PointerMode::LValueReference),
+        2 => Ok(PointerMode::Member),
+        3 => Ok(PointerMode::MemberFunction),
+        4 => Ok(PointerMode::RValueReference),
+        _ => Err(BAD_NUMBER),
+    }
+}
+
+// The size that the attributes say, else that of the kind of pointer.
+fn pointer_size(attributes: u32) -> u8
+    ensures { result ≡ pointer_size attributes }
+{
+    let size = attributes / 0x2000 % 64;
+    match (size, attributes % 32) {
+        (0, 0x0c) => 8,
+        (0, 0x0a) => 4,
+        _ => size as u8,
+    }
+}
+
+// The index, where it names a type.
+fn optional_type(index: u32) -> Option<TypeIndex>
+    ensures { result ≡ optional_type index }
+{
+    if index == 0 {
+        None
+    } else {
+        Some(TypeIndex(index))
+    }
+}
+
+// Whether the flags at a place of a function's record say that it is a constructor.
+fn is_constructor(bytes: &[u8], place: usize) -> bool
+    requires { place + 1 ≤ length bytes.now }
+    ensures { result ≡ is_constructor place bytes.now }
+{
+    bytes[place] & CONSTRUCTOR != 0
+}
+
+#[tactic(auto, unfolding(crate::specs::Types::procedure))]
+fn procedure(bytes: &[u8]) -> Result<TypeData, StreamError>
+    ensures { result ≡ procedure bytes.now }
+{
+    if bytes.len() < 12 {
+        return Err(CUT);
+    }
+    Ok(TypeData::Procedure(ProcedureType {
+        return_type: optional_type(u32_at(bytes, 0)),
+        is_constructor: is_constructor(bytes, 5),
+        argument_list: TypeIndex(u32_at(bytes, 8)),
+    }))
+}
+
+#[tactic(auto, unfolding(crate::specs::Types::member_function))]
+fn member_function(bytes: &[u8]) -> Result<TypeData, StreamError>
+    ensures { result ≡ member_function bytes.now }
+{
+    if bytes.len() < 20 {
+        return Err(CUT);
+    }
+    Ok(TypeData::MemberFunction(MemberFunctionType {
+        return_type: TypeIndex(u32_at(bytes, 0)),
+        class_type: TypeIndex(u32_at(bytes, 4)),
+        this_pointer_type: optional_type(u32_at(bytes, 8)),
+        is_constructor: is_constructor(bytes, 13),
+        argument_list: TypeIndex(u32_at(bytes, 16)),
+    }))
+}
+
+#[tactic(auto, unfolding(crate::specs::Types::argument_list))]
+fn argument_list(alloc: Global, bytes: &[u8]) -> Result<TypeData, Fault>
+    ensures { Gives (λ read. read) result (argument_list bytes.now) }
+{
+    let arguments = read_indices(alloc, bytes)?;
+    Ok(TypeData::ArgumentList(ArgumentList { arguments }))
+}
+
+#[tactic(auto, unfolding(crate::specs::Types::array))]
+fn array(alloc: Global, bytes: &[u8]) -> Result<TypeData, Fault>
+    ensures { Gives (λ read. read) result (array bytes.now) }
+{
+    let mut rest = Bytes::new(bytes);
+    rest.take(8)?;
+    let Ok(first) = u32::try_from(take_size(&mut rest)?) else {
+        return Err(Fault::Broken(BAD_NUMBER));
+    };
+    Ok(TypeData::Array(ArrayType {
+        element_type: TypeIndex(u32_at(bytes, 0)),
+        first,
+        rest: Vec::new(alloc),
+    }))
+}
