@@ -12,8 +12,8 @@ use Rattle.pdb_dbi.specs.ModuleList.{module_streams}
 use Rattle.pdb_container.specs.ModulePlaces.{ModuleOrFault, modules_read}
 use Rattle.pdb_container.specs.UnnamedCode.{named_modules}
 use Rattle.pdb_container.specs.DebugRecords.{address_map, address_map_of, debug_header, debug_information}
-use Rattle.pdb_container.specs.DebugRecords.{global_symbols, information_of, module_infos, modules_by, modules_of}
-use Rattle.pdb_container.specs.DebugRecords.{sections, sections_of, symbols_in}
+use Rattle.pdb_container.specs.DebugRecords.{global_symbols, information_of, sections, sections_of, streams_by}
+use Rattle.pdb_container.specs.DebugRecords.{streams_of_modules, symbols_in}
 
 -- without a header there is no debug information
 pub information_without : (msf : Msf) (error : StreamError) → debug_header msf ≡ Err error
@@ -38,9 +38,9 @@ unfolding global_symbols
 symbols_without msf error is = ap (λ front. front >>= (λ h. symbols_in msf h.global_symbols)) is
 
 -- nor are there modules
-pub modules_without : (msf : Msf) (error : StreamError) → debug_header msf ≡ Err error → module_infos msf ≡ []
-unfolding module_infos
-modules_without msf error is = ap (modules_by msf) is
+pub modules_without : (msf : Msf) (error : StreamError) → debug_header msf ≡ Err error → streams_of_modules msf ≡ []
+unfolding streams_of_modules
+modules_without msf error is = ap streams_by is
 
 -- with a header there is what its substreams say
 pub information_with : (msf : Msf) (front : DebugHeader) → debug_header msf ≡ Ok front
@@ -68,27 +68,9 @@ symbols_with msf front is = ap (λ found. found >>= (λ h. symbols_in msf h.glob
 
 -- the modules are those of the header's list
 pub modules_with : (msf : Msf) (front : DebugHeader) → debug_header msf ≡ Ok front
-    → module_infos msf ≡ modules_of msf front
-unfolding module_infos
-modules_with msf front is = ap (modules_by msf) is
-
--- a list whose elements were all written has these
-pub put_back : {A : Type 0} (count : ℕ) (new old : List A) → length new ≡ length old → count ≡ length old
-    → take count (new ++ drop (length new) old) ≡ new
-put_back count new old same all =
-    let none : drop (length new) old ≡ [] = drop_all (length new) old (omega arith) in
-    let size : count ≡ length new = omega arith in
-    ap (λ rest. take count (new ++ rest)) none ∙ ap (take count) (append-nil new) ∙ ap (λ n. take n new) size
-    ∙ take_all (length new) new (omega arith)
-
--- modules with names for code without one are those of a header, where they were read and named by what that says
-pub named_by_header : (msf : Msf) (front : DebugHeader) (room : ℕ) (globals : Result (Read Symbol) StreamError)
-    (streams : List ModuleStream) (read new : List ModuleOrFault) → room ≡ length msf.file
-    → globals ≡ symbols_in msf front.global_symbols → streams ≡ module_streams front.modules
-    → read ≡ modules_read msf streams → new ≡ named_modules room globals read → new ≡ modules_of msf front
-named_by_header msf front room globals streams read new size these from are is =
-    is ∙ ap (λ n. named_modules n globals read) size ∙ ap (λ list. named_modules (length msf.file) list read) these
-    ∙ ap (named_modules (length msf.file) (symbols_in msf front.global_symbols)) (are ∙ ap (modules_read msf) from)
+    → streams_of_modules msf ≡ module_streams front.modules
+unfolding streams_of_modules
+modules_with msf front is = ap streams_by is
 
 -- what is known without a header, and with one
 pub ruleset without_header =

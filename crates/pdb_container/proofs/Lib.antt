@@ -4,6 +4,7 @@ pub mod FeatureLemmas
 mod InfoExamples
 pub mod InfoLemmas
 mod ModuleExamples
+pub mod ModuleLemmas
 pub mod NameLemmas
 pub mod RecordLemmas
 pub mod TextLemmas

@@ -14,6 +14,7 @@ use Rattle.pdb_msf.specs.Faults.{◌>>=◌}
 use Rattle.pdb_msf.specs.Msf.{Msf, container, size_of, stream_of}
 use Rattle.pdb_codeview.specs.Symbols.{global_symbols as symbols_of}
 use Rattle.pdb_dbi.specs.declared.header.DebugHeader.{DebugHeader}
+use Rattle.pdb_dbi.specs.declared.module_list.ModuleStream.{ModuleStream}
 use Rattle.pdb_dbi.specs.Contributions.{contributions}
 use Rattle.pdb_dbi.specs.Header.{header}
 use Rattle.pdb_dbi.specs.ModuleList.{module_streams, modules}
@@ -100,21 +101,19 @@ address_map msf = debug_header msf >>= address_map_of msf
 unfoldable pub global_symbols : Msf → Result (Read Symbol) StreamError
 global_symbols msf = debug_header msf >>= λ front. symbols_in msf front.global_symbols
 
--- what is known of each module of a header's list, with names for code without one: these have no more bytes than the
--- file
-abbrev pub modules_of : Msf → DebugHeader → List ModuleOrFault
-modules_of msf front =
-    named_modules (length msf.file) (symbols_in msf front.global_symbols)
-    (modules_read msf (module_streams front.modules))
+-- what the modules of a header say of where their records stand, nothing where there is no header
+abbrev pub streams_by : Result DebugHeader StreamError → List ModuleStream
+streams_by (Ok front) = module_streams front.modules
+streams_by (Err fault) = []
 
--- the modules of a header, none where that can't be read
-abbrev pub modules_by : Msf → Result DebugHeader StreamError → List ModuleOrFault
-modules_by msf (Ok front) = modules_of msf front
-modules_by msf (Err fault) = []
+-- what the modules of a container say of where their records stand
+unfoldable pub streams_of_modules : Msf → List ModuleStream
+streams_of_modules msf = streams_by (debug_header msf)
 
--- what is known of each module of a container
+-- what is known of each module of a container, with names for code without one: these have no more bytes than the file
 unfoldable pub module_infos : Msf → List ModuleOrFault
-module_infos msf = modules_by msf (debug_header msf)
+module_infos msf =
+    named_modules (length msf.file) (global_symbols msf) (modules_read msf (streams_of_modules msf))
 
 -- a part of a file's records: that of the container which the file is, or why it is none
 abbrev pub of_file : {A : Type 0} → (Msf → A) → List ℕ → Result A ContainerFault

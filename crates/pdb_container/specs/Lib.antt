@@ -4,6 +4,7 @@ pub mod Identity
 pub mod Info
 pub mod ModulePlaces
 pub mod Modules
+pub mod Reader
 pub mod Records
 pub mod Strings
 pub mod TypeRecords

@@ -1,6 +1,6 @@
 -- Where the records of each module stand, and what is known of each.
 use Rattle.std.specs.Prelude.{ℕ, ◌-◌, ◌==◌, nat_lt, List, [], ◌∷◌, length, map, Option, Some, None, Result, Ok, Err}
-use Rattle.std.specs.Prelude.{if◌then◌else◌}
+use Rattle.std.specs.Prelude.{slice_get, if◌then◌else◌}
 use Rattle.std.specs.Option.{unwrap_or}
 use Rattle.std.specs.Result.{result_ok}
 use Rattle.pdb_records.specs.declared.error.StreamError.{StreamError}
@@ -62,3 +62,7 @@ module_of msf place = place >>= module_there msf
 -- what is known of each module, before code without a name is named
 unfoldable pub modules_read : Msf → List ModuleStream → List ModuleOrFault
 modules_read msf places = map (module_of msf) (module_places msf places)
+
+-- what is known of the module at a position, before code without a name is named: nothing behind the last one
+unfoldable pub module_at : Msf → List ModuleStream → ℕ → ModuleOrFault
+module_at msf places position = module_of msf (unwrap_or (slice_get (module_places msf places) position) (Ok None))

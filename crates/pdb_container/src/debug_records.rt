@@ -3,16 +3,13 @@
 ghost use Rattle.std.specs.Prelude.{◌≡◌, ◌++◌, Ok, Err, IfErr, IfOk, OnOk, option_map};
 ghost use Rattle.pdb_container.specs.DebugRecords.{address_map, address_map_of, debug_header, debug_information};
 ghost use Rattle.pdb_container.specs.DebugRecords.{debug_stream, global_symbols};
-ghost use Rattle.pdb_container.specs.DebugRecords.{information_of, module_infos, rearranges, sections, sections_of};
+ghost use Rattle.pdb_container.specs.DebugRecords.{information_of, rearranges, sections, sections_of, streams_of_modules};
 ghost use Rattle.pdb_container.specs.DebugRecords.{symbols_in, tabled};
-ghost use Rattle.pdb_container.specs.ModulePlaces.{modules_read};
 ghost use Rattle.pdb_dbi.specs.ModuleList.{module_streams};
 ghost use Rattle.pdb_msf.specs.Faults.{Gives};
 ghost use Rattle.pdb_msf.specs.Streams.{bytes_of};
 ghost use Rattle.pdb_records.specs.Sections.{listed};
 
-use crate::module_places::{ModuleInfoResult, module_places, read_module_info};
-use crate::unnamed_code::name_unnamed_code;
 use pdb_codeview::read_global_symbols;
 use pdb_dbi::{
     DebugHeader, ModuleStream, map_addresses, optional_stream, read_contributions, read_header,
@@ -44,7 +41,8 @@ pub struct DebugRecords {
     pub sections: Result<Option<Vec<ImageSectionHeader>>, StreamError>,
     pub address_map: Result<AddressMap, StreamError>,
     pub global_symbols: Result<SymbolTable, StreamError>,
-    pub module_infos: Vec<ModuleInfoResult>,
+    /// Where the streams of modules say that their records stand.
+    pub module_streams: Vec<ModuleStream>,
 }
 
 /// What the stream of debug information leads to.
@@ -54,7 +52,7 @@ pub fn debug_records(alloc: Global, container: &Container<'_>) -> Result<DebugRe
     ensures sections { IfOk result (λ read. listed read.sections ≡ sections container.now) }
     ensures address_map { IfOk result (λ read. read.address_map ≡ address_map container.now) }
     ensures global_symbols { IfOk result (λ read. tabled read.global_symbols ≡ global_symbols container.now) }
-    ensures modules { IfOk result (λ read. read.module_infos.items ≡ module_infos container.now) }
+    ensures modules { IfOk result (λ read. read.module_streams.items ≡ streams_of_modules container.now) }
     ensures memory { IfErr result (λ fault. fault ≡ Fault.OutOfMemory) }
 {
     match part_or_fault(debug_stream(alloc, container))? {
@@ -75,7 +73,7 @@ fn records_of_stream(
     ensures sections { IfOk result (λ read. listed read.sections ≡ sections container.now) }
     ensures address_map { IfOk result (λ read. read.address_map ≡ address_map container.now) }
     ensures global_symbols { IfOk result (λ read. tabled read.global_symbols ≡ global_symbols container.now) }
-    ensures modules { IfOk result (λ read. read.module_infos.items ≡ module_infos container.now) }
+    ensures modules { IfOk result (λ read. read.module_streams.items ≡ streams_of_modules container.now) }
     ensures memory { IfErr result (λ fault. fault ≡ Fault.OutOfMemory) }
 {
     match read_header(stream) {
@@ -107,14 +105,14 @@ fn without_debug_stream(
     ensures sections { listed result.sections ≡ sections container.now }
     ensures address_map { result.address_map ≡ address_map container.now }
     ensures global_symbols { tabled result.global_symbols ≡ global_symbols container.now }
-    ensures modules { result.module_infos.items ≡ module_infos container.now }
+    ensures modules { result.module_streams.items ≡ streams_of_modules container.now }
 {
     DebugRecords {
         debug_information: Err(error),
         sections: Err(error),
         address_map: Err(error),
         global_symbols: Err(error),
-        module_infos: Vec::new(alloc),
+        module_streams: Vec::new(alloc),
     }
 }
 
@@ -129,27 +127,20 @@ fn records_of_header(
     ensures sections { IfOk result (λ read. listed read.sections ≡ sections container.now) }
     ensures address_map { IfOk result (λ read. read.address_map ≡ address_map container.now) }
     ensures global_symbols { IfOk result (λ read. tabled read.global_symbols ≡ global_symbols container.now) }
-    ensures modules { IfOk result (λ read. read.module_infos.items ≡ module_infos container.now) }
+    ensures modules { IfOk result (λ read. read.module_streams.items ≡ streams_of_modules container.now) }
     ensures memory { IfErr result (λ fault. fault ≡ Fault.OutOfMemory) }
 {
-    let mut streams = Vec::new(alloc);
-    let debug_information = debug_information(alloc, header, &mut streams)?;
+    let mut module_streams = Vec::new(alloc);
+    let debug_information = debug_information(alloc, header, &mut module_streams)?;
     let sections = sections(alloc, container, header)?;
     let address_map = address_map(alloc, container, header, &sections)?;
     let global_symbols = part_or_fault(global_symbols(alloc, container, header.global_symbols))?;
-    let mut module_infos = module_infos(alloc, container, &streams)?;
-    name_unnamed_code(
-        alloc,
-        &mut module_infos,
-        &global_symbols,
-        container.file_length(),
-    )?;
     Ok(DebugRecords {
         debug_information: Ok(debug_information),
         sections,
         address_map,
         global_symbols,
-        module_infos,
+        module_streams,
     })
 }
 
@@ -260,22 +251,4 @@ fn global_symbols(
     }
     let stream = container.stream(alloc, u32::from(number))?;
     read_global_symbols(alloc, stream.as_slice())
-}
-
-// What is known of each module.
-#[tactic(auto, unfolding(crate::specs::ModulePlaces::modules_read))]
-fn module_infos(
-    alloc: Global,
-    container: &Container<'_>,
-    streams: &[ModuleStream],
-) -> Result<Vec<ModuleInfoResult>, Fault>
-    ensures answer { IfOk result (λ infos. infos.items ≡ modules_read container.now streams.now) }
-    ensures memory { IfErr result (λ fault. fault ≡ Fault.OutOfMemory) }
-{
-    let places = module_places(alloc, container, streams)?;
-    let mut infos = Vec::with_capacity(alloc, places.len())?;
-    for place in &places {
-        infos.push(read_module_info(alloc, container, *place)?)?;
-    }
-    Ok(infos)
 }

@@ -9,6 +9,7 @@ ghost use Rattle.pdb_msf.specs.Msf.{stream_of};
 
 use crate::debug_records::debug_records;
 use crate::info::InfoStream;
+use crate::module_infos::module_infos;
 use crate::refusals::{Refusal, refusal_of};
 use crate::strings::read_strings;
 use pdb_msf::faults::{Fault, NO_STREAM, part_or_fault};
@@ -75,6 +76,12 @@ fn read_records(
     let type_information = part_or_fault(type_information(alloc, container))?;
     let id_information = part_or_fault(id_information(alloc, container, info))?;
     let debug = debug_records(alloc, container)?;
+    let module_infos = module_infos(
+        alloc,
+        container,
+        &debug.module_streams,
+        &debug.global_symbols,
+    )?;
     Ok(PDB {
         sections: debug.sections,
         address_map: debug.address_map,
@@ -83,13 +90,13 @@ fn read_records(
         type_information,
         id_information,
         string_table,
-        module_infos: debug.module_infos,
+        module_infos,
     })
 }
 
-// The texts of the stream of that name.
+/// The texts of the stream of that name.
 #[tactic(auto, unfolding(crate::specs::Strings::string_table))]
-fn read_texts(
+pub fn read_texts(
     alloc: Global,
     container: &Container<'_>,
     info: &InfoStream<'_>,

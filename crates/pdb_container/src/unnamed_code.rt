@@ -180,6 +180,12 @@ fn own_function<'m>(
     functions.get(&place(code.parent_offset)).copied()
 }
 
+/// Whether a module's symbols have code without a name, whose function other modules may list.
+pub fn has_unnamed_code(alloc: Global, symbols: &[Symbol]) -> Result<bool, AllocError> {
+    let apart = list_apart_code(alloc, symbols)?;
+    Ok(!apart.is_empty())
+}
+
 // The code of a module's symbols that stands apart from its function.
 fn list_apart_code<'m>(
     alloc: Global,

@@ -9,4 +9,4 @@ mod claims;
 mod module_records;
 mod repairs;
 
-pub use repairs::{Repair, repair_records};
+pub use repairs::{Repair, repair_modules, repair_records};

@@ -62,6 +62,22 @@ pub fn repair_records(alloc: Global, records: &mut PDB) -> Result<Vec<Repair>, A
     Ok(repairs)
 }
 
+/// Takes out of the records what is broken of the modules at these positions, and answers what that was, as
+/// [`repair_records`] does: for modules whose records were read later than the others.
+pub fn repair_modules(
+    alloc: Global,
+    records: &mut PDB,
+    positions: &[usize],
+) -> Result<Vec<Repair>, AllocError> {
+    let mut repairs = Vec::new(alloc);
+    for &position in positions {
+        if let Some(info) = records.module_infos.get_mut(position) {
+            repair_read_module(alloc, position, info, &mut repairs)?;
+        }
+    }
+    Ok(repairs)
+}
+
 fn repair_global_symbols(
     table: &mut SymbolTable,
     repairs: &mut Vec<Repair>,

@@ -3,16 +3,20 @@
 use crate::addresses::Origin;
 use crate::answers::{write_answer, write_no_answer, write_no_data};
 use crate::base_hints::BaseHint;
-use crate::input_files::{InputFile, read_input_file};
+use crate::input_files::{InputFile, SourceFile, find_file, open_source, read_input_file};
+use crate::line_queue::LineQueue;
+use crate::module_reader::ModuleReader;
 use crate::options::{Base, Options, Style};
 use crate::repairs::print_repairs;
 use crate::requests::{Naming, Request, Sort, parse_request};
 use crate::status_line::StatusLine;
 use crate::stops::Stop;
 use crate::symbol_names::SymbolNames;
-use crate::unknown_files::open_answered_file;
+use crate::unknown_files::unknown_file;
 use pdb_addr2line::{Context, ContextPdbData, Error, Frame, FunctionFrames};
-use std::io::{self, BufRead, BufReader, Write};
+use pdb_container::PdbReader;
+use std::alloc::{AllocError, Global};
+use std::io::{self, Read, Write};
 use std::rt::Files;
 
 /// A context over the records of a file.
@@ -20,13 +24,12 @@ pub type FileContext<'a, 'p> = Context<'a, ContextPdbData<'p>>;
 
 /// What is asked, of which file, and what is had from beside the context.
 #[derive(Clone, Copy)]
-pub struct Questions<'q, 'w, 'p> {
+pub struct Questions<'q, 'w> {
     pub options: &'q Options<'w>,
     /// The file as it was named.
     pub file: &'q str,
     pub origin: Origin,
     pub names: &'q SymbolNames,
-    pub data: &'q ContextPdbData<'p>,
 }
 
 /// Answers the addresses of the command line, or else the lines of standard input, over one file.
@@ -36,8 +39,33 @@ pub fn answer_file<R: Files + Input + Print + Eprint + AllocGlobal>(
     options: &Options<'_>,
     path: &str,
 ) -> Result<(), Stop> {
-    let mut input = open_answered_file(rt, status_line, options, path)?;
-    answer_over(rt, options, path, &mut input)
+    match find_file(rt, status_line, options, path) {
+        Ok(source) => answer_source(rt, options, path, &source),
+        Err(stop) => answer_unknown(rt, options, path, stop),
+    }
+}
+
+fn answer_source<R: Files + Input + Print + Eprint + AllocGlobal>(
+    rt: &R,
+    options: &Options<'_>,
+    path: &str,
+    source: &SourceFile,
+) -> Result<(), Stop> {
+    match open_repaired(rt, source) {
+        Ok((mut input, reader)) => answer_over(rt, options, path, &mut input, reader),
+        Err(stop) => answer_unknown(rt, options, path, stop),
+    }
+}
+
+// Answers over a file that can't be opened.
+fn answer_unknown<R: Input + Print + Eprint + AllocGlobal>(
+    rt: &R,
+    options: &Options<'_>,
+    path: &str,
+    cause: Stop,
+) -> Result<(), Stop> {
+    let mut input = unknown_file(rt, options, path, cause)?;
+    answer_over(rt, options, path, &mut input, None)
 }
 
 fn answer_over<R: Input + Print + Eprint + AllocGlobal>(
@@ -45,32 +73,21 @@ fn answer_over<R: Input + Print + Eprint + AllocGlobal>(
     options: &Options<'_>,
     path: &str,
     input: &mut InputFile,
+    reader: Option<PdbReader<'_>>,
 ) -> Result<(), Stop> {
     let mut hint = hint_for(options, input);
-    let origin = Origin::new(options.base, input.image_base, options.adjust);
     let names = SymbolNames::new(rt.alloc(), &input.records)?;
-    let data = ContextPdbData::try_from_pdb_ref(rt.alloc(), &mut input.records)?;
     let questions = Questions {
         options,
         file: path,
-        origin,
+        origin: Origin::new(options.base, input.image_base, options.adjust),
         names: &names,
-        data: &data,
     };
-    answer_all(rt, &questions, &mut hint)
-}
-
-fn answer_all<R: Input + Print + Eprint + AllocGlobal>(
-    rt: &R,
-    questions: &Questions<'_, '_, '_>,
-    hint: &mut BaseHint,
-) -> Result<(), Stop> {
-    let flags = questions.options.flags();
-    let mut context = questions.data.make_context_with_formatter_flags(flags)?;
-    if questions.options.addresses.is_empty() {
-        answer_lines(rt, questions, &mut context, hint)
+    let mut modules = ModuleReader::new(rt.alloc(), reader, &input.records)?;
+    if options.addresses.is_empty() {
+        answer_input(rt, &questions, &mut hint, input, &mut modules)
     } else {
-        answer_words(rt, questions, &mut context, hint)
+        answer_words(rt, &questions, &mut hint, input, &mut modules)
     }
 }
 
@@ -82,8 +99,8 @@ pub fn hint_for(options: &Options<'_>, input: &InputFile) -> BaseHint {
     }
 }
 
-/// Reads a file, takes out of its records what is broken, and prints that on standard error. An error where nothing can
-/// be answered over it.
+/// Reads all of a file, takes out of its records what is broken, and prints that on standard error. An error where
+/// nothing can be answered over it.
 pub fn open_file<R: Files + Eprint + AllocGlobal>(
     rt: &R,
     status_line: &StatusLine,
@@ -93,6 +110,16 @@ pub fn open_file<R: Files + Eprint + AllocGlobal>(
     let mut input = read_input_file(rt, status_line, options, path)?;
     repair(rt, &mut input)?;
     Ok(input)
+}
+
+/// The same of a file that is read as it is asked, with what reads it.
+pub fn open_repaired<'a, R: Files + Eprint + AllocGlobal>(
+    rt: &R,
+    source: &'a SourceFile,
+) -> Result<(InputFile, Option<PdbReader<'a>>), Stop> {
+    let (mut input, reader) = open_source(rt, source)?;
+    repair(rt, &mut input)?;
+    Ok((input, reader))
 }
 
 /// Takes out of the records of a file what is broken, and prints that on standard error. An error where nothing can be
@@ -110,10 +137,39 @@ pub fn repair<R: Eprint + AllocGlobal>(rt: &R, input: &mut InputFile) -> Result<
     print_repairs(rt, input.path.as_str(), &mut input.records)
 }
 
-/// Answers the addresses of the command line. In JSON the answers are one array.
+/// Answers the addresses of the command line. What is known of the modules that they lie in is read before.
 fn answer_words<R: Print + Eprint + AllocGlobal>(
     rt: &R,
-    questions: &Questions<'_, '_, '_>,
+    questions: &Questions<'_, '_>,
+    hint: &mut BaseHint,
+    input: &mut InputFile,
+    modules: &mut ModuleReader<'_>,
+) -> Result<(), Stop> {
+    let addresses = addresses_of_words(rt.alloc(), questions)?;
+    modules.read(rt, input.path.as_str(), &mut input.records, &addresses)?;
+    let data = ContextPdbData::try_from_pdb_ref(rt.alloc(), &mut input.records)?;
+    let mut context = data.make_context_with_formatter_flags(questions.options.flags())?;
+    print_words(rt, questions, &data, &mut context, hint)
+}
+
+fn addresses_of_words(
+    alloc: Global,
+    questions: &Questions<'_, '_>,
+) -> Result<Vec<u32>, AllocError> {
+    let mut addresses = Vec::new(alloc);
+    for &word in &questions.options.addresses {
+        if let Some(address) = questions.address_in(word, Naming::ByCommandLine) {
+            addresses.push(address)?;
+        }
+    }
+    Ok(addresses)
+}
+
+/// Prints the answers of the addresses of the command line. In JSON they are one array.
+fn print_words<R: Print + Eprint + AllocGlobal>(
+    rt: &R,
+    questions: &Questions<'_, '_>,
+    data: &ContextPdbData<'_>,
     context: &mut FileContext<'_, '_>,
     hint: &mut BaseHint,
 ) -> Result<(), Stop> {
@@ -125,7 +181,7 @@ fn answer_words<R: Print + Eprint + AllocGlobal>(
         if json && position > 0 {
             write_out(rt, ",")?;
         }
-        let text = answer_text(rt, questions, context, hint, given)?;
+        let text = answer_text(rt, questions, data, context, hint, given)?;
         write_out(rt, text.as_str())?;
     }
     if json {
@@ -134,53 +190,109 @@ fn answer_words<R: Print + Eprint + AllocGlobal>(
     Ok(())
 }
 
-/// Answers the lines of standard input, each before the next is read.
-fn answer_lines<R: Input + Print + Eprint + AllocGlobal>(
+/// Answers the lines of standard input. What is known of the modules that ready lines ask for is read together.
+fn answer_input<R: Input + Print + Eprint + AllocGlobal>(
     rt: &R,
-    questions: &Questions<'_, '_, '_>,
-    context: &mut FileContext<'_, '_>,
+    questions: &Questions<'_, '_>,
     hint: &mut BaseHint,
+    input: &mut InputFile,
+    modules: &mut ModuleReader<'_>,
 ) -> Result<(), Stop> {
-    let Ok(reader) = BufReader::new(rt.alloc(), rt.reader()) else {
-        return Err(Stop::Refused(Error::OutOfMemory));
-    };
-    for line in reader.lines(rt.alloc()) {
-        match line {
-            Ok(line) => answer_line(rt, questions, context, hint, line.as_str().trim())?,
-            Err(error) if matches!(error.kind(), io::ErrorKind::InvalidData) => {
-                answer_line(rt, questions, context, hint, "?")?;
-            }
-            Err(_) => return Err(Stop::CannotReadInput),
+    let mut queue = LineQueue::new(rt.alloc(), rt.reader())?;
+    for _ in 0..u64::MAX {
+        let addresses = addresses_of_lines(rt.alloc(), questions, &queue)?;
+        modules.read(rt, input.path.as_str(), &mut input.records, &addresses)?;
+        answer_lines(rt, questions, hint, input, modules, &mut queue)?;
+        if queue.first().is_none() {
+            break;
         }
+    }
+    Ok(())
+}
+
+fn addresses_of_lines<T: Read + Drop>(
+    alloc: Global,
+    questions: &Questions<'_, '_>,
+    queue: &LineQueue<T>,
+) -> Result<Vec<u32>, AllocError> {
+    let mut addresses = Vec::new(alloc);
+    for line in queue.ready() {
+        if let Some(address) = questions.address_in(line.as_str(), Naming::ByCommandLine) {
+            addresses.push(address)?;
+        }
+    }
+    Ok(addresses)
+}
+
+/// Answers lines by one context, up to the first one whose module was not read.
+fn answer_lines<R: Print + Eprint + AllocGlobal, T: Read + Drop>(
+    rt: &R,
+    questions: &Questions<'_, '_>,
+    hint: &mut BaseHint,
+    input: &mut InputFile,
+    modules: &ModuleReader<'_>,
+    queue: &mut LineQueue<T>,
+) -> Result<(), Stop> {
+    let data = ContextPdbData::try_from_pdb_ref(rt.alloc(), &mut input.records)?;
+    let mut context = data.make_context_with_formatter_flags(questions.options.flags())?;
+    for _ in 0..u64::MAX {
+        match queue.first() {
+            Some(line) if !questions.lacks(modules, line, Naming::ByCommandLine) => {
+                answer_line(rt, questions, &data, &mut context, hint, line)?;
+            }
+            _ => break,
+        }
+        queue.pass()?;
     }
     Ok(())
 }
 
 fn answer_line<R: Print + Eprint + AllocGlobal>(
     rt: &R,
-    questions: &Questions<'_, '_, '_>,
+    questions: &Questions<'_, '_>,
+    data: &ContextPdbData<'_>,
     context: &mut FileContext<'_, '_>,
     hint: &mut BaseHint,
     given: &str,
 ) -> Result<(), Stop> {
-    let mut text = answer_text(rt, questions, context, hint, given)?;
+    let mut text = answer_text(rt, questions, data, context, hint, given)?;
     if questions.options.style == Style::Json {
         text.push('\n')?;
     }
     write_out(rt, text.as_str())
 }
 
+impl Questions<'_, '_> {
+    /// The address of code that a text asks for, relative to where the program is loaded, where it can lie there.
+    pub fn address_in(&self, text: &str, naming: Naming) -> Option<u32> {
+        let request = parse_request(text.trim(), naming, self.options.digits)?;
+        match request.sort {
+            Sort::Code => self.origin.relative(request.address),
+            Sort::Data => None,
+        }
+    }
+
+    /// Whether a text asks for code of a module that was not read.
+    pub fn lacks(&self, modules: &ModuleReader<'_>, text: &str, naming: Naming) -> bool {
+        match self.address_in(text, naming) {
+            Some(address) => modules.lacks(address),
+            None => false,
+        }
+    }
+}
+
 /// The answer of what was given as an address.
 fn answer_text<R: Eprint + AllocGlobal>(
     rt: &R,
-    questions: &Questions<'_, '_, '_>,
+    questions: &Questions<'_, '_>,
+    data: &ContextPdbData<'_>,
     context: &mut FileContext<'_, '_>,
     hint: &mut BaseHint,
     given: &str,
 ) -> Result<String, Stop> {
     let options = questions.options;
     match parse_request(given, Naming::ByCommandLine, options.digits) {
-        Some(request) => request_text(rt, questions, context, hint, request),
+        Some(request) => request_text(rt, questions, data, context, hint, request),
         None => {
             let mut text = String::new(rt.alloc());
             write_no_answer(&mut text, options, questions.file, given)?;
@@ -192,7 +304,8 @@ fn answer_text<R: Eprint + AllocGlobal>(
 /// The answer of a request.
 pub fn request_text<R: Eprint + AllocGlobal>(
     rt: &R,
-    questions: &Questions<'_, '_, '_>,
+    questions: &Questions<'_, '_>,
+    data: &ContextPdbData<'_>,
     context: &mut FileContext<'_, '_>,
     hint: &mut BaseHint,
     request: Request<'_>,
@@ -203,7 +316,7 @@ pub fn request_text<R: Eprint + AllocGlobal>(
         Sort::Data => write_no_data(&mut text, options, questions.file, request.address)?,
         Sort::Code => {
             hint.print(rt, questions.file, questions.names, request.address);
-            let found = frames_at(rt, questions, context, request.address)?;
+            let found = frames_at(rt, questions, data, context, request.address)?;
             let frames = shown(options, &found);
             write_answer(&mut text, options, questions.file, request.address, frames)?;
         }
@@ -214,7 +327,8 @@ pub fn request_text<R: Eprint + AllocGlobal>(
 /// The frames of an address, of which the last has a name wherever its symbol has one.
 fn frames_at<'a, R: Eprint + AllocGlobal>(
     rt: &R,
-    questions: &Questions<'_, '_, '_>,
+    questions: &Questions<'_, '_>,
+    data: &ContextPdbData<'_>,
     context: &mut FileContext<'a, '_>,
     given: u64,
 ) -> Result<Option<FunctionFrames<'a>>, Error> {
@@ -223,9 +337,7 @@ fn frames_at<'a, R: Eprint + AllocGlobal>(
     };
     let mut found = readable_frames(rt, context, given, address)?;
     if let Some(frames) = &mut found {
-        questions
-            .names
-            .name_function(rt.alloc(), questions.data, frames)?;
+        questions.names.name_function(rt.alloc(), data, frames)?;
     }
     Ok(found)
 }

@@ -8,7 +8,8 @@ use crate::stops::Stop;
 use pdb_addr2line::Error;
 use pdb_addr2line::pdb::PDB;
 use pdb_container::{
-    ContainerFault, PdbFile, PdbIdentity, Refusal, other_file, read_identity, read_pdb_file,
+    ContainerFault, PdbFile, PdbIdentity, PdbReader, Refusal, other_file, read_identity,
+    read_pdb_file,
 };
 use pdb_identity::{CodeId, ProgramFile, read_program};
 use pdb_json::RecordsFile;
@@ -30,67 +31,124 @@ pub struct InputFile {
     pub refusal: Option<Refusal>,
     /// Whether the file is a PDB file that has names alone.
     pub names_only: bool,
-    /// Which build a PDB file is of, if it says so.
+    /// Which build a PDB file is of, if it says so and was read all at once.
     pub identity: Option<PdbIdentity>,
     /// Where the program wants to be loaded, if one was named, and which build it is of.
     pub image_base: Option<u64>,
     pub code_id: Option<CodeId>,
 }
 
-/// The records of a file: a PDB file, a records file with its module files, or a program, whose PDB file is looked for.
-/// A file of another build than is expected is refused before anything else of it is read.
+/// A file that was named, or the PDB file that was found for it.
+#[derive(Drop)]
+pub struct SourceFile {
+    pub path: String,
+    pub bytes: Vec<u8>,
+    /// Where the program wants to be loaded, if one was named, and which build it is of.
+    pub image_base: Option<u64>,
+    pub code_id: Option<CodeId>,
+}
+
+/// Reads the bytes of a file: of a PDB file, of a records file, or of the PDB file of a program, which is looked for. A
+/// file of another build than is expected is refused before anything else of it is read.
+pub fn find_file<R: Files + Eprint + AllocGlobal>(
+    rt: &R,
+    status_line: &StatusLine,
+    options: &Options<'_>,
+    path: &str,
+) -> Result<SourceFile, Stop> {
+    let bytes = read_file(rt, path)?;
+    status_line.print_size(rt, path, bytes.len());
+    let found = match read_program(&bytes) {
+        Some(program) => Some(find_program_file(rt, options, path, &program)?),
+        None => None,
+    };
+    match found {
+        Some(source) => Ok(source),
+        None => {
+            check_identity(rt.alloc(), options, path, &bytes)?;
+            Ok(SourceFile {
+                path: String::from_str(rt.alloc(), path)?,
+                bytes,
+                image_base: None,
+                code_id: None,
+            })
+        }
+    }
+}
+
+fn find_program_file<R: Files + AllocGlobal>(
+    rt: &R,
+    options: &Options<'_>,
+    path: &str,
+    program: &ProgramFile<'_>,
+) -> Result<SourceFile, Stop> {
+    let Some(code_view) = &program.code_view else {
+        return Err(Stop::NoPdbFile(format!(in rt.alloc(); "{path}: it names no PDB file")?));
+    };
+    let found = find_pdb(rt, path, code_view, options)?;
+    check_identity(rt.alloc(), options, found.path.as_str(), &found.bytes)?;
+    Ok(found.of_program(program))
+}
+
+/// The records of a file, all at once: of a PDB file, of a records file with its module files, or of a program, whose
+/// PDB file is looked for.
 pub fn read_input_file<R: Files + Eprint + AllocGlobal>(
     rt: &R,
     status_line: &StatusLine,
     options: &Options<'_>,
     path: &str,
 ) -> Result<InputFile, Stop> {
-    let bytes = read_file(rt, path)?;
-    status_line.print_size(rt, path, bytes.len());
-    match read_program(&bytes) {
-        Some(program) => read_program_file(rt, options, path, &program),
-        None => read_records_of(rt, options, path, bytes),
+    let source = find_file(rt, status_line, options, path)?;
+    if is_pdb_file(&source.bytes) {
+        read_container(rt.alloc(), &source)
+    } else {
+        read_records_file(rt, &source)
     }
 }
 
-fn read_program_file<R: Files + Eprint + AllocGlobal>(
+/// The records of a file without what is read as it is asked, and what reads that: of a PDB file its modules, types and
+/// ids. The records of a records file are all there.
+pub fn open_source<'a, R: Files + AllocGlobal>(
     rt: &R,
-    options: &Options<'_>,
-    path: &str,
-    program: &ProgramFile<'_>,
-) -> Result<InputFile, Stop> {
-    let Some(code_view) = &program.code_view else {
-        return Err(Stop::NoPdbFile(format!(in rt.alloc(); "{path}: it names no PDB file")?));
-    };
-    let found = find_pdb(rt, path, code_view, options)?;
-    check_identity(rt.alloc(), options, found.path.as_str(), &found.bytes)?;
-    let mut file = read_container(rt.alloc(), found.path.as_str(), &found.bytes)?;
-    file.image_base = Some(program.image_base);
-    file.code_id = Some(program.code_id);
-    Ok(file)
-}
-
-fn read_records_of<R: Files + Eprint + AllocGlobal>(
-    rt: &R,
-    options: &Options<'_>,
-    path: &str,
-    bytes: Vec<u8>,
-) -> Result<InputFile, Stop> {
-    check_identity(rt.alloc(), options, path, &bytes)?;
-    match other_file(&bytes) {
-        ContainerFault::NotAPdbFile if !bytes.starts_with(&PDB_FILE) => {
-            read_records_file(rt, path, bytes)
-        }
-        _ => read_container(rt.alloc(), path, &bytes),
+    source: &'a SourceFile,
+) -> Result<(InputFile, Option<PdbReader<'a>>), Stop> {
+    if is_pdb_file(&source.bytes) {
+        open_container(rt.alloc(), source)
+    } else {
+        Ok((read_records_file(rt, source)?, None))
     }
 }
 
-/// The records of a PDB file, by its bytes.
-pub fn read_container(alloc: Global, path: &str, bytes: &[u8]) -> Result<InputFile, Stop> {
-    match read_file_and_identity(alloc, bytes) {
-        Ok((file, identity)) => of_pdb_file(alloc, path, file, identity),
-        Err(ContainerFault::OutOfMemory) => Err(Stop::Refused(Error::OutOfMemory)),
-        Err(fault) => Err(Stop::Container(String::from_str(alloc, path)?, fault)),
+// Whether these are the bytes of a PDB file, or of one that isn't read, and not of a records file.
+fn is_pdb_file(bytes: &[u8]) -> bool {
+    match other_file(bytes) {
+        ContainerFault::NotAPdbFile => bytes.starts_with(&PDB_FILE),
+        _ => true,
+    }
+}
+
+fn read_container(alloc: Global, source: &SourceFile) -> Result<InputFile, Stop> {
+    match read_file_and_identity(alloc, &source.bytes) {
+        Ok((file, identity)) => of_pdb_file(alloc, source, file, identity),
+        Err(fault) => Err(container_stop(alloc, source.path.as_str(), fault)),
+    }
+}
+
+fn open_container<'a>(
+    alloc: Global,
+    source: &'a SourceFile,
+) -> Result<(InputFile, Option<PdbReader<'a>>), Stop> {
+    match PdbReader::open(alloc, &source.bytes) {
+        Ok((reader, file)) => Ok((of_pdb_file(alloc, source, file, None)?, Some(reader))),
+        Err(fault) => Err(container_stop(alloc, source.path.as_str(), fault)),
+    }
+}
+
+fn container_stop(alloc: Global, path: &str, fault: ContainerFault) -> Stop {
+    match (String::from_str(alloc, path), fault) {
+        (_, ContainerFault::OutOfMemory) => Stop::Refused(Error::OutOfMemory),
+        (Ok(path), fault) => Stop::Container(path, fault),
+        (Err(_), _) => Stop::Refused(Error::OutOfMemory),
     }
 }
 
@@ -105,7 +163,7 @@ fn read_file_and_identity(
 
 fn of_pdb_file(
     alloc: Global,
-    path: &str,
+    source: &SourceFile,
     file: PdbFile,
     identity: Option<PdbIdentity>,
 ) -> Result<InputFile, Stop> {
@@ -115,25 +173,23 @@ fn of_pdb_file(
         names_only,
     } = file;
     Ok(InputFile {
-        path: String::from_str(alloc, path)?,
+        path: String::from_str(alloc, source.path.as_str())?,
         records,
         refusal,
         names_only,
         identity,
-        image_base: None,
-        code_id: None,
+        image_base: source.image_base,
+        code_id: source.code_id,
     })
 }
 
 /// The records of a records file and of its module files.
 fn read_records_file<R: Files + AllocGlobal>(
     rt: &R,
-    path: &str,
-    bytes: Vec<u8>,
+    source: &SourceFile,
 ) -> Result<InputFile, Stop> {
-    let value = RecordsFile::from_slice(rt.alloc(), &bytes);
-    drop(bytes);
-    match value {
+    let path = source.path.as_str();
+    match RecordsFile::from_slice(rt.alloc(), &source.bytes) {
         Ok(file) => read_module_records(rt, path, file),
         Err(fault) => Err(Stop::Records(String::from_str(rt.alloc(), path)?, fault)),
     }

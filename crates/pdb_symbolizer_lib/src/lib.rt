@@ -16,6 +16,8 @@ mod file_answers;
 mod file_frames;
 mod identities;
 mod input_files;
+mod line_queue;
+mod module_reader;
 mod named_files;
 mod options;
 mod paths;

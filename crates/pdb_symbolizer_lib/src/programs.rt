@@ -1,12 +1,12 @@
 //! The PDB file of a program, looked for where that names it, beside it and in folders; and of a module, in folders.
 
-use crate::input_files::{ran_out_of_memory, read_regular_file};
+use crate::input_files::{SourceFile, ran_out_of_memory, read_regular_file};
 use crate::options::Options;
 use crate::paths::file_name;
 use crate::stops::Stop;
 use pdb_addr2line::Error;
 use pdb_container::{ContainerFault, DebugId, read_identity};
-use pdb_identity::CodeView;
+use pdb_identity::{CodeView, ProgramFile};
 use pdb_symbolication::WantedModule;
 use std::alloc::{AllocError, Global};
 use std::rt::Files;
@@ -17,6 +17,30 @@ use std::str;
 pub struct FoundFile {
     pub path: String,
     pub bytes: Vec<u8>,
+}
+
+impl FoundFile {
+    /// The file as the one that a program names.
+    pub fn of_program(self, program: &ProgramFile<'_>) -> SourceFile {
+        let FoundFile { path, bytes } = self;
+        SourceFile {
+            path,
+            bytes,
+            image_base: Some(program.image_base),
+            code_id: Some(program.code_id),
+        }
+    }
+
+    /// The file by itself.
+    pub fn by_itself(self) -> SourceFile {
+        let FoundFile { path, bytes } = self;
+        SourceFile {
+            path,
+            bytes,
+            image_base: None,
+            code_id: None,
+        }
+    }
 }
 
 /// The PDB file of a program: the first of these places with one of its GUID and age. One of another build is passed

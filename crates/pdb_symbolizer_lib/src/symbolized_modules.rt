@@ -1,14 +1,16 @@
 //! The modules that a request asks for: their PDB files in folders, and what is found at the offsets of each.
 
-use crate::file_answers::repair;
+use crate::file_answers::open_repaired;
 use crate::file_frames::FileFrames;
-use crate::input_files::{InputFile, read_container};
+use crate::input_files::InputFile;
+use crate::module_reader::ModuleReader;
 use crate::options::Options;
 use crate::programs::find_in_folders;
 use crate::stops::Stop;
 use crate::symbol_names::SymbolNames;
 use pdb_addr2line::{ContextPdbData, Error, Frame, FunctionFrames};
 use pdb_breakpad::FrameSource;
+use pdb_container::PdbReader;
 use pdb_symbolication::{FoundFunction, FrameTexts, Place, WantedModule};
 use std::alloc::{AllocError, Global};
 use std::rt::Files;
@@ -51,10 +53,9 @@ fn texts_of_file<R: Files + Eprint + AllocGlobal>(
     let Some(found) = find_in_folders(rt, options, module)? else {
         return Ok(None);
     };
-    let mut input = read_container(rt.alloc(), found.path.as_str(), &found.bytes)?;
-    drop(found);
-    repair(rt, &mut input)?;
-    Ok(Some(texts_over(rt, options, module, &mut input)?))
+    let source = found.by_itself();
+    let (mut input, reader) = open_repaired(rt, &source)?;
+    Ok(Some(texts_over(rt, options, module, &mut input, reader)?))
 }
 
 fn texts_over<R: Eprint + AllocGlobal>(
@@ -62,8 +63,11 @@ fn texts_over<R: Eprint + AllocGlobal>(
     options: &Options<'_>,
     module: &WantedModule,
     input: &mut InputFile,
+    reader: Option<PdbReader<'_>>,
 ) -> Result<FrameTexts, Stop> {
     let names = SymbolNames::new(rt.alloc(), &input.records)?;
+    let mut modules = ModuleReader::new(rt.alloc(), reader, &input.records)?;
+    modules.read(rt, input.path.as_str(), &mut input.records, &module.offsets)?;
     let data = ContextPdbData::try_from_pdb_ref(rt.alloc(), &mut input.records)?;
     Ok(texts_by(rt, options, module, &names, &data)?)
 }

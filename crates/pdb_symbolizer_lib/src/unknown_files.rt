@@ -1,39 +1,24 @@
 //! A file that can't be opened, whose addresses are answered as unknown, as `llvm-symbolizer` does.
 
-use crate::file_answers::open_file;
 use crate::input_files::InputFile;
 use crate::options::{OpenFailure, Options};
-use crate::status_line::StatusLine;
 use crate::stops::Stop;
 use pdb_addr2line::pdb::{
     AddressMap, DebugInformation, ItemInformation, MachineType, PDB, Reading, StringTable,
     SymbolTable,
 };
 use std::alloc::{AllocError, Global};
-use std::rt::Files;
 
-/// Opens a file of which addresses are answered. Where it can't be opened, and an option names it, the cause is
-/// printed, and the file is taken as one without records. Another build than is expected is refused all the same.
-pub fn open_answered_file<R: Files + Print + Eprint + AllocGlobal>(
+/// What comes of a file of which addresses are answered and that can't be opened, by the cause. Where an option names
+/// the file, the cause is printed, and the file is taken as one without records. Another build than is expected is
+/// refused all the same.
+pub fn unknown_file<R: Print + Eprint + AllocGlobal>(
     rt: &R,
-    status_line: &StatusLine,
     options: &Options<'_>,
-    path: &str,
-) -> Result<InputFile, Stop> {
-    match open_file(rt, status_line, options, path) {
-        Ok(input) => Ok(input),
-        Err(stop) => unknown_file(rt, options.open_failure, path, stop),
-    }
-}
-
-// What comes of a file that can't be opened, by the cause.
-fn unknown_file<R: Print + Eprint + AllocGlobal>(
-    rt: &R,
-    open_failure: OpenFailure,
     path: &str,
     cause: Stop,
 ) -> Result<InputFile, Stop> {
-    if open_failure == OpenFailure::Refusal || ends_the_run(&cause) {
+    if options.open_failure == OpenFailure::Refusal || ends_the_run(&cause) {
         return Err(cause);
     }
     cause.print(rt);

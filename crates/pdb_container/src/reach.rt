@@ -1,0 +1,353 @@
+//! Which types and ids answers over modules depend on: those of their procedures and inlined functions, with all that
+//! these lead to.
+
+use pdb_records::{
+    IdData, IdIndex, IdInformation, Item, ItemInformation, ModuleInfo, Reading, Symbol, SymbolData,
+    TypeData, TypeIndex, TypeInformation,
+};
+use pdb_tpi::{TypeStream, primitive_types};
+use std::alloc::{AllocError, Global};
+
+/// The lists of types and of ids of a file, where they can be read.
+#[derive(Drop)]
+pub struct TypeLists<'a> {
+    pub types: Option<TypeStream<'a>>,
+    pub ids: Option<TypeStream<'a>>,
+}
+
+/// What is still to be followed: a record of a type, the size of one, or a record of an id, by its position.
+#[derive(Clone, Copy)]
+enum Step {
+    Type(usize),
+    Size(usize),
+    Id(usize),
+}
+
+/// Which records of the types and of the ids are reached, by their positions.
+#[derive(Drop)]
+pub struct Reach {
+    types: Vec<bool>,
+    sizes: Vec<bool>,
+    ids: Vec<bool>,
+    steps: Vec<Step>,
+    /// Whether the size of a forward reference is reached, which stands with another type of its name.
+    forward_size: bool,
+}
+
+impl Reach {
+    /// A reach of nothing.
+    pub fn new(alloc: Global, lists: &TypeLists<'_>) -> Result<Self, AllocError> {
+        Ok(Reach {
+            types: unmarked(alloc, &lists.types)?,
+            sizes: unmarked(alloc, &lists.types)?,
+            ids: unmarked(alloc, &lists.ids)?,
+            steps: Vec::new(alloc),
+            forward_size: false,
+        })
+    }
+
+    /// Adds what the names of a module's functions depend on.
+    pub fn add_module(
+        &mut self,
+        alloc: Global,
+        lists: &TypeLists<'_>,
+        info: &ModuleInfo,
+    ) -> Result<(), AllocError> {
+        for symbol in &info.symbols.items {
+            self.add_symbol(lists, symbol)?;
+        }
+        self.follow_steps(alloc, lists)
+    }
+
+    /// The types that are reached, with the primitives in front of them.
+    pub fn type_information(
+        &self,
+        alloc: Global,
+        list: &TypeStream<'_>,
+    ) -> Result<TypeInformation, AllocError> {
+        if self.forward_size {
+            return list.all_types(alloc);
+        }
+        let mut items = primitive_types(alloc)?;
+        for (position, reached) in self.types.iter().enumerate() {
+            if *reached && let Some(item) = list.type_at(alloc, position)? {
+                items.push(item)?;
+            }
+        }
+        Ok(ItemInformation {
+            items: Reading {
+                items,
+                fault: list.fault(),
+            },
+        })
+    }
+
+    /// The ids that are reached.
+    pub fn id_information(
+        &self,
+        alloc: Global,
+        list: &TypeStream<'_>,
+    ) -> Result<IdInformation, AllocError> {
+        let mut items = Vec::new(alloc);
+        for (position, reached) in self.ids.iter().enumerate() {
+            if *reached && let Some(item) = list.id_at(alloc, position)? {
+                items.push(item)?;
+            }
+        }
+        Ok(ItemInformation {
+            items: Reading {
+                items,
+                fault: list.fault(),
+            },
+        })
+    }
+
+    fn add_symbol(&mut self, lists: &TypeLists<'_>, symbol: &Symbol) -> Result<(), AllocError> {
+        match &symbol.content {
+            Some(SymbolData::Procedure(procedure)) => self.add_type(lists, procedure.type_index),
+            Some(SymbolData::InlineSite(site)) => self.add_id(lists, site.inlinee),
+            _ => Ok(()),
+        }
+    }
+
+    fn add_type(&mut self, lists: &TypeLists<'_>, index: TypeIndex) -> Result<(), AllocError> {
+        if let Some(position) = position_of(&lists.types, index.0)
+            && mark(&mut self.types, position)
+        {
+            self.steps.push(Step::Type(position))?;
+        }
+        Ok(())
+    }
+
+    fn add_size(&mut self, lists: &TypeLists<'_>, index: TypeIndex) -> Result<(), AllocError> {
+        if let Some(position) = position_of(&lists.types, index.0)
+            && mark(&mut self.sizes, position)
+        {
+            self.steps.push(Step::Size(position))?;
+        }
+        Ok(())
+    }
+
+    fn add_id(&mut self, lists: &TypeLists<'_>, index: IdIndex) -> Result<(), AllocError> {
+        if let Some(position) = position_of(&lists.ids, index.0)
+            && mark(&mut self.ids, position)
+        {
+            self.steps.push(Step::Id(position))?;
+        }
+        Ok(())
+    }
+
+    // Follows what is reached to its end. Each record is followed at most twice.
+    fn follow_steps(&mut self, alloc: Global, lists: &TypeLists<'_>) -> Result<(), AllocError> {
+        for _ in 0..u64::MAX {
+            match self.steps.pop() {
+                Some(step) => self.follow(alloc, lists, step)?,
+                None => break,
+            }
+        }
+        Ok(())
+    }
+
+    fn follow(
+        &mut self,
+        alloc: Global,
+        lists: &TypeLists<'_>,
+        step: Step,
+    ) -> Result<(), AllocError> {
+        match step {
+            Step::Type(position) => self.follow_type(alloc, lists, position),
+            Step::Size(position) => self.follow_size(alloc, lists, position),
+            Step::Id(position) => self.follow_id(alloc, lists, position),
+        }
+    }
+
+    fn follow_type(
+        &mut self,
+        alloc: Global,
+        lists: &TypeLists<'_>,
+        position: usize,
+    ) -> Result<(), AllocError> {
+        let item = type_of(alloc, &lists.types, position)?;
+        match &item {
+            Some(
+                Item {
+                    content: Ok(data),
+                    ..
+                },
+            ) => self.add_types_of(lists, data),
+            _ => Ok(()),
+        }
+    }
+
+    fn follow_size(
+        &mut self,
+        alloc: Global,
+        lists: &TypeLists<'_>,
+        position: usize,
+    ) -> Result<(), AllocError> {
+        let item = type_of(alloc, &lists.types, position)?;
+        match &item {
+            Some(
+                Item {
+                    content: Ok(data),
+                    ..
+                },
+            ) => self.add_size_of(lists, data),
+            _ => Ok(()),
+        }
+    }
+
+    fn follow_id(
+        &mut self,
+        alloc: Global,
+        lists: &TypeLists<'_>,
+        position: usize,
+    ) -> Result<(), AllocError> {
+        let item = id_of(alloc, &lists.ids, position)?;
+        match &item {
+            Some(
+                Item {
+                    content: Ok(data),
+                    ..
+                },
+            ) => self.add_types_of_id(lists, data),
+            _ => Ok(()),
+        }
+    }
+
+    // The types that a type is printed with, and what has the size of an array's elements.
+    fn add_types_of(&mut self, lists: &TypeLists<'_>, data: &TypeData) -> Result<(), AllocError> {
+        match data {
+            TypeData::MemberFunction(function) => {
+                self.add_type(lists, function.return_type)?;
+                self.add_type(lists, function.class_type)?;
+                self.add_optional_type(lists, function.this_pointer_type)?;
+                self.add_type(lists, function.argument_list)
+            }
+            TypeData::Procedure(function) => {
+                self.add_optional_type(lists, function.return_type)?;
+                self.add_type(lists, function.argument_list)
+            }
+            TypeData::Pointer(pointer) => self.add_type(lists, pointer.underlying_type),
+            TypeData::Array(array) => {
+                self.add_type(lists, array.element_type)?;
+                self.add_size(lists, array.element_type)
+            }
+            TypeData::Enumeration(enumeration) => self.add_type(lists, enumeration.underlying_type),
+            TypeData::Modifier(modifier) => self.add_type(lists, modifier.underlying_type),
+            TypeData::ArgumentList(list) => self.add_all_types(lists, &list.arguments),
+            _ => Ok(()),
+        }
+    }
+
+    // The type whose size a type has, where it is another one's.
+    fn add_size_of(&mut self, lists: &TypeLists<'_>, data: &TypeData) -> Result<(), AllocError> {
+        match data {
+            TypeData::Enumeration(enumeration) => self.add_size(lists, enumeration.underlying_type),
+            TypeData::Modifier(modifier) => self.add_size(lists, modifier.underlying_type),
+            TypeData::Class(class) => {
+                self.forward_size = self.forward_size || class.forward_reference;
+                Ok(())
+            }
+            TypeData::Union(union) => {
+                self.forward_size = self.forward_size || union.forward_reference;
+                Ok(())
+            }
+            _ => Ok(()),
+        }
+    }
+
+    // The types and the ids that an id is printed with.
+    fn add_types_of_id(&mut self, lists: &TypeLists<'_>, data: &IdData) -> Result<(), AllocError> {
+        match data {
+            IdData::MemberFunction(function) => {
+                self.add_type(lists, function.parent)?;
+                self.add_type(lists, function.function_type)
+            }
+            IdData::Function(function) => {
+                if let Some(scope) = function.scope {
+                    self.add_id(lists, scope)?;
+                }
+                self.add_type(lists, function.function_type)
+            }
+            IdData::StringList(list) => self.add_all_types(lists, &list.substrings),
+            _ => Ok(()),
+        }
+    }
+
+    fn add_optional_type(
+        &mut self,
+        lists: &TypeLists<'_>,
+        index: Option<TypeIndex>,
+    ) -> Result<(), AllocError> {
+        match index {
+            Some(index) => self.add_type(lists, index),
+            None => Ok(()),
+        }
+    }
+
+    fn add_all_types(
+        &mut self,
+        lists: &TypeLists<'_>,
+        indices: &[TypeIndex],
+    ) -> Result<(), AllocError> {
+        for &index in indices {
+            self.add_type(lists, index)?;
+        }
+        Ok(())
+    }
+}
+
+// A mark for each record of a list.
+fn unmarked(alloc: Global, list: &Option<TypeStream<'_>>) -> Result<Vec<bool>, AllocError> {
+    let length = match list {
+        Some(list) => list.len(),
+        None => 0,
+    };
+    let mut marks = Vec::new(alloc);
+    marks.resize(length, false)?;
+    Ok(marks)
+}
+
+// Sets a mark. Answers whether it was not set.
+fn mark(marks: &mut [bool], position: usize) -> bool {
+    match marks.get_mut(position) {
+        Some(mark) if !*mark => {
+            *mark = true;
+            true
+        }
+        _ => false,
+    }
+}
+
+// The position in a list at which the record of an index would stand.
+fn position_of(list: &Option<TypeStream<'_>>, index: u32) -> Option<usize> {
+    match list {
+        Some(list) => Some(index.checked_sub(list.first())? as usize),
+        None => None,
+    }
+}
+
+// The type at a position of the list.
+fn type_of(
+    alloc: Global,
+    list: &Option<TypeStream<'_>>,
+    position: usize,
+) -> Result<Option<Item<TypeIndex, TypeData>>, AllocError> {
+    match list {
+        Some(list) => list.type_at(alloc, position),
+        None => Ok(None),
+    }
+}
+
+// The id at a position of the list.
+fn id_of(
+    alloc: Global,
+    list: &Option<TypeStream<'_>>,
+    position: usize,
+) -> Result<Option<Item<IdIndex, IdData>>, AllocError> {
+    match list {
+        Some(list) => list.id_at(alloc, position),
+        None => Ok(None),
+    }
+}
