@@ -105,6 +105,18 @@ def misbehaviour(program, path, length):
     return None, run.returncode
 
 
+def mutated(pdb, chance):
+    """The file with one to three changes."""
+    for _ in range(chance.choice([1, 1, 1, 2, 3])):
+        if len(pdb) > 64:
+            kind = chance.choice(KINDS)
+            try:
+                pdb = kind(pdb, chance)
+            except (struct.error, ArithmeticError, ValueError, IndexError):
+                pdb = flipped(pdb, chance)
+    return pdb
+
+
 def main():
     program, count = sys.argv[1], int(sys.argv[2])
     chance = random.Random(int(sys.argv[3]) if len(sys.argv) > 3 else 1)
@@ -114,14 +126,7 @@ def main():
     with tempfile.TemporaryDirectory() as folder:
         path = pathlib.Path(folder) / "mutated.pdb"
         for number in range(count):
-            pdb = chance.choice(pdbs)
-            for _ in range(chance.choice([1, 1, 1, 2, 3])):
-                if len(pdb) > 64:
-                    kind = chance.choice(KINDS)
-                    try:
-                        pdb = kind(pdb, chance)
-                    except (struct.error, ArithmeticError, ValueError, IndexError):
-                        pdb = flipped(pdb, chance)
+            pdb = mutated(chance.choice(pdbs), chance)
             path.write_bytes(pdb)
             wrong, status = misbehaviour(program, path, len(pdb))
             statuses[status] += 1
@@ -134,4 +139,5 @@ def main():
     sys.exit(1 if found else 0)
 
 
-main()
+if __name__ == "__main__":
+    main()

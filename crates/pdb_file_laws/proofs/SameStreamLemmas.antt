@@ -20,14 +20,13 @@ use Rattle.pdb_codeview.specs.Symbols.{global_symbols as symbols_of}
 use Rattle.pdb_dbi.specs.declared.header.DebugHeader.{DebugHeader}
 use Rattle.pdb_dbi.specs.declared.module_list.ModuleStream.{ModuleStream}
 use Rattle.pdb_dbi.specs.Header.{header}
-use Rattle.pdb_dbi.specs.ModuleList.{module_streams}
 use Rattle.pdb_dbi.specs.OptionalStreams.{optional_stream}
 use Rattle.pdb_dbi.specs.Sections.{section_headers}
 use Rattle.pdb_identity.specs.InfoFront.{info_front}
 use Rattle.pdb_container.specs.DebugRecords.{address_map, address_map_of, addresses_of, debug_header, debug_information}
 use Rattle.pdb_container.specs.DebugRecords.{debug_stream, global_symbols, headers_in, information_of, is_no_size}
-use Rattle.pdb_container.specs.DebugRecords.{module_infos, modules_by, modules_of, rearranges, sections}
-use Rattle.pdb_container.specs.DebugRecords.{sections_of, symbols_in}
+use Rattle.pdb_container.specs.DebugRecords.{module_infos, rearranges, sections, sections_of, streams_by}
+use Rattle.pdb_container.specs.DebugRecords.{streams_of_modules, symbols_in}
 use Rattle.pdb_container.specs.Identity.{build_of, debug_build, identity, identity_by}
 use Rattle.pdb_container.specs.Info.{features, named_stream}
 use Rattle.pdb_file_laws.specs.SameStreams.{HoldSame, ShareBlocks}
@@ -163,23 +162,20 @@ modules_read_same a b same places =
     ∙ ap (map (module_of a)) (places_same a b same (length b.file) places)
     ∙ ap (λ f. map f (places_within b (length b.file) places)) (fun_ext (module_same a b same))
 
-modules_of_same : (a b : Msf) → HoldSame a b → (front : DebugHeader) → modules_of a front ≡ modules_of b front
-modules_of_same a b same front =
-    ap (λ room. named_modules room (symbols_in a front.global_symbols)
-    (modules_read a (module_streams front.modules))) same.room
-    ∙ ap (λ globals. named_modules (length b.file) globals (modules_read a (module_streams front.modules)))
-    (symbols_in_same a b same front.global_symbols)
-    ∙ ap (named_modules (length b.file) (symbols_in b front.global_symbols))
-    (modules_read_same a b same (module_streams front.modules))
-
-modules_by_same : (a b : Msf) → HoldSame a b → (front : Result DebugHeader StreamError)
-    → modules_by a front ≡ modules_by b front
-modules_by_same a b same (Ok front) = modules_of_same a b same front
-modules_by_same a b same (Err error) = refl
+-- what the modules say of where their records stand
+streams_of_modules_same : (a b : Msf) → HoldSame a b → streams_of_modules a ≡ streams_of_modules b
+unfolding streams_of_modules
+streams_of_modules_same a b same = ap streams_by (header_same a b same)
 
 modules_same : (a b : Msf) → HoldSame a b → module_infos a ≡ module_infos b
 unfolding module_infos
-modules_same a b same = ap (modules_by a) (header_same a b same) ∙ modules_by_same a b same (debug_header b)
+modules_same a b same =
+    ap (λ room. named_modules room (global_symbols a) (modules_read a (streams_of_modules a))) same.room
+    ∙ ap (λ globals. named_modules (length b.file) globals (modules_read a (streams_of_modules a)))
+    (global_symbols_same a b same)
+    ∙ ap (λ streams. named_modules (length b.file) (global_symbols b) (modules_read a streams))
+    (streams_of_modules_same a b same)
+    ∙ ap (named_modules (length b.file) (global_symbols b)) (modules_read_same a b same (streams_of_modules b))
 
 pub identity_same : (a b : Msf) → HoldSame a b → identity a ≡ identity b
 unfolding identity debug_build

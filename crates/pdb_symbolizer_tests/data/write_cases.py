@@ -214,11 +214,12 @@ def habit_cases(folder):
 
 CUT, LENGTH = "the bytes end before what is said to stand there", "a length that can't stand there"
 CLAIMED = "code that another module claims too is left out"
-BROKEN_ROWS = ["public symbols end early: " + LENGTH, "the list of modules ends early: " + CUT,
-               "the list of contributions ends early: " + CUT,
-               f"module a symbol that ends too late: {CLAIMED}", f"module an older form: {CLAIMED}", f"module whole: {CLAIMED}",
-               f"module a part that ends too late: {CLAIMED}",
-               "module more symbols than there are: symbols end early: " + CUT,
+FRONT_ROWS = ["public symbols end early: " + LENGTH, "the list of modules ends early: " + CUT,
+              "the list of contributions ends early: " + CUT,
+              f"module a symbol that ends too late: {CLAIMED}", f"module an older form: {CLAIMED}", f"module whole: {CLAIMED}",
+              f"module a part that ends too late: {CLAIMED}"]
+# What is told of a module when an address in its code is asked for, the first of them of those at 0x1020 and 0x1050
+MODULE_ROWS = ["module more symbols than there are: symbols end early: " + CUT,
                "module a symbol that ends too late: symbols end early: " + CUT,
                "module a symbol too short for its kind: symbols end early: " + LENGTH,
                "module an older form: symbols end early: a signature or a version that isn't known",
@@ -230,6 +231,8 @@ BROKEN_ROWS = ["public symbols end early: " + LENGTH, "the list of modules ends 
                "module rows that say less than their own front: lines are left out: " + LENGTH,
                "module an inlinee that ends too late: inlined functions end early: " + CUT,
                "module inlinees of another form: inlined functions end early: a signature or a version that isn't known"]
+BROKEN_ROWS = FRONT_ROWS + MODULE_ROWS
+ASKED_ROWS = FRONT_ROWS + MODULE_ROWS[:1]
 
 
 def broken_cases():
@@ -260,7 +263,11 @@ def broken_cases():
     yield "pdb_symbolizer --show-id", error("no FILE") + "status 2\n"
     yield "pdb_symbolizer --adjust=-1 shapes.pdb 0x1136", error("--adjust can't be -1") + "status 2\n"
     yield "pdb_symbolizer -p broken_parts.pdb 0x1020 0x1050", \
-        "".join(error(f"broken_parts.pdb: {row}") for row in BROKEN_ROWS) + 2 * "?f@@YAXXZ at ??:0:0\n\n" + ENDED
+        "".join(error(f"broken_parts.pdb: {row}") for row in ASKED_ROWS) + 2 * "?f@@YAXXZ at ??:0:0\n\n" + ENDED
+    yield "pdb_symbolizer -p broken_parts.pdb < 0x1020|0x1050|0x1020", \
+        "".join(error(f"broken_parts.pdb: {row}") for row in ASKED_ROWS) + 3 * "?f@@YAXXZ at ??:0:0\n\n" + ENDED
+    yield "pdb_symbolizer -p < broken_parts.pdb 0x1020|broken_parts.pdb 0x1050", \
+        "".join(error(f"broken_parts.pdb: {row}") for row in ASKED_ROWS) + 2 * "?f@@YAXXZ at ??:0:0\n\n" + ENDED
 
 
 def identity_cases():
@@ -361,7 +368,7 @@ def symbol_file_cases(folder):
 def api_cases(folder):
     """Requests of the symbolication API."""
     short = stacks(folder)
-    return request_cases(dict(with_arguments(short)), short, procedure_at, error, BROKEN_ROWS)
+    return request_cases(dict(with_arguments(short)), short, procedure_at, error, ASKED_ROWS)
 
 
 def main(words):
