@@ -1,5 +1,4 @@
-//! Which types and ids answers over modules depend on: those of their procedures and inlined functions, with all that
-//! these lead to.
+//! Which types and ids answers over modules depend on: those that their functions name, with all that these lead to.
 
 use pdb_records::{
     IdData, IdIndex, IdInformation, Item, ItemInformation, ModuleInfo, Reading, Symbol, SymbolData,

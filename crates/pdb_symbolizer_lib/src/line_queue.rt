@@ -1,5 +1,6 @@
 //! Lines of standard input, as many at once as are ready, so that what they ask for can be read together.
 
+use crate::input_files::ran_out_of_memory;
 use crate::stops::Stop;
 use pdb_addr2line::Error;
 use std::alloc::Global;
@@ -86,6 +87,7 @@ fn read_line<B: BufRead>(reader: &mut B, line: &mut String) -> Result<bool, Stop
             line.push('?')?;
             Ok(true)
         }
+        Err(error) if ran_out_of_memory(&error) => Err(Stop::Refused(Error::OutOfMemory)),
         Err(_) => Err(Stop::CannotReadInput),
     }
 }
