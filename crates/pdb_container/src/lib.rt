@@ -6,8 +6,10 @@
 #![tactic(auto)]
 
 mod debug_records;
+mod front;
 mod functions;
 mod identity;
+mod imports;
 mod info;
 mod module_infos;
 mod module_places;

@@ -58,6 +58,22 @@ impl Reach {
         self.follow_steps(alloc, lists)
     }
 
+    /// Adds all that a module exports, whether it is a type or an id.
+    pub fn add_exports(
+        &mut self,
+        alloc: Global,
+        lists: &TypeLists<'_>,
+        info: &ModuleInfo,
+    ) -> Result<(), AllocError> {
+        if let Ok(exports) = &info.exports {
+            for &(_, global) in &exports.exports {
+                self.add_type(lists, TypeIndex(global))?;
+                self.add_id(lists, IdIndex(global))?;
+            }
+        }
+        self.follow_steps(alloc, lists)
+    }
+
     /// The types that are reached, with the primitives in front of them.
     pub fn type_information(
         &self,

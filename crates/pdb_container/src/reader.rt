@@ -1,35 +1,25 @@
 //! A PDB file that is read as it is asked: of modules, types and ids what answers depend on.
 
 ghost use Rattle.std.specs.Prelude.{◌≡◌, length, IfErr, IfOk, OnOk};
-ghost use Rattle.pdb_container.specs.DebugRecords.{address_map, debug_information, global_symbols, sections};
-ghost use Rattle.pdb_container.specs.DebugRecords.{streams_of_modules, tabled};
+ghost use Rattle.pdb_container.specs.DebugRecords.{streams_of_modules};
 ghost use Rattle.pdb_container.specs.ModulePlaces.{module_at};
 ghost use Rattle.pdb_container.specs.Reader.{HasFront, SameFront};
-ghost use Rattle.pdb_container.specs.Strings.{string_table};
-ghost use Rattle.pdb_msf.specs.Faults.{Gives, Opens};
-ghost use Rattle.pdb_msf.specs.Msf.{container, stream_of};
-ghost use Rattle.pdb_records.specs.Sections.{listed};
+ghost use Rattle.pdb_msf.specs.Faults.{Opens};
+ghost use Rattle.pdb_msf.specs.Msf.{container};
 
-use crate::debug_records::{DebugRecords, debug_records};
+use crate::front::read_front;
+use crate::imports::imported_modules;
 use crate::info::InfoStream;
-use crate::module_places::{ModuleInfoResult, ModulePlace, module_places, read_module_info};
+use crate::module_places::{ModuleInfoResult, ModulePlace, read_module_info};
 use crate::reach::{Reach, TypeLists};
-use crate::records::{PdbFile, read_texts};
-use crate::refusals::refusal_of;
+use crate::records::PdbFile;
 use crate::unnamed_code::{has_unnamed_code, name_unnamed_code};
-use pdb_msf::faults::{Fault, NO_STREAM, part_or_fault};
-use pdb_msf::{Container, ContainerFault, nothing_read};
-use pdb_records::{
-    IdInformation, ItemInformation, ModuleInfo, PDB, Reading, StreamError, TypeInformation,
-};
-use pdb_tpi::{TypeStream, no_ids, primitive_types};
+use pdb_msf::faults::Fault;
+use pdb_msf::{Container, ContainerFault};
+use pdb_records::{IdInformation, PDB, TypeInformation};
+use pdb_tpi::TypeStream;
 use std::alloc::{AllocError, Global};
 use std::marker::Model;
-
-/// The numbers of the streams that stand at fixed places.
-const TYPES: u32 = 2;
-
-const IDS: u32 = 4;
 
 /// A PDB file that is read as it is asked.
 ///
@@ -71,7 +61,15 @@ impl<'a> PdbReader<'a> {
     {
         let container = Container::open(alloc, bytes)?;
         let info = InfoStream::read(alloc, &container)?;
-        Ok(open_container(alloc, container, &info)?)
+        let front = read_front(alloc, &container, &info)?;
+        let reader = PdbReader {
+            container,
+            places: front.places,
+            read: front.read,
+            lists: front.lists,
+            reach: front.reach,
+        };
+        Ok((reader, front.file))
     }
 
     /// How many modules the file has.
@@ -103,8 +101,8 @@ impl<'a> PdbReader<'a> {
 
     /// Reads what is known of the modules at these positions into the records that [`open`](PdbReader::open) answered,
     /// and the types and the ids that answers over their code depend on. Answers the positions of the modules that this
-    /// call read, ascending. These are all that are left where what is known of one of them depends on others: where it
-    /// has code apart from its function, or imports.
+    /// call read, ascending. These are all that are left where one of them has code without a name, as chunks and jumps,
+    /// which any module may list.
     ///
     /// Where there is no memory none of them counts as read.
     pub fn read_modules(
@@ -119,12 +117,13 @@ impl<'a> PdbReader<'a> {
     {
         let mut positions = self.unread_of(alloc, wanted)?;
         self.read_each(alloc, &mut records.module_infos, &positions)?;
-        if any_depends_on_others(alloc, &records.module_infos, &positions)? {
+        if any_has_unnamed_code(alloc, &records.module_infos, &positions)? {
             positions = self.all_unread(alloc)?;
             self.read_each(alloc, &mut records.module_infos, &positions)?;
             name_all(alloc, records, self.container.file_length())?;
         }
-        self.read_lists(alloc, records, &positions)?;
+        let imported = self.read_imported(alloc, records, &positions)?;
+        self.read_lists(alloc, records, &positions, &imported)?;
         set_read(&mut self.read, &positions);
         Ok(positions)
     }
@@ -159,6 +158,39 @@ impl<'a> PdbReader<'a> {
         Ok(positions)
     }
 
+    // Reads what is known of the modules from which these modules import, for what they export: they don't count as
+    // read. Answers their positions.
+    fn read_imported(
+        &self,
+        alloc: Global,
+        records: &mut PDB,
+        positions: &[usize],
+    ) -> Result<Vec<usize>, AllocError>
+        ensures front { SameFront records.old records.new }
+        ensures count { OnOk result (length records.new.module_infos ≡ length records.old.module_infos) }
+    {
+        let imported = imported_modules(alloc, records, positions)?;
+        let others = self.unread_beside(alloc, &imported, positions)?;
+        self.read_each(alloc, &mut records.module_infos, &others)?;
+        Ok(imported)
+    }
+
+    // Those of these positions whose modules were not read, and are not among others, which ascend.
+    fn unread_beside(
+        &self,
+        alloc: Global,
+        wanted: &[usize],
+        others: &[usize],
+    ) -> Result<Vec<usize>, AllocError> {
+        let mut positions = Vec::new(alloc);
+        for &position in wanted {
+            if !self.has_read(position) && others.binary_search(&position).is_err() {
+                positions.push(position)?;
+            }
+        }
+        Ok(positions)
+    }
+
     // Reads what is known of the modules at these positions, as it stands in their own streams.
     fn read_each(
         &self,
@@ -175,37 +207,38 @@ impl<'a> PdbReader<'a> {
         Ok(())
     }
 
-    // Puts into the records the types and the ids that are reached with these modules. Once no module is left they are
-    // all that the file has.
+    // Puts into the records the types and the ids that are reached with these modules and with what the imported ones
+    // export. Once no module is left they are all that the file has.
     fn read_lists(
         &mut self,
         alloc: Global,
         records: &mut PDB,
         positions: &[usize],
+        imported: &[usize],
     ) -> Result<(), AllocError>
         ensures reader { self.new ≡ self.old }
         ensures front { SameFront records.old records.new }
         ensures modules { records.new.module_infos ≡ records.old.module_infos }
     {
         let whole = positions.len() == self.unread_count();
-        self.reach_modules(alloc, &records.module_infos, positions, whole)?;
+        if !whole {
+            self.reach_modules(alloc, &records.module_infos, positions, imported)?;
+        }
         self.put_types(alloc, records, whole)?;
         self.put_ids(alloc, records, whole)
     }
 
-    // Adds to the reach what these modules lead to, unless the lists are read whole.
+    // Adds to the reach what these modules lead to, and what the imported ones export.
     fn reach_modules(
         &mut self,
         alloc: Global,
         infos: &[ModuleInfoResult],
         positions: &[usize],
-        whole: bool,
+        imported: &[usize],
     ) -> Result<(), AllocError>
         ensures reader { self.new ≡ self.old }
     {
-        if whole {
-            return Ok(());
-        }
+        add_exports(alloc, &mut self.reach, &self.lists, infos, imported)?;
         add_modules(alloc, &mut self.reach, &self.lists, infos, positions)
     }
 
@@ -272,6 +305,22 @@ fn add_modules(
     Ok(())
 }
 
+// Adds to a reach what these modules export.
+fn add_exports(
+    alloc: Global,
+    reach: &mut Reach,
+    lists: &TypeLists<'_>,
+    infos: &[ModuleInfoResult],
+    positions: &[usize],
+) -> Result<(), AllocError> {
+    for &position in positions {
+        if let Some(Ok(Some(info))) = infos.get(position) {
+            reach.add_exports(alloc, lists, info)?;
+        }
+    }
+    Ok(())
+}
+
 // All types of a list, or those that are reached.
 fn types_of(
     alloc: Global,
@@ -314,184 +363,18 @@ fn put_info(infos: &mut [ModuleInfoResult], position: usize, info: ModuleInfoRes
     }
 }
 
-// Whether what is known of one of these modules depends on others.
-fn any_depends_on_others(
+// Whether one of these modules has code without a name, whose function any module may list.
+fn any_has_unnamed_code(
     alloc: Global,
     infos: &[ModuleInfoResult],
     positions: &[usize],
 ) -> Result<bool, AllocError> {
     for &position in positions {
         if let Some(Ok(Some(info))) = infos.get(position)
-            && depends_on_others(alloc, info)?
+            && has_unnamed_code(alloc, &info.symbols.items)?
         {
             return Ok(true);
         }
     }
     Ok(false)
-}
-
-fn depends_on_others(alloc: Global, info: &ModuleInfo) -> Result<bool, AllocError> {
-    if let Ok(imports) = &info.imports
-        && !imports.modules.is_empty()
-    {
-        return Ok(true);
-    }
-    has_unnamed_code(alloc, &info.symbols.items)
-}
-
-// A reader of a container, and what that has beside modules, types and ids.
-fn open_container<'a>(
-    alloc: Global,
-    container: Container<'a>,
-    info: &InfoStream<'_>,
-) -> Result<(PdbReader<'a>, PdbFile), Fault>
-    requires { info.now ≡ stream_of container 1 }
-    ensures reader { IfOk result (λ opened. opened.0 ≡ container.entry) }
-    ensures front { IfOk result (λ opened. HasFront container.entry opened.1.records) }
-    ensures memory { IfErr result (λ fault. fault ≡ Fault.OutOfMemory) }
-{
-    let types = part_or_fault(type_list(alloc, &container))?;
-    let ids = part_or_fault(id_list(alloc, &container, info))?;
-    let debug = debug_records(alloc, &container)?;
-    let places = module_places(alloc, &container, &debug.module_streams)?;
-    let records = records_without_modules(alloc, &container, info, debug, places.len())?;
-    let file = with_first_lists(alloc, info, records, &types, &ids)?;
-    let lists = TypeLists {
-        types: types.ok(),
-        ids: ids.unwrap_or(None),
-    };
-    let reader = PdbReader {
-        read: unread(alloc, places.len())?,
-        reach: Reach::new(alloc, &lists)?,
-        container,
-        places,
-        lists,
-    };
-    Ok((reader, file))
-}
-
-// The records of a container, without types, ids and what is known of its so many modules.
-#[tactic(auto, using(crate::proofs::RecordLemmas::table_of_tabled))]
-fn records_without_modules(
-    alloc: Global,
-    container: &Container<'_>,
-    info: &InfoStream<'_>,
-    debug: DebugRecords,
-    module_count: usize,
-) -> Result<PDB, Fault>
-    requires info { info.now ≡ stream_of container.now 1 }
-    requires information { debug.debug_information ≡ debug_information container.now }
-    requires sections { listed debug.sections ≡ sections container.now }
-    requires address_map { debug.address_map ≡ address_map container.now }
-    requires global_symbols { tabled debug.global_symbols ≡ global_symbols container.now }
-    ensures front { IfOk result (λ records. HasFront container.now records) }
-    ensures memory { IfErr result (λ fault. fault ≡ Fault.OutOfMemory) }
-{
-    let string_table = part_or_fault(read_texts(alloc, container, info))?;
-    let module_infos = nothing_known(alloc, module_count)?;
-    Ok(PDB {
-        sections: debug.sections,
-        address_map: debug.address_map,
-        global_symbols: debug.global_symbols,
-        debug_information: debug.debug_information,
-        type_information: Ok(no_types(alloc)),
-        id_information: Ok(no_ids(alloc)),
-        string_table,
-        module_infos,
-    })
-}
-
-// A file with these records, and the types and ids without any of a stream.
-fn with_first_lists(
-    alloc: Global,
-    info: &InfoStream<'_>,
-    mut records: PDB,
-    types: &Result<TypeStream<'_>, StreamError>,
-    ids: &Result<Option<TypeStream<'_>>, StreamError>,
-) -> Result<PdbFile, AllocError>
-    ensures front { IfOk result (λ file. SameFront records file.records) }
-{
-    records.type_information = first_types(alloc, types)?;
-    records.id_information = first_ids(alloc, ids);
-    Ok(PdbFile {
-        refusal: refusal_of(info.version(), &records),
-        names_only: info.features().names_only,
-        records,
-    })
-}
-
-// A list without types.
-fn no_types(alloc: Global) -> TypeInformation {
-    ItemInformation {
-        items: nothing_read(alloc, None),
-    }
-}
-
-// The list of types.
-fn type_list<'a>(alloc: Global, container: &Container<'a>) -> Result<TypeStream<'a>, Fault> {
-    let stream = container.stream(alloc, TYPES)?;
-    TypeStream::read(alloc, stream)
-}
-
-// The list of ids. A file that doesn't list that it has ids has none, and neither has one without their stream, or with
-// an empty one.
-fn id_list<'a>(
-    alloc: Global,
-    container: &Container<'a>,
-    info: &InfoStream<'_>,
-) -> Result<Option<TypeStream<'a>>, Fault> {
-    if !info.features().ids {
-        return Ok(None);
-    }
-    match part_or_fault(container.stream(alloc, IDS))? {
-        Ok(stream) if stream.as_slice().is_empty() => Ok(None),
-        Ok(stream) => Ok(Some(TypeStream::read(alloc, stream)?)),
-        Err(NO_STREAM) => Ok(None),
-        Err(error) => Err(Fault::Broken(error)),
-    }
-}
-
-// The types without any of a stream.
-fn first_types(
-    alloc: Global,
-    types: &Result<TypeStream<'_>, StreamError>,
-) -> Result<Result<TypeInformation, StreamError>, AllocError> {
-    match types {
-        Ok(list) => Ok(Ok(ItemInformation {
-            items: Reading {
-                items: primitive_types(alloc)?,
-                fault: list.fault(),
-            },
-        })),
-        Err(error) => Ok(Err(*error)),
-    }
-}
-
-// The ids without any of a stream.
-fn first_ids(
-    alloc: Global,
-    ids: &Result<Option<TypeStream<'_>>, StreamError>,
-) -> Result<IdInformation, StreamError> {
-    match ids {
-        Ok(Some(list)) => Ok(ItemInformation {
-            items: nothing_read(alloc, list.fault()),
-        }),
-        Ok(None) => Ok(no_ids(alloc)),
-        Err(error) => Err(*error),
-    }
-}
-
-fn unread(alloc: Global, count: usize) -> Result<Vec<bool>, AllocError> {
-    let mut read = Vec::new(alloc);
-    read.resize(count, false)?;
-    Ok(read)
-}
-
-// So many modules of which nothing is known.
-fn nothing_known(alloc: Global, count: usize) -> Result<Vec<ModuleInfoResult>, AllocError> {
-    let mut infos = Vec::with_capacity(alloc, count)?;
-    for _ in 0..count {
-        infos.push(Ok(None))?;
-    }
-    Ok(infos)
 }
