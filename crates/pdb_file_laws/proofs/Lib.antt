@@ -1,1 +1,2 @@
+pub mod ModuleLemmas
 pub mod SameStreamLemmas

@@ -1,1 +1,2 @@
+pub mod ModulesAlone
 pub mod SameStreams
