@@ -1,1 +1,3 @@
+pub mod LongerFileLemmas
+pub mod MoreBytesLemmas
 pub mod SameStreamLemmas
