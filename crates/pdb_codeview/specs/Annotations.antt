@@ -29,10 +29,11 @@ first_number bytes = number_or_fault (compressed bytes)
 abbrev pub behind_number : List ℕ → List ℕ
 behind_number bytes = drop (width bytes) bytes
 
--- an annotation of one number by its kind: CodeOffset (1), ChangeCodeOffsetBase (2), which moves the code to another
--- chunk and isn't followed, ChangeCodeOffset (3), ChangeCodeLength (4), ChangeFile (5), ChangeLineOffset (6), and
--- ChangeCodeOffsetAndLineOffset (11), whose lowest four bits are the offset; of ends of lines, kinds of ranges and
--- columns (7 to 10, and 13) rows show nothing
+-- an annotation of one number by its kind: CodeOffset (1), ChangeCodeOffsetBase (2), which names the chunk of code that
+-- follows and is taken for the main one alone, 0, ChangeCodeOffset (3), ChangeCodeLength (4), ChangeFile (5),
+-- ChangeLineOffset (6), and ChangeCodeOffsetAndLineOffset (11), whose lowest four bits are the code's offset and whose
+-- others the line's; of ChangeLineEndDelta (7), ChangeRangeKind (8), ChangeColumnStart (9), ChangeColumnEndDelta (10)
+-- and ChangeColumnEnd (13) rows show nothing
 abbrev pub of_one_number : ℕ → ℕ → Result Annotation StreamError
 of_one_number kind number =
     if kind == 1 then Ok (Start number) else
@@ -46,7 +47,8 @@ of_one_number kind number =
     if kind == 13 then Ok Other else
     Err BAD_NUMBER
 
--- an annotation of two numbers, ChangeCodeLengthAndCodeOffset (12), by the first of them and the bytes behind it
+-- an annotation of two numbers, ChangeCodeLengthAndCodeOffset (12), by the first of them, the length, and the bytes
+-- behind it, which begin with the offset
 abbrev pub of_two_numbers : ℕ → List ℕ → Result ReadAnnotation StreamError
 of_two_numbers length bytes = do
   offset ← first_number bytes
@@ -60,8 +62,8 @@ annotation_of kind bytes = do
     annotation ← of_one_number kind number
     Ok (record { annotation = annotation; next = behind_number bytes }))
 
--- the annotation that these bytes begin with: its kind, and its numbers behind that; none by the kind 0, which ends the
--- list
+-- the annotation that these bytes begin with: its kind, and its numbers behind that; none by the kind 0 (Invalid),
+-- which ends the list
 abbrev pub first_annotation : List ℕ → Result (Option ReadAnnotation) StreamError
 first_annotation bytes = do
   kind ← first_number bytes

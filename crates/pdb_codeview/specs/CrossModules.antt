@@ -28,8 +28,8 @@ first_import bytes =
 abbrev pub imports : List ℕ → Result (List Imported) StreamError
 imports bytes = whole (all_items first_import bytes)
 
--- the export that stands first, and what stands behind it: the number under which a module offers a type or an id, and
--- the index of that at 4
+-- the export that stands first, and what stands behind it: localId, the number under which a module offers a type or an
+-- id, and at 4 globalId, the index of that
 abbrev pub first_export : List ℕ → Result ((ℕ × ℕ) × List ℕ) StreamError
 first_export bytes =
     if nat_lt (length bytes) 8 then Err CUT else

@@ -8,15 +8,19 @@ use Rattle.pdb_codeview.specs.declared.annotations.Annotation.TheVariants.{Start
 use Rattle.pdb_codeview.specs.declared.annotations.Annotation.TheVariants.{AdvanceAndLine, LengthAndAdvance, Other}
 use Rattle.pdb_codeview.specs.declared.inline_rows.RowPosition.{RowPosition}
 
--- a sum of 32 bits
+-- a sum in 32 bits: what goes beyond them is lost
 abbrev pub sum_of : ℕ → ℕ → ℕ
 sum_of a b = (a + b) % 2 ^ 32
 
--- the line that a change leads to: half of it forward where it is even, back where it is odd
+-- the line that a change leads to, whose lowest bit is its sign: the number in the other bits forward where the change
+-- is even, back where it is odd
 abbrev pub moved_line : ℕ → ℕ → ℕ
 moved_line line change = if change % 2 == 0 then sum_of line (change / 2) else sum_of line (2 ^ 32 - change / 2)
 
--- where reading stands behind an annotation: a start is counted from the function's, all else from where the code was
+-- where reading stands behind an annotation: CodeOffset (Start) is counted from where the code starts that the site
+-- stands in; ChangeCodeOffset (Advance), ChangeCodeLength (Length), ChangeCodeOffsetAndLineOffset (AdvanceAndLine) and
+-- the offset of ChangeCodeLengthAndCodeOffset (LengthAndAdvance) from where the code was; ChangeFile (File) and
+-- ChangeLineOffset (Line) don't move it
 abbrev pub moved : Annotation → RowPosition → RowPosition
 moved (Start n) p = record p { offset = sum_of p.start n }
 moved (Advance n) p = record p { offset = sum_of p.offset n }
@@ -27,14 +31,15 @@ moved (AdvanceAndLine n c) p = record p { offset = sum_of p.offset n; line = mov
 moved (LengthAndAdvance l n) p = record p { offset = sum_of p.offset n }
 moved Other p = p
 
--- a row starts where the code goes on further
+-- a row starts at ChangeCodeOffset, ChangeCodeOffsetAndLineOffset and ChangeCodeLengthAndCodeOffset, and at no other
+-- annotation
 abbrev pub starts_row : Annotation → Bool
 starts_row (Advance n) = true
 starts_row (AdvanceAndLine n c) = true
 starts_row (LengthAndAdvance l n) = true
 starts_row a = false
 
--- the length of a row that the annotation which starts it says
+-- the length of a row that the annotation which starts it says: ChangeCodeLengthAndCodeOffset alone says one
 abbrev pub own_length : Annotation → Option ℕ
 own_length (LengthAndAdvance l n) = Some l
 own_length a = None
@@ -62,7 +67,7 @@ abbrev pub with_length : Option ℕ → ℕ → InlineRow → InlineRow
 with_length (Some l) n row = row
 with_length None n row = record row { length = Some n }
 
--- the last row, with the length that an annotation behind it says
+-- the last row, with the length that an annotation behind it says (ChangeCodeLength), unless it had one
 abbrev pub lengthened : Annotation → Option InlineRow → Option InlineRow
 lengthened (Length n) last = option_map (λ row. with_length row.length n row) last
 lengthened a last = last

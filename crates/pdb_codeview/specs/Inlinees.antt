@@ -12,25 +12,27 @@ use Rattle.pdb_codeview.specs.ItemLists.{all_items, together}
 use Rattle.pdb_codeview.specs.declared.inlinees.InlineeSource.{InlineeSource}
 use Rattle.pdb_codeview.specs.declared.inlinees.ListedInlinee.{ListedInlinee}
 
--- where the body of the function with this id starts: as the first says that is read of it
+-- where the source of the function with this id starts, its file and its line (fileId and sourceLineNum): of several
+-- entries with one id the first that is read counts
 abbrev pub inlinee_source : ℕ → List ListedInlinee → Option InlineeSource
 inlinee_source id listed = option_map (λ inlinee. inlinee.source) (find (λ inlinee. inlinee.id == id) listed)
 
--- an entry: inlinee, fileId at 4 and sourceLineNum at 8
+-- an entry (InlineeSourceLine): inlinee, the function's id, at 0, fileId at 4 and sourceLineNum at 8
 abbrev pub listed_inlinee : List ℕ → ListedInlinee
 listed_inlinee bytes = record {
   id = number bytes;
   source = record { file = number (drop 4 bytes); line = number (drop 8 bytes) };
 }
 
--- what stands behind the further files of an entry: their count (countOfExtraFiles), and four bytes for each
+-- what stands behind the further files of an entry (InlineeSourceLineEx): countOfExtraFiles, and an extraFileId of four
+-- bytes for each
 abbrev pub behind_files : List ℕ → Result (List ℕ) StreamError
 behind_files bytes =
     if nat_lt (length bytes) 4 then Err CUT else
     if nat_lt (length (drop 4 bytes)) (4 * number bytes) then Err CUT else
     Ok (drop (4 * number bytes) (drop 4 bytes))
 
--- what stands behind the twelve bytes of an entry, in a list of this form: entries of the form 1 have more files
+-- what stands behind the twelve bytes of an entry, in a list of this form: entries of the form 1 have further files
 abbrev pub behind_inlinee : ℕ → List ℕ → Result (List ℕ) StreamError
 behind_inlinee form bytes = if form == 1 then behind_files bytes else Ok bytes
 
@@ -40,8 +42,8 @@ first_inlinee form bytes = if nat_lt (length bytes) 12 then Err CUT else (do
   rest ← behind_inlinee form (drop 12 bytes)
   Ok (listed_inlinee (take 12 bytes), rest))
 
--- the entries of a subsection of inlinees (DEBUG_S_INLINEELINES): its form stands in front, 0 or 1; without bytes there
--- are none
+-- the entries of a subsection of inlinees (DEBUG_S_INLINEELINES): its form, the signature, stands in front, 0 for
+-- InlineeSourceLine or 1 for InlineeSourceLineEx; without bytes there are none
 abbrev pub inlinees_in : List ℕ → Read ListedInlinee
 inlinees_in bytes =
     if length bytes == 0 then nothing_read None else

@@ -44,7 +44,8 @@ first_block bytes = if nat_lt (length bytes) 12 then Err CUT else block_with (ta
 abbrev pub line_start : List ℕ → ℕ
 line_start row = number (drop 4 row) % 2 ^ 24
 
--- two numbers are those of no line: of code that a debugger steps through, and of code that it doesn't stop in
+-- two numbers are those of no line: 0xfeefee is that of code that a debugger always steps into, on its way to code with
+-- lines, and 0xf00f00 that of code that it never steps into
 abbrev pub is_no_line : ℕ → Bool
 is_no_line line = (line == 0xfeefee) || (line == 0xf00f00)
 

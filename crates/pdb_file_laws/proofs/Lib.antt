@@ -1,2 +1,4 @@
+pub mod LongerFileLemmas
 pub mod ModuleLemmas
+pub mod MoreBytesLemmas
 pub mod SameStreamLemmas

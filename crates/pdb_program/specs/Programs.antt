@@ -1,5 +1,5 @@
 -- A program by its PDB file, and what it answers.
-use Rattle.std.specs.Prelude.{◌≡◌, ◌≢◌, ℕ, List, Option, Some, None, Result, Ok, Err}
+use Rattle.std.specs.Prelude.{◌≡◌, ◌≢◌, ℕ, List, [], ◌++◌, Option, Some, None, Result, Ok, Err}
 use Rattle.pdb_records.specs.Records.{Records}
 use Rattle.pdb_msf.specs.declared.container_fault.ContainerFault.{ContainerFault}
 use Rattle.pdb_msf.specs.declared.container_fault.ContainerFault.TheVariants as file
@@ -48,3 +48,16 @@ Extends before after (Err error) = ⊥
 abbrev pub AnswersOver : Records → List Call → List Answer → List Answer → Result (Unit {0}) Error → Type 0
 AnswersOver records calls before after (Ok _) = Extends before after (answers_over records calls)
 AnswersOver records calls before after (Err error) = error ≢ OutOfMemory → answers_over records calls ≡ Err error
+
+-- the answers that are defined: none where there is no context
+abbrev pub answers_or_none : Result (List AnswerView) Error → List AnswerView
+answers_or_none (Ok answers) = answers
+answers_or_none (Err error) = []
+
+-- calls that end with an error: the list of answers is longer by those of some first calls, where there is a context,
+-- and by nothing else
+pub record EndsEarly (records : Records) (calls : List Call) (before after : List Answer) : Type 0 where
+  pub made : List Call
+  pub unmade : List Call
+  pub split : calls ≡ made ++ unmade
+  pub answered : Appends before after (answers_or_none (answers_over records made))

@@ -1,7 +1,7 @@
 //! A program whose PDB file was read, and answers to calls over its records.
 
-ghost use Rattle.std.specs.Prelude.{◌≡◌, IfOk};
-ghost use Rattle.pdb_program.specs.Programs.{AnswersOver, Opened, opened};
+ghost use Rattle.std.specs.Prelude.{◌≡◌, IfOk, OnErr};
+ghost use Rattle.pdb_program.specs.Programs.{AnswersOver, EndsEarly, Opened, opened};
 
 use crate::open_fault::OpenFault;
 use pdb_addr2line::{Answer, Call, ContextPdbData, Result};
@@ -53,10 +53,12 @@ impl Program {
     ///
     /// # Errors
     ///
-    /// Those of [`ContextPdbData::make_context`], before any call is answered; and `OutOfMemory`, behind the answers of
-    /// the calls before the one for which there was no memory.
+    /// Those of [`ContextPdbData::make_context`], with which no call is answered; and `OutOfMemory`. The list is then
+    /// longer by the answers to the calls that were made before memory ran out: to some first ones, or to none.
+    #[tactic(auto, using(crate::proofs::EarlyLemmas::early))]
     pub fn run_calls<'p>(&'p self, calls: &[Call<'_>], answers: &mut Vec<Answer<'p>>) -> Result<()>
-        ensures { AnswersOver self.now calls.now answers.old.items answers.new.items result }
+        ensures answers { AnswersOver self.now calls.now answers.old.items answers.new.items result }
+        ensures early { OnErr result (EndsEarly self.now calls.now answers.old.items answers.new.items) }
     {
         let mut context = self.data.make_context()?;
         context.run_calls(calls, answers)

@@ -19,7 +19,7 @@ abbrev pub number_of : ℕ → (List ℕ → Variant) → List ℕ → Result (V
 number_of size made bytes = if nat_lt (length bytes) size then Err CUT else Ok (made bytes, drop size bytes)
 
 -- the number behind its leaf: LF_CHAR, LF_SHORT, LF_LONG and LF_QUADWORD are signed and have one, two, four and eight
--- bytes; LF_USHORT, LF_ULONG and LF_UQUADWORD are unsigned
+-- bytes; LF_USHORT, LF_ULONG and LF_UQUADWORD are unsigned and have two, four and eight
 abbrev pub wide_number : ℕ → List ℕ → Result (Variant × List ℕ) StreamError
 wide_number leaf bytes =
     if leaf == 0x8000 then number_of 1 (λ bytes. I8 (cast_signed w8 (slice_index bytes 0))) bytes else

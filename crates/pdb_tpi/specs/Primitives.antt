@@ -8,7 +8,8 @@ use Rattle.pdb_records.specs.declared.types.TypeData.{TypeData}
 use Rattle.pdb_records.specs.declared.types.TypeData.TheVariants.{Primitive}
 use Rattle.pdb_records.specs.declared.types.TypeIndex.{TypeIndex}
 
--- the primitives by the lowest byte of their indices (T_NOTYPE, T_VOID, T_HRESULT, T_CHAR and so on)
+-- the primitives by the lowest byte of their indices: T_NOTYPE (0), T_VOID (3), T_HRESULT (8), T_CHAR (0x10) and so on;
+-- of two alike, T_LONG (0x12) is the type long, and T_INT4 (0x74) the type int
 unfoldable pub primitive_kinds : List (ℕ × PrimitiveKind)
 primitive_kinds =
     (0x00, kind.NoType) ∷ (0x03, kind.Void) ∷ (0x08, kind.HRESULT) ∷ (0x10, kind.Char) ∷ (0x11, kind.Short) ∷
