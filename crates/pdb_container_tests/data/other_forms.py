@@ -1,12 +1,12 @@
 """PDB files in other forms than the usual one, by their bytes, and the records that are wanted of them: of other ages,
 of other sizes of blocks, with other lengths."""
 import more_kinds
-from kinds import (SECTIONS, Symbols, container, contribution, debug_stream, info_stream, item_stream, module_header,
-                   more_streams, put_chunk, put_procedure, put_trampoline, records, section_header, string_stream, u16,
-                   u32)
+from kinds import (IMPORTED, SECTIONS, Symbols, container, contribution, debug_stream, info_stream, item_list,
+                   item_stream, module_header, more_streams, primitives, put_chunk, put_procedure, put_trampoline, records,
+                   section_header, string_stream, subsection, u8, u16, u32)
 
 NO_SYMBOLS = {"symbols": [], "line_program": {"entries": [], "files": []}, "inlinees": [], "imports": [], "exports": []}
-LONG = 0xF13151E4
+SHORT, LONG = 0xF12EBA2D, 0xF13151E4
 
 
 def before_ids():
@@ -96,5 +96,45 @@ def chunks_of_two_modules():
     return container(streams), [wanted]
 
 
+def put_typed_procedure(symbols, offset, name, type_index):
+    """A procedure of 32 bytes in section 1, with this type."""
+    content = u32(0, 0, 0, 32, 0, 0, type_index, offset) + u16(1) + u8(0) + name + b"\0"
+    symbols.put(0x1110, content, {"kind": "Procedure", "section": 1, "offset": offset, "len": 32, "name": name.decode(),
+                                  "end": 0, "type_index": type_index}, opens=4)
+    symbols.close(6)
+
+
+def parts_of_other_modules():
+    """Three modules: the first one's procedure has a type that it imports from the second, and the third one has a chunk
+    of the second one's procedure."""
+    importing, exporting, chunks = Symbols(u32(4)), Symbols(u32(4)), Symbols(u32(4))
+    put_typed_procedure(importing, 0x100, b"f", 0x80000000)
+    put_typed_procedure(exporting, 0x200, b"g", 0x1001)
+    put_chunk(chunks, 0x300, 0x200, "g")
+    chunks.wanted[0]["data"]["type_index"] = 0x1001
+    chunks.close(6)
+    imports, exports = subsection(0xF7, u32(IMPORTED, 1, 0x2005)), subsection(0xF8, u32(0x2005, 0x1001))
+    types = [(0x1201, u32(1, 0x74), {"kind": "ArgumentList", "arguments": [0x74]}),
+             (0x1008, u32(3) + u8(0, 0) + u16(1) + u32(0x1000),
+              {"kind": "Procedure", "return_type": 3, "is_constructor": False, "argument_list": 0x1000})]
+    modules = (module_header(10, len(importing.data), len(imports), b"a.obj")
+               + module_header(11, len(exporting.data), len(exports), b"C.OBJ")
+               + module_header(12, len(chunks.data), 0, b"d.obj"))
+    contributions = u32(SHORT) + b"".join(contribution(1, 0x100 * (at + 1), 0x20, at) for at in range(3))
+    streams = [b"", info_stream(), item_stream(types), debug_stream(modules, contributions), item_stream([]),
+               string_stream(), b"", None, b"", SECTIONS, importing.data + imports, exporting.data + exports, chunks.data]
+    wanted = records(
+        debug_information={
+            "machine_type": "Amd64", "modules": [{"name": "a.obj"}, {"name": "C.OBJ"}, {"name": "d.obj"}],
+            "section_contributions": [{"section": 1, "offset": 0x100 * (at + 1), "size": 0x20, "module": at}
+                                      for at in range(3)]},
+        type_information=primitives() + item_list(types),
+        module_infos=[{**NO_SYMBOLS, "symbols": importing.wanted, "imports": [{"module": IMPORTED, "locals": [0x2005]}]},
+                      {**NO_SYMBOLS, "symbols": exporting.wanted, "exports": [{"local": 0x2005, "global": 0x1001}]},
+                      {**NO_SYMBOLS, "symbols": chunks.wanted}])
+    return container(streams), [wanted]
+
+
 FILES = [("more_kinds.pdb", more_kinds.whole), ("before_ids.pdb", before_ids), ("first_with_ids.pdb", first_with_ids), ("many_streams.pdb", many_streams),
-         ("names_only.pdb", names_only), ("chunks_of_two_modules.pdb", chunks_of_two_modules)]
+         ("names_only.pdb", names_only), ("chunks_of_two_modules.pdb", chunks_of_two_modules),
+         ("parts_of_other_modules.pdb", parts_of_other_modules)]

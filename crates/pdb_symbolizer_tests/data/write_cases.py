@@ -10,7 +10,7 @@ shapes.exe beside this is the program with the GUID of shapes.pdb here, and othe
 file stands under `symbols`: clang writes the name of its folder into a PDB file, by which the GUID is made. Written here
 are also high.pdb, which is broken_parts.pdb with its section at the end of all addresses, and its public symbol in the
 last function; device.exe and folder.exe, which are other.exe with a device and a folder in place of its PDB file's path;
-and device.json, which is names.json with a device as a module's file.
+and device.json, which is names.json with a device as a module's file. parts_of_other_modules.pdb is that of pdb_container_tests.
 """
 import itertools
 import json
@@ -270,6 +270,15 @@ def broken_cases():
         "".join(error(f"broken_parts.pdb: {row}") for row in ASKED_ROWS) + 2 * "?f@@YAXXZ at ??:0:0\n\n" + ENDED
 
 
+def module_cases():
+    """A file in which a type stands behind another module's import, and a chunk goes by another module's function: what
+    is known of these others is read with the module that is asked for."""
+    file, f, g = "pdb_symbolizer -p parts_of_other_modules.pdb", "f(int) at ??:0:0\n\n", "g(int) at ??:0:0\n\n"
+    yield f"{file} 0x1100", f + ENDED
+    yield f"{file} 0x1300", g + ENDED
+    yield f"{file} < 0x1200|0x1100|0x1300", g + f + g + ENDED
+
+
 def identity_cases():
     """Which build a file is of: the GUID of the info stream, of which the first three fields have their lowest byte
     first, and the age of the debug information."""
@@ -373,7 +382,7 @@ def api_cases(folder):
 
 def main(words):
     made = [*llvm_cases(words[0]), *habit_cases(words[0]), *name_cases(), *address_cases(), *program_cases(), *broken_cases(),
-            *identity_cases(), *records_cases(), *symbol_file_cases(words[0]), *api_cases(words[0])]
+            *module_cases(), *identity_cases(), *records_cases(), *symbol_file_cases(words[0]), *api_cases(words[0])]
     (HERE / "cases.txt").write_text("".join(f"{line}\n" for line, _ in made), encoding="utf-8")
     (HERE.parent / "stdout").write_text("".join(f"$ {line}\n{text}" for line, text in made), encoding="utf-8")
     print(f"{len(made)} cases")
