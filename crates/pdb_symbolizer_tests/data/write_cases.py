@@ -10,7 +10,8 @@ shapes.exe beside this is the program with the GUID of shapes.pdb here, and othe
 file stands under `symbols`: clang writes the name of its folder into a PDB file, by which the GUID is made. Written here
 are also high.pdb, which is broken_parts.pdb with its section at the end of all addresses, and its public symbol in the
 last function; device.exe and folder.exe, which are other.exe with a device and a folder in place of its PDB file's path;
-and device.json, which is names.json with a device as a module's file. parts_of_other_modules.pdb is that of pdb_container_tests.
+and device.json, which is names.json with a device as a module's file. parts_of_other_modules.pdb is that of
+pdb_container_tests.
 """
 import itertools
 import json
