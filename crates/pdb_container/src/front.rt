@@ -49,11 +49,12 @@ pub fn read_front<'a>(
     ensures front { IfOk result (λ read. HasFront container.now read.file.records) }
     ensures memory { IfErr result (λ fault. fault ≡ Fault.OutOfMemory) }
 {
-    let types = part_or_fault(type_list(alloc, container))?;
-    let ids = part_or_fault(id_list(alloc, container, info))?;
     let debug = debug_records(alloc, container)?;
     let places = module_places(alloc, container, &debug.module_streams)?;
     let records = records_without_modules(alloc, container, info, debug, places.len())?;
+    // Behind the symbols, so that copies of both streams are never had at once
+    let types = part_or_fault(type_list(alloc, container))?;
+    let ids = part_or_fault(id_list(alloc, container, info))?;
     let file = with_first_lists(alloc, info, records, &types, &ids)?;
     let lists = TypeLists {
         types: types.ok(),
