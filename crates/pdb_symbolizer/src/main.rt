@@ -27,6 +27,6 @@ fn main(rt: HostRuntime) -> ExitCode {
 fn words<R: Env + AllocGlobal>(rt: &R) -> Result<Vec<String>, Stop> {
     match env::args(rt) {
         Ok(words) => Ok(words.collect(rt.alloc())?),
-        Err(_) => Err(Stop::NoText),
+        Err(error) => Err(Stop::without_words(&error)),
     }
 }

@@ -1,6 +1,7 @@
 //! Why a run ended early, in words, and the exit status that goes with it.
 
 use crate::arguments::EXAMPLES;
+use crate::input_files::ran_out_of_memory;
 use clap::error::ErrorKind;
 use pdb_addr2line::Error;
 use pdb_breakpad::SymbolFileFault;
@@ -79,6 +80,15 @@ pub enum Stop {
 }
 
 impl Stop {
+    /// Why a run ends whose words can't be had.
+    pub fn without_words(error: &io::Error) -> Stop {
+        if ran_out_of_memory(error) {
+            Stop::Refused(Error::OutOfMemory)
+        } else {
+            Stop::NoText
+        }
+    }
+
     /// Prints why the run ended, which is on standard error but for the help and the version, and answers its status.
     pub fn print<R: Print + Eprint>(&self, rt: &R) -> u8 {
         match self {
@@ -113,7 +123,10 @@ impl Stop {
 
 impl From<clap::Error> for Stop {
     fn from(error: clap::Error) -> Stop {
-        Stop::Words(error)
+        match error.kind() {
+            ErrorKind::OutOfMemory => Stop::Refused(Error::OutOfMemory),
+            _ => Stop::Words(error),
+        }
     }
 }
 
