@@ -21,7 +21,8 @@ HERE = pathlib.Path(__file__).resolve().parent
 ROOT = HERE.parents[1]
 # The tests that run what a crate has; those of the readers are of all others.
 SYMBOLIZER = "pdb_symbolizer_tests"
-RUNS = {name: SYMBOLIZER for name in ("pdb_symbolizer_lib", "pdb_symbolication", "pdb_identity", "identity.rt")}
+RUNS = {name: SYMBOLIZER for name in (
+    "pdb_symbolizer_lib", "pdb_symbolication", "pdb_identity", "identity.rt", "reader.rt", "reach.rt", "imports.rt")}
 READERS = "pdb_container_tests"
 
 

@@ -1,7 +1,7 @@
 """PDB files in other forms than the usual one, by their bytes, and the records that are wanted of them: of other ages,
 of other sizes of blocks, with other lengths."""
 import more_kinds
-from kinds import (IMPORTED, SECTIONS, Symbols, container, contribution, debug_stream, info_stream, item_list,
+from kinds import (IMPORTED, SECTIONS, Symbols, class_of, container, contribution, debug_stream, info_stream, item_list,
                    item_stream, module_header, more_streams, primitives, put_chunk, put_procedure, put_trampoline, records,
                    section_header, string_stream, subsection, u8, u16, u32)
 
@@ -105,33 +105,44 @@ def put_typed_procedure(symbols, offset, name, type_index):
 
 
 def parts_of_other_modules():
-    """Three modules: the first one's procedure has a type that it imports from the second, and the third one has a chunk
-    of the second one's procedure."""
-    importing, exporting, chunks = Symbols(u32(4)), Symbols(u32(4)), Symbols(u32(4))
+    """Four modules: the first one's procedure has a type that it imports from the second, the third one has a chunk of the
+    second one's procedure, and that of the fourth one has an array of a class whose size stands with another type."""
+    importing, exporting, chunks, sizes = (Symbols(u32(4)) for _ in range(4))
     put_typed_procedure(importing, 0x100, b"f", 0x80000000)
     put_typed_procedure(exporting, 0x200, b"g", 0x1001)
     put_chunk(chunks, 0x300, 0x200, "g")
     chunks.wanted[0]["data"]["type_index"] = 0x1001
     chunks.close(6)
+    put_typed_procedure(sizes, 0x400, b"h", 0x1006)
     imports, exports = subsection(0xF7, u32(IMPORTED, 1, 0x2005)), subsection(0xF8, u32(0x2005, 0x1001))
     types = [(0x1201, u32(1, 0x74), {"kind": "ArgumentList", "arguments": [0x74]}),
              (0x1008, u32(3) + u8(0, 0) + u16(1) + u32(0x1000),
-              {"kind": "Procedure", "return_type": 3, "is_constructor": False, "argument_list": 0x1000})]
+              {"kind": "Procedure", "return_type": 3, "is_constructor": False, "argument_list": 0x1000}),
+             class_of(0x1504, "Class", 0x80, 0, u16(0), b"C", forward=True),
+             (0x1503, u32(0x1002, 0x23) + u16(24) + b"\0",
+              {"kind": "Array", "element_type": 0x1002, "first": 24, "rest": []}),
+             (0x1002, u32(0x1003, 0x1000C),
+              {"kind": "Pointer", "underlying_type": 0x1003, "mode": "Pointer", "is_const": False, "size": 8}),
+             (0x1201, u32(1, 0x1004), {"kind": "ArgumentList", "arguments": [0x1004]}),
+             (0x1008, u32(3) + u8(0, 0) + u16(1) + u32(0x1005),
+              {"kind": "Procedure", "return_type": 3, "is_constructor": False, "argument_list": 0x1005}),
+             class_of(0x1504, "Class", 0, 8, u16(8), b"C")]
     modules = (module_header(10, len(importing.data), len(imports), b"a.obj")
                + module_header(11, len(exporting.data), len(exports), b"C.OBJ")
-               + module_header(12, len(chunks.data), 0, b"d.obj"))
-    contributions = u32(SHORT) + b"".join(contribution(1, 0x100 * (at + 1), 0x20, at) for at in range(3))
+               + module_header(12, len(chunks.data), 0, b"d.obj") + module_header(13, len(sizes.data), 0, b"e.obj"))
+    contributions = u32(SHORT) + b"".join(contribution(1, 0x100 * (at + 1), 0x20, at) for at in range(4))
     streams = [b"", info_stream(), item_stream(types), debug_stream(modules, contributions), item_stream([]),
-               string_stream(), b"", None, b"", SECTIONS, importing.data + imports, exporting.data + exports, chunks.data]
+               string_stream(), b"", None, b"", SECTIONS, importing.data + imports, exporting.data + exports, chunks.data,
+               sizes.data]
     wanted = records(
         debug_information={
-            "machine_type": "Amd64", "modules": [{"name": "a.obj"}, {"name": "C.OBJ"}, {"name": "d.obj"}],
+            "machine_type": "Amd64", "modules": [{"name": "a.obj"}, {"name": "C.OBJ"}, {"name": "d.obj"}, {"name": "e.obj"}],
             "section_contributions": [{"section": 1, "offset": 0x100 * (at + 1), "size": 0x20, "module": at}
-                                      for at in range(3)]},
+                                      for at in range(4)]},
         type_information=primitives() + item_list(types),
         module_infos=[{**NO_SYMBOLS, "symbols": importing.wanted, "imports": [{"module": IMPORTED, "locals": [0x2005]}]},
                       {**NO_SYMBOLS, "symbols": exporting.wanted, "exports": [{"local": 0x2005, "global": 0x1001}]},
-                      {**NO_SYMBOLS, "symbols": chunks.wanted}])
+                      {**NO_SYMBOLS, "symbols": chunks.wanted}, {**NO_SYMBOLS, "symbols": sizes.wanted}])
     return container(streams), [wanted]
 
 

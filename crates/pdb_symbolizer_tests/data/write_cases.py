@@ -272,11 +272,13 @@ def broken_cases():
 
 
 def module_cases():
-    """A file in which a type stands behind another module's import, and a chunk goes by another module's function: what
-    is known of these others is read with the module that is asked for."""
+    """A file in which a type stands behind another module's import, a chunk goes by another module's function, and the
+    size of an array's elements stands with a type that nothing leads to: all that is read with the module that is asked
+    for."""
     file, f, g = "pdb_symbolizer -p parts_of_other_modules.pdb", "f(int) at ??:0:0\n\n", "g(int) at ??:0:0\n\n"
     yield f"{file} 0x1100", f + ENDED
     yield f"{file} 0x1300", g + ENDED
+    yield f"{file} 0x1400", "h(C[3]*) at ??:0:0\n\n" + ENDED
     yield f"{file} < 0x1200|0x1100|0x1300", g + f + g + ENDED
 
 
