@@ -19,6 +19,7 @@ mod reader;
 mod records;
 mod refusals;
 mod strings;
+mod type_lists;
 mod unnamed_code;
 
 pub use identity::{PdbIdentity, read_identity};

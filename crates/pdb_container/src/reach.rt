@@ -1,18 +1,13 @@
 //! Which types and ids answers over modules depend on: those that their functions name, with all that these lead to.
 
+use crate::type_lists::{TypeLists, id_of, mark, position_of, type_of, unmarked};
 use pdb_records::{
-    IdData, IdIndex, IdInformation, Item, ItemInformation, ModuleInfo, Reading, Symbol, SymbolData,
-    TypeData, TypeIndex, TypeInformation,
+    IdData, IdIndex, IdInformation, Item, ItemInformation, ModuleInfo, RawString, Reading, Symbol,
+    SymbolData, TypeData, TypeIndex, TypeInformation,
 };
 use pdb_tpi::{TypeStream, primitive_types};
 use std::alloc::{AllocError, Global};
-
-/// The lists of types and of ids of a file, where they can be read.
-#[derive(Drop)]
-pub struct TypeLists<'a> {
-    pub types: Option<TypeStream<'a>>,
-    pub ids: Option<TypeStream<'a>>,
-}
+use std::collections::BTreeSet;
 
 /// What is still to be followed: a record of a type, the size of one, or a record of an id, by its position.
 #[derive(Clone, Copy)]
@@ -29,8 +24,10 @@ pub struct Reach {
     sizes: Vec<bool>,
     ids: Vec<bool>,
     steps: Vec<Step>,
-    /// Whether the size of a forward reference is reached, which stands with another type of its name.
-    forward_size: bool,
+    /// The names of the forward references whose size is reached, which stands with another type of that name.
+    names: BTreeSet<Vec<u8>>,
+    /// Whether types of some of these names were not yet looked for.
+    looks: bool,
 }
 
 impl Reach {
@@ -41,7 +38,8 @@ impl Reach {
             sizes: unmarked(alloc, &lists.types)?,
             ids: unmarked(alloc, &lists.ids)?,
             steps: Vec::new(alloc),
-            forward_size: false,
+            names: BTreeSet::new(alloc),
+            looks: false,
         })
     }
 
@@ -74,15 +72,31 @@ impl Reach {
         self.follow_steps(alloc, lists)
     }
 
+    /// Adds the types with which the sizes of forward references stand that are reached: all of their names.
+    pub fn add_definitions(
+        &mut self,
+        alloc: Global,
+        lists: &TypeLists<'_>,
+    ) -> Result<(), AllocError> {
+        if let Some(list) = &lists.types
+            && self.looks
+        {
+            for (position, reached) in self.types.iter_mut().enumerate() {
+                if !*reached && list.is_definition(position) {
+                    *reached = has_name(list.type_at(alloc, position)?, &self.names);
+                }
+            }
+            self.looks = false;
+        }
+        Ok(())
+    }
+
     /// The types that are reached, with the primitives in front of them.
     pub fn type_information(
         &self,
         alloc: Global,
         list: &TypeStream<'_>,
     ) -> Result<TypeInformation, AllocError> {
-        if self.forward_size {
-            return list.all_types(alloc);
-        }
         let mut items = primitive_types(alloc)?;
         for (position, reached) in self.types.iter().enumerate() {
             if *reached && let Some(item) = list.type_at(alloc, position)? {
@@ -207,7 +221,7 @@ impl Reach {
                     content: Ok(data),
                     ..
                 },
-            ) => self.add_size_of(lists, data),
+            ) => self.add_size_of(alloc, lists, data),
             _ => Ok(()),
         }
     }
@@ -256,20 +270,31 @@ impl Reach {
     }
 
     // The type whose size a type has, where it is another one's.
-    fn add_size_of(&mut self, lists: &TypeLists<'_>, data: &TypeData) -> Result<(), AllocError> {
+    fn add_size_of(
+        &mut self,
+        alloc: Global,
+        lists: &TypeLists<'_>,
+        data: &TypeData,
+    ) -> Result<(), AllocError> {
         match data {
             TypeData::Enumeration(enumeration) => self.add_size(lists, enumeration.underlying_type),
             TypeData::Modifier(modifier) => self.add_size(lists, modifier.underlying_type),
-            TypeData::Class(class) => {
-                self.forward_size = self.forward_size || class.forward_reference;
-                Ok(())
+            TypeData::Class(class) if class.forward_reference => {
+                self.add_name(alloc, name_of(&class.name, &class.unique_name))
             }
-            TypeData::Union(union) => {
-                self.forward_size = self.forward_size || union.forward_reference;
-                Ok(())
+            TypeData::Union(union) if union.forward_reference => {
+                self.add_name(alloc, name_of(&union.name, &union.unique_name))
             }
             _ => Ok(()),
         }
+    }
+
+    fn add_name(&mut self, alloc: Global, name: &RawString) -> Result<(), AllocError> {
+        if !self.names.contains(&name.0) {
+            self.names.insert(Vec::from_slice(alloc, &name.0)?)?;
+            self.looks = true;
+        }
+        Ok(())
     }
 
     // The types and the ids that an id is printed with.
@@ -313,56 +338,22 @@ impl Reach {
     }
 }
 
-// A mark for each record of a list.
-fn unmarked(alloc: Global, list: &Option<TypeStream<'_>>) -> Result<Vec<bool>, AllocError> {
-    let length = match list {
-        Some(list) => list.len(),
-        None => 0,
+// The name by which a class or a union is found: the unique one, where it has one.
+fn name_of<'n>(name: &'n RawString, unique_name: &'n Option<RawString>) -> &'n RawString {
+    match unique_name {
+        Some(unique_name) => unique_name,
+        None => name,
+    }
+}
+
+// Whether a type is a class or a union of one of these names.
+fn has_name(item: Option<Item<TypeIndex, TypeData>>, names: &BTreeSet<Vec<u8>>) -> bool {
+    let Some(item) = item else {
+        return false;
     };
-    let mut marks = Vec::new(alloc);
-    marks.resize(length, false)?;
-    Ok(marks)
-}
-
-// Sets a mark. Answers whether it was not set.
-fn mark(marks: &mut [bool], position: usize) -> bool {
-    match marks.get_mut(position) {
-        Some(mark) if !*mark => {
-            *mark = true;
-            true
-        }
+    match &item.content {
+        Ok(TypeData::Class(class)) => names.contains(&name_of(&class.name, &class.unique_name).0),
+        Ok(TypeData::Union(union)) => names.contains(&name_of(&union.name, &union.unique_name).0),
         _ => false,
-    }
-}
-
-// The position in a list at which the record of an index would stand.
-fn position_of(list: &Option<TypeStream<'_>>, index: u32) -> Option<usize> {
-    match list {
-        Some(list) => Some(index.checked_sub(list.first())? as usize),
-        None => None,
-    }
-}
-
-// The type at a position of the list.
-fn type_of(
-    alloc: Global,
-    list: &Option<TypeStream<'_>>,
-    position: usize,
-) -> Result<Option<Item<TypeIndex, TypeData>>, AllocError> {
-    match list {
-        Some(list) => list.type_at(alloc, position),
-        None => Ok(None),
-    }
-}
-
-// The id at a position of the list.
-fn id_of(
-    alloc: Global,
-    list: &Option<TypeStream<'_>>,
-    position: usize,
-) -> Result<Option<Item<IdIndex, IdData>>, AllocError> {
-    match list {
-        Some(list) => list.id_at(alloc, position),
-        None => Ok(None),
     }
 }

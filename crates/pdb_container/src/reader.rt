@@ -11,12 +11,13 @@ use crate::front::read_front;
 use crate::imports::imported_modules;
 use crate::info::InfoStream;
 use crate::module_places::{ModuleInfoResult, ModulePlace, read_module_info};
-use crate::reach::{Reach, TypeLists};
+use crate::reach::Reach;
 use crate::records::PdbFile;
+use crate::type_lists::TypeLists;
 use crate::unnamed_code::{has_unnamed_code, name_unnamed_code};
 use pdb_msf::faults::Fault;
 use pdb_msf::{Container, ContainerFault};
-use pdb_records::{IdInformation, PDB, TypeInformation};
+use pdb_records::PDB;
 use pdb_tpi::TypeStream;
 use std::alloc::{AllocError, Global};
 use std::marker::Model;
@@ -115,23 +116,37 @@ impl<'a> PdbReader<'a> {
         ensures front { SameFront records.old records.new }
         ensures count { OnOk result (length records.new.module_infos ≡ length records.old.module_infos) }
     {
-        let mut positions = self.unread_of(alloc, wanted)?;
+        let positions = self.unread_of(alloc, wanted)?;
+        if positions.is_empty() {
+            return Ok(positions);
+        }
+        if positions.len() == self.unread_count() {
+            return self.read_all(alloc, records);
+        }
         self.read_each(alloc, &mut records.module_infos, &positions)?;
         if any_has_unnamed_code(alloc, &records.module_infos, &positions)? {
-            positions = self.all_unread(alloc)?;
-            self.read_each(alloc, &mut records.module_infos, &positions)?;
-            name_all(alloc, records, self.container.file_length())?;
+            return self.read_all(alloc, records);
         }
         let imported = self.read_imported(alloc, records, &positions)?;
-        self.read_lists(alloc, records, &positions, &imported)?;
+        self.reach_modules(alloc, &records.module_infos, &positions, &imported)?;
+        self.put_types(alloc, records)?;
+        self.put_ids(alloc, records)?;
         set_read(&mut self.read, &positions);
         Ok(positions)
     }
 
     /// Reads all modules that are left, as [`read_modules`](PdbReader::read_modules) does.
-    pub fn read_all(&mut self, alloc: Global, records: &mut PDB) -> Result<Vec<usize>, AllocError> {
+    pub fn read_all(&mut self, alloc: Global, records: &mut PDB) -> Result<Vec<usize>, AllocError>
+        ensures reader { self.new ≡ self.old }
+        ensures front { SameFront records.old records.new }
+        ensures count { OnOk result (length records.new.module_infos ≡ length records.old.module_infos) }
+    {
         let positions = self.all_unread(alloc)?;
-        self.read_modules(alloc, records, &positions)
+        self.put_all_lists(alloc, records)?;
+        self.read_each(alloc, &mut records.module_infos, &positions)?;
+        name_all(alloc, records, self.container.file_length())?;
+        set_read(&mut self.read, &positions);
+        Ok(positions)
     }
 
     // Those of these positions whose modules were not read, ascending, each once.
@@ -207,27 +222,6 @@ impl<'a> PdbReader<'a> {
         Ok(())
     }
 
-    // Puts into the records the types and the ids that are reached with these modules and with what the imported ones
-    // export. Once no module is left they are all that the file has.
-    fn read_lists(
-        &mut self,
-        alloc: Global,
-        records: &mut PDB,
-        positions: &[usize],
-        imported: &[usize],
-    ) -> Result<(), AllocError>
-        ensures reader { self.new ≡ self.old }
-        ensures front { SameFront records.old records.new }
-        ensures modules { records.new.module_infos ≡ records.old.module_infos }
-    {
-        let whole = positions.len() == self.unread_count();
-        if !whole {
-            self.reach_modules(alloc, &records.module_infos, positions, imported)?;
-        }
-        self.put_types(alloc, records, whole)?;
-        self.put_ids(alloc, records, whole)
-    }
-
     // Adds to the reach what these modules lead to, and what the imported ones export.
     fn reach_modules(
         &mut self,
@@ -239,33 +233,49 @@ impl<'a> PdbReader<'a> {
         ensures reader { self.new ≡ self.old }
     {
         add_exports(alloc, &mut self.reach, &self.lists, infos, imported)?;
-        add_modules(alloc, &mut self.reach, &self.lists, infos, positions)
+        add_modules(alloc, &mut self.reach, &self.lists, infos, positions)?;
+        self.reach.add_definitions(alloc, &self.lists)
     }
 
-    fn put_types(&self, alloc: Global, records: &mut PDB, whole: bool) -> Result<(), AllocError>
+    // Puts into the records the types that are reached.
+    fn put_types(&self, alloc: Global, records: &mut PDB) -> Result<(), AllocError>
         ensures front { SameFront records.old records.new }
         ensures modules { records.new.module_infos ≡ records.old.module_infos }
     {
         match &self.lists.types {
             Some(list) => {
-                records.type_information = Ok(types_of(alloc, list, &self.reach, whole)?);
+                records.type_information = Ok(self.reach.type_information(alloc, list)?);
                 Ok(())
             }
             None => Ok(()),
         }
     }
 
-    fn put_ids(&self, alloc: Global, records: &mut PDB, whole: bool) -> Result<(), AllocError>
+    // Puts into the records the ids that are reached.
+    fn put_ids(&self, alloc: Global, records: &mut PDB) -> Result<(), AllocError>
         ensures front { SameFront records.old records.new }
         ensures modules { records.new.module_infos ≡ records.old.module_infos }
     {
         match &self.lists.ids {
             Some(list) => {
-                records.id_information = Ok(ids_of(alloc, list, &self.reach, whole)?);
+                records.id_information = Ok(self.reach.id_information(alloc, list)?);
                 Ok(())
             }
             None => Ok(()),
         }
+    }
+
+    // Puts into the records all types and ids, and gives back the lists that they stand in.
+    fn put_all_lists(&mut self, alloc: Global, records: &mut PDB) -> Result<(), AllocError>
+        ensures reader { self.new ≡ self.old }
+        ensures front { SameFront records.old records.new }
+        ensures modules { records.new.module_infos ≡ records.old.module_infos }
+    {
+        put_all_types(alloc, &self.lists.types, records)?;
+        self.lists.types = None;
+        put_all_ids(alloc, &self.lists.ids, records)?;
+        self.lists.ids = None;
+        Ok(())
     }
 
     fn unread_count(&self) -> usize {
@@ -321,31 +331,39 @@ fn add_exports(
     Ok(())
 }
 
-// All types of a list, or those that are reached.
-fn types_of(
+// Puts into the records all types of a list.
+fn put_all_types(
     alloc: Global,
-    list: &TypeStream<'_>,
-    reach: &Reach,
-    whole: bool,
-) -> Result<TypeInformation, AllocError> {
-    if whole {
-        list.all_types(alloc)
-    } else {
-        reach.type_information(alloc, list)
+    list: &Option<TypeStream<'_>>,
+    records: &mut PDB,
+) -> Result<(), AllocError>
+    ensures front { SameFront records.old records.new }
+    ensures modules { records.new.module_infos ≡ records.old.module_infos }
+{
+    match list {
+        Some(list) => {
+            records.type_information = Ok(list.all_types(alloc)?);
+            Ok(())
+        }
+        None => Ok(()),
     }
 }
 
-// All ids of a list, or those that are reached.
-fn ids_of(
+// Puts into the records all ids of a list.
+fn put_all_ids(
     alloc: Global,
-    list: &TypeStream<'_>,
-    reach: &Reach,
-    whole: bool,
-) -> Result<IdInformation, AllocError> {
-    if whole {
-        list.all_ids(alloc)
-    } else {
-        reach.id_information(alloc, list)
+    list: &Option<TypeStream<'_>>,
+    records: &mut PDB,
+) -> Result<(), AllocError>
+    ensures front { SameFront records.old records.new }
+    ensures modules { records.new.module_infos ≡ records.old.module_infos }
+{
+    match list {
+        Some(list) => {
+            records.id_information = Ok(list.all_ids(alloc)?);
+            Ok(())
+        }
+        None => Ok(()),
     }
 }
 

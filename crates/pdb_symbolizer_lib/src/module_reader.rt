@@ -12,6 +12,9 @@ use std::alloc::{AllocError, Global};
 /// read that are left.
 const ROUNDS: u32 = 16;
 
+/// How many modules may be asked for before all are read that are left, where these are more than a quarter of all.
+const MODULES: usize = 16;
+
 /// Whose code lies at an address, and what reads a module of a PDB file.
 #[derive(Drop)]
 pub struct ModuleReader<'a> {
@@ -22,6 +25,8 @@ pub struct ModuleReader<'a> {
     contributions: Vec<ModuleSectionContribution>,
     /// How often modules were read.
     rounds: u32,
+    /// How many modules were asked for.
+    asked: usize,
 }
 
 impl<'a> ModuleReader<'a> {
@@ -40,6 +45,7 @@ impl<'a> ModuleReader<'a> {
             address_map,
             contributions,
             rounds: 0,
+            asked: 0,
         })
     }
 
@@ -68,7 +74,7 @@ impl<'a> ModuleReader<'a> {
         print_module_repairs(rt, path, records, &positions)
     }
 
-    // The modules that lie over these addresses and were not read.
+    // The modules that lie over these addresses and were not read, each once.
     fn wanted(&self, alloc: Global, addresses: &[u32]) -> Result<Vec<usize>, AllocError> {
         let mut wanted = Vec::new(alloc);
         for &address in addresses {
@@ -79,6 +85,8 @@ impl<'a> ModuleReader<'a> {
                 wanted.push(position)?;
             }
         }
+        wanted.sort_unstable();
+        wanted.dedup();
         Ok(wanted)
     }
 
@@ -92,7 +100,9 @@ impl<'a> ModuleReader<'a> {
             return Ok(Vec::new(alloc));
         };
         self.rounds = self.rounds.saturating_add(1);
-        if self.rounds > ROUNDS {
+        self.asked = self.asked.saturating_add(wanted.len());
+        let most = MODULES.max(reader.module_count() / 4);
+        if self.rounds > ROUNDS || self.asked > most {
             reader.read_all(alloc, records)
         } else {
             reader.read_modules(alloc, records, wanted)

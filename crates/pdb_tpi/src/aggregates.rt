@@ -1,6 +1,6 @@
 //! Type records of classes, structs, interfaces, unions and enumerations, in both layouts.
 
-ghost use Rattle.std.specs.Prelude.{◌≡◌};
+ghost use Rattle.std.specs.Prelude.{◌≡◌, ◌≤◌, IfSome};
 ghost use Rattle.pdb_msf.specs.Faults.{Gives};
 ghost use Rattle.pdb_tpi.specs.Aggregates.{class, class_by, enumerate, enumeration, newer_class, newer_union};
 ghost use Rattle.pdb_tpi.specs.Aggregates.{sized_names, union, union_by, unique_name};
@@ -104,6 +104,27 @@ fn union_by(properties: u16, named: SizedNames) -> TypeData
         size: named.size,
         forward_reference: properties & FORWARD_REFERENCE != 0,
     })
+}
+
+/// Whether a record of this kind with this content is of a class or a union, and no forward reference to one.
+pub(crate) fn is_definition(kind: u16, content: &[u8]) -> bool {
+    match properties_place(kind) {
+        Some(place) if content.len() >= place + 2 => {
+            u16_at(content, place) & FORWARD_REFERENCE == 0
+        }
+        _ => false,
+    }
+}
+
+// Where the properties stand in the record of a class or a union of this kind.
+fn properties_place(kind: u16) -> Option<usize>
+    ensures { IfSome result (λ place. place ≤ 2) }
+{
+    match kind {
+        0x1504 | 0x1505 | 0x1506 | 0x1519 => Some(2),
+        0x1608 | 0x1609 | 0x160a | 0x160b => Some(0),
+        _ => None,
+    }
 }
 
 // The size and the names of a class or a union of these properties.

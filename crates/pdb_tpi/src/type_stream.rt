@@ -5,6 +5,7 @@ ghost use Rattle.pdb_msf.specs.Faults.{Gives};
 ghost use Rattle.pdb_msf.specs.Streams.{bytes_of};
 ghost use Rattle.pdb_tpi.specs.TypeStream.{index_at, record_bytes, type_list};
 
+use crate::aggregates::is_definition;
 use crate::header::{TypeHeader, read_header};
 use crate::type_records::{TypeRecord, record_starts, take_record};
 use pdb_dbi::{Substream, take_substream};
@@ -78,6 +79,14 @@ impl<'a> TypeStream<'a> {
         ensures { result ≡ self.now.fault }
     {
         self.starts.fault
+    }
+
+    /// Whether the record at a position is of a class or a union, and no forward reference to one. Nothing is copied of it.
+    pub fn is_definition(&self, position: usize) -> bool {
+        match self.record(position) {
+            Some(record) => is_definition(record.kind, record.content),
+            None => false,
+        }
     }
 
     /// The index of the record at a position.
