@@ -19,11 +19,15 @@ QUESTIONS = ["first answer", "twenty addresses", "all functions"]
 
 
 def functions(program, pdb):
-    """The start and the middle of each function."""
-    text = subprocess.run([program, "--dump-syms", pdb], capture_output=True, check=True).stdout.decode()
-    rows = [line.split(maxsplit=3) for line in text.splitlines() if line.startswith("FUNC ")]
-    places = sorted((int(row[1], 16), int(row[2], 16)) for row in rows if row[1] != "m")
-    return [place for start, length in places for place in (start, start + length // 2)]
+    """The start and the middle of each function. What a child has held begins with what this process holds, so lines are
+    read one by one."""
+    places = []
+    with subprocess.Popen([program, "--dump-syms", pdb], stdout=subprocess.PIPE, stderr=subprocess.DEVNULL) as process:
+        for line in process.stdout:
+            if line.startswith(b"FUNC ") and not line.startswith(b"FUNC m "):
+                _, start, length, _ = line.split(maxsplit=3)
+                places.append((int(start, 16), int(length, 16)))
+    return [place for start, length in sorted(places) for place in (start, start + length // 2)]
 
 
 def questions(addresses):

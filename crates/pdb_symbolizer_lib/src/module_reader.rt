@@ -15,6 +15,10 @@ const ROUNDS: u32 = 16;
 /// How many modules may be asked for before all are read that are left, where these are more than a quarter of all.
 const MODULES: usize = 16;
 
+/// How many addresses asked for at once are a sign of many more: then all are read that are left, where more than a
+/// sixteenth of all modules are asked for.
+const MANY: usize = 2048;
+
 /// Whose code lies at an address, and what reads a module of a PDB file.
 #[derive(Drop)]
 pub struct ModuleReader<'a> {
@@ -70,7 +74,7 @@ impl<'a> ModuleReader<'a> {
         if wanted.is_empty() {
             return Ok(());
         }
-        let positions = self.read_modules(rt.alloc(), records, &wanted)?;
+        let positions = self.read_modules(rt.alloc(), records, &wanted, addresses.len())?;
         print_module_repairs(rt, path, records, &positions)
     }
 
@@ -95,13 +99,19 @@ impl<'a> ModuleReader<'a> {
         alloc: Global,
         records: &mut PDB,
         wanted: &[usize],
+        addresses: usize,
     ) -> Result<Vec<usize>, AllocError> {
         let Some(reader) = &mut self.reader else {
             return Ok(Vec::new(alloc));
         };
         self.rounds = self.rounds.saturating_add(1);
         self.asked = self.asked.saturating_add(wanted.len());
-        let most = MODULES.max(reader.module_count() / 4);
+        let count = reader.module_count();
+        let most = if addresses < MANY {
+            MODULES.max(count / 4)
+        } else {
+            count / 16
+        };
         if self.rounds > ROUNDS || self.asked > most {
             reader.read_all(alloc, records)
         } else {
