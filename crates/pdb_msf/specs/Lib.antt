@@ -5,5 +5,6 @@ pub mod Faults
 pub mod Msf
 pub mod NumberLists
 pub mod Readings
+pub mod StreamMap
 pub mod Streams
 pub mod Superblock

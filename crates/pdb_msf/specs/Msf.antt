@@ -20,6 +20,11 @@ pub record Msf : Type 0 where
   pub directory : List ℕ
   pub sizes : List ℕ
 
+-- the container of these bytes, with blocks of this size, a directory and the sizes of streams
+abbrev pub over : List ℕ → ℕ → List ℕ → List ℕ → Msf
+over file block_size directory sizes =
+    record { file = file; block_size = block_size; directory = directory; sizes = sizes }
+
 -- a file is a container if it has a superblock, a directory and the sizes of streams that are no longer than the file
 -- together; else it has the first fault of these
 unfoldable pub container : List ℕ → Result Msf ContainerFault

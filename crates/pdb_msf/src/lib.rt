@@ -6,14 +6,19 @@
 //! stream can't be, with one of the numbers of [`faults`]. [`Bytes`] is what is read off the front of a stream.
 #![tactic(auto)]
 
+mod block_reads;
 mod bytes;
 mod container_fault;
 mod directory;
+mod excerpt;
 pub mod faults;
 mod msf;
 mod names;
 mod number_lists;
 mod readings;
+mod source;
+mod source_fault;
+mod stream_map;
 mod streams;
 mod superblock;
 
@@ -22,5 +27,9 @@ pub use container_fault::{ContainerFault, other_file};
 pub use msf::Container;
 pub use names::{copy_name, offset_of};
 pub use number_lists::{bytes_from, number_at, take_numbers};
+pub use excerpt::Excerpt;
 pub use readings::nothing_read;
+pub use source::{Source, Unreadable};
+pub use source_fault::{OpenFault, SourceFault, part_of_source};
+pub use stream_map::StreamMap;
 pub use streams::StreamBytes;

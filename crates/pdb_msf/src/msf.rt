@@ -1,9 +1,10 @@
 //! The container of a PDB file (MSF 7.00): its superblock, its directory, and the blocks of each stream.
 
-ghost use Rattle.std.specs.Prelude.{◌≡◌, ◌≤◌, length, map, slice_get, IfOk, MatchResult};
+ghost use Rattle.std.specs.Prelude.{◌≡◌, ◌≤◌, ◌+◌, ◌*◌, length, map, slice_get, IfOk, MatchResult};
 ghost use Rattle.std.specs.Result.{result_ok};
+ghost use Rattle.pdb_msf.specs.Directory.{extents};
 ghost use Rattle.pdb_msf.specs.Faults.{Gives, Opens};
-ghost use Rattle.pdb_msf.specs.Msf.{container, numbers_place, size_of, stream_of};
+ghost use Rattle.pdb_msf.specs.Msf.{container, over, numbers_place, size_of, stream_of};
 ghost use Rattle.pdb_msf.specs.Streams.{bytes_of};
 
 use crate::bytes::Bytes;
@@ -69,6 +70,26 @@ impl<'a> Container<'a> {
             directory,
             streams,
         })
+    }
+
+    // The container of these blocks, whose directory is given.
+    pub(crate) fn over(
+        file: &'a [u8],
+        block_size: usize,
+        directory: &'a [u8],
+        streams: Vec<StreamExtent>,
+    ) -> Self
+        requires least { 512 ≤ block_size }
+        requires listed { streams.items ≡ extents block_size (4 + 4 * length streams.items)
+            (map (λ stream. stream.size) streams.items) }
+        ensures { result ≡ over file.now block_size directory.now (map (λ stream. stream.size) streams.items) }
+    {
+        Container {
+            file,
+            block_size,
+            directory: StreamBytes::InPlace(directory),
+            streams,
+        }
     }
 
     /// The length of the file.

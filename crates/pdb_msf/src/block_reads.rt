@@ -1,0 +1,87 @@
+//! The blocks of a file that is read range by range: neighbours are read together.
+
+use crate::faults::BLOCK_OUTSIDE;
+use crate::source::Source;
+use crate::source_fault::SourceFault;
+use pdb_records::StreamError;
+use std::alloc::Global;
+
+/// How many bytes are read at once, at most: so many stay in a processor's cache.
+const LONGEST: usize = 131_072;
+
+/// How long a file is, and each of its blocks.
+#[derive(Clone, Copy)]
+pub struct BlockGrid {
+    pub file_length: usize,
+    pub block_size: usize,
+}
+
+impl BlockGrid {
+    /// Where a block starts.
+    fn start(self, number: u32) -> usize {
+        (number as usize).saturating_mul(self.block_size)
+    }
+
+    /// Whether the file has the whole of each of these blocks.
+    pub fn has_all(self, blocks: &[u32]) -> bool {
+        blocks
+            .iter()
+            .all(|number| self.start(*number).saturating_add(self.block_size) <= self.file_length)
+    }
+}
+
+/// Bytes of a file that follow one another.
+#[derive(Clone, Copy)]
+struct Run {
+    start: usize,
+    length: usize,
+}
+
+/// The bytes of these blocks, one after the other, up to a length.
+///
+/// [`BLOCK_OUTSIDE`] where a block doesn't lie in the file as a whole.
+pub fn read_blocks<S: Source>(
+    alloc: Global,
+    source: &mut S,
+    grid: BlockGrid,
+    length: usize,
+    blocks: &[u32],
+) -> Result<Result<Vec<u8>, StreamError>, SourceFault> {
+    if !grid.has_all(blocks) {
+        return Ok(Err(BLOCK_OUTSIDE));
+    }
+    let mut bytes = Vec::with_capacity(alloc, length.saturating_add(grid.block_size))?;
+    append_blocks(source, grid, blocks, &mut bytes)?;
+    bytes.truncate(length);
+    Ok(Ok(bytes))
+}
+
+/// Appends the bytes of these blocks, one after the other.
+pub fn append_blocks<S: Source>(
+    source: &mut S,
+    grid: BlockGrid,
+    blocks: &[u32],
+    bytes: &mut Vec<u8>,
+) -> Result<(), SourceFault> {
+    let mut run = Run {
+        start: 0,
+        length: 0,
+    };
+    for &number in blocks {
+        let start = grid.start(number);
+        if start != run.start.saturating_add(run.length) || run.length >= LONGEST {
+            append_run(source, run, bytes)?;
+            run = Run { start, length: 0 };
+        }
+        run.length = run.length.saturating_add(grid.block_size);
+    }
+    append_run(source, run, bytes)
+}
+
+// Appends the bytes of a run.
+fn append_run<S: Source>(source: &mut S, run: Run, bytes: &mut Vec<u8>) -> Result<(), SourceFault> {
+    let front = bytes.len();
+    bytes.resize(front.saturating_add(run.length), 0)?;
+    source.read_exact_at(&mut bytes[front..], run.start)?;
+    Ok(())
+}

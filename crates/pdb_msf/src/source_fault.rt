@@ -1,0 +1,73 @@
+//! Why a file that is read range by range can't be read further, or not at all.
+
+use crate::container_fault::ContainerFault;
+use crate::faults::Fault;
+use crate::source::Unreadable;
+use pdb_records::StreamError;
+use std::alloc::{AllocError, AllocFailed};
+
+/// Why a file can't be read further.
+#[derive(Debug, Clone, Copy, PartialEq, Eq)]
+pub enum SourceFault {
+    /// A range of the file can't be read.
+    Unreadable,
+    /// There was no memory.
+    OutOfMemory,
+}
+
+/// Why a file can't be read at all.
+#[derive(Debug, Clone, Copy, PartialEq, Eq)]
+pub enum OpenFault {
+    /// The file is no PDB file that is read, or there was no memory.
+    Container(ContainerFault),
+    /// A range of the file can't be read.
+    Unreadable,
+}
+
+impl From<Unreadable> for SourceFault {
+    fn from(_range: Unreadable) -> SourceFault {
+        SourceFault::Unreadable
+    }
+}
+
+impl From<AllocError> for SourceFault {
+    fn from(_error: AllocError) -> SourceFault {
+        SourceFault::OutOfMemory
+    }
+}
+
+impl<T: Drop> From<AllocFailed<T>> for SourceFault {
+    fn from(_error: AllocFailed<T>) -> SourceFault {
+        SourceFault::OutOfMemory
+    }
+}
+
+impl From<ContainerFault> for OpenFault {
+    fn from(fault: ContainerFault) -> OpenFault {
+        OpenFault::Container(fault)
+    }
+}
+
+impl From<Fault> for OpenFault {
+    fn from(fault: Fault) -> OpenFault {
+        OpenFault::Container(ContainerFault::from(fault))
+    }
+}
+
+impl From<SourceFault> for OpenFault {
+    fn from(fault: SourceFault) -> OpenFault {
+        match fault {
+            SourceFault::Unreadable => OpenFault::Unreadable,
+            SourceFault::OutOfMemory => OpenFault::Container(ContainerFault::OutOfMemory),
+        }
+    }
+}
+
+/// The part, or why it alone is broken.
+pub fn part_of_source<T>(outcome: Result<T, Fault>) -> Result<Result<T, StreamError>, SourceFault> {
+    match outcome {
+        Ok(part) => Ok(Ok(part)),
+        Err(Fault::Broken(error)) => Ok(Err(error)),
+        Err(Fault::OutOfMemory) => Err(SourceFault::OutOfMemory),
+    }
+}

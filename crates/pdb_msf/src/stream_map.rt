@@ -1,0 +1,205 @@
+//! Where the streams of a file stand that is read range by range.
+
+ghost use Rattle.std.specs.Prelude.{◌≡◌, ◌≤◌, ◌<◌, ◌+◌, ◌*◌, ◌^◌, length};
+
+use crate::block_reads::{BlockGrid, read_blocks};
+use crate::bytes::Bytes;
+use crate::container_fault::ContainerFault;
+use crate::directory::{ABSENT, StreamExtent, blocks_over, list_extents, read_sizes, sizes_fit};
+use crate::excerpt::Excerpt;
+use crate::faults::{Fault, NO_STREAM};
+use crate::number_lists::{bytes_from, take_numbers};
+use crate::source::Source;
+use crate::source_fault::{OpenFault, SourceFault, part_of_source};
+use crate::superblock::{Superblock, read_superblock};
+use pdb_records::StreamError;
+use std::alloc::{AllocError, Global};
+use std::marker::Model;
+
+/// The bytes of the superblock.
+const SUPERBLOCK: usize = 56;
+
+/// Where it names the blocks of the block map.
+const BLOCK_MAP: usize = 52;
+
+/// Where the streams of a file stand, which is read range by range.
+#[derive(Drop)]
+pub struct StreamMap {
+    grid: BlockGrid,
+    directory: Vec<u8>,
+    streams: Vec<StreamExtent>,
+}
+
+impl Model for StreamMap {
+    ghost use Rattle.std.specs.Prelude.{◌≡◌, ◌≤◌, ◌+◌, ◌*◌, length, map};
+    ghost use Rattle.pdb_msf.specs.Directory.{extents};
+    ghost use Rattle.pdb_msf.specs.StreamMap.{MappedFile};
+
+    ghost Value = { MappedFile };
+
+    ghost view = { λ m. record {
+      file_length = m.grid.file_length;
+      block_size = m.grid.block_size;
+      directory = m.directory.items;
+      sizes = map (λ stream. stream.size) m.streams.items;
+    } };
+
+    ghost invariant = { λ m. record {
+      least : 512 ≤ m.grid.block_size;
+      listed : m.streams.items ≡ extents m.grid.block_size (4 + 4 * length m.streams.items)
+          (map (λ stream. stream.size) m.streams.items);
+    } };
+}
+
+impl StreamMap {
+    /// Where the streams of a file of this length stand, or why it can't be read.
+    #[tactic(auto, using(crate::proofs::ExtentLemmas::opened))]
+    pub fn read<S: Source>(
+        alloc: Global,
+        source: &mut S,
+        file_length: usize,
+    ) -> Result<Self, OpenFault> {
+        let front = read_range(alloc, source, 0, file_length.min(SUPERBLOCK))?;
+        let superblock = read_superblock(&front)?;
+        let grid = BlockGrid {
+            file_length,
+            block_size: superblock.block_size,
+        };
+        let directory = read_directory(alloc, source, grid, superblock)?;
+        let sizes = read_sizes(alloc, &directory)?;
+        if !sizes_fit(&sizes, file_length) {
+            return Err(OpenFault::Container(ContainerFault::StreamsTooLong));
+        }
+        let streams = list_extents(alloc, &sizes, superblock.block_size)?;
+        Ok(StreamMap {
+            grid,
+            directory,
+            streams,
+        })
+    }
+
+    /// How long the file is.
+    pub fn file_length(&self) -> usize
+        ensures { result ≡ self.now.file_length }
+    {
+        self.grid.file_length
+    }
+
+    /// The bytes of the stream of this number, or why they can't be read.
+    pub fn load<S: Source>(
+        &self,
+        alloc: Global,
+        source: &mut S,
+        number: u32,
+    ) -> Result<Result<Vec<u8>, StreamError>, SourceFault> {
+        match part_of_source(self.blocks(alloc, number))? {
+            Ok(blocks) => {
+                let size = self.size(number) as usize;
+                read_blocks(alloc, source, self.grid, size, &blocks)
+            }
+            Err(error) => Ok(Err(error)),
+        }
+    }
+
+    // The numbers of the blocks of the stream of this number.
+    pub(crate) fn blocks(&self, alloc: Global, number: u32) -> Result<Vec<u32>, Fault> {
+        let Some(extent) = self.extent(number) else {
+            return Err(Fault::Broken(NO_STREAM));
+        };
+        let count = blocks_over(extent.size, self.grid.block_size);
+        let mut numbers = Bytes::new(bytes_from(&self.directory, extent.numbers));
+        take_numbers(alloc, &mut numbers, count)
+    }
+
+    // Where the directory has the stream of this number, if it is there.
+    pub(crate) fn extent(&self, number: u32) -> Option<StreamExtent> {
+        let extent = self.streams.get(number as usize).copied()?;
+        if extent.size == ABSENT {
+            return None;
+        }
+        Some(extent)
+    }
+
+    fn size(&self, number: u32) -> u32 {
+        match self.extent(number) {
+            Some(extent) => extent.size,
+            None => 0,
+        }
+    }
+
+    // An excerpt of the file, without any stream's bytes: all blocks lie outside.
+    pub(crate) fn excerpt(&self, alloc: Global) -> Result<Excerpt, AllocError> {
+        let streams = Vec::from_slice(alloc, &self.streams)?;
+        let mut directory = Vec::from_slice(alloc, &self.directory)?;
+        let front = 4_usize.saturating_add(4_usize.saturating_mul(streams.len()));
+        if front < directory.len() {
+            directory[front..].fill(0xff);
+        }
+        Ok(Excerpt::over(Vec::new(alloc), self.grid.block_size, directory, streams))
+    }
+
+    pub(crate) fn grid(&self) -> BlockGrid {
+        self.grid
+    }
+}
+
+// The bytes of a range of the file.
+fn read_range<S: Source>(
+    alloc: Global,
+    source: &mut S,
+    place: usize,
+    length: usize,
+) -> Result<Vec<u8>, SourceFault> {
+    let mut bytes = Vec::new(alloc);
+    bytes.resize(length, 0)?;
+    source.read_exact_at(&mut bytes, place)?;
+    Ok(bytes)
+}
+
+// What is broken in the directory cuts the file short.
+fn or_cut_short<T: Drop>(part: Result<T, StreamError>) -> Result<T, OpenFault> {
+    match part {
+        Ok(part) => Ok(part),
+        Err(_) => Err(OpenFault::Container(ContainerFault::CutShort)),
+    }
+}
+
+// The directory's bytes.
+fn read_directory<S: Source>(
+    alloc: Global,
+    source: &mut S,
+    grid: BlockGrid,
+    superblock: Superblock,
+) -> Result<Vec<u8>, OpenFault>
+    requires { 512 ≤ grid.block_size }
+{
+    let size = superblock.directory_size as usize;
+    if grid.file_length < size {
+        return Err(OpenFault::Container(ContainerFault::CutShort));
+    }
+    let count = blocks_over(superblock.directory_size, grid.block_size);
+    let map = read_block_map(alloc, source, grid, 4 * count)?;
+    let blocks = take_numbers(alloc, &mut Bytes::new(&map), count)?;
+    let directory = read_blocks(alloc, source, grid, size, &blocks)?;
+    or_cut_short(directory)
+}
+
+// The bytes of the block map, so many.
+fn read_block_map<S: Source>(
+    alloc: Global,
+    source: &mut S,
+    grid: BlockGrid,
+    size: usize,
+) -> Result<Vec<u8>, OpenFault>
+    requires least { 512 ≤ grid.block_size }
+    requires few { size ≤ 33554432 }
+{
+    let count = size.div_ceil(grid.block_size);
+    if grid.file_length < BLOCK_MAP + 4 * count {
+        return Err(OpenFault::Container(ContainerFault::CutShort));
+    }
+    let front = read_range(alloc, source, BLOCK_MAP, 4 * count)?;
+    let blocks = take_numbers(alloc, &mut Bytes::new(&front), count)?;
+    let map = read_blocks(alloc, source, grid, size, &blocks)?;
+    or_cut_short(map)
+}
