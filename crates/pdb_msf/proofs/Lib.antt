@@ -1,4 +1,5 @@
 mod ContainerExamples
+pub mod BlockLemmas
 pub mod ExtentLemmas
 pub mod NumberLemmas
 pub mod SizeLemmas

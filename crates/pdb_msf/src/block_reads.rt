@@ -1,5 +1,10 @@
 //! The blocks of a file that is read range by range: neighbours are read together.
 
+ghost use Rattle.std.specs.Prelude.{◌≡◌, ◌≤◌, ◌<◌, ◌+◌, ◌*◌, ◌^◌, ◌++◌, List, ℕ};
+ghost use Rattle.std.specs.Prelude.{length, take, drop, IfOk, IfSome, OnOk};
+ghost use Rattle.pdb_msf.specs.StreamMap.{IfFile, bytes_read};
+ghost use Rattle.pdb_msf.specs.Streams.{all_inside, in_order, stream_inside};
+
 use crate::faults::BLOCK_OUTSIDE;
 use crate::source::Source;
 use crate::source_fault::SourceFault;
@@ -18,15 +23,27 @@ pub struct BlockGrid {
 
 impl BlockGrid {
     /// Where a block starts.
-    fn start(self, number: u32) -> usize {
-        (number as usize).saturating_mul(self.block_size)
+    #[tactic(auto, using(crate::proofs::BlockLemmas::start_below))]
+    fn start(self, number: u32) -> usize
+        requires { self.block_size ≤ 32768 }
+        ensures answer { result ≡ number * self.block_size }
+        ensures below { result ≤ 2 ^ 47 }
+    {
+        number as usize * self.block_size
     }
 
     /// Whether the file has the whole of each of these blocks.
-    pub fn has_all(self, blocks: &[u32]) -> bool {
-        blocks
-            .iter()
-            .all(|number| self.start(*number).saturating_add(self.block_size) <= self.file_length)
+    pub fn has_all(self, blocks: &[u32]) -> bool
+        requires { self.block_size ≤ 32768 }
+        ensures { (file : List ℕ) → length file ≡ self.file_length
+            → result ≡ all_inside self.block_size file blocks.now }
+    {
+        for &number in blocks {
+            if self.file_length < self.start(number) + self.block_size {
+                return false;
+            }
+        }
+        true
     }
 }
 
@@ -40,13 +57,19 @@ struct Run {
 /// The bytes of these blocks, one after the other, up to a length.
 ///
 /// [`BLOCK_OUTSIDE`] where a block doesn't lie in the file as a whole.
+#[tactic(auto, unfolding(crate::specs::Streams::stream_inside))]
 pub fn read_blocks<S: Source>(
     alloc: Global,
     source: &mut S,
     grid: BlockGrid,
     length: usize,
     blocks: &[u32],
-) -> Result<Result<Vec<u8>, StreamError>, SourceFault> {
+) -> Result<Result<Vec<u8>, StreamError>, SourceFault>
+    requires { grid.block_size ≤ 32768 }
+    ensures answer { IfOk result (λ answer. IfFile (S.bytes source.old) grid.file_length (λ file.
+        stream_inside grid.block_size file length blocks.now ≡ bytes_read answer)) }
+    ensures inputs { S.bytes source.new ≡ S.bytes source.old }
+{
     if !grid.has_all(blocks) {
         return Ok(Err(BLOCK_OUTSIDE));
     }
@@ -62,24 +85,33 @@ pub fn append_blocks<S: Source>(
     grid: BlockGrid,
     blocks: &[u32],
     bytes: &mut Vec<u8>,
-) -> Result<(), SourceFault> {
+) -> Result<(), SourceFault>
+    requires { grid.block_size ≤ 32768 }
+    ensures answer { OnOk result (IfSome (S.bytes source.old) (λ file.
+        bytes.new.items ≡ bytes.old.items ++ in_order grid.block_size file blocks.now)) }
+    ensures inputs { S.bytes source.new ≡ S.bytes source.old }
+{
     let mut run = Run {
         start: 0,
         length: 0,
     };
     for &number in blocks {
         let start = grid.start(number);
-        if start != run.start.saturating_add(run.length) || run.length >= LONGEST {
+        if start != run.start + run.length || run.length >= LONGEST {
             append_run(source, run, bytes)?;
             run = Run { start, length: 0 };
         }
-        run.length = run.length.saturating_add(grid.block_size);
+        run.length += grid.block_size;
     }
     append_run(source, run, bytes)
 }
 
 // Appends the bytes of a run.
-fn append_run<S: Source>(source: &mut S, run: Run, bytes: &mut Vec<u8>) -> Result<(), SourceFault> {
+fn append_run<S: Source>(source: &mut S, run: Run, bytes: &mut Vec<u8>) -> Result<(), SourceFault>
+    ensures answer { OnOk result (IfSome (S.bytes source.old) (λ file.
+        bytes.new.items ≡ bytes.old.items ++ take run.length (drop run.start file))) }
+    ensures inputs { S.bytes source.new ≡ S.bytes source.old }
+{
     let front = bytes.len();
     bytes.resize(front.saturating_add(run.length), 0)?;
     source.read_exact_at(&mut bytes[front..], run.start)?;

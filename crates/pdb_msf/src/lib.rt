@@ -24,10 +24,10 @@ mod superblock;
 
 pub use bytes::{Bytes, u16_at, u32_at};
 pub use container_fault::{ContainerFault, other_file};
+pub use excerpt::Excerpt;
 pub use msf::Container;
 pub use names::{copy_name, offset_of};
 pub use number_lists::{bytes_from, number_at, take_numbers};
-pub use excerpt::Excerpt;
 pub use readings::nothing_read;
 pub use source::{Source, Unreadable};
 pub use source_fault::{OpenFault, SourceFault, part_of_source};

@@ -46,6 +46,7 @@ impl Model for StreamMap {
 
     ghost invariant = { λ m. record {
       least : 512 ≤ m.grid.block_size;
+      most : m.grid.block_size ≤ 32768;
       listed : m.streams.items ≡ extents m.grid.block_size (4 + 4 * length m.streams.items)
           (map (λ stream. stream.size) m.streams.items);
     } };
@@ -138,7 +139,12 @@ impl StreamMap {
         Ok(Excerpt::over(Vec::new(alloc), self.grid.block_size, directory, streams))
     }
 
-    pub(crate) fn grid(&self) -> BlockGrid {
+    // How long the file is, and each of its blocks.
+    pub(crate) fn grid(&self) -> BlockGrid
+        ensures length { result.file_length ≡ self.now.file_length }
+        ensures size { result.block_size ≡ self.now.block_size }
+        ensures most { result.block_size ≤ 32768 }
+    {
         self.grid
     }
 }
@@ -171,7 +177,8 @@ fn read_directory<S: Source>(
     grid: BlockGrid,
     superblock: Superblock,
 ) -> Result<Vec<u8>, OpenFault>
-    requires { 512 ≤ grid.block_size }
+    requires least { 512 ≤ grid.block_size }
+    requires most { grid.block_size ≤ 32768 }
 {
     let size = superblock.directory_size as usize;
     if grid.file_length < size {
@@ -192,6 +199,7 @@ fn read_block_map<S: Source>(
     size: usize,
 ) -> Result<Vec<u8>, OpenFault>
     requires least { 512 ≤ grid.block_size }
+    requires most { grid.block_size ≤ 32768 }
     requires few { size ≤ 33554432 }
 {
     let count = size.div_ceil(grid.block_size);

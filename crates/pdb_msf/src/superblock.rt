@@ -30,6 +30,7 @@ pub struct Superblock {
 pub fn read_superblock(file: &[u8]) -> Result<Superblock, ContainerFault>
     ensures answer { result ≡ superblock file.now }
     ensures least { IfOk result (λ front. 512 ≤ front.block_size) }
+    ensures most { IfOk result (λ front. front.block_size ≤ 32768) }
 {
     if !is_msf(file) {
         return Err(other_file(file));
@@ -60,6 +61,7 @@ fn is_msf(file: &[u8]) -> bool
 fn is_block_size(size: u32) -> bool
     ensures answer { result ≡ is_block_size size }
     ensures least { IsTrue result → 512 ≤ size }
+    ensures most { IsTrue result → size ≤ 32768 }
 {
     matches!(size, 512 | 1024 | 2048 | 4096 | 8192 | 16384 | 32768)
 }
