@@ -147,7 +147,7 @@ impl<'a> Container<'a> {
 }
 
 // The stream of this number in a list.
-fn extent_at(streams: &[StreamExtent], number: u32) -> Option<StreamExtent>
+pub(crate) fn extent_at(streams: &[StreamExtent], number: u32) -> Option<StreamExtent>
     ensures { result ≡ slice_get streams.now number }
 {
     streams.get(number as usize).copied()

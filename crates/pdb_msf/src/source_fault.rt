@@ -1,5 +1,7 @@
 //! Why a file that is read range by range can't be read further, or not at all.
 
+ghost use Rattle.std.specs.Prelude.{◌≡◌, IfOk, MatchResult};
+
 use crate::container_fault::ContainerFault;
 use crate::faults::Fault;
 use crate::source::Unreadable;
@@ -64,7 +66,10 @@ impl From<SourceFault> for OpenFault {
 }
 
 /// The part, or why it alone is broken.
-pub fn part_of_source<T>(outcome: Result<T, Fault>) -> Result<Result<T, StreamError>, SourceFault> {
+pub fn part_of_source<T>(outcome: Result<T, Fault>) -> Result<Result<T, StreamError>, SourceFault>
+    ensures { IfOk result (λ part. MatchResult part (λ value. outcome ≡ Ok value)
+        (λ error. outcome ≡ Err (Fault.Broken error))) }
+{
     match outcome {
         Ok(part) => Ok(Ok(part)),
         Err(Fault::Broken(error)) => Ok(Err(error)),

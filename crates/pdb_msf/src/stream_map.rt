@@ -1,6 +1,12 @@
 //! Where the streams of a file stand that is read range by range.
 
-ghost use Rattle.std.specs.Prelude.{◌≡◌, ◌≤◌, ◌<◌, ◌+◌, ◌*◌, ◌^◌, length};
+ghost use Rattle.std.specs.Prelude.{◌≡◌, ◌≤◌, ◌<◌, ◌+◌, ◌*◌, ◌^◌, List, ℕ};
+ghost use Rattle.std.specs.Prelude.{drop, length, IfOk, IfSome, MatchOption};
+ghost use Rattle.std.specs.Int.{div_ceil};
+ghost use Rattle.pdb_msf.specs.Faults.{Gives};
+ghost use Rattle.pdb_msf.specs.Msf.{numbers_place, size_of, stream_of};
+ghost use Rattle.pdb_msf.specs.NumberLists.{listed};
+ghost use Rattle.pdb_msf.specs.StreamMap.{IfFile, bytes_read, with_bytes};
 
 use crate::block_reads::{BlockGrid, read_blocks};
 use crate::bytes::Bytes;
@@ -8,6 +14,7 @@ use crate::container_fault::ContainerFault;
 use crate::directory::{ABSENT, StreamExtent, blocks_over, list_extents, read_sizes, sizes_fit};
 use crate::excerpt::Excerpt;
 use crate::faults::{Fault, NO_STREAM};
+use crate::msf::extent_at;
 use crate::number_lists::{bytes_from, take_numbers};
 use crate::source::Source;
 use crate::source_fault::{OpenFault, SourceFault, part_of_source};
@@ -87,17 +94,22 @@ impl StreamMap {
     }
 
     /// The bytes of the stream of this number, or why they can't be read.
+    #[tactic(auto, unfolding(crate::specs::Msf::stream_of))]
     pub fn load<S: Source>(
         &self,
         alloc: Global,
         source: &mut S,
         number: u32,
-    ) -> Result<Result<Vec<u8>, StreamError>, SourceFault> {
-        match part_of_source(self.blocks(alloc, number))? {
-            Ok(blocks) => {
-                let size = self.size(number) as usize;
-                read_blocks(alloc, source, self.grid, size, &blocks)
-            }
+    ) -> Result<Result<Vec<u8>, StreamError>, SourceFault>
+        ensures answer { IfOk result (λ answer. IfFile (S.bytes source.old) self.now.file_length (λ file.
+            stream_of (with_bytes file self.now) number ≡ bytes_read answer)) }
+        ensures inputs { S.bytes source.new ≡ S.bytes source.old }
+    {
+        let Some(extent) = self.extent(number) else {
+            return Ok(Err(NO_STREAM));
+        };
+        match part_of_source(self.numbers(alloc, extent))? {
+            Ok(blocks) => read_blocks(alloc, source, self.grid, extent.size as usize, &blocks),
             Err(error) => Ok(Err(error)),
         }
     }
@@ -107,25 +119,33 @@ impl StreamMap {
         let Some(extent) = self.extent(number) else {
             return Err(Fault::Broken(NO_STREAM));
         };
+        self.numbers(alloc, extent)
+    }
+
+    // The numbers of the blocks of a stream that stands there.
+    fn numbers(&self, alloc: Global, extent: StreamExtent) -> Result<Vec<u32>, Fault>
+        ensures { Gives (λ numbers. numbers.items) result
+            (listed (div_ceil extent.size self.now.block_size) (drop extent.numbers self.now.directory)) }
+    {
         let count = blocks_over(extent.size, self.grid.block_size);
         let mut numbers = Bytes::new(bytes_from(&self.directory, extent.numbers));
         take_numbers(alloc, &mut numbers, count)
     }
 
     // Where the directory has the stream of this number, if it is there.
-    pub(crate) fn extent(&self, number: u32) -> Option<StreamExtent> {
-        let extent = self.streams.get(number as usize).copied()?;
+    #[tactic(auto, unfolding(crate::specs::Msf::size_of))]
+    pub(crate) fn extent(&self, number: u32) -> Option<StreamExtent>
+        ensures size { (file : List ℕ) → MatchOption result
+            (size_of (with_bytes file self.now) number ≡ Err NO_STREAM)
+            (λ extent. size_of (with_bytes file self.now) number ≡ Ok extent.size) }
+        ensures place { IfSome result (λ extent. (file : List ℕ)
+            → extent.numbers ≡ numbers_place (with_bytes file self.now) number) }
+    {
+        let extent = extent_at(&self.streams, number)?;
         if extent.size == ABSENT {
             return None;
         }
         Some(extent)
-    }
-
-    fn size(&self, number: u32) -> u32 {
-        match self.extent(number) {
-            Some(extent) => extent.size,
-            None => 0,
-        }
     }
 
     // An excerpt of the file, without any stream's bytes: all blocks lie outside.
