@@ -1,6 +1,7 @@
 mod ContainerExamples
 pub mod BlockLemmas
 pub mod ExtentLemmas
+pub mod FrontLemmas
 pub mod NumberLemmas
 pub mod SizeLemmas
 pub mod StreamLemmas

@@ -1,7 +1,15 @@
 -- Where the streams of a file stand that is read range by range.
-use Rattle.std.specs.Prelude.{◌≡◌, ℕ, List, length, Option, Some, None, Result, Ok, Err}
+use Rattle.std.specs.Prelude.{◌≡◌, ◌≢◌, ℕ, List, length, Option, Some, None, Result, Ok, Err}
 use Rattle.std.specs.Global.{Vec}
 use Rattle.pdb_records.specs.declared.error.StreamError.{StreamError}
+use Rattle.pdb_msf.specs.declared.container_fault.ContainerFault.{ContainerFault}
+use Rattle.pdb_msf.specs.declared.container_fault.ContainerFault.TheVariants as file
+use Rattle.pdb_msf.specs.declared.faults.Fault.{Fault}
+use Rattle.pdb_msf.specs.declared.source_fault.OpenFault.{OpenFault}
+use Rattle.pdb_msf.specs.declared.source_fault.OpenFault.TheVariants as opened
+use Rattle.pdb_msf.specs.declared.source_fault.SourceFault.{SourceFault}
+use Rattle.pdb_msf.specs.declared.source_fault.SourceFault.TheVariants as source
+use Rattle.pdb_msf.specs.Faults.{fault_of}
 use Rattle.pdb_msf.specs.Msf.{Msf, over}
 
 -- what is had of such a file before its streams: its length, the size of its blocks, the bytes of its directory, and
@@ -25,3 +33,30 @@ IfFile (Some file) file_length holds = length file ≡ file_length → holds fil
 abbrev pub bytes_read : Result (Vec ℕ) StreamError → Result (List ℕ) StreamError
 bytes_read (Ok bytes) = Ok bytes.items
 bytes_read (Err error) = Err error
+
+-- a fault of the file is passed on
+abbrev pub GivesRefusal : ContainerFault → OpenFault → Type 0
+GivesRefusal fault given = given ≡ opened.Container fault
+
+-- what is broken in the directory cuts the file short; out of memory stays out of memory
+abbrev pub GivesOpenFault : Fault → OpenFault → Type 0
+GivesOpenFault fault given = given ≡ opened.Container (fault_of fault)
+
+-- a range that can't be read stays one; out of memory stays out of memory
+abbrev pub open_fault : SourceFault → OpenFault
+open_fault source.Unreadable = opened.Unreadable
+open_fault source.OutOfMemory = opened.Container file.OutOfMemory
+
+-- a fault of reading is passed on
+abbrev pub GivesSourceFault : SourceFault → OpenFault → Type 0
+GivesSourceFault fault given = given ≡ open_fault fault
+
+-- a file is refused with its own fault, unless there was no memory or a range of it can't be read
+abbrev pub Refuses : {Y : Type 0} → OpenFault → Result Y ContainerFault → Type 0
+Refuses (opened.Container fault) defined = fault ≢ file.OutOfMemory → defined ≡ Err fault
+Refuses opened.Unreadable defined = Unit {0}
+
+-- reading answers what is defined, seen as it is there: the value, or the file's fault, unless reading itself failed
+abbrev pub Reads : {X Y : Type 0} → (X → Y) → Result X OpenFault → Result Y ContainerFault → Type 0
+Reads seen (Ok answer) defined = defined ≡ Ok (seen answer)
+Reads seen (Err fault) defined = Refuses fault defined

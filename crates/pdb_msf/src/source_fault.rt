@@ -45,18 +45,30 @@ impl<T: Drop> From<AllocFailed<T>> for SourceFault {
 }
 
 impl From<ContainerFault> for OpenFault {
+    ghost use Rattle.pdb_msf.specs.StreamMap.{GivesRefusal};
+
+    ghost from_gives = { GivesRefusal };
+
     fn from(fault: ContainerFault) -> OpenFault {
         OpenFault::Container(fault)
     }
 }
 
 impl From<Fault> for OpenFault {
+    ghost use Rattle.pdb_msf.specs.StreamMap.{GivesOpenFault};
+
+    ghost from_gives = { GivesOpenFault };
+
     fn from(fault: Fault) -> OpenFault {
         OpenFault::Container(ContainerFault::from(fault))
     }
 }
 
 impl From<SourceFault> for OpenFault {
+    ghost use Rattle.pdb_msf.specs.StreamMap.{GivesSourceFault};
+
+    ghost from_gives = { GivesSourceFault };
+
     fn from(fault: SourceFault) -> OpenFault {
         match fault {
             SourceFault::Unreadable => OpenFault::Unreadable,

@@ -1,12 +1,14 @@
 //! Where the streams of a file stand that is read range by range.
 
 ghost use Rattle.std.specs.Prelude.{◌≡◌, ◌≤◌, ◌<◌, ◌+◌, ◌*◌, ◌^◌, List, ℕ};
-ghost use Rattle.std.specs.Prelude.{drop, length, IfOk, IfSome, MatchOption};
+ghost use Rattle.std.specs.Prelude.{drop, length, take, IfOk, IfSome, MatchOption, MatchResult};
 ghost use Rattle.std.specs.Int.{div_ceil};
-ghost use Rattle.pdb_msf.specs.Faults.{Gives};
-ghost use Rattle.pdb_msf.specs.Msf.{numbers_place, size_of, stream_of};
+ghost use Rattle.pdb_msf.specs.Directory.{block_map, directory};
+ghost use Rattle.pdb_msf.specs.Faults.{Gives, cut_short};
+ghost use Rattle.pdb_msf.specs.Msf.{container, numbers_place, size_of, stream_of};
 ghost use Rattle.pdb_msf.specs.NumberLists.{listed};
-ghost use Rattle.pdb_msf.specs.StreamMap.{IfFile, bytes_read, with_bytes};
+ghost use Rattle.pdb_msf.specs.StreamMap.{IfFile, Reads, bytes_read, with_bytes};
+ghost use Rattle.pdb_msf.specs.Superblock.{superblock};
 
 use crate::block_reads::{BlockGrid, read_blocks};
 use crate::bytes::Bytes;
@@ -61,14 +63,17 @@ impl Model for StreamMap {
 
 impl StreamMap {
     /// Where the streams of a file of this length stand, or why it can't be read.
-    #[tactic(auto, using(crate::proofs::ExtentLemmas::opened))]
+    #[tactic(auto, using(crate::proofs::ExtentLemmas::opened), unfolding(crate::specs::Msf::container))]
     pub fn read<S: Source>(
         alloc: Global,
         source: &mut S,
         file_length: usize,
-    ) -> Result<Self, OpenFault> {
-        let front = read_range(alloc, source, 0, file_length.min(SUPERBLOCK))?;
-        let superblock = read_superblock(&front)?;
+    ) -> Result<Self, OpenFault>
+        ensures answer { IfFile (S.bytes source.old) file_length (λ file.
+            Reads (λ map. with_bytes file map) result (container file)) }
+        ensures inputs { S.bytes source.new ≡ S.bytes source.old }
+    {
+        let superblock = read_front(alloc, source, file_length)?;
         let grid = BlockGrid {
             file_length,
             block_size: superblock.block_size,
@@ -169,21 +174,45 @@ impl StreamMap {
     }
 }
 
-// The bytes of a range of the file.
+// The superblock of a file of this length.
+#[tactic(auto, using(crate::proofs::FrontLemmas::superblock_of_read))]
+fn read_front<S: Source>(
+    alloc: Global,
+    source: &mut S,
+    file_length: usize,
+) -> Result<Superblock, OpenFault>
+    ensures answer { IfFile (S.bytes source.old) file_length (λ file.
+        Reads (λ front. front) result (superblock file)) }
+    ensures inputs { S.bytes source.new ≡ S.bytes source.old }
+    ensures least { IfOk result (λ front. 512 ≤ front.block_size) }
+    ensures most { IfOk result (λ front. front.block_size ≤ 32768) }
+{
+    let front = read_range(alloc, source, 0, file_length.min(SUPERBLOCK))?;
+    Ok(read_superblock(&front)?)
+}
+
+// The bytes of a range of the file, so many.
 fn read_range<S: Source>(
     alloc: Global,
     source: &mut S,
     place: usize,
-    length: usize,
-) -> Result<Vec<u8>, SourceFault> {
+    count: usize,
+) -> Result<Vec<u8>, SourceFault>
+    ensures answer { IfOk result (λ bytes. IfSome (S.bytes source.old) (λ file.
+        bytes.items ≡ take count (drop place file))) }
+    ensures inputs { S.bytes source.new ≡ S.bytes source.old }
+{
     let mut bytes = Vec::new(alloc);
-    bytes.resize(length, 0)?;
+    bytes.resize(count, 0)?;
     source.read_exact_at(&mut bytes, place)?;
     Ok(bytes)
 }
 
 // What is broken in the directory cuts the file short.
-fn or_cut_short<T: Drop>(part: Result<T, StreamError>) -> Result<T, OpenFault> {
+fn or_cut_short<T: Drop>(part: Result<T, StreamError>) -> Result<T, OpenFault>
+    ensures { MatchResult part (λ value. result ≡ Ok value)
+        (λ _. result ≡ Err (OpenFault.Container ContainerFault.CutShort)) }
+{
     match part {
         Ok(part) => Ok(part),
         Err(_) => Err(OpenFault::Container(ContainerFault::CutShort)),
@@ -191,6 +220,7 @@ fn or_cut_short<T: Drop>(part: Result<T, StreamError>) -> Result<T, OpenFault> {
 }
 
 // The directory's bytes.
+#[tactic(auto, unfolding(crate::specs::Directory::directory))]
 fn read_directory<S: Source>(
     alloc: Global,
     source: &mut S,
@@ -199,35 +229,58 @@ fn read_directory<S: Source>(
 ) -> Result<Vec<u8>, OpenFault>
     requires least { 512 ≤ grid.block_size }
     requires most { grid.block_size ≤ 32768 }
+    requires same { grid.block_size ≡ superblock.block_size }
+    ensures answer { IfFile (S.bytes source.old) grid.file_length (λ file.
+        Reads (λ bytes. bytes.items) result (cut_short (directory superblock file))) }
+    ensures inputs { S.bytes source.new ≡ S.bytes source.old }
 {
     let size = superblock.directory_size as usize;
     if grid.file_length < size {
         return Err(OpenFault::Container(ContainerFault::CutShort));
     }
-    let count = blocks_over(superblock.directory_size, grid.block_size);
-    let map = read_block_map(alloc, source, grid, 4 * count)?;
-    let blocks = take_numbers(alloc, &mut Bytes::new(&map), count)?;
+    let blocks = read_block_map(alloc, source, grid, superblock)?;
     let directory = read_blocks(alloc, source, grid, size, &blocks)?;
     or_cut_short(directory)
 }
 
-// The bytes of the block map, so many.
+// The block map: the numbers of the directory's blocks.
+#[tactic(auto, unfolding(crate::specs::Directory::block_map))]
 fn read_block_map<S: Source>(
     alloc: Global,
     source: &mut S,
     grid: BlockGrid,
-    size: usize,
-) -> Result<Vec<u8>, OpenFault>
+    superblock: Superblock,
+) -> Result<Vec<u32>, OpenFault>
     requires least { 512 ≤ grid.block_size }
     requires most { grid.block_size ≤ 32768 }
-    requires few { size ≤ 33554432 }
+    requires same { grid.block_size ≡ superblock.block_size }
+    ensures answer { IfFile (S.bytes source.old) grid.file_length (λ file.
+        Reads (λ numbers. numbers.items) result (cut_short (block_map superblock file))) }
+    ensures inputs { S.bytes source.new ≡ S.bytes source.old }
 {
-    let count = size.div_ceil(grid.block_size);
-    if grid.file_length < BLOCK_MAP + 4 * count {
+    let count = blocks_over(superblock.directory_size, grid.block_size);
+    let size = 4 * count;
+    let blocks = read_map_blocks(alloc, source, grid, size.div_ceil(grid.block_size))?;
+    let map = or_cut_short(read_blocks(alloc, source, grid, size, &blocks)?)?;
+    Ok(take_numbers(alloc, &mut Bytes::new(&map), count)?)
+}
+
+// The numbers of the block map's blocks, so many.
+#[tactic(auto, using(crate::proofs::FrontLemmas::listed_of_taken))]
+fn read_map_blocks<S: Source>(
+    alloc: Global,
+    source: &mut S,
+    grid: BlockGrid,
+    count: usize,
+) -> Result<Vec<u32>, OpenFault>
+    requires { count ≤ 33554432 }
+    ensures answer { IfFile (S.bytes source.old) grid.file_length (λ file.
+        Reads (λ numbers. numbers.items) result (cut_short (listed count (drop 52 file)))) }
+    ensures inputs { S.bytes source.new ≡ S.bytes source.old }
+{
+    if grid.file_length.saturating_sub(BLOCK_MAP) < 4 * count {
         return Err(OpenFault::Container(ContainerFault::CutShort));
     }
     let front = read_range(alloc, source, BLOCK_MAP, 4 * count)?;
-    let blocks = take_numbers(alloc, &mut Bytes::new(&front), count)?;
-    let map = read_blocks(alloc, source, grid, size, &blocks)?;
-    or_cut_short(map)
+    Ok(take_numbers(alloc, &mut Bytes::new(&front), count)?)
 }
