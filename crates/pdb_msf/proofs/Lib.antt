@@ -1,5 +1,6 @@
 mod ContainerExamples
 pub mod BlockLemmas
+pub mod ExcerptLemmas
 pub mod ExtentLemmas
 pub mod FrontLemmas
 pub mod NumberLemmas

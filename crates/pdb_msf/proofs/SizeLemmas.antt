@@ -17,13 +17,13 @@ after (Ok x) next value is = (x, refl, is)
 after (Err error) next value is = cc
 
 -- what is chosen before a fault is the value where there is one
-chosen : {A : Type 0} (refused : Bool) (error : StreamError) (x value : A)
+pub chosen : {A : Type 0} (refused : Bool) (error : StreamError) (x value : A)
     → cond refused (Err error) (Ok x) ≡ Ok value → (refused ≡ false) × (x ≡ value)
 chosen true error x value is = cc
 chosen false error x value is = (refl, cc)
 
 -- so many blocks that lie in the file have so many bytes
-length_in_order : (size : ℕ) (file blocks : List ℕ) → all_inside size file blocks ≡ true
+pub length_in_order : (size : ℕ) (file blocks : List ℕ) → all_inside size file blocks ≡ true
     → length (in_order size file blocks) ≡ length blocks * size
 length_in_order size file [] inside = grind (arith, common_steps)
 length_in_order size file (number ∷ blocks) inside =

@@ -1,5 +1,6 @@
 -- Where the streams of a file stand that is read range by range.
-use Rattle.std.specs.Prelude.{◌≡◌, ◌≢◌, ℕ, List, length, Option, Some, None, Result, Ok, Err}
+use Rattle.std.specs.Prelude.{◌≡◌, ◌≢◌, ℕ, zero, suc, ◌+◌, List, [], ◌∷◌, drop, length}
+use Rattle.std.specs.Prelude.{Option, Some, None, Result, Ok, Err}
 use Rattle.std.specs.Global.{Vec}
 use Rattle.pdb_records.specs.declared.error.StreamError.{StreamError}
 use Rattle.pdb_msf.specs.declared.container_fault.ContainerFault.{ContainerFault}
@@ -9,8 +10,10 @@ use Rattle.pdb_msf.specs.declared.source_fault.OpenFault.{OpenFault}
 use Rattle.pdb_msf.specs.declared.source_fault.OpenFault.TheVariants as opened
 use Rattle.pdb_msf.specs.declared.source_fault.SourceFault.{SourceFault}
 use Rattle.pdb_msf.specs.declared.source_fault.SourceFault.TheVariants as source
-use Rattle.pdb_msf.specs.Faults.{fault_of}
+use Rattle.pdb_msf.specs.Faults.{◌>>=◌, fault_of}
 use Rattle.pdb_msf.specs.Msf.{Msf, over}
+use Rattle.pdb_msf.specs.NumberLists.{listed}
+use Rattle.pdb_msf.specs.Streams.{stream_inside}
 
 -- what is had of such a file before its streams: its length, the size of its blocks, the bytes of its directory, and
 -- the sizes of its streams
@@ -60,3 +63,19 @@ Refuses opened.Unreadable defined = Unit {0}
 abbrev pub Reads : {X Y : Type 0} → (X → Y) → Result X OpenFault → Result Y ContainerFault → Type 0
 Reads seen (Ok answer) defined = defined ≡ Ok (seen answer)
 Reads seen (Err fault) defined = Refuses fault defined
+
+-- an excerpt is one of this file: it has the sizes of its streams, blocks of its size, and as many bytes of a directory
+abbrev pub IsExcerptOf : Msf → MappedFile → Type 0
+IsExcerptOf excerpt mapped =
+    (excerpt.sizes ≡ mapped.sizes) × (excerpt.block_size ≡ mapped.block_size)
+    × (length excerpt.directory ≡ length mapped.directory)
+
+-- so many numbers that follow one another
+abbrev pub following : ℕ → ℕ → List ℕ
+following first zero = []
+following first (suc count) = first ∷ following (first + 1) count
+
+-- the bytes of a stream of this size whose blocks are numbered at a place of a directory, so many
+abbrev pub stream_at : ℕ → List ℕ → List ℕ → ℕ → ℕ → ℕ → Result (List ℕ) StreamError
+stream_at block_size file directory place count size =
+    listed count (drop place directory) >>= stream_inside block_size file size

@@ -1,10 +1,14 @@
 //! Some streams of a file that is read range by range, in memory as a container of their own.
 
-ghost use Rattle.std.specs.Prelude.{◌≡◌, ◌≤◌, ◌+◌, ◌*◌, length, map, IfOk};
+ghost use Rattle.std.specs.Prelude.{◌≡◌, ◌≤◌, ◌<◌, ◌+◌, ◌-◌, ◌*◌, ◌^◌, ◌++◌, ℕ, drop, length, map, IfOk, OnOk};
+ghost use Rattle.byteorder.specs.Endian.{little_bytes};
 ghost use Rattle.pdb_msf.specs.Directory.{extents};
-ghost use Rattle.pdb_msf.specs.Msf.{over};
+ghost use Rattle.pdb_msf.specs.Msf.{over, stream_of};
+ghost use Rattle.pdb_msf.specs.NumberLists.{numbers};
+ghost use Rattle.pdb_msf.specs.StreamMap.{IfFile, IsExcerptOf, following, stream_at, with_bytes};
+ghost use Rattle.pdb_msf.specs.Streams.{stream_inside};
 
-use crate::block_reads::append_blocks;
+use crate::block_reads::{BlockGrid, append_blocks};
 use crate::directory::StreamExtent;
 use crate::msf::Container;
 use crate::source::Source;
@@ -48,7 +52,9 @@ impl Model for Excerpt {
 
 impl Excerpt {
     /// An excerpt of a file, without any stream's bytes.
-    pub fn new(alloc: Global, map: &StreamMap) -> Result<Self, AllocError> {
+    pub fn new(alloc: Global, map: &StreamMap) -> Result<Self, AllocError>
+        ensures { IfOk result (λ excerpt. IsExcerptOf excerpt map.now) }
+    {
         map.excerpt(alloc)
     }
 
@@ -79,18 +85,28 @@ impl Excerpt {
         map: &StreamMap,
         source: &mut S,
         number: u32,
-    ) -> Result<(), SourceFault> {
-        let Ok(blocks) = part_of_source(map.blocks(alloc, number))? else {
+    ) -> Result<(), SourceFault>
+        ensures answer { OnOk result (IsExcerptOf self.old map.now
+            → IfFile (S.bytes source.old) map.now.file_length (λ file.
+            stream_of self.new number ≡ stream_of (with_bytes file map.now) number)) }
+        ensures kept { IsExcerptOf self.old map.now → IsExcerptOf self.new map.now }
+        ensures inputs { S.bytes source.new ≡ S.bytes source.old }
+    {
+        let Some(extent) = map.extent(number) else {
             return Ok(());
         };
-        if !map.grid().has_all(&blocks) {
+        let Ok(numbers) = part_of_source(map.numbers(alloc, extent))? else {
             return Ok(());
-        }
-        let first = self.blocks.len() / self.block_size;
-        append_blocks(source, map.grid(), &blocks, &mut self.blocks)?;
-        if let Some(extent) = map.extent(number) {
-            write_numbers(&mut self.directory, extent.numbers, first, blocks.len());
-        }
+        };
+        let (blocks, directory) = (&mut self.blocks, &mut self.directory);
+        append_numbered(
+            source,
+            map.grid(),
+            &numbers,
+            blocks,
+            directory,
+            extent.numbers,
+        )?;
         Ok(())
     }
 
@@ -103,16 +119,72 @@ impl Excerpt {
     }
 }
 
-// Writes numbers that follow one another, four bytes each, at a place. Where the bytes end before, they stay.
-fn write_numbers(directory: &mut [u8], place: usize, first: usize, count: usize)
-    ensures { length directory.new ≡ length directory.old }
+// Appends blocks of a file to those of an excerpt, and numbers them there at a place of its directory, if they fit.
+// Where one lies outside of the file, the first lies outside of the excerpt.
+fn append_numbered<S: Source>(
+    source: &mut S,
+    grid: BlockGrid,
+    numbers: &[u32],
+    blocks: &mut Vec<u8>,
+    directory: &mut [u8],
+    place: usize,
+) -> Result<(), SourceFault>
+    requires least { 512 ≤ grid.block_size }
+    requires most { grid.block_size ≤ 32768 }
+    ensures answer { OnOk result (4 * length numbers.now ≤ length directory.old - place
+        → IfFile (S.bytes source.old) grid.file_length (λ file. (size : ℕ)
+        → stream_at grid.block_size blocks.new.items directory.new place (length numbers.now) size
+        ≡ stream_inside grid.block_size file size numbers.now)) }
+    ensures length { length directory.new ≡ length directory.old }
+    ensures inputs { S.bytes source.new ≡ S.bytes source.old }
 {
-    for position in 0..count {
-        let start = place.saturating_add(4_usize.saturating_mul(position));
-        let end = start.saturating_add(4);
-        if end <= directory.len() {
-            let number = u32::try_from(first.saturating_add(position)).unwrap_or(u32::MAX);
-            LittleEndian::write_u32(&mut directory[start..end], number);
-        }
+    let count = numbers.len();
+    if directory.len().saturating_sub(place) / 4 < count {
+        return Ok(());
     }
+    let first = fill_up(blocks, grid.block_size, count)?;
+    if !grid.has_all(numbers) {
+        write_numbers(directory, place, u32::MAX as usize, count.min(1));
+        return Ok(());
+    }
+    append_blocks(source, grid, numbers, blocks)?;
+    write_numbers(directory, place, first, count);
+    Ok(())
+}
+
+// Fills up the last block. How many there are, where so many more can be numbered behind them.
+#[tactic(auto, using(crate::proofs::BlockLemmas::start_below))]
+fn fill_up(blocks: &mut Vec<u8>, block_size: usize, count: usize) -> Result<usize, SourceFault>
+    requires least { 512 ≤ block_size }
+    requires most { block_size ≤ 32768 }
+    ensures whole { IfOk result (λ first. length blocks.new.items ≡ first * block_size) }
+    ensures few { IfOk result (λ first. first + count < 2 ^ 32) }
+{
+    let first = blocks.len().div_ceil(block_size);
+    if first.saturating_add(count) > u32::MAX as usize {
+        return Err(SourceFault::OutOfMemory);
+    }
+    blocks.resize(first * block_size, 0)?;
+    Ok(first)
+}
+
+// Writes numbers that follow one another, four bytes each, at a place.
+fn write_numbers(directory: &mut [u8], place: usize, first: usize, count: usize)
+    requires room { 4 * count ≤ length directory.old - place }
+    requires small { first + count ≤ 2 ^ 32 }
+    ensures answer { numbers count (drop place directory.new) ≡ following first count }
+    ensures length { length directory.new ≡ length directory.old }
+{
+    for position in (0..count).rev() {
+        write_number(directory, place + 4 * position, (first + position) as u32);
+    }
+}
+
+// Writes a number of four bytes at a place.
+fn write_number(directory: &mut [u8], place: usize, number: u32)
+    requires { place + 4 ≤ length directory.old }
+    ensures answer { drop place directory.new ≡ little_bytes 4 number ++ drop 4 (drop place directory.old) }
+    ensures length { length directory.new ≡ length directory.old }
+{
+    LittleEndian::write_u32(&mut directory[place..], number);
 }

@@ -7,7 +7,7 @@ ghost use Rattle.pdb_msf.specs.Directory.{block_map, directory};
 ghost use Rattle.pdb_msf.specs.Faults.{Gives, cut_short};
 ghost use Rattle.pdb_msf.specs.Msf.{container, numbers_place, size_of, stream_of};
 ghost use Rattle.pdb_msf.specs.NumberLists.{listed};
-ghost use Rattle.pdb_msf.specs.StreamMap.{IfFile, Reads, bytes_read, with_bytes};
+ghost use Rattle.pdb_msf.specs.StreamMap.{IfFile, IsExcerptOf, Reads, bytes_read, with_bytes};
 ghost use Rattle.pdb_msf.specs.Superblock.{superblock};
 
 use crate::block_reads::{BlockGrid, read_blocks};
@@ -119,18 +119,11 @@ impl StreamMap {
         }
     }
 
-    // The numbers of the blocks of the stream of this number.
-    pub(crate) fn blocks(&self, alloc: Global, number: u32) -> Result<Vec<u32>, Fault> {
-        let Some(extent) = self.extent(number) else {
-            return Err(Fault::Broken(NO_STREAM));
-        };
-        self.numbers(alloc, extent)
-    }
-
     // The numbers of the blocks of a stream that stands there.
-    fn numbers(&self, alloc: Global, extent: StreamExtent) -> Result<Vec<u32>, Fault>
-        ensures { Gives (λ numbers. numbers.items) result
+    pub(crate) fn numbers(&self, alloc: Global, extent: StreamExtent) -> Result<Vec<u32>, Fault>
+        ensures answer { Gives (λ numbers. numbers.items) result
             (listed (div_ceil extent.size self.now.block_size) (drop extent.numbers self.now.directory)) }
+        ensures count { IfOk result (λ numbers. length numbers.items ≡ div_ceil extent.size self.now.block_size) }
     {
         let count = blocks_over(extent.size, self.grid.block_size);
         let mut numbers = Bytes::new(bytes_from(&self.directory, extent.numbers));
@@ -154,7 +147,9 @@ impl StreamMap {
     }
 
     // An excerpt of the file, without any stream's bytes: all blocks lie outside.
-    pub(crate) fn excerpt(&self, alloc: Global) -> Result<Excerpt, AllocError> {
+    pub(crate) fn excerpt(&self, alloc: Global) -> Result<Excerpt, AllocError>
+        ensures { IfOk result (λ excerpt. IsExcerptOf excerpt self.now) }
+    {
         let streams = Vec::from_slice(alloc, &self.streams)?;
         let mut directory = Vec::from_slice(alloc, &self.directory)?;
         let front = 4_usize.saturating_add(4_usize.saturating_mul(streams.len()));
@@ -168,6 +163,7 @@ impl StreamMap {
     pub(crate) fn grid(&self) -> BlockGrid
         ensures length { result.file_length ≡ self.now.file_length }
         ensures size { result.block_size ≡ self.now.block_size }
+        ensures least { 512 ≤ result.block_size }
         ensures most { result.block_size ≤ 32768 }
     {
         self.grid

@@ -1,0 +1,10 @@
+-- The numbers from the one that was written last on follow one another.
+use Rattle.std.proofs.Common.{◌≡◌, ◌+◌, ◌-◌, ◌*◌, drop}
+use Rattle.pdb_msf.specs.NumberLists.{numbers}
+use Rattle.pdb_msf.specs.StreamMap.{following}
+use Rattle.pdb_msf.proofs.excerpt.write_numbers.Given as goal
+
+abbrev pub invariant-loop-position : goal.invariant-loop-position
+invariant-loop-position l =
+    numbers (l.count - l.position) (drop (l.place + 4 * l.position) l.directory)
+    ≡ following (l.first + l.position) (l.count - l.position)
