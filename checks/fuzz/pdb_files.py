@@ -54,6 +54,7 @@ def redirected(pdb, chance):
     """A number of the directory or of the superblock changed: a length, a block, a count."""
     out = bytearray(pdb)
     size, start, length = blocks_of(pdb)
+    length = min(length, len(pdb) - start)
     for _ in range(chance.choice([1, 1, 2, 8])):
         at = chance.choice([32, 36, 40, 44, 48, 52] + [start + 4 * k for k in range(length // 4)] * 4)
         number = chance.choice(NUMBERS + [chance.randrange(len(pdb) // size + 2)] * 12)

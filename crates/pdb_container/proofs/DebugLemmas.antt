@@ -1,16 +1,10 @@
 -- What a file says of its program, by whether its stream of debug information has a header.
-use Rattle.std.proofs.Common.{◌≡◌, ◌∙◌, ℕ, List, [], ◌++◌, take, drop, length, Result, Ok, Err, ap, append-nil, arith}
-use Rattle.std.proofs.lemmas.List.{drop_all, take_all}
-use Rattle.pdb_records.specs.Readings.{Read}
+use Rattle.std.proofs.Common.{◌≡◌, [], Ok, Err, ap}
 use Rattle.pdb_records.specs.declared.error.StreamError.{StreamError}
-use Rattle.pdb_records.specs.declared.symbols.Symbol.{Symbol}
 use Rattle.pdb_msf.specs.Faults.{◌>>=◌}
 use Rattle.pdb_msf.specs.Msf.{Msf}
 use Rattle.pdb_dbi.specs.declared.header.DebugHeader.{DebugHeader}
-use Rattle.pdb_dbi.specs.declared.module_list.ModuleStream.{ModuleStream}
 use Rattle.pdb_dbi.specs.ModuleList.{module_streams}
-use Rattle.pdb_container.specs.ModulePlaces.{ModuleOrFault, modules_read}
-use Rattle.pdb_container.specs.UnnamedCode.{named_modules}
 use Rattle.pdb_container.specs.DebugRecords.{address_map, address_map_of, debug_header, debug_information}
 use Rattle.pdb_container.specs.DebugRecords.{global_symbols, information_of, sections, sections_of, streams_by}
 use Rattle.pdb_container.specs.DebugRecords.{streams_of_modules, symbols_in}

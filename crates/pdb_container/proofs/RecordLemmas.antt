@@ -1,8 +1,6 @@
 -- Tables of symbols.
 use Rattle.std.proofs.Common.{◌≡◌, Ok, Err, refl}
-use Rattle.pdb_records.specs.Readings.{Read}
 use Rattle.pdb_records.specs.declared.error.StreamError.{StreamError}
-use Rattle.pdb_records.specs.declared.symbols.Symbol.{Symbol}
 use Rattle.pdb_records.specs.declared.symbols.SymbolTable.{SymbolTable}
 use Rattle.std.specs.Prelude.{Result}
 use Rattle.pdb_container.specs.DebugRecords.{tabled}

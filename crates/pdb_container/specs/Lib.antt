@@ -3,6 +3,7 @@ pub mod Functions
 pub mod Identity
 pub mod Info
 pub mod ModulePlaces
+pub mod ModuleSource
 pub mod Modules
 pub mod Reader
 pub mod Records

@@ -63,6 +63,10 @@ module_of msf place = place >>= module_there msf
 unfoldable pub modules_read : Msf → List ModuleStream → List ModuleOrFault
 modules_read msf places = map (module_of msf) (module_places msf places)
 
+-- the place of the module at a position: none behind the last one
+abbrev pub place_at : List PlaceOrFault → ℕ → PlaceOrFault
+place_at places position = unwrap_or (slice_get places position) (Ok None)
+
 -- what is known of the module at a position, before code without a name is named: nothing behind the last one
 unfoldable pub module_at : Msf → List ModuleStream → ℕ → ModuleOrFault
-module_at msf places position = module_of msf (unwrap_or (slice_get (module_places msf places) position) (Ok None))
+module_at msf places position = module_of msf (place_at (module_places msf places) position)

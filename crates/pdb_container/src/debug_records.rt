@@ -21,10 +21,10 @@ use pdb_records::{AddressMap, DebugInformation, ImageSectionHeader, StreamError,
 use std::alloc::Global;
 
 /// The number of the stream of debug information.
-const DEBUG: u32 = 3;
+pub const DEBUG: u32 = 3;
 
 /// The number that stands for no stream.
-const NO_NUMBER: u16 = 0xffff;
+pub const NO_NUMBER: u16 = 0xffff;
 
 /// Where the streams are named that not every file has: two for addresses that were rearranged, and the
 /// headers of the sections.
@@ -32,7 +32,7 @@ const REARRANGED_TO: usize = 3;
 
 const REARRANGED_FROM: usize = 4;
 
-const SECTIONS: usize = 5;
+pub const SECTIONS: usize = 5;
 
 /// What stands in the stream of debug information and in the streams that it names.
 #[derive(Drop)]
@@ -82,9 +82,9 @@ fn records_of_stream(
     }
 }
 
-// The stream of debug information, unless it has no bytes.
+/// The stream of debug information, unless it has no bytes.
 #[tactic(auto, unfolding(crate::specs::DebugRecords::debug_stream))]
-fn debug_stream<'a>(alloc: Global, container: &Container<'a>) -> Result<StreamBytes<'a>, Fault>
+pub fn debug_stream<'a>(alloc: Global, container: &Container<'a>) -> Result<StreamBytes<'a>, Fault>
     ensures { Gives bytes_of result (debug_stream container.now) }
 {
     if container.stream_size(DEBUG) == Some(0) {

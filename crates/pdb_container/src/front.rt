@@ -3,71 +3,53 @@
 ghost use Rattle.std.specs.Prelude.{◌≡◌, IfErr, IfOk};
 ghost use Rattle.pdb_container.specs.DebugRecords.{address_map, debug_information, global_symbols, sections};
 ghost use Rattle.pdb_container.specs.DebugRecords.{streams_of_modules, tabled};
-ghost use Rattle.pdb_container.specs.ModulePlaces.{module_places};
+ghost use Rattle.pdb_container.specs.ModulePlaces.{places_within};
 ghost use Rattle.pdb_container.specs.Reader.{HasFront, SameFront};
 ghost use Rattle.pdb_msf.specs.Msf.{stream_of};
 ghost use Rattle.pdb_records.specs.Sections.{listed};
 
 use crate::debug_records::{DebugRecords, debug_records};
+use crate::front_streams::some_stream;
 use crate::info::InfoStream;
 use crate::module_places::{ModuleInfoResult, ModulePlace, module_places};
-use crate::reach::Reach;
-use crate::records::{PdbFile, read_texts};
-use crate::refusals::refusal_of;
+use crate::records::read_texts;
 use crate::type_lists::TypeLists;
-use pdb_msf::faults::{Fault, NO_STREAM, part_or_fault};
-use pdb_msf::{Container, nothing_read};
+use pdb_msf::faults::{Fault, part_or_fault};
+use pdb_msf::{Container, StreamBytes, nothing_read};
 use pdb_records::{IdInformation, ItemInformation, PDB, Reading, StreamError, TypeInformation};
 use pdb_tpi::{TypeStream, no_ids, primitive_types};
 use std::alloc::{AllocError, Global};
 
 /// The numbers of the streams that stand at fixed places.
-const TYPES: u32 = 2;
+pub const TYPES: u32 = 2;
 
-const IDS: u32 = 4;
+pub const IDS: u32 = 4;
 
-/// What is had of a file before any of its modules is read.
+/// What a container has beside its modules, and beside the types and the ids of streams.
 #[derive(Drop)]
-pub struct Front<'a> {
+pub struct Front {
     /// Where the records of each module stand.
     pub places: Vec<ModulePlace>,
-    /// Of each module that it was not read.
-    pub read: Vec<bool>,
-    pub lists: TypeLists<'a>,
-    pub reach: Reach,
-    pub file: PdbFile,
+    pub records: PDB,
 }
 
-/// What a container has beside its modules, and beside types and ids of streams.
-pub fn read_front<'a>(
+/// What a container has beside its modules, and beside types and ids of streams, where its file is so long.
+pub fn read_front(
     alloc: Global,
-    container: &Container<'a>,
+    container: &Container<'_>,
     info: &InfoStream<'_>,
-) -> Result<Front<'a>, Fault>
+    file_length: usize,
+) -> Result<Front, Fault>
     requires { info.now ≡ stream_of container.now 1 }
     ensures places { IfOk result (λ read. read.places.items
-        ≡ module_places container.now (streams_of_modules container.now)) }
-    ensures front { IfOk result (λ read. HasFront container.now read.file.records) }
+        ≡ places_within container.now file_length (streams_of_modules container.now)) }
+    ensures front { IfOk result (λ read. HasFront container.now read.records) }
     ensures memory { IfErr result (λ fault. fault ≡ Fault.OutOfMemory) }
 {
     let debug = debug_records(alloc, container)?;
-    let places = module_places(alloc, container, &debug.module_streams)?;
+    let places = module_places(alloc, container, file_length, &debug.module_streams)?;
     let records = records_without_modules(alloc, container, info, debug, places.len())?;
-    // Behind the symbols, so that copies of both streams are never had at once
-    let types = part_or_fault(type_list(alloc, container))?;
-    let ids = part_or_fault(id_list(alloc, container, info))?;
-    let file = with_first_lists(alloc, info, records, &types, &ids)?;
-    let lists = TypeLists {
-        types: types.ok(),
-        ids: ids.unwrap_or(None),
-    };
-    Ok(Front {
-        read: unread(alloc, places.len())?,
-        reach: Reach::new(alloc, &lists)?,
-        places,
-        lists,
-        file,
-    })
+    Ok(Front { places, records })
 }
 
 // The records of a container, without types, ids and what is known of its so many modules.
@@ -101,22 +83,24 @@ fn records_without_modules(
     })
 }
 
-// A file with these records, and the types and ids without any of a stream.
-fn with_first_lists(
+/// The types and ids of a file that has these streams of them, of which the second is `None` where the file has no ids.
+/// Puts into the records what they have without any of a stream.
+pub fn first_lists<'a>(
     alloc: Global,
-    info: &InfoStream<'_>,
-    mut records: PDB,
-    types: &Result<TypeStream<'_>, StreamError>,
-    ids: &Result<Option<TypeStream<'_>>, StreamError>,
-) -> Result<PdbFile, AllocError>
-    ensures front { IfOk result (λ file. SameFront records file.records) }
+    records: &mut PDB,
+    types: Result<StreamBytes<'a>, StreamError>,
+    ids: Result<Option<StreamBytes<'a>>, StreamError>,
+) -> Result<TypeLists<'a>, Fault>
+    ensures front { SameFront records.old records.new }
+    ensures memory { IfErr result (λ fault. fault ≡ Fault.OutOfMemory) }
 {
-    records.type_information = first_types(alloc, types)?;
-    records.id_information = first_ids(alloc, ids);
-    Ok(PdbFile {
-        refusal: refusal_of(info.version(), &records),
-        names_only: info.features().names_only,
-        records,
+    let types = part_or_fault(type_list(alloc, types))?;
+    let ids = part_or_fault(id_list(alloc, ids))?;
+    records.type_information = first_types(alloc, &types)?;
+    records.id_information = first_ids(alloc, &ids);
+    Ok(TypeLists {
+        types: types.ok(),
+        ids: ids.unwrap_or(None),
     })
 }
 
@@ -127,27 +111,46 @@ fn no_types(alloc: Global) -> TypeInformation {
     }
 }
 
-// The list of types.
-fn type_list<'a>(alloc: Global, container: &Container<'a>) -> Result<TypeStream<'a>, Fault> {
-    let stream = container.stream(alloc, TYPES)?;
-    TypeStream::read(alloc, stream)
+/// The stream of types of a container.
+pub fn type_stream<'a>(
+    alloc: Global,
+    container: &Container<'a>,
+) -> Result<Result<StreamBytes<'a>, StreamError>, Fault>
+    ensures memory { IfErr result (λ fault. fault ≡ Fault.OutOfMemory) }
+{
+    part_or_fault(container.stream(alloc, TYPES))
 }
 
-// The list of ids. A file that doesn't list that it has ids has none, and neither has one without their stream, or with
-// an empty one.
-fn id_list<'a>(
+/// The stream of ids of a container, where the file lists that it has ids.
+pub fn id_stream<'a>(
     alloc: Global,
     container: &Container<'a>,
     info: &InfoStream<'_>,
-) -> Result<Option<TypeStream<'a>>, Fault> {
+) -> Result<Result<Option<StreamBytes<'a>>, StreamError>, Fault>
+    ensures memory { IfErr result (λ fault. fault ≡ Fault.OutOfMemory) }
+{
     if !info.features().ids {
-        return Ok(None);
+        return Ok(Ok(None));
     }
-    match part_or_fault(container.stream(alloc, IDS))? {
-        Ok(stream) if stream.as_slice().is_empty() => Ok(None),
-        Ok(stream) => Ok(Some(TypeStream::read(alloc, stream)?)),
-        Err(NO_STREAM) => Ok(None),
-        Err(error) => Err(Fault::Broken(error)),
+    Ok(some_stream(part_or_fault(container.stream(alloc, IDS))?))
+}
+
+// The list of types.
+fn type_list<'a>(
+    alloc: Global,
+    stream: Result<StreamBytes<'a>, StreamError>,
+) -> Result<TypeStream<'a>, Fault> {
+    TypeStream::read(alloc, stream?)
+}
+
+// The list of ids. A file whose stream of ids is empty has none, as one without that stream.
+fn id_list<'a>(
+    alloc: Global,
+    stream: Result<Option<StreamBytes<'a>>, StreamError>,
+) -> Result<Option<TypeStream<'a>>, Fault> {
+    match stream? {
+        Some(stream) if !stream.as_slice().is_empty() => Ok(Some(TypeStream::read(alloc, stream)?)),
+        _ => Ok(None),
     }
 }
 
@@ -181,7 +184,8 @@ fn first_ids(
     }
 }
 
-fn unread(alloc: Global, count: usize) -> Result<Vec<bool>, AllocError> {
+/// Of so many modules that none was read.
+pub fn unread(alloc: Global, count: usize) -> Result<Vec<bool>, AllocError> {
     let mut read = Vec::new(alloc);
     read.resize(count, false)?;
     Ok(read)

@@ -1,20 +1,20 @@
 //! Which build a PDB file is of: its GUID, its age, when it was made, and for which processor.
 
-ghost use Rattle.std.specs.Prelude.{◌≡◌, IfErr, IfOk};
+ghost use Rattle.std.specs.Prelude.{◌≡◌, IfErr, IfOk, option_map};
+ghost use Rattle.std.specs.Result.{result_ok};
 ghost use Rattle.pdb_container.specs.DebugRecords.{of_file};
-ghost use Rattle.pdb_container.specs.Identity.{debug_build, identity, identity_by};
+ghost use Rattle.pdb_container.specs.Identity.{build_of, debug_build, identity, identity_by};
+ghost use Rattle.pdb_dbi.specs.Header.{header};
 ghost use Rattle.pdb_msf.specs.Faults.{Opens};
+ghost use Rattle.pdb_msf.specs.StreamMap.{IfFile, Reads, with_bytes};
 
+use crate::debug_records::DEBUG;
+use crate::info::INFO;
 use pdb_dbi::read_header;
 use pdb_identity::{DebugId, InfoFront, Machine};
 use pdb_msf::faults::{Fault, part_or_fault};
-use pdb_msf::{Container, ContainerFault};
+use pdb_msf::{Container, ContainerFault, Excerpt, OpenFault, Source, SourceFault, StreamMap};
 use std::alloc::Global;
-
-/// The numbers of the streams that say it.
-const INFO: u32 = 1;
-
-const DEBUG: u32 = 3;
 
 /// What says which build a PDB file is of.
 #[derive(Debug, Clone, Copy, PartialEq, Eq)]
@@ -32,6 +32,43 @@ pub fn read_identity(alloc: Global, bytes: &[u8]) -> Result<Option<PdbIdentity>,
 {
     let container = Container::open(alloc, bytes)?;
     Ok(identity_in(alloc, &container)?)
+}
+
+/// Which build a PDB file of this length is of that is read range by range. The errors are those of
+/// [`StreamMap::read`](crate::StreamMap::read).
+pub fn read_identity_of<S: Source>(
+    alloc: Global,
+    source: &mut S,
+    file_length: usize,
+) -> Result<Option<PdbIdentity>, OpenFault>
+    ensures answer { IfFile (S.bytes source.old) file_length (λ file.
+        Reads (λ found. found) result (of_file identity file)) }
+    ensures inputs { S.bytes source.new ≡ S.bytes source.old }
+{
+    let map = StreamMap::read(alloc, source, file_length)?;
+    Ok(load_identity(alloc, &map, source)?)
+}
+
+#[tactic(auto, unfolding(crate::specs::Identity::identity, crate::specs::Identity::debug_build))]
+fn load_identity<S: Source>(
+    alloc: Global,
+    map: &StreamMap,
+    source: &mut S,
+) -> Result<Option<PdbIdentity>, SourceFault>
+    ensures answer { IfOk result (λ found. IfFile (S.bytes source.old) map.now.file_length (λ file.
+        found ≡ identity (with_bytes file map.now))) }
+    ensures inputs { S.bytes source.new ≡ S.bytes source.old }
+{
+    let Ok(info) = map.load(alloc, source, INFO)? else {
+        return Ok(None);
+    };
+    let Some(front) = InfoFront::read(&info) else {
+        return Ok(None);
+    };
+    match map.load(alloc, source, DEBUG)? {
+        Ok(debug) => Ok(Some(identity_by(build_in(&debug), front))),
+        Err(_) => Ok(Some(identity_by(None, front))),
+    }
 }
 
 #[tactic(auto, unfolding(crate::specs::Identity::identity))]
@@ -75,14 +112,21 @@ fn debug_build(alloc: Global, container: &Container<'_>) -> Result<Option<DebugB
     ensures answer { IfOk result (λ build. build ≡ debug_build container.now) }
     ensures memory { IfErr result (λ fault. fault ≡ Fault.OutOfMemory) }
 {
-    let Ok(stream) = part_or_fault(container.stream(alloc, DEBUG))? else {
-        return Ok(None);
-    };
-    match read_header(stream.as_slice()) {
-        Ok(header) => Ok(Some(DebugBuild {
+    match part_or_fault(container.stream(alloc, DEBUG))? {
+        Ok(stream) => Ok(build_in(stream.as_slice())),
+        Err(_) => Ok(None),
+    }
+}
+
+// What the header of these bytes says of the build.
+fn build_in(debug: &[u8]) -> Option<DebugBuild>
+    ensures { result ≡ option_map build_of (result_ok (header debug.now)) }
+{
+    match read_header(debug) {
+        Ok(header) => Some(DebugBuild {
             age: header.age,
             machine: header.machine,
-        })),
-        Err(_) => Ok(None),
+        }),
+        Err(_) => None,
     }
 }

@@ -14,7 +14,7 @@ use std::alloc::Global;
 use std::marker::Model;
 
 /// The number of the info stream.
-const INFO: u32 = 1;
+pub const INFO: u32 = 1;
 
 /// The bytes before the named streams: version, signature, age and GUID.
 const FRONT: usize = 28;

@@ -1,8 +1,9 @@
 //! Where the records of each module stand, and whether they are read: the module's stream, if it has one.
 
-ghost use Rattle.std.specs.Prelude.{◌≡◌, IfErr, IfOk};
+ghost use Rattle.std.specs.Prelude.{◌≡◌, Some, Ok, IfErr, IfOk};
 ghost use Rattle.pdb_msf.specs.Faults.{Gives};
-ghost use Rattle.pdb_container.specs.ModulePlaces.{left_behind, module_of, module_places, place_within};
+ghost use Rattle.pdb_container.specs.ModulePlaces.{left_behind, module_of, place_within, places_within};
+ghost use Rattle.pdb_container.specs.Modules.{module_in};
 
 use crate::modules::read_module;
 use pdb_dbi::ModuleStream;
@@ -20,17 +21,19 @@ pub type ModuleInfoResult = Result<Option<ModuleInfo>, StreamError>;
 /// Where the records of a module stand, `None` of a module without records, or why they aren't read.
 pub type ModulePlace = Result<Option<ModuleStream>, StreamError>;
 
-/// Where the records of each module stand. Of the streams of all modules no more bytes are read than the file has: the
-/// records of a module aren't read whose stream is longer than what the streams before it leave of that.
+/// Where the records of each module stand, in a file of this length. Of the streams of all modules no more bytes are
+/// read than the file has: the records of a module aren't read whose stream is longer than what the streams before it
+/// leave of that.
 pub fn module_places(
     alloc: Global,
     container: &Container<'_>,
+    file_length: usize,
     streams: &[ModuleStream],
 ) -> Result<Vec<ModulePlace>, AllocError>
-    ensures { IfOk result (λ places. places.items ≡ module_places container.now streams.now) }
+    ensures { IfOk result (λ places. places.items ≡ places_within container.now file_length streams.now) }
 {
     let mut places = Vec::with_capacity(alloc, streams.len())?;
-    let mut left = container.file_length();
+    let mut left = file_length;
     for place in streams {
         places.push(place_within(container, *place, &mut left))?;
     }
@@ -77,5 +80,16 @@ fn placed_module(
         return Ok(None);
     };
     let stream = container.stream(alloc, u32::from(place.stream))?;
-    Ok(Some(read_module(alloc, place, stream.as_slice())?))
+    module_in_stream(alloc, place, stream.as_slice())
+}
+
+/// What is known of a module by the bytes of its stream.
+pub fn module_in_stream(
+    alloc: Global,
+    place: ModuleStream,
+    stream: &[u8],
+) -> Result<Option<ModuleInfo>, Fault>
+    ensures { Gives (λ read. read) result (Ok (Some (module_in place stream.now))) }
+{
+    Ok(Some(read_module(alloc, place, stream)?))
 }

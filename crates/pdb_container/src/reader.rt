@@ -2,35 +2,37 @@
 
 ghost use Rattle.std.specs.Prelude.{◌≡◌, length, IfErr, IfOk, OnOk};
 ghost use Rattle.pdb_container.specs.DebugRecords.{streams_of_modules};
-ghost use Rattle.pdb_container.specs.ModulePlaces.{module_at};
+ghost use Rattle.pdb_container.specs.ModulePlaces.{module_places, place_at, places_within};
+ghost use Rattle.pdb_container.specs.ModuleSource.{KeepsModules};
 ghost use Rattle.pdb_container.specs.Reader.{HasFront, SameFront};
-ghost use Rattle.pdb_msf.specs.Faults.{Opens};
-ghost use Rattle.pdb_msf.specs.Msf.{container};
 
-use crate::front::read_front;
+use crate::front::{Front, first_lists, id_stream, read_front, type_stream, unread};
+use crate::front_streams::{FrontStreams, copied, copied_ids};
 use crate::imports::imported_modules;
 use crate::info::InfoStream;
-use crate::module_places::{ModuleInfoResult, ModulePlace, read_module_info};
+use crate::module_infos::{any_has_unnamed_code, name_all, put_info};
+use crate::module_places::{ModuleInfoResult, ModulePlace};
+use crate::module_source::ModuleSource;
 use crate::reach::Reach;
 use crate::records::PdbFile;
-use crate::type_lists::TypeLists;
-use crate::unnamed_code::{has_unnamed_code, name_unnamed_code};
+use crate::refusals::refusal_of;
+use crate::type_lists::{TypeLists, put_all_ids, put_all_types};
 use pdb_msf::faults::Fault;
-use pdb_msf::{Container, ContainerFault};
-use pdb_records::PDB;
-use pdb_tpi::TypeStream;
+use pdb_msf::{Container, SourceFault, StreamBytes};
+use pdb_records::{PDB, StreamError};
 use std::alloc::{AllocError, Global};
 use std::marker::Model;
 
 /// A PDB file that is read as it is asked.
 ///
 /// [`open`](PdbReader::open) answers the file's records without what is known of modules, and without the types and ids
-/// of streams. [`read_modules`](PdbReader::read_modules) adds to these records what is known of some modules, and
-/// whatever else answers over their code depend on. So an address in the code of a module that was read is answered as
-/// over all records of the file.
+/// of streams, and [`open_front`](PdbReader::open_front) the same of a file that is read range by range.
+/// [`read_modules`](PdbReader::read_modules) adds to these records what is known of some modules, and whatever else
+/// answers over their code depend on. So an address in the code of a module that was read is answered as over all
+/// records of the file.
 #[derive(Drop)]
 pub struct PdbReader<'a> {
-    container: Container<'a>,
+    file_length: usize,
     /// Where the records of each module stand.
     places: Vec<ModulePlace>,
     /// Whether the records of each module were read.
@@ -40,43 +42,92 @@ pub struct PdbReader<'a> {
 }
 
 impl<'a> Model for PdbReader<'a> {
-    ghost use Rattle.std.specs.Prelude.{◌≡◌};
-    ghost use Rattle.pdb_msf.specs.Msf.{Msf};
-    ghost use Rattle.pdb_container.specs.DebugRecords.{address_map, debug_information, global_symbols, sections};
-    ghost use Rattle.pdb_container.specs.DebugRecords.{streams_of_modules, tabled};
-    ghost use Rattle.pdb_container.specs.ModulePlaces.{module_places};
+    ghost use Rattle.std.specs.Prelude.{List};
+    ghost use Rattle.pdb_container.specs.ModulePlaces.{PlaceOrFault};
 
-    ghost Value = { Msf };
+    ghost Value = { List PlaceOrFault };
 
-    ghost view = { λ r. r.container };
-
-    ghost invariant = { λ r. r.places.items ≡ module_places r.container (streams_of_modules r.container) };
+    ghost view = { λ r. r.places.items };
 }
 
 impl<'a> PdbReader<'a> {
-    /// A reader of a file, and what the file has beside modules, types and ids. The errors are those of
-    /// [`read_pdb`](crate::read_pdb).
-    pub fn open(alloc: Global, bytes: &'a [u8]) -> Result<(Self, PdbFile), ContainerFault>
-        ensures reader { Opens (λ opened. opened.0) result (container bytes.now) }
-        ensures front { IfOk result (λ opened. HasFront opened.0 opened.1.records) }
+    /// A reader of the file that a container is, and what the file has beside modules, types and ids.
+    pub fn open(alloc: Global, container: &Container<'a>) -> Result<(Self, PdbFile), Fault>
+        ensures places { IfOk result (λ opened. opened.0
+            ≡ module_places container.now (streams_of_modules container.now)) }
+        ensures front { IfOk result (λ opened. HasFront container.now opened.1.records) }
+        ensures memory { IfErr result (λ fault. fault ≡ Fault.OutOfMemory) }
     {
-        let container = Container::open(alloc, bytes)?;
+        let info = InfoStream::read(alloc, container)?;
+        let file_length = container.file_length();
+        let front = read_front(alloc, container, &info, file_length)?;
+        let types = type_stream(alloc, container)?;
+        let ids = id_stream(alloc, container, &info)?;
+        Self::with_lists(alloc, &info, file_length, front, types, ids)
+    }
+
+    /// The same of a file of which these streams were read: the modules are those of their [`Excerpt`].
+    pub fn open_front(alloc: Global, streams: FrontStreams) -> Result<(Self, PdbFile), Fault>
+        ensures places { IfOk result (λ opened. opened.0
+            ≡ places_within streams.excerpt streams.file_length (streams_of_modules streams.excerpt)) }
+        ensures front { IfOk result (λ opened. HasFront streams.excerpt opened.1.records) }
+        ensures memory { IfErr result (λ fault. fault ≡ Fault.OutOfMemory) }
+    {
+        let FrontStreams {
+            file_length,
+            excerpt,
+            types,
+            ids,
+        } = streams;
+        let container = excerpt.container(alloc)?;
         let info = InfoStream::read(alloc, &container)?;
-        let front = read_front(alloc, &container, &info)?;
+        let front = read_front(alloc, &container, &info, file_length)?;
+        Self::with_lists(
+            alloc,
+            &info,
+            file_length,
+            front,
+            copied(types),
+            copied_ids(ids),
+        )
+    }
+
+    // A reader with these types and ids.
+    fn with_lists(
+        alloc: Global,
+        info: &InfoStream<'_>,
+        file_length: usize,
+        front: Front,
+        types: Result<StreamBytes<'a>, StreamError>,
+        ids: Result<Option<StreamBytes<'a>>, StreamError>,
+    ) -> Result<(Self, PdbFile), Fault>
+        ensures places { IfOk result (λ opened. opened.0 ≡ front.places.items) }
+        ensures front { IfOk result (λ opened. SameFront front.records opened.1.records) }
+        ensures memory { IfErr result (λ fault. fault ≡ Fault.OutOfMemory) }
+    {
+        let Front {
+            places,
+            mut records,
+        } = front;
+        let lists = first_lists(alloc, &mut records, types, ids)?;
         let reader = PdbReader {
-            container,
-            places: front.places,
-            read: front.read,
-            lists: front.lists,
-            reach: front.reach,
+            file_length,
+            read: unread(alloc, places.len())?,
+            reach: Reach::new(alloc, &lists)?,
+            places,
+            lists,
         };
-        Ok((reader, front.file))
+        let file = PdbFile {
+            refusal: refusal_of(info.version(), &records),
+            names_only: info.features().names_only,
+            records,
+        };
+        Ok((reader, file))
     }
 
     /// How many modules the file has.
-    #[tactic(auto, using(crate::proofs::ModuleLemmas::count_of_places))]
     pub fn module_count(&self) -> usize
-        ensures { result ≡ length (streams_of_modules self.now) }
+        ensures { result ≡ length self.now }
     {
         self.places.len()
     }
@@ -91,13 +142,17 @@ impl<'a> PdbReader<'a> {
 
     /// What is known of the module at a position, or why it can't be read: as it stands in the module's own stream, in
     /// which code apart from its function has no name.
-    #[tactic(auto, unfolding(crate::specs::ModulePlaces::module_at))]
-    pub fn module_info(&self, alloc: Global, position: usize) -> Result<ModuleInfoResult, Fault>
-        ensures answer { IfOk result (λ read. read ≡ module_at self.now (streams_of_modules self.now) position) }
-        ensures memory { IfErr result (λ fault. fault ≡ Fault.OutOfMemory) }
+    pub fn module_info<M: ModuleSource>(
+        &self,
+        alloc: Global,
+        modules: &mut M,
+        position: usize,
+    ) -> Result<ModuleInfoResult, SourceFault>
+        ensures answer { IfOk result (λ read. M.says modules.old (place_at self.now position) read) }
+        ensures inputs { KeepsModules M.says modules.old modules.new }
     {
         let place = self.places.get(position).copied().unwrap_or(Ok(None));
-        read_module_info(alloc, &self.container, place)
+        modules.module_info(alloc, place)
     }
 
     /// Reads what is known of the modules at these positions into the records that [`open`](PdbReader::open) answered,
@@ -106,12 +161,13 @@ impl<'a> PdbReader<'a> {
     /// which any module may list.
     ///
     /// Where there is no memory none of them counts as read.
-    pub fn read_modules(
+    pub fn read_modules<M: ModuleSource>(
         &mut self,
         alloc: Global,
+        modules: &mut M,
         records: &mut PDB,
         wanted: &[usize],
-    ) -> Result<Vec<usize>, AllocError>
+    ) -> Result<Vec<usize>, SourceFault>
         ensures reader { self.new ≡ self.old }
         ensures front { SameFront records.old records.new }
         ensures count { OnOk result (length records.new.module_infos ≡ length records.old.module_infos) }
@@ -121,13 +177,13 @@ impl<'a> PdbReader<'a> {
             return Ok(positions);
         }
         if positions.len() == self.unread_count() {
-            return self.read_all(alloc, records);
+            return self.read_all(alloc, modules, records);
         }
-        self.read_each(alloc, &mut records.module_infos, &positions)?;
+        self.read_each(alloc, modules, &mut records.module_infos, &positions)?;
         if any_has_unnamed_code(alloc, &records.module_infos, &positions)? {
-            return self.read_all(alloc, records);
+            return self.read_all(alloc, modules, records);
         }
-        let imported = self.read_imported(alloc, records, &positions)?;
+        let imported = self.read_imported(alloc, modules, records, &positions)?;
         self.reach_modules(alloc, &records.module_infos, &positions, &imported)?;
         self.put_types(alloc, records)?;
         self.put_ids(alloc, records)?;
@@ -136,15 +192,20 @@ impl<'a> PdbReader<'a> {
     }
 
     /// Reads all modules that are left, as [`read_modules`](PdbReader::read_modules) does.
-    pub fn read_all(&mut self, alloc: Global, records: &mut PDB) -> Result<Vec<usize>, AllocError>
+    pub fn read_all<M: ModuleSource>(
+        &mut self,
+        alloc: Global,
+        modules: &mut M,
+        records: &mut PDB,
+    ) -> Result<Vec<usize>, SourceFault>
         ensures reader { self.new ≡ self.old }
         ensures front { SameFront records.old records.new }
         ensures count { OnOk result (length records.new.module_infos ≡ length records.old.module_infos) }
     {
         let positions = self.all_unread(alloc)?;
         self.put_all_lists(alloc, records)?;
-        self.read_each(alloc, &mut records.module_infos, &positions)?;
-        name_all(alloc, records, self.container.file_length())?;
+        self.read_each(alloc, modules, &mut records.module_infos, &positions)?;
+        name_all(alloc, records, self.file_length)?;
         set_read(&mut self.read, &positions);
         Ok(positions)
     }
@@ -175,18 +236,19 @@ impl<'a> PdbReader<'a> {
 
     // Reads what is known of the modules from which these modules import, for what they export: they don't count as
     // read. Answers their positions.
-    fn read_imported(
+    fn read_imported<M: ModuleSource>(
         &self,
         alloc: Global,
+        modules: &mut M,
         records: &mut PDB,
         positions: &[usize],
-    ) -> Result<Vec<usize>, AllocError>
+    ) -> Result<Vec<usize>, SourceFault>
         ensures front { SameFront records.old records.new }
         ensures count { OnOk result (length records.new.module_infos ≡ length records.old.module_infos) }
     {
         let imported = imported_modules(alloc, records, positions)?;
         let others = self.unread_beside(alloc, &imported, positions)?;
-        self.read_each(alloc, &mut records.module_infos, &others)?;
+        self.read_each(alloc, modules, &mut records.module_infos, &others)?;
         Ok(imported)
     }
 
@@ -207,17 +269,16 @@ impl<'a> PdbReader<'a> {
     }
 
     // Reads what is known of the modules at these positions, as it stands in their own streams.
-    fn read_each(
+    fn read_each<M: ModuleSource>(
         &self,
         alloc: Global,
+        modules: &mut M,
         infos: &mut [ModuleInfoResult],
         positions: &[usize],
-    ) -> Result<(), AllocError> {
+    ) -> Result<(), SourceFault> {
         for &position in positions {
-            match self.module_info(alloc, position) {
-                Ok(info) => put_info(infos, position, info),
-                Err(_) => return Err(AllocError),
-            }
+            let info = self.module_info(alloc, modules, position)?;
+            put_info(infos, position, info);
         }
         Ok(())
     }
@@ -265,7 +326,7 @@ impl<'a> PdbReader<'a> {
         }
     }
 
-    // Puts into the records all types and ids, and gives back the lists that they stand in.
+    // Puts into the records all types and ids, and gives back the lists that they stand in, and what was reached.
     fn put_all_lists(&mut self, alloc: Global, records: &mut PDB) -> Result<(), AllocError>
         ensures reader { self.new ≡ self.old }
         ensures front { SameFront records.old records.new }
@@ -275,27 +336,12 @@ impl<'a> PdbReader<'a> {
         self.lists.types = None;
         put_all_ids(alloc, &self.lists.ids, records)?;
         self.lists.ids = None;
+        self.reach = Reach::new(alloc, &self.lists)?;
         Ok(())
     }
 
     fn unread_count(&self) -> usize {
         self.read.iter().filter(|read| !**read).count()
-    }
-}
-
-// Names code without a name in modules that were all read, where names may take so many bytes.
-fn name_all(alloc: Global, records: &mut PDB, room: usize) -> Result<(), AllocError>
-    ensures front { SameFront records.old records.new }
-    ensures count { OnOk result (length records.new.module_infos ≡ length records.old.module_infos) }
-{
-    match name_unnamed_code(
-        alloc,
-        &mut records.module_infos,
-        &records.global_symbols,
-        room,
-    ) {
-        Ok(()) => Ok(()),
-        Err(_) => Err(AllocError),
     }
 }
 
@@ -331,68 +377,10 @@ fn add_exports(
     Ok(())
 }
 
-// Puts into the records all types of a list.
-fn put_all_types(
-    alloc: Global,
-    list: &Option<TypeStream<'_>>,
-    records: &mut PDB,
-) -> Result<(), AllocError>
-    ensures front { SameFront records.old records.new }
-    ensures modules { records.new.module_infos ≡ records.old.module_infos }
-{
-    match list {
-        Some(list) => {
-            records.type_information = Ok(list.all_types(alloc)?);
-            Ok(())
-        }
-        None => Ok(()),
-    }
-}
-
-// Puts into the records all ids of a list.
-fn put_all_ids(
-    alloc: Global,
-    list: &Option<TypeStream<'_>>,
-    records: &mut PDB,
-) -> Result<(), AllocError>
-    ensures front { SameFront records.old records.new }
-    ensures modules { records.new.module_infos ≡ records.old.module_infos }
-{
-    match list {
-        Some(list) => {
-            records.id_information = Ok(list.all_ids(alloc)?);
-            Ok(())
-        }
-        None => Ok(()),
-    }
-}
-
 fn set_read(read: &mut [bool], positions: &[usize]) {
     for &position in positions {
         if position < read.len() {
             read[position] = true;
         }
     }
-}
-
-fn put_info(infos: &mut [ModuleInfoResult], position: usize, info: ModuleInfoResult) {
-    if position < infos.len() {
-        infos[position] = info;
-    }
-}
-
-// Whether one of these modules has code without a name, whose function any module may list.
-fn any_has_unnamed_code(
-    alloc: Global,
-    infos: &[ModuleInfoResult],
-    positions: &[usize],
-) -> Result<bool, AllocError> {
-    for &position in positions {
-        if let Some(Ok(Some(info))) = infos.get(position)
-            && has_unnamed_code(alloc, &info.symbols.items)?
-        {
-            return Ok(true);
-        }
-    }
-    Ok(false)
 }

@@ -24,7 +24,7 @@ const TYPES: u32 = 2;
 const IDS: u32 = 4;
 
 /// The name of the stream of texts, with the zero behind it.
-const NAMES: [u8; 7] = *b"/names\0";
+pub const NAMES: [u8; 7] = *b"/names\0";
 
 /// What a PDB file has.
 #[derive(Drop)]

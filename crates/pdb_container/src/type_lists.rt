@@ -1,6 +1,9 @@
 //! The lists of types and of ids of a PDB file, and marks of their records.
 
-use pdb_records::{IdData, IdIndex, Item, TypeData, TypeIndex};
+ghost use Rattle.std.specs.Prelude.{◌≡◌};
+ghost use Rattle.pdb_container.specs.Reader.{SameFront};
+
+use pdb_records::{IdData, IdIndex, Item, PDB, TypeData, TypeIndex};
 use pdb_tpi::TypeStream;
 use std::alloc::{AllocError, Global};
 
@@ -62,5 +65,41 @@ pub fn id_of(
     match list {
         Some(list) => list.id_at(alloc, position),
         None => Ok(None),
+    }
+}
+
+/// Puts into the records all types of a list.
+pub fn put_all_types(
+    alloc: Global,
+    list: &Option<TypeStream<'_>>,
+    records: &mut PDB,
+) -> Result<(), AllocError>
+    ensures front { SameFront records.old records.new }
+    ensures modules { records.new.module_infos ≡ records.old.module_infos }
+{
+    match list {
+        Some(list) => {
+            records.type_information = Ok(list.all_types(alloc)?);
+            Ok(())
+        }
+        None => Ok(()),
+    }
+}
+
+/// Puts into the records all ids of a list.
+pub fn put_all_ids(
+    alloc: Global,
+    list: &Option<TypeStream<'_>>,
+    records: &mut PDB,
+) -> Result<(), AllocError>
+    ensures front { SameFront records.old records.new }
+    ensures modules { records.new.module_infos ≡ records.old.module_infos }
+{
+    match list {
+        Some(list) => {
+            records.id_information = Ok(list.all_ids(alloc)?);
+            Ok(())
+        }
+        None => Ok(()),
     }
 }

@@ -71,6 +71,7 @@ impl StreamMap {
     ) -> Result<Self, OpenFault>
         ensures answer { IfFile (S.bytes source.old) file_length (λ file.
             Reads (λ map. with_bytes file map) result (container file)) }
+        ensures length { IfOk result (λ map. map.file_length ≡ file_length) }
         ensures inputs { S.bytes source.new ≡ S.bytes source.old }
     {
         let superblock = read_front(alloc, source, file_length)?;

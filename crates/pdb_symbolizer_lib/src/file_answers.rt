@@ -7,6 +7,7 @@ use crate::input_files::{InputFile, SourceFile, find_file, open_source, read_inp
 use crate::line_queue::LineQueue;
 use crate::module_reader::ModuleReader;
 use crate::options::{Base, Options, Style};
+use crate::pdb_modules::PdbModules;
 use crate::repairs::print_repairs;
 use crate::requests::{Naming, Request, Sort, parse_request};
 use crate::status_line::StatusLine;
@@ -14,9 +15,8 @@ use crate::stops::Stop;
 use crate::symbol_names::SymbolNames;
 use crate::unknown_files::unknown_file;
 use pdb_addr2line::{Context, ContextPdbData, Error, Frame, FunctionFrames};
-use pdb_container::PdbReader;
 use std::alloc::{AllocError, Global};
-use std::io::{self, Read, Write};
+use std::io::{self, Read, Seek, Write};
 use std::rt::Files;
 
 /// A context over the records of a file.
@@ -40,7 +40,7 @@ pub fn answer_file<R: Files + Input + Print + Eprint + AllocGlobal>(
     path: &str,
 ) -> Result<(), Stop> {
     match find_file(rt, status_line, options, path) {
-        Ok(source) => answer_source(rt, options, path, &source),
+        Ok(source) => answer_source(rt, options, path, source),
         Err(stop) => answer_unknown(rt, options, path, stop),
     }
 }
@@ -49,7 +49,7 @@ fn answer_source<R: Files + Input + Print + Eprint + AllocGlobal>(
     rt: &R,
     options: &Options<'_>,
     path: &str,
-    source: &SourceFile,
+    source: SourceFile<R::File>,
 ) -> Result<(), Stop> {
     match open_repaired(rt, source) {
         Ok((mut input, reader)) => answer_over(rt, options, path, &mut input, reader),
@@ -58,22 +58,23 @@ fn answer_source<R: Files + Input + Print + Eprint + AllocGlobal>(
 }
 
 // Answers over a file that can't be opened.
-fn answer_unknown<R: Input + Print + Eprint + AllocGlobal>(
+fn answer_unknown<R: Files + Input + Print + Eprint + AllocGlobal>(
     rt: &R,
     options: &Options<'_>,
     path: &str,
     cause: Stop,
 ) -> Result<(), Stop> {
     let mut input = unknown_file(rt, options, path, cause)?;
-    answer_over(rt, options, path, &mut input, None)
+    let none: Option<PdbModules<R::File>> = None;
+    answer_over(rt, options, path, &mut input, none)
 }
 
-fn answer_over<R: Input + Print + Eprint + AllocGlobal>(
+fn answer_over<R: Input + Print + Eprint + AllocGlobal, F: Read + Seek + Drop>(
     rt: &R,
     options: &Options<'_>,
     path: &str,
     input: &mut InputFile,
-    reader: Option<PdbReader<'_>>,
+    reader: Option<PdbModules<F>>,
 ) -> Result<(), Stop> {
     let mut hint = hint_for(options, input);
     let names = SymbolNames::new(rt.alloc(), &input.records)?;
@@ -113,10 +114,10 @@ pub fn open_file<R: Files + Eprint + AllocGlobal>(
 }
 
 /// The same of a file that is read as it is asked, with what reads it.
-pub fn open_repaired<'a, R: Files + Eprint + AllocGlobal>(
+pub fn open_repaired<R: Files + Eprint + AllocGlobal>(
     rt: &R,
-    source: &'a SourceFile,
-) -> Result<(InputFile, Option<PdbReader<'a>>), Stop> {
+    source: SourceFile<R::File>,
+) -> Result<(InputFile, Option<PdbModules<R::File>>), Stop> {
     let (mut input, reader) = open_source(rt, source)?;
     repair(rt, &mut input)?;
     Ok((input, reader))
@@ -138,12 +139,12 @@ pub fn repair<R: Eprint + AllocGlobal>(rt: &R, input: &mut InputFile) -> Result<
 }
 
 /// Answers the addresses of the command line. What is known of the modules that they lie in is read before.
-fn answer_words<R: Print + Eprint + AllocGlobal>(
+fn answer_words<R: Print + Eprint + AllocGlobal, F: Read + Seek + Drop>(
     rt: &R,
     questions: &Questions<'_, '_>,
     hint: &mut BaseHint,
     input: &mut InputFile,
-    modules: &mut ModuleReader<'_>,
+    modules: &mut ModuleReader<F>,
 ) -> Result<(), Stop> {
     let addresses = addresses_of_words(rt.alloc(), questions)?;
     modules.read(rt, input.path.as_str(), &mut input.records, &addresses)?;
@@ -191,12 +192,12 @@ fn print_words<R: Print + Eprint + AllocGlobal>(
 }
 
 /// Answers the lines of standard input. What is known of the modules that ready lines ask for is read together.
-fn answer_input<R: Input + Print + Eprint + AllocGlobal>(
+fn answer_input<R: Input + Print + Eprint + AllocGlobal, F: Read + Seek + Drop>(
     rt: &R,
     questions: &Questions<'_, '_>,
     hint: &mut BaseHint,
     input: &mut InputFile,
-    modules: &mut ModuleReader<'_>,
+    modules: &mut ModuleReader<F>,
 ) -> Result<(), Stop> {
     let mut queue = LineQueue::new(rt.alloc(), rt.reader())?;
     for _ in 0..u64::MAX {
@@ -225,12 +226,12 @@ fn addresses_of_lines<T: Read + Drop>(
 }
 
 /// Answers lines by one context, up to the first one whose module was not read.
-fn answer_lines<R: Print + Eprint + AllocGlobal, T: Read + Drop>(
+fn answer_lines<R: Print + Eprint + AllocGlobal, F: Read + Seek + Drop, T: Read + Drop>(
     rt: &R,
     questions: &Questions<'_, '_>,
     hint: &mut BaseHint,
     input: &mut InputFile,
-    modules: &ModuleReader<'_>,
+    modules: &ModuleReader<F>,
     queue: &mut LineQueue<T>,
 ) -> Result<(), Stop> {
     let data = ContextPdbData::try_from_pdb_ref(rt.alloc(), &mut input.records)?;
@@ -273,7 +274,12 @@ impl Questions<'_, '_> {
     }
 
     /// Whether a text asks for code of a module that was not read.
-    pub fn lacks(&self, modules: &ModuleReader<'_>, text: &str, naming: Naming) -> bool {
+    pub fn lacks<F: Read + Seek + Drop>(
+        &self,
+        modules: &ModuleReader<F>,
+        text: &str,
+        naming: Naming,
+    ) -> bool {
         match self.address_in(text, naming) {
             Some(address) => modules.lacks(address),
             None => false,

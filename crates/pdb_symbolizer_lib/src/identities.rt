@@ -1,12 +1,13 @@
 //! Which build files are of: the lines of `--show-id`, and the check of `--expect-id`.
 
-use crate::input_files::read_file;
+use crate::file_bytes::FileBytes;
+use crate::input_files::{open_named_file, open_stop};
 use crate::options::Options;
 use crate::stops::Stop;
-use pdb_addr2line::Error;
-use pdb_container::{ContainerFault, DebugId, Machine, PdbIdentity, read_identity};
+use pdb_container::{DebugId, Machine, PdbIdentity, read_identity_of};
 use pdb_identity::{ProgramFile, read_program};
 use std::alloc::Global;
+use std::io::{Read, Seek};
 use std::rt::Files;
 
 /// Prints a line for each file that the words name, PDB files and programs: its path, its debug id, its age and its
@@ -26,14 +27,14 @@ pub fn print_identities<R: Files + Print + AllocGlobal>(
 }
 
 fn print_identity<R: Files + Print + AllocGlobal>(rt: &R, file: &str) -> Result<(), Stop> {
-    let bytes = read_file(rt, file)?;
-    match read_program(&bytes) {
-        Some(program) => print_program(rt, file, &program),
-        None => {
-            let identity = identity_of(rt.alloc(), file, &bytes)?;
-            print_line(rt, file, identity.debug_id, identity.machine)
-        }
+    let mut bytes = open_named_file(rt, file)?;
+    if let FileBytes::InMemory(bytes) = &bytes
+        && let Some(program) = read_program(bytes)
+    {
+        return print_program(rt, file, &program);
     }
+    let identity = identity_of(rt.alloc(), file, &mut bytes)?;
+    print_line(rt, file, identity.debug_id, identity.machine)
 }
 
 fn print_program<R: Print + AllocGlobal>(
@@ -64,11 +65,11 @@ fn print_line<R: Print>(
 }
 
 /// Refuses a PDB file of another build than is expected, if one is.
-pub fn check_identity(
+pub fn check_identity<F: Read + Seek + Drop>(
     alloc: Global,
     options: &Options<'_>,
     file: &str,
-    bytes: &[u8],
+    bytes: &mut FileBytes<F>,
 ) -> Result<(), Stop> {
     let Some(expected) = options.expected else {
         return Ok(());
@@ -80,11 +81,15 @@ pub fn check_identity(
     Err(Stop::OtherBuild(String::from_str(alloc, file)?, found, expected))
 }
 
-fn identity_of(alloc: Global, file: &str, bytes: &[u8]) -> Result<PdbIdentity, Stop> {
-    match read_identity(alloc, bytes) {
+fn identity_of<F: Read + Seek + Drop>(
+    alloc: Global,
+    file: &str,
+    bytes: &mut FileBytes<F>,
+) -> Result<PdbIdentity, Stop> {
+    let length = bytes.length();
+    match read_identity_of(alloc, bytes, length) {
         Ok(Some(identity)) => Ok(identity),
         Ok(None) => Err(Stop::NoIdentity(String::from_str(alloc, file)?)),
-        Err(ContainerFault::OutOfMemory) => Err(Stop::Refused(Error::OutOfMemory)),
-        Err(fault) => Err(Stop::Container(String::from_str(alloc, file)?, fault)),
+        Err(fault) => Err(open_stop(alloc, file, fault)),
     }
 }

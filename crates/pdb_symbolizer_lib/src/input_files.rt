@@ -1,24 +1,23 @@
 //! The file that the words name: its bytes, and the records of a PDB file or of a records file with its module files.
 
+use crate::file_bytes::{FileBytes, open_bytes};
 use crate::identities::check_identity;
 use crate::options::Options;
+use crate::pdb_modules::PdbModules;
 use crate::programs::find_pdb;
 use crate::status_line::StatusLine;
 use crate::stops::Stop;
 use pdb_addr2line::Error;
 use pdb_addr2line::pdb::PDB;
 use pdb_container::{
-    ContainerFault, PdbFile, PdbIdentity, PdbReader, Refusal, other_file, read_identity,
-    read_pdb_file,
+    ContainerFault, OpenFault, PdbFile, PdbIdentity, Refusal, read_identity, read_pdb_file,
 };
 use pdb_identity::{CodeId, ProgramFile, read_program};
 use pdb_json::RecordsFile;
 use std::alloc::{AllocError, Global};
+use std::fs;
+use std::io::{self, Read, Seek};
 use std::rt::Files;
-use std::{fs, io};
-
-/// What a PDB file begins with, of every version.
-const PDB_FILE: [u8; 14] = *b"Microsoft C/C+";
 
 /// The records of a file, and what a reader of them wants to be told.
 #[derive(Drop)]
@@ -40,54 +39,76 @@ pub struct InputFile {
 
 /// A file that was named, or the PDB file that was found for it.
 #[derive(Drop)]
-pub struct SourceFile {
+pub struct SourceFile<F> {
     pub path: String,
-    pub bytes: Vec<u8>,
+    pub bytes: FileBytes<F>,
     /// Where the program wants to be loaded, if one was named, and which build it is of.
     pub image_base: Option<u64>,
     pub code_id: Option<CodeId>,
 }
 
-/// Reads the bytes of a file: of a PDB file, of a records file, or of the PDB file of a program, which is looked for. A
-/// file of another build than is expected is refused before anything else of it is read.
+/// Opens a file: a PDB file, a records file, or the PDB file of a program, which is looked for. A file of another build
+/// than is expected is refused before anything else of it is read.
 pub fn find_file<R: Files + Eprint + AllocGlobal>(
     rt: &R,
     status_line: &StatusLine,
     options: &Options<'_>,
     path: &str,
-) -> Result<SourceFile, Stop> {
-    let bytes = read_file(rt, path)?;
-    status_line.print_size(rt, path, bytes.len());
-    let found = match read_program(&bytes) {
-        Some(program) => Some(find_program_file(rt, options, path, &program)?),
-        None => None,
+) -> Result<SourceFile<R::File>, Stop> {
+    let bytes = open_named_file(rt, path)?;
+    status_line.print_size(rt, path, bytes.length());
+    let found = match &bytes {
+        FileBytes::InMemory(bytes) => find_for_program(rt, options, path, bytes)?,
+        FileBytes::OnDisk(..) => None,
     };
-    match found {
-        Some(source) => Ok(source),
-        None => {
-            check_identity(rt.alloc(), options, path, &bytes)?;
-            Ok(SourceFile {
-                path: String::from_str(rt.alloc(), path)?,
-                bytes,
-                image_base: None,
-                code_id: None,
-            })
-        }
+    let source = match found {
+        Some(source) => source,
+        None => SourceFile {
+            path: String::from_str(rt.alloc(), path)?,
+            bytes,
+            image_base: None,
+            code_id: None,
+        },
+    };
+    check_source(rt.alloc(), options, source)
+}
+
+// Opens a file that the words name.
+pub fn open_named_file<R: Files + AllocGlobal>(
+    rt: &R,
+    path: &str,
+) -> Result<FileBytes<R::File>, Stop> {
+    match open_bytes(rt, path) {
+        Ok(bytes) => Ok(bytes),
+        Err(error) => Err(cannot_read(rt.alloc(), path, &error)),
     }
 }
 
-fn find_program_file<R: Files + AllocGlobal>(
+// The PDB file of a program, where these are the bytes of one.
+fn find_for_program<R: Files + AllocGlobal>(
     rt: &R,
     options: &Options<'_>,
     path: &str,
-    program: &ProgramFile<'_>,
-) -> Result<SourceFile, Stop> {
+    bytes: &[u8],
+) -> Result<Option<SourceFile<R::File>>, Stop> {
+    let Some(program) = read_program(bytes) else {
+        return Ok(None);
+    };
     let Some(code_view) = &program.code_view else {
         return Err(Stop::NoPdbFile(format!(in rt.alloc(); "{path}: it names no PDB file")?));
     };
     let found = find_pdb(rt, path, code_view, options)?;
-    check_identity(rt.alloc(), options, found.path.as_str(), &found.bytes)?;
-    Ok(found.of_program(program))
+    Ok(Some(found.of_program(&program)))
+}
+
+// A file, unless it is of another build than is expected.
+fn check_source<F: Read + Seek + Drop>(
+    alloc: Global,
+    options: &Options<'_>,
+    mut source: SourceFile<F>,
+) -> Result<SourceFile<F>, Stop> {
+    check_identity(alloc, options, source.path.as_str(), &mut source.bytes)?;
+    Ok(source)
 }
 
 /// The records of a file, all at once: of a PDB file, of a records file with its module files, or of a program, whose
@@ -99,48 +120,87 @@ pub fn read_input_file<R: Files + Eprint + AllocGlobal>(
     path: &str,
 ) -> Result<InputFile, Stop> {
     let source = find_file(rt, status_line, options, path)?;
-    if is_pdb_file(&source.bytes) {
-        read_container(rt.alloc(), &source)
+    let is_pdb_file = source.bytes.is_pdb_file();
+    let (front, bytes) = source.read(rt.alloc())?;
+    if is_pdb_file {
+        read_container(rt.alloc(), front, &bytes)
     } else {
-        read_records_file(rt, &source)
+        read_records_file(rt, front.path.as_str(), &bytes)
     }
 }
 
 /// The records of a file without what is read as it is asked, and what reads that: of a PDB file its modules, types and
 /// ids. The records of a records file are all there.
-pub fn open_source<'a, R: Files + AllocGlobal>(
+pub fn open_source<R: Files + AllocGlobal>(
     rt: &R,
-    source: &'a SourceFile,
-) -> Result<(InputFile, Option<PdbReader<'a>>), Stop> {
-    if is_pdb_file(&source.bytes) {
+    source: SourceFile<R::File>,
+) -> Result<(InputFile, Option<PdbModules<R::File>>), Stop> {
+    if source.bytes.is_pdb_file() {
         open_container(rt.alloc(), source)
     } else {
-        Ok((read_records_file(rt, source)?, None))
+        let (front, bytes) = source.read(rt.alloc())?;
+        Ok((read_records_file(rt, front.path.as_str(), &bytes)?, None))
     }
 }
 
-// Whether these are the bytes of a PDB file, or of one that isn't read, and not of a records file.
-fn is_pdb_file(bytes: &[u8]) -> bool {
-    match other_file(bytes) {
-        ContainerFault::NotAPdbFile => bytes.starts_with(&PDB_FILE),
-        _ => true,
+/// What is known of a file beside its bytes.
+#[derive(Drop)]
+struct NamedFile {
+    path: String,
+    image_base: Option<u64>,
+    code_id: Option<CodeId>,
+}
+
+impl<F: Read + Seek + Drop> SourceFile<F> {
+    // All bytes of the file, and what is known of it beside them.
+    fn read(self, alloc: Global) -> Result<(NamedFile, Vec<u8>), Stop> {
+        let SourceFile {
+            path,
+            bytes,
+            image_base,
+            code_id,
+        } = self;
+        match bytes.into_memory(alloc) {
+            Ok(bytes) => Ok((
+                NamedFile {
+                    path,
+                    image_base,
+                    code_id,
+                },
+                bytes,
+            )),
+            Err(error) => Err(cannot_read(alloc, path.as_str(), &error)),
+        }
     }
 }
 
-fn read_container(alloc: Global, source: &SourceFile) -> Result<InputFile, Stop> {
-    match read_file_and_identity(alloc, &source.bytes) {
-        Ok((file, identity)) => of_pdb_file(alloc, source, file, identity),
-        Err(fault) => Err(container_stop(alloc, source.path.as_str(), fault)),
+fn read_container(alloc: Global, file: NamedFile, bytes: &[u8]) -> Result<InputFile, Stop> {
+    match read_file_and_identity(alloc, bytes) {
+        Ok((pdb_file, identity)) => Ok(of_pdb_file(file, pdb_file, identity)),
+        Err(fault) => Err(container_stop(alloc, file.path.as_str(), fault)),
     }
 }
 
-fn open_container<'a>(
+fn open_container<F: Read + Seek + Drop>(
     alloc: Global,
-    source: &'a SourceFile,
-) -> Result<(InputFile, Option<PdbReader<'a>>), Stop> {
-    match PdbReader::open(alloc, &source.bytes) {
-        Ok((reader, file)) => Ok((of_pdb_file(alloc, source, file, None)?, Some(reader))),
-        Err(fault) => Err(container_stop(alloc, source.path.as_str(), fault)),
+    source: SourceFile<F>,
+) -> Result<(InputFile, Option<PdbModules<F>>), Stop> {
+    let SourceFile {
+        path,
+        bytes,
+        image_base,
+        code_id,
+    } = source;
+    match PdbModules::open(alloc, bytes) {
+        Ok((modules, pdb_file)) => {
+            let file = NamedFile {
+                path,
+                image_base,
+                code_id,
+            };
+            Ok((of_pdb_file(file, pdb_file, None), Some(modules)))
+        }
+        Err(fault) => Err(open_stop(alloc, path.as_str(), fault)),
     }
 }
 
@@ -149,6 +209,30 @@ fn container_stop(alloc: Global, path: &str, fault: ContainerFault) -> Stop {
         (_, ContainerFault::OutOfMemory) => Stop::Refused(Error::OutOfMemory),
         (Ok(path), fault) => Stop::Container(path, fault),
         (Err(_), _) => Stop::Refused(Error::OutOfMemory),
+    }
+}
+
+/// Why a run ends over a file that can't be opened.
+pub fn open_stop(alloc: Global, path: &str, fault: OpenFault) -> Stop {
+    match fault {
+        OpenFault::Container(fault) => container_stop(alloc, path, fault),
+        OpenFault::Unreadable => unreadable(alloc, path),
+    }
+}
+
+/// Why a run ends over a file that can't be read further.
+pub fn unreadable(alloc: Global, path: &str) -> Stop {
+    match String::from_str(alloc, path) {
+        Ok(path) => Stop::CannotRead(path),
+        Err(_) => Stop::Refused(Error::OutOfMemory),
+    }
+}
+
+fn cannot_read(alloc: Global, path: &str, error: &io::Error) -> Stop {
+    if ran_out_of_memory(error) {
+        Stop::Refused(Error::OutOfMemory)
+    } else {
+        unreadable(alloc, path)
     }
 }
 
@@ -161,35 +245,35 @@ fn read_file_and_identity(
     Ok((file, identity))
 }
 
-fn of_pdb_file(
-    alloc: Global,
-    source: &SourceFile,
-    file: PdbFile,
-    identity: Option<PdbIdentity>,
-) -> Result<InputFile, Stop> {
+fn of_pdb_file(file: NamedFile, pdb_file: PdbFile, identity: Option<PdbIdentity>) -> InputFile {
+    let NamedFile {
+        path,
+        image_base,
+        code_id,
+    } = file;
     let PdbFile {
         records,
         refusal,
         names_only,
-    } = file;
-    Ok(InputFile {
-        path: String::from_str(alloc, source.path.as_str())?,
+    } = pdb_file;
+    InputFile {
+        path,
         records,
         refusal,
         names_only,
         identity,
-        image_base: source.image_base,
-        code_id: source.code_id,
-    })
+        image_base,
+        code_id,
+    }
 }
 
 /// The records of a records file and of its module files.
 fn read_records_file<R: Files + AllocGlobal>(
     rt: &R,
-    source: &SourceFile,
+    path: &str,
+    bytes: &[u8],
 ) -> Result<InputFile, Stop> {
-    let path = source.path.as_str();
-    match RecordsFile::from_slice(rt.alloc(), &source.bytes) {
+    match RecordsFile::from_slice(rt.alloc(), bytes) {
         Ok(file) => read_module_records(rt, path, file),
         Err(fault) => Err(Stop::Records(String::from_str(rt.alloc(), path)?, fault)),
     }
@@ -219,8 +303,7 @@ fn read_module_records<R: Files + AllocGlobal>(
 pub fn read_file<R: Files + AllocGlobal>(rt: &R, path: &str) -> Result<Vec<u8>, Stop> {
     match fs::read(rt, path) {
         Ok(bytes) => Ok(bytes),
-        Err(error) if ran_out_of_memory(&error) => Err(Stop::Refused(Error::OutOfMemory)),
-        Err(_) => Err(Stop::CannotRead(String::from_str(rt.alloc(), path)?)),
+        Err(error) => Err(cannot_read(rt.alloc(), path, &error)),
     }
 }
 
@@ -267,8 +350,7 @@ fn read_module_file<R: Files + AllocGlobal>(
     let path = beside(rt.alloc(), records, name)?;
     match read_regular_file(rt, path.as_str()) {
         Ok(bytes) => Ok(bytes),
-        Err(error) if ran_out_of_memory(&error) => Err(Stop::Refused(Error::OutOfMemory)),
-        Err(_) => Err(Stop::CannotRead(path)),
+        Err(error) => Err(cannot_read(rt.alloc(), path.as_str(), &error)),
     }
 }
 

@@ -1,12 +1,15 @@
 //! Has what is known of modules read when an address in their code is asked for.
 
+use crate::input_files::unreadable;
+use crate::pdb_modules::PdbModules;
 use crate::repairs::print_module_repairs;
 use crate::stops::Stop;
 use pdb_addr2line::parts::compute_section_contributions;
 use pdb_addr2line::pdb::{AddressMap, ImageSectionHeader, PDB, Rva};
 use pdb_addr2line::{Error, ModuleSectionContribution};
-use pdb_container::PdbReader;
+use pdb_container::SourceFault;
 use std::alloc::{AllocError, Global};
+use std::io::{Read, Seek};
 
 /// How often modules are read that are asked for, each time with the tables of a context made anew. Behind that all are
 /// read that are left.
@@ -21,9 +24,9 @@ const MANY: usize = 2048;
 
 /// Whose code lies at an address, and what reads a module of a PDB file.
 #[derive(Drop)]
-pub struct ModuleReader<'a> {
-    /// `None` for records that are all there.
-    reader: Option<PdbReader<'a>>,
+pub struct ModuleReader<F> {
+    /// `None` for records that are all there, as once all modules were read.
+    reader: Option<PdbModules<F>>,
     address_map: AddressMap,
     /// Merged, by section and start.
     contributions: Vec<ModuleSectionContribution>,
@@ -33,9 +36,9 @@ pub struct ModuleReader<'a> {
     asked: usize,
 }
 
-impl<'a> ModuleReader<'a> {
+impl<F: Read + Seek + Drop> ModuleReader<F> {
     /// What reads modules into these records, where a reader of their PDB file is given.
-    pub fn new(alloc: Global, reader: Option<PdbReader<'a>>, records: &PDB) -> Result<Self, Error> {
+    pub fn new(alloc: Global, reader: Option<PdbModules<F>>, records: &PDB) -> Result<Self, Error> {
         let mut address_map = AddressMap {
             sections: Vec::new(alloc),
         };
@@ -74,8 +77,11 @@ impl<'a> ModuleReader<'a> {
         if wanted.is_empty() {
             return Ok(());
         }
-        let positions = self.read_modules(rt.alloc(), records, &wanted, addresses.len())?;
-        print_module_repairs(rt, path, records, &positions)
+        match self.read_modules(rt.alloc(), records, &wanted, addresses.len()) {
+            Ok(positions) => print_module_repairs(rt, path, records, &positions),
+            Err(SourceFault::OutOfMemory) => Err(Stop::Refused(Error::OutOfMemory)),
+            Err(SourceFault::Unreadable) => Err(unreadable(rt.alloc(), path)),
+        }
     }
 
     // The modules that lie over these addresses and were not read, each once.
@@ -100,23 +106,30 @@ impl<'a> ModuleReader<'a> {
         records: &mut PDB,
         wanted: &[usize],
         addresses: usize,
-    ) -> Result<Vec<usize>, AllocError> {
+    ) -> Result<Vec<usize>, SourceFault> {
         let Some(reader) = &mut self.reader else {
             return Ok(Vec::new(alloc));
         };
         self.rounds = self.rounds.saturating_add(1);
         self.asked = self.asked.saturating_add(wanted.len());
-        let count = reader.module_count();
+        let count = reader.count();
         let most = if addresses < MANY {
             MODULES.max(count / 4)
         } else {
             count / 16
         };
-        if self.rounds > ROUNDS || self.asked > most {
-            reader.read_all(alloc, records)
-        } else {
-            reader.read_modules(alloc, records, wanted)
+        if self.rounds <= ROUNDS && self.asked <= most {
+            return reader.read(alloc, records, wanted);
         }
+        let positions = reader.read_all(alloc, records)?;
+        self.let_go(alloc);
+        Ok(positions)
+    }
+
+    // Lets go of what reads modules, where all were read.
+    fn let_go(&mut self, alloc: Global) {
+        self.reader = None;
+        self.contributions = Vec::new(alloc);
     }
 
     // The module whose code lies at an address.

@@ -12,14 +12,14 @@ use crate::input_files::{InputFile, SourceFile, find_file};
 use crate::line_queue::LineQueue;
 use crate::module_reader::ModuleReader;
 use crate::options::{Options, Style};
+use crate::pdb_modules::PdbModules;
 use crate::requests::{Naming, Request, parse_request};
 use crate::status_line::StatusLine;
 use crate::stops::Stop;
 use crate::symbol_names::SymbolNames;
 use pdb_addr2line::ContextPdbData;
-use pdb_container::PdbReader;
 use std::alloc::{AllocError, Global};
-use std::io::Read;
+use std::io::{Read, Seek};
 use std::rt::Files;
 
 /// Answers the lines of standard input, of which each names its file.
@@ -71,7 +71,7 @@ fn answer_file_of<R: Files + Print + Eprint + AllocGlobal, T: Read + Drop>(
     queue: &mut LineQueue<T>,
 ) -> Result<Option<Stop>, Stop> {
     match find_file(rt, status_line, options, path) {
-        Ok(source) => answer_source(rt, options, path, &source, queue),
+        Ok(source) => answer_source(rt, options, path, source, queue),
         Err(stop) => unopened(stop),
     }
 }
@@ -80,7 +80,7 @@ fn answer_source<R: Files + Print + Eprint + AllocGlobal, T: Read + Drop>(
     rt: &R,
     options: &Options<'_>,
     path: &str,
-    source: &SourceFile,
+    source: SourceFile<R::File>,
     queue: &mut LineQueue<T>,
 ) -> Result<Option<Stop>, Stop> {
     match open_repaired(rt, source) {
@@ -130,12 +130,12 @@ fn print_answer<R: Print>(rt: &R, options: &Options<'_>, mut text: String) -> Re
 }
 
 // Answers lines that name this file. What is known of the modules that ready lines ask for is read together.
-fn answer_lines_of<R: Print + Eprint + AllocGlobal, T: Read + Drop>(
+fn answer_lines_of<R: Print + Eprint + AllocGlobal, F: Read + Seek + Drop, T: Read + Drop>(
     rt: &R,
     options: &Options<'_>,
     path: &str,
     input: &mut InputFile,
-    reader: Option<PdbReader<'_>>,
+    reader: Option<PdbModules<F>>,
     queue: &mut LineQueue<T>,
 ) -> Result<(), Stop> {
     let mut hint = hint_for(options, input);
@@ -192,12 +192,12 @@ fn names_file(questions: &Questions<'_, '_>, text: &str) -> bool {
 }
 
 // Answers lines by one context, up to the first one that names another file, or whose module was not read.
-fn answer_same_file<R: Print + Eprint + AllocGlobal, T: Read + Drop>(
+fn answer_same_file<R: Print + Eprint + AllocGlobal, F: Read + Seek + Drop, T: Read + Drop>(
     rt: &R,
     questions: &Questions<'_, '_>,
     hint: &mut BaseHint,
     input: &mut InputFile,
-    modules: &ModuleReader<'_>,
+    modules: &ModuleReader<F>,
     queue: &mut LineQueue<T>,
 ) -> Result<Left, Stop> {
     let data = ContextPdbData::try_from_pdb_ref(rt.alloc(), &mut input.records)?;

@@ -1,27 +1,29 @@
 //! The PDB file of a program, looked for where that names it, beside it and in folders; and of a module, in folders.
 
-use crate::input_files::{SourceFile, ran_out_of_memory, read_regular_file};
+use crate::file_bytes::{FileBytes, open_regular_bytes};
+use crate::input_files::{SourceFile, ran_out_of_memory};
 use crate::options::Options;
 use crate::paths::file_name;
 use crate::stops::Stop;
 use pdb_addr2line::Error;
-use pdb_container::{ContainerFault, DebugId, read_identity};
+use pdb_container::{ContainerFault, DebugId, OpenFault, read_identity_of};
 use pdb_identity::{CodeView, ProgramFile};
 use pdb_symbolication::WantedModule;
 use std::alloc::{AllocError, Global};
+use std::io::{Read, Seek};
 use std::rt::Files;
 use std::str;
 
 /// A file that was found, with its bytes.
 #[derive(Drop)]
-pub struct FoundFile {
+pub struct FoundFile<F> {
     pub path: String,
-    pub bytes: Vec<u8>,
+    pub bytes: FileBytes<F>,
 }
 
-impl FoundFile {
+impl<F: Read + Seek + Drop> FoundFile<F> {
     /// The file as the one that a program names.
-    pub fn of_program(self, program: &ProgramFile<'_>) -> SourceFile {
+    pub fn of_program(self, program: &ProgramFile<'_>) -> SourceFile<F> {
         let FoundFile { path, bytes } = self;
         SourceFile {
             path,
@@ -32,7 +34,7 @@ impl FoundFile {
     }
 
     /// The file by itself.
-    pub fn by_itself(self) -> SourceFile {
+    pub fn by_itself(self) -> SourceFile<F> {
         let FoundFile { path, bytes } = self;
         SourceFile {
             path,
@@ -50,7 +52,7 @@ pub fn find_pdb<R: Files + AllocGlobal>(
     program: &str,
     code_view: &CodeView<'_>,
     options: &Options<'_>,
-) -> Result<FoundFile, Stop> {
+) -> Result<FoundFile<R::File>, Stop> {
     let places = places(rt.alloc(), program, code_view, options)?;
     let mut looked = String::new(rt.alloc());
     for path in places {
@@ -68,7 +70,7 @@ pub fn find_in_folders<R: Files + AllocGlobal>(
     rt: &R,
     options: &Options<'_>,
     module: &WantedModule,
-) -> Result<Option<FoundFile>, Stop> {
+) -> Result<Option<FoundFile<R::File>>, Stop> {
     let name = module.name.as_str();
     let mut places = Vec::new(rt.alloc());
     push_folder_places(rt.alloc(), &mut places, options, name, module.debug_id)?;
@@ -82,32 +84,46 @@ pub fn find_in_folders<R: Files + AllocGlobal>(
 
 /// What a look at a place came to.
 #[derive(Drop)]
-enum Look {
-    Found(Vec<u8>),
+enum Look<F> {
+    Found(FileBytes<F>),
     /// Why it is none that is looked for.
     PassedOver(String),
 }
 
-fn look_at<R: Files + AllocGlobal>(rt: &R, path: &str, wanted: DebugId) -> Result<Look, Stop> {
-    let alloc = rt.alloc();
-    let bytes = match read_regular_file(rt, path) {
-        Ok(bytes) => bytes,
-        Err(error) if ran_out_of_memory(&error) => return Err(Stop::Refused(Error::OutOfMemory)),
-        Err(_) => return passed_over(alloc, "can't be read"),
-    };
-    match read_identity(alloc, &bytes) {
+fn look_at<R: Files + AllocGlobal>(
+    rt: &R,
+    path: &str,
+    wanted: DebugId,
+) -> Result<Look<R::File>, Stop> {
+    match open_regular_bytes(rt, path) {
+        Ok(bytes) => look_into(rt.alloc(), bytes, wanted),
+        Err(error) if ran_out_of_memory(&error) => Err(Stop::Refused(Error::OutOfMemory)),
+        Err(_) => passed_over(rt.alloc(), "can't be read"),
+    }
+}
+
+fn look_into<F: Read + Seek + Drop>(
+    alloc: Global,
+    mut bytes: FileBytes<F>,
+    wanted: DebugId,
+) -> Result<Look<F>, Stop> {
+    let length = bytes.length();
+    match read_identity_of(alloc, &mut bytes, length) {
         Ok(Some(identity)) if identity.debug_id == wanted => Ok(Look::Found(bytes)),
         Ok(Some(identity)) => Ok(Look::PassedOver(format!(in alloc;
             "its id is {}",
             identity.debug_id
         )?)),
         Ok(None) => passed_over(alloc, "no id"),
-        Err(ContainerFault::OutOfMemory) => Err(Stop::Refused(Error::OutOfMemory)),
-        Err(fault) => Ok(Look::PassedOver(format!(in alloc; "{fault}")?)),
+        Err(OpenFault::Container(ContainerFault::OutOfMemory)) => {
+            Err(Stop::Refused(Error::OutOfMemory))
+        }
+        Err(OpenFault::Container(fault)) => { Ok(Look::PassedOver(format!(in alloc; "{fault}")?)) }
+        Err(OpenFault::Unreadable) => passed_over(alloc, "can't be read"),
     }
 }
 
-fn passed_over(alloc: Global, why: &str) -> Result<Look, Stop> {
+fn passed_over<F: Drop>(alloc: Global, why: &str) -> Result<Look<F>, Stop> {
     Ok(Look::PassedOver(String::from_str(alloc, why)?))
 }
 

@@ -5,14 +5,15 @@ use crate::file_frames::FileFrames;
 use crate::input_files::InputFile;
 use crate::module_reader::ModuleReader;
 use crate::options::Options;
+use crate::pdb_modules::PdbModules;
 use crate::programs::find_in_folders;
 use crate::stops::Stop;
 use crate::symbol_names::SymbolNames;
 use pdb_addr2line::{ContextPdbData, Error, Frame, FunctionFrames};
 use pdb_breakpad::FrameSource;
-use pdb_container::PdbReader;
 use pdb_symbolication::{FoundFunction, FrameTexts, Place, WantedModule};
 use std::alloc::{AllocError, Global};
+use std::io::{Read, Seek};
 use std::rt::Files;
 
 /// The texts of each module, `None` where no file of it is found over which something can be answered. One module after
@@ -53,17 +54,16 @@ fn texts_of_file<R: Files + Eprint + AllocGlobal>(
     let Some(found) = find_in_folders(rt, options, module)? else {
         return Ok(None);
     };
-    let source = found.by_itself();
-    let (mut input, reader) = open_repaired(rt, &source)?;
+    let (mut input, reader) = open_repaired(rt, found.by_itself())?;
     Ok(Some(texts_over(rt, options, module, &mut input, reader)?))
 }
 
-fn texts_over<R: Eprint + AllocGlobal>(
+fn texts_over<R: Eprint + AllocGlobal, F: Read + Seek + Drop>(
     rt: &R,
     options: &Options<'_>,
     module: &WantedModule,
     input: &mut InputFile,
-    reader: Option<PdbReader<'_>>,
+    reader: Option<PdbModules<F>>,
 ) -> Result<FrameTexts, Stop> {
     let names = SymbolNames::new(rt.alloc(), &input.records)?;
     let mut modules = ModuleReader::new(rt.alloc(), reader, &input.records)?;

@@ -1,0 +1,122 @@
+//! The streams of a file that is read range by range, as far as they are read before any of its modules.
+
+use crate::debug_records::{DEBUG, NO_NUMBER, SECTIONS, debug_stream};
+use crate::front::{IDS, TYPES};
+use crate::info::{INFO, InfoStream};
+use crate::records::NAMES;
+use pdb_dbi::{optional_stream, read_header};
+use pdb_msf::faults::{Fault, NO_STREAM, part_or_fault};
+use pdb_msf::{Container, Excerpt, Source, SourceFault, StreamBytes, StreamMap};
+use pdb_records::StreamError;
+use std::alloc::Global;
+
+/// The streams of a file that are read before any of its modules.
+#[derive(Drop)]
+pub struct FrontStreams {
+    pub file_length: usize,
+    /// All but types and ids.
+    pub excerpt: Excerpt,
+    pub types: Result<Vec<u8>, StreamError>,
+    /// `None` of a file without ids.
+    pub ids: Result<Option<Vec<u8>>, StreamError>,
+}
+
+impl FrontStreams {
+    /// Reads these streams of a file.
+    pub fn read<S: Source>(
+        alloc: Global,
+        map: &StreamMap,
+        source: &mut S,
+    ) -> Result<Self, SourceFault> {
+        let mut excerpt = Excerpt::new(alloc, map)?;
+        excerpt.add(alloc, map, source, INFO)?;
+        excerpt.add(alloc, map, source, DEBUG)?;
+        let front = named_by_front(alloc, &excerpt)?;
+        for &number in &front.numbers {
+            excerpt.add(alloc, map, source, number)?;
+        }
+        let types = map.load(alloc, source, TYPES)?;
+        let ids = if front.has_ids {
+            some_stream(map.load(alloc, source, IDS)?)
+        } else {
+            Ok(None)
+        };
+        Ok(FrontStreams {
+            file_length: map.file_length(),
+            excerpt,
+            types,
+            ids,
+        })
+    }
+}
+
+/// The bytes of a stream, `None` where the file has none.
+pub fn some_stream<T: Drop>(stream: Result<T, StreamError>) -> Result<Option<T>, StreamError> {
+    match stream {
+        Ok(stream) => Ok(Some(stream)),
+        Err(NO_STREAM) => Ok(None),
+        Err(error) => Err(error),
+    }
+}
+
+// What the info stream and the stream of debug information lead to.
+#[derive(Drop)]
+struct NamedByFront {
+    /// The numbers of the streams that they name.
+    numbers: Vec<u32>,
+    has_ids: bool,
+}
+
+fn named_by_front(alloc: Global, excerpt: &Excerpt) -> Result<NamedByFront, SourceFault> {
+    match named_in_excerpt(alloc, excerpt) {
+        Ok(named) => Ok(named),
+        Err(_) => Err(SourceFault::OutOfMemory),
+    }
+}
+
+fn named_in_excerpt(alloc: Global, excerpt: &Excerpt) -> Result<NamedByFront, Fault> {
+    let container = excerpt.container(alloc)?;
+    let info = InfoStream::read(alloc, &container)?;
+    let mut numbers = named_streams(alloc, &container)?;
+    if let Ok(number) = info.named_stream(&NAMES) {
+        numbers.push(number)?;
+    }
+    Ok(NamedByFront {
+        numbers,
+        has_ids: info.features().ids,
+    })
+}
+
+// The numbers of the streams that debug information names and that are read before any module: of symbols and of
+// sections.
+fn named_streams(alloc: Global, container: &Container<'_>) -> Result<Vec<u32>, Fault> {
+    let mut numbers = Vec::new(alloc);
+    let Ok(stream) = part_or_fault(debug_stream(alloc, container))? else {
+        return Ok(numbers);
+    };
+    let Ok(header) = read_header(stream.as_slice()) else {
+        return Ok(numbers);
+    };
+    if header.global_symbols != NO_NUMBER {
+        numbers.push(u32::from(header.global_symbols))?;
+    }
+    if let Some(number) = optional_stream(header.optional_streams.bytes, SECTIONS) {
+        numbers.push(u32::from(number))?;
+    }
+    Ok(numbers)
+}
+
+/// The bytes of a stream that were read.
+pub fn copied<'a>(stream: Result<Vec<u8>, StreamError>) -> Result<StreamBytes<'a>, StreamError> {
+    Ok(StreamBytes::Copied(stream?))
+}
+
+/// The bytes of a stream that were read, if the file has one.
+pub fn copied_ids<'a>(
+    stream: Result<Option<Vec<u8>>, StreamError>,
+) -> Result<Option<StreamBytes<'a>>, StreamError> {
+    match stream? {
+        Some(bytes) => Ok(Some(StreamBytes::Copied(bytes))),
+        None => Ok(None),
+    }
+}

@@ -1,0 +1,117 @@
+//! The bytes of a file: in memory, or in the file, where a range is read as it is asked for.
+
+use pdb_container::{ContainerFault, Source, Unreadable, other_file};
+use std::alloc::Global;
+use std::fs::{self, OpenFile};
+use std::io::{self, Read, Seek, SeekFrom};
+use std::rt::Files;
+
+/// What a PDB file begins with, of every version.
+const PDB_FILE: [u8; 14] = *b"Microsoft C/C+";
+
+/// The bytes of a file.
+#[derive(Drop)]
+pub enum FileBytes<F> {
+    InMemory(Vec<u8>),
+    /// A PDB file, and how many bytes it has.
+    OnDisk(F, usize),
+}
+
+impl<F: Read + Seek + Drop> Source for FileBytes<F> {
+    ghost use Rattle.std.specs.Prelude.{None};
+
+    ghost bytes = { λ bytes. None };
+
+    fn read_exact_at(&mut self, buffer: &mut [u8], place: usize) -> Result<(), Unreadable> {
+        match self {
+            FileBytes::InMemory(bytes) => bytes.as_slice().read_exact_at(buffer, place),
+            FileBytes::OnDisk(file, _) => match read_range(file, buffer, place) {
+                Ok(()) => Ok(()),
+                Err(_) => Err(Unreadable),
+            },
+        }
+    }
+}
+
+impl<F: Read + Seek + Drop> FileBytes<F> {
+    /// How many bytes there are.
+    pub fn length(&self) -> usize {
+        match self {
+            FileBytes::InMemory(bytes) => bytes.len(),
+            FileBytes::OnDisk(_, length) => *length,
+        }
+    }
+
+    /// Whether the file is a PDB file, or one that isn't read, and not a records file or a program.
+    pub fn is_pdb_file(&self) -> bool {
+        match self {
+            FileBytes::InMemory(bytes) => is_pdb_file(bytes),
+            FileBytes::OnDisk(..) => true,
+        }
+    }
+
+    /// All bytes, in memory.
+    pub fn into_memory(self, alloc: Global) -> io::Result<Vec<u8>> {
+        match self {
+            FileBytes::InMemory(bytes) => Ok(bytes),
+            FileBytes::OnDisk(mut file, _) => {
+                file.seek(SeekFrom::Start(0))?;
+                read_all(alloc, &mut file)
+            }
+        }
+    }
+}
+
+/// Opens a file that the words name. A PDB file is read as it is asked, any other file all at once.
+pub fn open_bytes<R: Files + AllocGlobal>(rt: &R, path: &str) -> io::Result<FileBytes<R::File>> {
+    let mut file = fs::open(rt, path)?;
+    let metadata = file.metadata()?;
+    if metadata.is_file() && begins_as_pdb_file(&mut file, metadata.len())? {
+        let length = usize::try_from(metadata.len()).unwrap_or(usize::MAX);
+        return Ok(FileBytes::OnDisk(file, length));
+    }
+    Ok(FileBytes::InMemory(read_all(rt.alloc(), &mut file)?))
+}
+
+/// Opens a file that another file names. A folder, a device or a pipe is refused: what is in a file must not have the
+/// reader wait, or read without an end.
+pub fn open_regular_bytes<R: Files + AllocGlobal>(
+    rt: &R,
+    path: &str,
+) -> io::Result<FileBytes<R::File>> {
+    if fs::metadata(rt, path)?.is_file() {
+        open_bytes(rt, path)
+    } else {
+        Err(io::Error::from(io::ErrorKind::InvalidInput))
+    }
+}
+
+// Whether a file of this length begins as a PDB file does. It is left at its start.
+fn begins_as_pdb_file<F: Read + Seek>(file: &mut F, length: u64) -> io::Result<bool> {
+    let mut front = [0; 14];
+    if length < 14 {
+        return Ok(false);
+    }
+    file.read_exact(&mut front)?;
+    file.seek(SeekFrom::Start(0))?;
+    Ok(front == PDB_FILE)
+}
+
+fn read_range<F: Read + Seek>(file: &mut F, buffer: &mut [u8], place: usize) -> io::Result<()> {
+    file.seek(SeekFrom::Start(place as u64))?;
+    file.read_exact(buffer)
+}
+
+fn read_all<F: Read>(alloc: Global, file: &mut F) -> io::Result<Vec<u8>> {
+    let mut bytes = Vec::new(alloc);
+    file.read_to_end(&mut bytes)?;
+    Ok(bytes)
+}
+
+// Whether these are the bytes of a PDB file, or of one that isn't read, and not of a records file.
+fn is_pdb_file(bytes: &[u8]) -> bool {
+    match other_file(bytes) {
+        ContainerFault::NotAPdbFile => bytes.starts_with(&PDB_FILE),
+        _ => true,
+    }
+}
