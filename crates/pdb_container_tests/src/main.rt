@@ -1,13 +1,16 @@
 //! Reads the PDB files that its words name, and writes the records of each, or why nothing can be answered.
 //!
-//! What of a file is broken is written too. `data/write_files.py` writes the files, by their bytes, and what is wanted
-//! of them.
+//! What of a file is broken is written too, and whether a reader of single modules that reads all of them comes to other
+//! records. `data/write_files.py` writes the files, by their bytes, and what is wanted of them.
 #![tactic(auto)]
 
 use anyhow::Result;
-use pdb_container::{PdbFile, read_pdb_file};
+use pdb_container::{
+    Container, FrontStreams, PdbFile, PdbReader, SourceModules, StreamMap, read_pdb_file,
+};
 use pdb_export::write_records;
 use pdb_repairs::repair_records;
+use std::alloc::Global;
 use std::rt::Files;
 use std::{env, fs, io};
 
@@ -23,7 +26,16 @@ fn show<R: Files + Print + AllocGlobal>(rt: &R, name: &str) -> Result<()> {
     println!(rt; "{name}")?;
     let bytes = fs::read(rt, name)?;
     match read_pdb_file(rt.alloc(), &bytes) {
-        Ok(mut file) => show_file(rt, &mut file),
+        Ok(mut file) => {
+            let text = Some(records_text(rt.alloc(), &file)?);
+            if read_in_memory(rt.alloc(), &bytes)? != text {
+                println!(rt; "other records by a reader of the bytes")?;
+            }
+            if read_by_ranges(rt.alloc(), &bytes)? != text {
+                println!(rt; "other records by a reader of ranges")?;
+            }
+            show_file(rt, &mut file)
+        }
         Err(fault) => {
             println!(rt; "{fault}")?;
             Ok(())
@@ -50,4 +62,44 @@ fn show_records<R: Print + AllocGlobal>(rt: &R, file: &mut PdbFile) -> Result<()
         println!(rt; "{repair:?}")?;
     }
     Ok(())
+}
+
+/// The records as they are written.
+fn records_text(alloc: Global, file: &PdbFile) -> Result<Vec<u8>> {
+    let mut text = Vec::new(alloc);
+    write_records(alloc, &mut text, &file.records, &[])?;
+    Ok(text)
+}
+
+/// The records by a reader that has the file's bytes, `None` where there are none.
+fn read_in_memory(alloc: Global, bytes: &[u8]) -> Result<Option<Vec<u8>>> {
+    let Ok(mut container) = Container::open(alloc, bytes) else {
+        return Ok(None);
+    };
+    let Ok((mut reader, mut file)) = PdbReader::open(alloc, &container) else {
+        return Ok(None);
+    };
+    match reader.read_all(alloc, &mut container, &mut file.records) {
+        Ok(_) => Ok(Some(records_text(alloc, &file)?)),
+        Err(_) => Ok(None),
+    }
+}
+
+/// The records by a reader that reads ranges of the file, `None` where there are none.
+fn read_by_ranges(alloc: Global, mut bytes: &[u8]) -> Result<Option<Vec<u8>>> {
+    let length = bytes.len();
+    let Ok(map) = StreamMap::read(alloc, &mut bytes, length) else {
+        return Ok(None);
+    };
+    let Ok(streams) = FrontStreams::read(alloc, &map, &mut bytes) else {
+        return Ok(None);
+    };
+    let Ok((mut reader, mut file)) = PdbReader::open_front(alloc, streams) else {
+        return Ok(None);
+    };
+    let mut modules = SourceModules { map, source: bytes };
+    match reader.read_all(alloc, &mut modules, &mut file.records) {
+        Ok(_) => Ok(Some(records_text(alloc, &file)?)),
+        Err(_) => Ok(None),
+    }
 }
