@@ -16,7 +16,7 @@ import sys
 import tempfile
 
 ROOT = pathlib.Path(__file__).resolve().parents[2]
-SEGMENTS = ("pdb_ranges/src/segments.rt", "pub fn find", "ensures answer { result ≡ value_at self.now x }")
+SEGMENTS = ("pdb_tables/src/segments.rt", "pub fn find", "ensures answer { result ≡ value_at self.now x }")
 STACKS = ("pdb_inline/src/stack_table.rt", "pub fn find", "ensures answer { result.now ≡ stack_over self.now offset }")
 CASES = [
     (SEGMENTS, "pdb_functions", ["contribution_table::ContributionTable::search",

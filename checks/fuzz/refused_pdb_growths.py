@@ -32,14 +32,14 @@ CASES = [
 AS_WANTED, BEHIND_ANSWERS, AT_FIRST = "as wanted", "out of memory behind whole answers", "out of memory before any answer"
 
 
-def ask(program, case, library=None, counts_file=None, **refusal):
-    """A run of a case, with growths refused where an allocator is given."""
+def ask(program, case, library=None, counts_file=None, seconds=SECONDS, **refusal):
+    """A run of a case of so many seconds at most, with what a library refuses where one is given."""
     folder, words, lines = case
     environment = dict(os.environ)
     if library:
         environment.update(LD_PRELOAD=str(library), COUNT_TO=str(counts_file))
         environment.update({name: str(number) for name, number in refusal.items()})
-    done = subprocess.run([program, *words], cwd=CRATES / folder, env=environment, capture_output=True, timeout=SECONDS,
+    done = subprocess.run([program, *words], cwd=CRATES / folder, env=environment, capture_output=True, timeout=seconds,
                           input=lines)
     return Run(done.returncode, done.stdout, done.stderr)
 
@@ -93,17 +93,23 @@ def over_case(program, case, library, folder):
     return seen
 
 
-def main(program):
+def sweep(program, cases, make_library, over_case, names):
+    """Goes over these cases with a library that refuses, and prints how many runs came to each outcome of these names.
+    Answers the exit status."""
     seen = Counter()
     with tempfile.TemporaryDirectory() as folder:
         folder = pathlib.Path(folder)
-        library = compiled(folder)
-        for case in CASES:
+        library = make_library(folder)
+        for case in cases:
             seen += over_case(os.path.abspath(program), case, library, folder)
-    print(f"{sum(seen.values())} runs of {len(CASES)} cases, {seen[None]} wrong")
-    for name in (AS_WANTED, BEHIND_ANSWERS, AT_FIRST):
+    print(f"{sum(seen.values())} runs of {len(cases)} cases, {seen[None]} wrong")
+    for name in names:
         print(f"{seen[name]:8d}  {name}")
     return 1 if seen[None] else 0
+
+
+def main(program):
+    return sweep(program, CASES, compiled, over_case, (AS_WANTED, BEHIND_ANSWERS, AT_FIRST))
 
 
 if __name__ == "__main__":

@@ -9,19 +9,18 @@ refused wasn't needed; or with the status 2 and `cannot read FILE` as the last l
 answers of the first addresses. A file that ends early may also be refused as cut short. Where each read gives few bytes,
 a run has to end as wanted. Behind each case the same questions are asked again.
 """
-import os
 import pathlib
 import subprocess
 import sys
-import tempfile
 from collections import Counter
 
-from refused_growths import Run
-from refused_pdb_growths import CASES, CRATES, is_begin_of_answers
+from refused_pdb_growths import CASES, ask, is_begin_of_answers, sweep
 
 HERE = pathlib.Path(__file__).resolve().parent
 # How many bytes each read gives at most, in runs whose reads are short.
 SHORT = (1, 7, 512, 4097)
+# How many seconds a run may take whose reads are short.
+MINUTE = 60
 AS_WANTED, AS_SHORT, REFUSED = "as wanted", "as wanted by short reads", "refused behind whole answers"
 CUT_SHORT = b": the file is cut short before the end of its directory\n"
 
@@ -31,18 +30,6 @@ def compiled(folder):
     library = folder / "refusing_reader.so"
     subprocess.run(["cc", "-O1", "-shared", "-fPIC", "-o", library, HERE / "refusing_reader.c"], check=True)
     return library
-
-
-def ask(program, case, library=None, counts_file=None, **how):
-    """A run of a case, with reads that go as is said where a library is given."""
-    folder, words, lines = case
-    environment = dict(os.environ)
-    if library:
-        environment.update(LD_PRELOAD=str(library), COUNT_TO=str(counts_file))
-        environment.update({name: str(number) for name, number in how.items()})
-    done = subprocess.run([program, *words], cwd=CRATES / folder, env=environment, capture_output=True, timeout=60,
-                          input=lines)
-    return Run(done.returncode, done.stdout, done.stderr)
 
 
 def is_refusal(case, mode, run, wanted):
@@ -62,19 +49,19 @@ def over_case(program, case, library, folder):
     """Tries all reads of a case, and gives the outcomes with their counts."""
     wanted = ask(program, case)
     counts_file = folder / "counts"
-    if ask(program, case, library, counts_file) != wanted or wanted.status:
+    if ask(program, case, library, counts_file, MINUTE) != wanted or wanted.status:
         sys.exit(f"{case}: not as wanted with no read refused: {wanted}")
     calls = int(counts_file.read_text())
     print(f"{' '.join(case[1])}: {calls} reads", flush=True)
     seen = Counter()
     for most in SHORT:
-        run = ask(program, case, library, counts_file, SHORT=most)
+        run = ask(program, case, library, counts_file, MINUTE, SHORT=most)
         seen[AS_SHORT if run == wanted else None] += 1
         if run != wanted:
             print(f"SHORT={most} {case[1]}: {run}", flush=True)
     for mode in ("REFUSE_AT", "END_AT"):
         for number in range(1, calls + 1):
-            run = ask(program, case, library, counts_file, **{mode: number})
+            run = ask(program, case, library, counts_file, MINUTE, **{mode: number})
             what = AS_WANTED if run == wanted else REFUSED if is_refusal(case, mode, run, wanted) else None
             seen[what] += 1
             if what is None:
@@ -85,17 +72,7 @@ def over_case(program, case, library, folder):
 
 
 def main(program):
-    seen = Counter()
-    with tempfile.TemporaryDirectory() as folder:
-        folder = pathlib.Path(folder)
-        library = compiled(folder)
-        cases = [case for case in CASES if file_of(case)]
-        for case in cases:
-            seen += over_case(os.path.abspath(program), case, library, folder)
-    print(f"{sum(seen.values())} runs of {len(cases)} cases, {seen[None]} wrong")
-    for name in (AS_WANTED, AS_SHORT, REFUSED):
-        print(f"{seen[name]:8d}  {name}")
-    return 1 if seen[None] else 0
+    return sweep(program, [case for case in CASES if file_of(case)], compiled, over_case, (AS_WANTED, AS_SHORT, REFUSED))
 
 
 if __name__ == "__main__":

@@ -181,6 +181,9 @@ def module_files(folder):
     name, module = two(None)
     (folder / module).mkdir()
     yield refused("a module file that is a folder", [name, "list"], f"pdb_report: cannot read {module}")
+    name, module = two(None)
+    os.mkfifo(folder / module)
+    yield refused("a module file that is a pipe", [name, "names", "1050"], f"pdb_report: cannot read {module}")
     name = written(folder, text.replace(b"b.module.json", UNREADABLE.encode()), "unreadable.json")
     yield refused("a module file that can't be read", [name, "names"], f"pdb_report: cannot read {UNREADABLE}")
     for begun in beginnings(text):
@@ -199,7 +202,7 @@ def feed(path, pieces):
 
 
 def in_pieces(folder):
-    """Checks of a records file, and a module file, that comes in pieces, with the pieces and the path."""
+    """Checks of a records file that comes in pieces, with the pieces and the path."""
     text = EXAMPLE.read_bytes()
     half = len(text) // 2
     pipe = folder / "pipe"
@@ -207,11 +210,6 @@ def in_pieces(folder):
     yield Check("a file in two pieces", ["pipe", "names", "1020"], "", 0, LINE), pipe, [text[:half], text[half:]]
     yield records("a file of which half comes", "pipe", NO_JSON), pipe, [text[:half]]
     yield records("a file that goes on behind its end", "pipe", NO_JSON), pipe, [text, b"}"]
-    module = (DATA / "modules" / "b.module.json").read_bytes()
-    two = (DATA / "modules" / "two.json").read_bytes().replace(b"b.module.json", b"pipe")
-    name = written(folder, two, "of_a_pipe.json")
-    yield Check("a module file in two pieces", [name, "names", "1050"], "", 0, MODULE_LINE), pipe, \
-        [module[:half], module[half:]]
 
 
 # -------------------------------------------------------------- all checks

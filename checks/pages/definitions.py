@@ -12,6 +12,8 @@ import pathlib
 import re
 import sys
 
+from files import told
+
 ROOT = pathlib.Path(__file__).resolve().parents[2]
 PAGE = ROOT / "docs" / "DEFINITIONS.md"
 BEGIN, END = "<!-- definitions of {} -->", "<!-- end of definitions -->"
@@ -82,8 +84,7 @@ def main(words):
         PAGE.write_text(made, encoding="utf-8")
     elif made != page:
         failures.append("docs/DEFINITIONS.md has other lists: definitions.py --write")
-    print("\n".join(failures) or f"{made.count(chr(10) + '- `')} definitions of {len(crates)} crates")
-    return 1 if failures else 0
+    return told(failures, f"{made.count(chr(10) + '- `')} definitions of {len(crates)} crates")
 
 
 if __name__ == "__main__":

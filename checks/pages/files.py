@@ -73,7 +73,12 @@ def main(words):
         PAGE.write_text(made, encoding="utf-8")
     elif made != page:
         failures.append("docs/ARCHITECTURE.md has another list of files: files.py --write")
-    print("\n".join(failures) or f"{sum(line.startswith('- ') for line in listed)} files")
+    return told(failures, f"{sum(line.startswith('- ') for line in listed)} files")
+
+
+def told(failures, counted):
+    """Prints the failures, or what was counted where there are none. Answers the exit status."""
+    print("\n".join(failures) or counted)
     return 1 if failures else 0
 
 

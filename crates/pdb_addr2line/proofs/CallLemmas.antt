@@ -16,13 +16,14 @@ use Rattle.pdb_documents.specs.PrintInputs.{formatter_inputs}
 use Rattle.pdb_addr2line.specs.Calls.{AnswerView, FramesView, TextView, answer_to, after_call, answers_to, printed}
 use Rattle.pdb_addr2line.specs.Calls.{text_unless, successful, fresh}
 use Rattle.pdb_addr2line.specs.declared.calls.Call.{Call}
-use Rattle.pdb_addr2line.specs.declared.calls.Call.TheVariants.{FindFunction, FindFrames, Functions, FunctionCount}
-use Rattle.pdb_addr2line.specs.declared.calls.Call.TheVariants.{TypeSize, FormatFunction, FormatId}
-use Rattle.pdb_addr2line.specs.Functions.{after_function, after_functions, start_addresses}
+use Rattle.pdb_addr2line.specs.declared.calls.Call.TheVariants.{FindFrames, Functions}
+use Rattle.pdb_addr2line.specs.declared.calls.Call.TheVariants.{FormatFunction, FormatId}
+use Rattle.pdb_addr2line.specs.Functions.{start_addresses}
 use Rattle.pdb_addr2line.specs.Lookups.{frames_at, frames_answered, blamed_at, answered_refusal}
 use Rattle.pdb_function_info.specs.Names.{faultless}
 use Rattle.pdb_addr2line.specs.ContextInputs.{ContextState}
 use Rattle.pdb_function_info.proofs.NameLemmas.{same-text}
+use Rattle.pdb_addr2line.proofs.FunctionLemmas.{inputs_stay}
 
 -- a refusal is a refusal, whatever is answered for it
 ok_of_answered : {A : Type 0} (failed : CodeParts) (part : Option CodePart) (answer : Result A Error)
@@ -64,35 +65,20 @@ same_frames info c c' address same =
 -- a successful answer is the same, and an error is one, whatever failed before
 pub same_success : {P : Type 0} (info : P → ProviderInfos) (c c' : ContextState P) (call : Call) → c.inputs ≡ c'.inputs
     → successful (answer_to info c call) ≡ successful (answer_to info c' call)
-same_success info c c' (FindFunction address) same = rw same refl
 same_success info c c' (FindFrames address) same = same_frames info c c' address same
-same_success info c c' Functions same = rw same refl
-same_success info c c' FunctionCount same = rw same refl
-same_success info c c' (TypeSize m index) same = rw same refl
 same_success info c c' (FormatFunction name m index) same =
     let w = formatter_inputs info c'.inputs.type_inputs m in
     rw same (ap text_view_of (same_printed (document_of w (signature w name.now index.0)) c.failed c'.failed))
 same_success info c c' (FormatId m index) same =
     let w = formatter_inputs info c'.inputs.type_inputs m in
     rw same (ap text_view_of (same_printed (document_of w (id_of_index index.0)) c.failed c'.failed))
-
--- answering functions leaves a context's inputs unchanged
-same_inputs_of_functions : {P : Type 0} (info : P → ProviderInfos) (c : ContextState P) (addresses : List ℕ)
-    → (after_functions info c addresses).inputs ≡ c.inputs
-same_inputs_of_functions info c [] = refl
-same_inputs_of_functions info c (address ∷ addresses) =
-    same_inputs_of_functions info (after_function info c address) addresses
+same_success info c c' _ same = rw same refl
 
 -- a call leaves a context's inputs unchanged
 pub same_inputs : {P : Type 0} (info : P → ProviderInfos) (c : ContextState P) (call : Call)
     → (after_call info c call).inputs ≡ c.inputs
-same_inputs info c (FindFunction address) = refl
-same_inputs info c (FindFrames address) = refl
-same_inputs info c Functions = same_inputs_of_functions info c (start_addresses info c.inputs)
-same_inputs info c FunctionCount = refl
-same_inputs info c (TypeSize m index) = refl
-same_inputs info c (FormatFunction name m index) = refl
-same_inputs info c (FormatId m index) = refl
+same_inputs info c Functions = inputs_stay info c (start_addresses info c.inputs)
+same_inputs info c _ = refl
 
 -- calls are answered successfully as a fresh context answers each of them
 pub same_answers : {P : Type 0} (info : P → ProviderInfos) (c : ContextState P) (calls : List Call)

@@ -1,8 +1,9 @@
 -- The first number of a list that passes a test.
 use Rattle.std.proofs.Common.{◌≡◌, ◌∙◌, ℕ, zero, suc, ◌<◌, ◌≤◌, List, [], ◌∷◌, Bool, true, false, length, get_or}
-use Rattle.std.proofs.Common.{refl, sym, ap, arith, leb, ltb, leb-true, ltb-true, ltb-false, le-leb}
+use Rattle.std.proofs.Common.{refl, sym, ap, arith, leb, ltb}
 use Rattle.std.specs.Prelude.{Some, slice_get, cond}
 use Rattle.std.specs.List.{AllByRecursion, find}
+use Rattle.std.proofs.lemmas.Bool.Decides.{nat_tests}
 use Rattle.pdb_addr2line.specs.FunctionLaws.{Ascend}
 
 -- where no number in front of a position passes, and the one at the position does, it is the first that does
@@ -44,12 +45,7 @@ found_from least xs n below others within =
     (λ i d front. passes_none (get_or xs i d) (below i d (omega arith) front))
     (λ d behind. passes (get_or xs n d) (others n d (omega arith) behind)) within) where
       passes_none : (x : ℕ) → ltb x least ≡ true → leb least x ≡ false
-      passes_none x is = by_case (leb least x) refl where
-        by_case : (b : Bool) → leb least x ≡ b → leb least x ≡ false
-        by_case true e =
-            let not_above : least ≤ x = leb-true least x e in let above : x < least = ltb-true x least is in
-            absurd (omega (arith, not_above, above))
-        by_case false e = e
+      passes_none x is = grind (arith, nat_tests)
 
       passes : (x : ℕ) → ltb x least ≡ false → leb least x ≡ true
-      passes x is = let not_below : least ≤ x = ltb-false x least is in le-leb least x not_below
+      passes x is = grind (arith, nat_tests)

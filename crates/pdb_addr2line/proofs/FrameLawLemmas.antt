@@ -1,6 +1,6 @@
 -- The frames info of a function, taken apart.
-use Rattle.std.proofs.Common.{◌≡◌, ℕ, List, [], refl, sym, ap}
-use Rattle.std.specs.Prelude.{Option, Some, None, Result, Ok, Err, reverse, option_and_then}
+use Rattle.std.proofs.Common.{◌≡◌, ℕ, List, [], refl}
+use Rattle.std.specs.Prelude.{Option, Some, None, Result, Ok, Err, reverse, option_map, option_and_then}
 use Rattle.std.specs.Option.{option_map_or}
 use Rattle.pdb_records.specs.Addresses.{rva, internal_offset}
 use Rattle.pdb_records.specs.declared.addresses.PdbInternalSectionOffset.{PdbInternalSectionOffset}
@@ -13,14 +13,32 @@ use Rattle.pdb_types.specs.declared.error.Error.{Error}
 use Rattle.pdb_functions.specs.GlobalFunctions.{GlobalFunction}
 use Rattle.pdb_functions.specs.Lookup.{FoundFunction}
 use Rattle.pdb_frames.specs.Frame.{FrameInfo, FramesInfo}
-use Rattle.pdb_frames.specs.Origins.{Origin, function_module, function_start, origin}
+use Rattle.pdb_frames.specs.Origins.{function_module, function_start, origin}
 use Rattle.pdb_addr2line.specs.FrameLaws.{EndIn}
-use Rattle.pdb_function_info.specs.Frames.{Strings, own_frame, inlined_frames, origin_frames, function_frames}
+use Rattle.pdb_function_info.specs.Frames.{Strings, own_frame, inlined_frames, function_frames}
 use Rattle.pdb_function_info.specs.Frames.{function_size}
 use Rattle.pdb_function_info.specs.Function.{sum_in_32_bits}
 use Rattle.pdb_addr2line.specs.Lookups.{found_at, frames_of, frames_at, records_of}
 use Rattle.pdb_function_info.specs.Names.{function_name, id_name}
 use Rattle.pdb_addr2line.specs.ContextInputs.{ContextInputs, global_functions_of}
+
+-- where what follows an answer succeeds, the answer did
+pub and_then-ok : {A B E : Type 0} (r : Result A E) (next : A → Result B E) (b : B) → and_then r next ≡ Ok b
+    → (a : A) × (r ≡ Ok a) × (next a ≡ Ok b)
+and_then-ok (Ok a) next b is = (a, refl, is)
+and_then-ok (Err e) next b is = absurd cc
+
+-- where there is an image, there is what it is the image of
+pub map-some : {A B : Type 0} (f : A → B) (o : Option A) (b : B) → option_map f o ≡ Some b
+    → (a : A) × (o ≡ Some a) × (f a ≡ b)
+map-some f (Some a) b is = (a, refl, cc)
+map-some f None b is = absurd cc
+
+-- where what follows is there, what it follows is
+pub and_then-some : {A B : Type 0} (f : A → Option B) (o : Option A) (b : B) → option_and_then f o ≡ Some b
+    → (a : A) × (o ≡ Some a) × (f a ≡ Some b)
+and_then-some f (Some a) b is = (a, refl, is)
+and_then-some f None b is = absurd cc
 
 -- the frames of a function that was found
 abbrev pub found_frames : {P : Type 0} → (P → ProviderInfos) → ContextInputs P → ℕ → FoundFunction
@@ -53,30 +71,17 @@ are_frames_of : {P : Type 0} (info : P → ProviderInfos) (s : ContextInputs P) 
     → frames_of info s x found ≡ Ok (Some frames_info) → AreFramesOf info s x found frames_info
 are_frames_of {P = P} info s x found frames_info answered =
     by_start (rva s.address_map (function_start found)) refl answered where
-      by_frames : (start : Rva) → rva s.address_map (function_start found) ≡ Some start
-          → (frames : Result (List FrameInfo) Error) → found_frames info s x found ≡ frames
-          → and_then frames (λ list. Ok (Some (frames_info_with (global_functions_of s) found start list)))
-          ≡ Ok (Some frames_info)
-          → AreFramesOf info s x found frames_info
-      by_frames start starts (Err e) are refused = absurd cc
-      by_frames start starts (Ok list) are answer =
-          let same : frames_info_with (global_functions_of s) found start list ≡ frames_info = cc in
-          let lists : list ≡ frames_info.frames = ap (λ (t : FramesInfo). t.frames) same in
-          record {
-            start = start;
-            starts = starts;
-            frames = rw lists at are;
-            start_rva = sym (ap (λ (t : FramesInfo). t.start_rva) same);
-            end_rva = sym (ap (λ (t : FramesInfo). t.end_rva) same);
-          }
-
       by_start : (start : Option Rva) → rva s.address_map (function_start found) ≡ start
           → option_map_or (λ here. and_then (found_frames info s x found)
           (λ list. Ok (Some (frames_info_with (global_functions_of s) found here list)))) start (Ok None)
           ≡ Ok (Some frames_info)
           → AreFramesOf info s x found frames_info
       by_start None starts none = absurd cc
-      by_start (Some start) starts answer = by_frames start starts (found_frames info s x found) refl answer
+      by_start (Some start) starts answer =
+          let here = and_then-ok (found_frames info s x found) _ (Some frames_info) answer in
+          let same : frames_info_with (global_functions_of s) found start here.0 ≡ frames_info = cc in
+          rw (← same)
+          (record { start = start; starts = starts; frames = here.1; start_rva = refl; end_rva = refl })
 
 -- the frames info over an address is that of the function over it, at the address's offset
 pub frames_info_at : {P : Type 0} (info : P → ProviderInfos) (s : ContextInputs P) (address : ℕ)
@@ -96,16 +101,14 @@ pub end_in_own : (strings : Strings) (name_of : IdIndex → Option (List ℕ)) (
 end_in_own strings name_of name None found x frames are =
     let alone : FrameInfo = record { function = name; file = None; line = None } in
     record { inner = []; own = alone; split = cc; named = refl }
-end_in_own strings name_of name (Some info) found x frames are = by_origin (origin info found x) are where
-  by_origin : (o : Result Origin Error) → and_then o (λ here. Ok (origin_frames strings name_of name here)) ≡ Ok frames
-      → EndIn frames name
-  by_origin (Err e) refused = absurd cc
-  by_origin (Ok o) answer = record {
-    inner = reverse (inlined_frames strings o.line_program name_of o.stack);
-    own = own_frame strings name o.line_program o.row;
-    split = cc;
-    named = refl;
-  }
+end_in_own strings name_of name (Some info) found x frames are =
+    let here = and_then-ok (origin info found x) _ frames are in
+    record {
+      inner = reverse (inlined_frames strings here.0.line_program name_of here.0.stack);
+      own = own_frame strings name here.0.line_program here.0.row;
+      split = cc;
+      named = refl;
+    }
 
 -- the frames info over an address is that at some offset
 pub frames_info_somewhere : {P : Type 0} (info : P → ProviderInfos) (s : ContextInputs P) (address : ℕ)

@@ -1,18 +1,15 @@
 -- A function has one frame for each level, and its own.
-use Rattle.std.proofs.Common.{◌≡◌, ℕ, ◌+◌, List, [], ◌∷◌, ◌++◌, length, refl, sym, ap, arith, length-append}
+use Rattle.std.proofs.Common.{◌≡◌, ◌∙◌, ℕ, ◌+◌, List, [], ◌∷◌, ◌++◌, length, refl, sym, ap, arith, length-append}
 use Rattle.std.proofs.lemmas.List.{length-reverse, length-map}
-use Rattle.std.specs.Prelude.{Option, Some, None, Result, Ok, Err, reverse, option_map}
+use Rattle.std.specs.Prelude.{Option, Some, None, Result, Ok, reverse}
 use Rattle.pdb_records.specs.LinePrograms.{Lines}
-use Rattle.pdb_records.specs.declared.error.Error.TheVariants.{Stream}
-use Rattle.pdb_records.specs.declared.error.StreamError.{StreamError}
 use Rattle.pdb_records.specs.declared.modules.Inlinee.{Inlinee}
 use Rattle.pdb_types.specs.Resolution.{streamed}
-use Rattle.pdb_types.specs.declared.error.Error.TheVariants.{PdbError}
 use Rattle.pdb_records.specs.declared.addresses.PdbInternalSectionOffset.{PdbInternalSectionOffset}
 use Rattle.pdb_records.specs.Addresses.{internal_offset}
 use Rattle.pdb_records.specs.declared.ids.IdIndex.{IdIndex}
 use Rattle.pdb_records.specs.declared.modules.ModuleInfo.{ModuleInfo}
-use Rattle.pdb_types.specs.Outcomes.{unless, and_then}
+use Rattle.pdb_types.specs.Outcomes.{unless}
 use Rattle.pdb_types.specs.TypeInputs.{ProviderInfos}
 use Rattle.pdb_types.specs.declared.error.Error.{Error}
 use Rattle.pdb_functions.specs.Lookup.{FoundFunction, found_procedure, found_global}
@@ -31,13 +28,7 @@ use Rattle.pdb_function_info.specs.Frames.{Strings, own_frame, inlined_frames, f
 use Rattle.pdb_addr2line.specs.Lookups.{found_at, frames_at, records_of}
 use Rattle.pdb_function_info.specs.Names.{function_name, id_name}
 use Rattle.pdb_addr2line.specs.ContextInputs.{ContextInputs, global_functions_of}
-use Rattle.pdb_addr2line.proofs.FrameLawLemmas.{frames_info_at}
-
--- where what follows an answer succeeds, the answer did
-pub and_then-ok : {A B E : Type 0} (r : Result A E) (next : A → Result B E) (b : B) → and_then r next ≡ Ok b
-    → (a : A) × (r ≡ Ok a) × (next a ≡ Ok b)
-and_then-ok (Ok a) next b is = (a, refl, is)
-and_then-ok (Err e) next b is = absurd cc
+use Rattle.pdb_addr2line.proofs.FrameLawLemmas.{and_then-ok, frames_info_at}
 
 -- what isn't refused is the answer
 pub unless-ok : {A : Type 0} (refusal : Option Error) (answer : Result A Error) (a : A) → unless refusal answer ≡ Ok a
@@ -52,24 +43,13 @@ known_with program inlinees = record { line_program = program; inlinees = inline
 -- the inlinees that are known are those of the module
 pub known_inlinees : (info : ModuleInfo) (known : ExtendedInfo) → extended_info info ≡ Ok known
     → known.inlinees ≡ inlinee_ids info.inlinees.items
-known_inlinees info known is = by_program (streamed info.line_program) is where
-  ids_in : Result ExtendedInfo Error → List IdIndex
-  ids_in (Ok here) = here.inlinees
-  ids_in (Err e) = []
-
-  by_fault : (program : Lines) (fault : Option StreamError)
-      → and_then (unless (option_map (λ f. PdbError (Stream f)) fault) (Ok info.inlinees.items))
-      (λ inlinees. Ok (known_with program inlinees)) ≡ Ok known
-      → known.inlinees ≡ inlinee_ids info.inlinees.items
-  by_fault program None is_known = sym (ap ids_in is_known)
-  by_fault program (Some fault) is_known = absurd cc
-
-  by_program : (program : Result Lines Error)
-      → and_then program (λ lines. and_then (read_whole info.inlinees) (λ inlinees. Ok (known_with lines inlinees)))
-      ≡ Ok known
-      → known.inlinees ≡ inlinee_ids info.inlinees.items
-  by_program (Ok program) is_known = by_fault program info.inlinees.fault is_known
-  by_program (Err e) is_known = absurd cc
+known_inlinees info known is =
+    let program = and_then-ok (streamed info.line_program) _ known is in
+    let inlinees = and_then-ok (read_whole info.inlinees) _ known program.2 in
+    let whole = unless-ok _ (Ok info.inlinees.items) inlinees.0 inlinees.1 in
+    let items : info.inlinees.items ≡ inlinees.0 = cc in
+    let same : known_with program.0 inlinees.0 ≡ known = cc in
+    sym (ap (λ (k : ExtendedInfo). k.inlinees) same) ∙ ap inlinee_ids (sym items)
 
 -- of the ranges of a function there is a stack with an entry for each level
 stack_levels : (info : ModuleInfo) (found : FoundFunction) (x : ℕ) (ids : List IdIndex) (ranges : List InlineRange)
@@ -83,19 +63,26 @@ stack_levels info (found_procedure m p) x ids ranges of_module is =
     rw (← same, ← of_module) (length-inline_stack ids w.sites x
     (procedure_nested info.symbols.items info.symbols.fault p.symbol_index.0 p.end_symbol_index.0))
 
+-- what was read of where code comes from: what is known of the module's code, and the ranges of the function
+pub origin_parts : (info : ModuleInfo) (found : FoundFunction) (x : ℕ) (o : Origin) → origin info found x ≡ Ok o
+    → (known : ExtendedInfo) × (ranges : List InlineRange) × (extended_info info ≡ Ok known)
+    × (function_ranges known.inlinees info found ≡ Ok ranges) × (known.line_program ≡ o.line_program)
+    × (inline_stack ranges x ≡ o.stack)
+origin_parts info found x o is =
+    let known = and_then-ok (extended_info info) _ o is in
+    let row = and_then-ok (function_row known.0.line_program (function_start found) x) _ o known.2 in
+    let ranges = and_then-ok (function_ranges known.0.inlinees info found) _ o row.2 in
+    let made : Origin = record { line_program = known.0.line_program; row = row.0; stack = inline_stack ranges.0 x } in
+    let same : made ≡ o = cc in
+    (known.0, ranges.0, known.1, ranges.1, ap (λ (u : Origin). u.line_program) same, ap (λ (u : Origin). u.stack) same)
+
 -- where code comes from has an inlined body for each level
 origin_levels : (info : ModuleInfo) (found : FoundFunction) (x : ℕ) (o : Origin) → origin info found x ≡ Ok o
     → length o.stack ≡ levels_over (Some info) found x
 origin_levels info found x o is =
-    let known = and_then-ok (extended_info info) _ o is in
-    let row = and_then-ok (function_row known.0.line_program (function_start found) x) _ o known.2 in
-    let ranges = and_then-ok (function_ranges known.0.inlinees info found) _ o row.2 in
-    let same : inline_stack ranges.0 x ≡ o.stack = ap (λ (r : Result Origin Error). stack_in r) ranges.2 in
-    rw (← same) (stack_levels info found x known.0.inlinees ranges.0 (known_inlinees info known.0 known.1) ranges.1)
-  where
-    stack_in : Result Origin Error → List InlineRange
-    stack_in (Ok here) = here.stack
-    stack_in (Err e) = []
+    let parts = origin_parts info found x o is in
+    rw (← parts.5)
+    (stack_levels info found x parts.0.inlinees parts.1 (known_inlinees info parts.0 parts.2) parts.3)
 
 -- a function has a frame for each level, and its own
 level_frames : (strings : Strings) (name_of : IdIndex → Option (List ℕ)) (name : Option (List ℕ))

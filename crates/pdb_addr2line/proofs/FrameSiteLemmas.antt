@@ -2,7 +2,7 @@
 use Rattle.std.proofs.Common.{◌≡◌, ◌∙◌, ℕ, ◌+◌, List, [], ◌∷◌, ◌++◌, map, refl, sym, ap, arith, add-one}
 use Rattle.std.proofs.lemmas.List.{reverse-append, reverse-reverse}
 use Rattle.std.proofs.lemmas.Option.{slice_get-map}
-use Rattle.std.specs.Prelude.{Option, Some, None, Result, Ok, Err, reverse, slice_get, option_map}
+use Rattle.std.specs.Prelude.{Option, Some, Result, Ok, Err, reverse, slice_get}
 use Rattle.pdb_records.specs.Addresses.{internal_offset}
 use Rattle.pdb_records.specs.LinePrograms.{Lines}
 use Rattle.pdb_records.specs.declared.addresses.PdbInternalSectionOffset.{PdbInternalSectionOffset}
@@ -12,7 +12,6 @@ use Rattle.pdb_records.specs.declared.modules.ModuleInfo.{ModuleInfo}
 use Rattle.pdb_types.specs.Outcomes.{and_then}
 use Rattle.pdb_types.specs.Resolution.{streamed}
 use Rattle.pdb_types.specs.TypeInputs.{ProviderInfos}
-use Rattle.pdb_types.specs.declared.error.Error.{Error}
 use Rattle.pdb_functions.specs.Lookup.{found_procedure}
 use Rattle.pdb_functions.specs.Procedures.{ModuleProcedure}
 use Rattle.pdb_inline.specs.InlineRanges.{inline_ranges}
@@ -23,28 +22,15 @@ use Rattle.pdb_inline.proofs.StackEntryLemmas.{entry_of_site}
 use Rattle.pdb_inline.proofs.NestingLemmas.{procedure_nested}
 use Rattle.pdb_frames.specs.ExtendedInfo.{ExtendedInfo, inlinee_ids, extended_info}
 use Rattle.pdb_frames.specs.Frame.{FrameInfo, FramesInfo}
-use Rattle.pdb_frames.specs.Lines.{function_row, read_whole}
-use Rattle.pdb_frames.specs.Origins.{Origin, function_ranges, origin}
+use Rattle.pdb_frames.specs.Lines.{read_whole}
+use Rattle.pdb_frames.specs.Origins.{Origin, origin}
 use Rattle.pdb_addr2line.specs.FrameLaws.{sites_of, AreNestedFrames}
 use Rattle.pdb_function_info.specs.Frames.{Strings, own_frame, inlined_frame, function_frames}
 use Rattle.pdb_addr2line.specs.Lookups.{found_at, frames_at, records_of}
 use Rattle.pdb_function_info.specs.Names.{function_name, id_name}
 use Rattle.pdb_addr2line.specs.ContextInputs.{ContextInputs, global_functions_of}
-use Rattle.pdb_addr2line.proofs.FrameLawLemmas.{frames_info_at}
-use Rattle.pdb_addr2line.proofs.FrameLevelLemmas.{and_then-ok, unless-ok, known_inlinees, known_with}
-
--- the stack and the line program of where code comes from, where that is known
-abbrev stack_in : Result Origin Error → List InlineRange
-stack_in (Ok here) = here.stack
-stack_in (Err e) = []
-
-abbrev program_in : Result Origin Error → Lines
-program_in (Ok here) = here.line_program
-program_in (Err e) = record { entries = []; files = [] }
-
-abbrev known_in : Result ExtendedInfo Error → Lines
-known_in (Ok here) = here.line_program
-known_in (Err e) = record { entries = []; files = [] }
+use Rattle.pdb_addr2line.proofs.FrameLawLemmas.{map-some, and_then-ok, frames_info_at}
+use Rattle.pdb_addr2line.proofs.FrameLevelLemmas.{origin_parts, unless-ok, known_inlinees, known_with}
 
 -- the line program that is known is that of the module
 known_program : (info : ModuleInfo) (known : ExtendedInfo) → extended_info info ≡ Ok known
@@ -57,8 +43,8 @@ known_program info known is = by_stream info.line_program refl is where
   by_stream (Err fault) here is_known = absurd cc
   by_stream (Ok program) here is_known =
       let inlinees = and_then-ok (read_whole info.inlinees) (λ list. Ok (known_with program list)) known is_known in
-      let same : program ≡ known.line_program = ap known_in inlinees.2 in
-      rw same at here
+      let same : known_with program inlinees.0 ≡ known = cc in
+      rw (ap (λ (k : ExtendedInfo). k.line_program) same) at here
 
 -- where the code of a procedure comes from: its line program is the module's, and its stack that of the procedure's
 -- ranges
@@ -67,18 +53,11 @@ origin_of_procedure : (info : ModuleInfo) (m : ℕ) (p : ModuleProcedure) (x : �
     → (info.line_program ≡ Ok o.line_program) ×
     (o.stack ≡ inline_stack (inline_ranges (inlinee_ids info.inlinees.items) (sites_of info p)) x)
 origin_of_procedure info m p x o is =
-    let known = and_then-ok (extended_info info) _ o is in
-    let row = and_then-ok (function_row known.0.line_program p.offset x) _ o known.2 in
-    let ranges = and_then-ok (function_ranges known.0.inlinees info (found_procedure m p)) _ o row.2 in
-    let program : known.0.line_program ≡ o.line_program = ap program_in ranges.2 in
-    let stack : inline_stack ranges.0 x ≡ o.stack = ap stack_in ranges.2 in
-    let ok = unless-ok _ (Ok (inline_ranges known.0.inlinees (sites_of info p))) ranges.0 ranges.1 in
-    let all : inline_ranges known.0.inlinees (sites_of info p) ≡ ranges.0 = cc in
-    let ids = known_inlinees info known.0 known.1 in (
-      known_program info known.0 known.1 ∙ ap (λ (lines : Lines). Ok lines) program,
-      sym stack ∙ (ap (λ (list : List InlineRange). inline_stack list x) (sym all)
-          ∙ ap (λ (list : List IdIndex). inline_stack (inline_ranges list (sites_of info p)) x) ids),
-    )
+    let parts = origin_parts info (found_procedure m p) x o is in
+    let ok = unless-ok _ (Ok (inline_ranges parts.0.inlinees (sites_of info p))) parts.1 parts.3 in
+    let all : inline_ranges parts.0.inlinees (sites_of info p) ≡ parts.1 = cc in
+    let ids = known_inlinees info parts.0 parts.2 in
+    (known_program info parts.0 parts.2 ∙ ap (λ (lines : Lines). Ok lines) parts.4, rw (← parts.5, ← all, ids) refl)
 
 -- counted from outside, behind the function's own frame, each frame is that of an entry of the stack
 frame_of_entry : (f : InlineRange → FrameInfo) (own : FrameInfo) (stack : List InlineRange) (frames : List FrameInfo)
@@ -90,12 +69,8 @@ frame_of_entry f own stack frames level frame is got =
     rw is (reverse-append (reverse (map f stack)) (own ∷ []) ∙ ap (λ (xs : List FrameInfo). own ∷ xs)
     (reverse-reverse (map f stack))) in
     let there : slice_get (map f stack) level ≡ Some frame = rw (turned, add-one level) at got in
-    by_entry (slice_get stack level) refl (sym (slice_get-map f stack level) ∙ there)
-  where
-    by_entry : (entry : Option InlineRange) → slice_get stack level ≡ entry → option_map f entry ≡ Some frame
-        → (range : InlineRange) × (slice_get stack level ≡ Some range) × (frame ≡ f range)
-    by_entry None here none = absurd cc
-    by_entry (Some range) here some = let same : f range ≡ frame = cc in (range, here, sym same)
+    let found = map-some f (slice_get stack level) frame (sym (slice_get-map f stack level) ∙ there) in
+    (found.0, found.1, sym found.2)
 
 -- neighbours among the frames of a procedure are of sites that lie directly inside one another
 nested_frames : (strings : Strings) (name_of : IdIndex → Option (List ℕ)) (name : Option (List ℕ)) (info : ModuleInfo)

@@ -1,6 +1,6 @@
 -- The functions of a program, one after the other.
-use Rattle.std.proofs.Common.{zero, suc, ◌≡◌, ◌∙◌, ℕ, ◌+◌, ◌<◌, List, [], ◌∷◌, ◌++◌, length, take, get_or, refl, sym}
-use Rattle.std.proofs.Common.{ap, subst}
+use Rattle.std.proofs.Common.{zero, suc, ◌≡◌, ℕ, ◌+◌, ◌<◌, List, [], ◌∷◌, ◌++◌, length, take, get_or, refl}
+use Rattle.std.proofs.Common.{subst}
 use Rattle.std.specs.Prelude.{Result, Ok, Err, OnErr}
 use Rattle.std.proofs.lemmas.List.{take_more}
 use Rattle.std.proofs.lemmas.List.Elements.{filter_map-append}
@@ -23,19 +23,15 @@ pub after_one_more : {P : Type 0} (info : P → ProviderInfos) (c between after 
     → after ≡ after_function info between (get_or addresses i 0)
     → after ≡ after_functions info c (take (i + 1) addresses)
 after_one_more info c between after addresses i below first next =
-    let address = get_or addresses i 0 in
-    next ∙ (ap (λ b. after_function info b address) first
-    ∙ (sym (fold-append (after_function info) c (take i addresses) (address ∷ []))
-    ∙ sym (ap (after_functions info c) (take_more addresses i 0 below))))
+    rw (take_more addresses i 0 below, fold-append (after_function info) c (take i addresses) _, ← first) next
 
 -- the functions over one address more
 pub functions_one_more : {P : Type 0} (info : P → ProviderInfos) (s : ContextInputs P) (addresses : List ℕ) (i : ℕ)
     → i < length addresses
     → functions_at info s (take (i + 1) addresses)
     ≡ functions_at info s (take i addresses) ++ functions_at info s (get_or addresses i 0 ∷ [])
-functions_one_more info s addresses i below =
-    ap (functions_at info s) (take_more addresses i 0 below)
-    ∙ filter_map-append (function_at info s) (take i addresses) (get_or addresses i 0 ∷ [])
+functions_one_more info s addresses i below = rw (take_more addresses i 0 below)
+    (filter_map-append (function_at info s) (take i addresses) (get_or addresses i 0 ∷ []))
 
 -- nothing is the beginning of nothing
 take_nil : (n : ℕ) → take {A = ℕ} n [] ≡ []
@@ -56,12 +52,10 @@ cut_short_later {P = P} info c between after addresses i below first cut = by_do
       → IsCutShort info c after addresses
   by_done zero interrupted = record { done = i; interrupted = rw first at interrupted }
   by_done (suc n) interrupted =
-      let all : take n [] ≡ [] = take_nil n in
       let one : OnlyGainsBroken info (after_function info between address) after =
-      subst (λ xs. OnlyGainsBroken info (after_functions info between (address ∷ xs)) after) all interrupted in
-      let state : after_function info between address ≡ after_functions info c (take (i + 1) addresses) =
-      after_one_more info c between (after_function info between address) addresses i below first refl in
-      record { done = i + 1; interrupted = subst (λ b. OnlyGainsBroken info b after) state one }
+      subst (λ xs. OnlyGainsBroken info (after_functions info between (address ∷ xs)) after) (take_nil n) interrupted in
+      let state = after_one_more info c between (after_function info between address) addresses i below first refl in
+      record { done = i + 1; interrupted = rw state at one }
 
 -- what holds anyway holds on an error
 pub on_error : {A E : Type 0} (r : Result A E) {fact : Type 0} → fact → OnErr r fact

@@ -11,7 +11,7 @@ use Rattle.pdb_types.specs.declared.error.Error.TheVariants.{OutOfMemory}
 use Rattle.pdb_types.specs.TypeInputs.{ProviderInfos}
 use Rattle.pdb_function_info.specs.declared.function.Function.{Function}
 use Rattle.pdb_function_info.specs.Function.{function_view}
-use Rattle.pdb_addr2line.specs.Functions.{functions_at, after_function, OnlyGainsBroken}
+use Rattle.pdb_addr2line.specs.Functions.{after_function, OnlyGainsBroken}
 use Rattle.pdb_addr2line.specs.FunctionSteps.{Passes, Continues}
 use Rattle.pdb_addr2line.specs.Lookups.{function_at}
 use Rattle.pdb_addr2line.specs.ContextInputs.{ContextState}
@@ -23,13 +23,6 @@ passing_stays : {P : Type 0} {info : P → ProviderInfos} {before after : Contex
 passing_stays {info = info} {before = before} {passed = passed} passes =
     ap (λ c. c.inputs) passes.state ∙ inputs_stay info before passed
 
--- the first address that is left
-first_left : {P : Type 0} {info : P → ProviderInfos} {before between : ContextState P} {all passed rest left : List ℕ}
-    {address : ℕ}
-    → Passes info before between all passed rest → rest ≡ address ∷ left
-    → Passes info before between all passed (address ∷ left)
-first_left passes first = rw first at passes
-
 -- one address more is passed
 passes_more : {P : Type 0} {info : P → ProviderInfos} {before between after : ContextState P}
     {all passed left : List ℕ} {address : ℕ}
@@ -38,13 +31,10 @@ passes_more : {P : Type 0} {info : P → ProviderInfos} {before between after : 
     → Passes info before after all (passed ++ address ∷ []) left
 passes_more {info = info} {before = before} {between = between} {passed = passed} {left = left}
     {address = address} passes nothing state =
-    let alone : functions_at info before.inputs (address ∷ []) ≡ [] = rw nothing refl in
     record {
       split = passes.split ∙ sym (append_assoc passed (address ∷ []) left);
-      none = filter_map-append (function_at info before.inputs) passed (address ∷ []) ∙
-          (ap (λ xs. xs ++ functions_at info before.inputs (address ∷ [])) passes.none ∙ alone);
-      state = state ∙ (ap (λ c. after_function info c address) passes.state ∙ sym
-          (fold-append (after_function info) before passed (address ∷ [])));
+      none = rw (filter_map-append (function_at info before.inputs) passed (address ∷ []), passes.none, nothing) refl;
+      state = rw (state, passes.state) (sym (fold-append (after_function info) before passed (address ∷ [])));
     }
 
 -- an address that nothing is answered for is passed
@@ -60,11 +50,8 @@ pub passed_here : {P : Type 0} (info : P → ProviderInfos) (before between afte
 passed_here info before between after all passed rest left address (Ok None) passes first answer state nothing =
     let none : function_at info before.inputs address ≡ None =
     ap (λ s. function_at info s address) (sym (passing_stays passes)) ∙ sym answer in
-    passes_more (first_left passes first) none state
-passed_here info before between after all passed rest left address (Ok (Some f)) passes first answer state nothing =
-    absurd (cc)
-passed_here info before between after all passed rest left address (Err e) passes first answer state nothing =
-    absurd (cc)
+    passes_more (rw first at passes) none state
+passed_here info before between after all passed rest left address _ passes first answer state nothing = absurd (cc)
 
 -- what is answered for an address is answered next
 pub answered_here : {P : Type 0} (info : P → ProviderInfos) (before between after : ContextState P)
@@ -85,7 +72,7 @@ answered_here info before between after all passed rest left address
       passed = passed;
       address = address;
       between = between;
-      passes = first_left passes first;
+      passes = rw first at passes;
       function = ap (λ s. function_at info s address) (sym (passing_stays passes)) ∙ sym answer;
       state = state;
     }
@@ -95,7 +82,7 @@ answered_here info before between after all passed rest left address
       passed = passed;
       address = address;
       between = between;
-      passes = first_left passes first;
+      passes = rw first at passes;
       memory = answer;
       interrupted = interrupted;
     }

@@ -1,10 +1,10 @@
 -- The parts that failed grow by broken ones alone.
-use Rattle.std.proofs.Common.{◌≡◌, ◌∙◌, ℕ, List, [], ◌∷◌, ◌++◌, ap, refl}
+use Rattle.std.proofs.Common.{◌≡◌, ◌∙◌, ℕ, List, [], ◌∷◌, ◌++◌, refl}
 use Rattle.std.specs.List.{AllByRecursion}
 use Rattle.pdb_types.specs.FailedParts.{Parts}
 use Rattle.pdb_types.specs.TypeInputs.{TypeInputs, ProviderInfos}
 use Rattle.pdb_types.specs.declared.read_error.Part.{Part}
-use Rattle.pdb_documents.specs.BrokenParts.{IsBroken, with_parts}
+use Rattle.pdb_documents.specs.BrokenParts.{IsBroken}
 use Rattle.pdb_documents.specs.PrintInputs.{formatter_inputs}
 use Rattle.pdb_documents.proofs.MetLemmas.{with_parts-append}
 use Rattle.pdb_addr2line.specs.Functions.{OnlyGainsBroken}
@@ -27,21 +27,6 @@ broken_for_some info type_inputs module_index [] all = all
 broken_for_some info type_inputs module_index (part ∷ parts) all =
     ((module_index, all.0), broken_for_some info type_inputs module_index parts all.1)
 
--- where nothing failed anew, only broken parts did
-pub gains_nothing : {P : Type 0} (info : P → ProviderInfos) (type_inputs : TypeInputs P) (failed : Parts)
-    → GainsBrokenParts info type_inputs failed failed
-gains_nothing info type_inputs failed = record { added = []; broken = _; is = refl }
-
--- what one module that asks meets broken is broken
-pub gains_of_one : {P : Type 0} (info : P → ProviderInfos) (type_inputs : TypeInputs P) (old new : Parts)
-    → GainsBroken info type_inputs old new
-    → GainsBrokenParts info type_inputs old new
-gains_of_one info type_inputs old new gains = record {
-  added = gains.1.added;
-  broken = broken_for_some info type_inputs gains.0 gains.1.added gains.1.broken;
-  is = gains.1.is;
-}
-
 -- parts grow by broken ones alone in two steps, where they do in each
 pub gains_twice : {P : Type 0} (info : P → ProviderInfos) (type_inputs : TypeInputs P) (old between new : Parts)
     → GainsBrokenParts info type_inputs old between → GainsBrokenParts info type_inputs between new
@@ -49,8 +34,7 @@ pub gains_twice : {P : Type 0} (info : P → ProviderInfos) (type_inputs : TypeI
 gains_twice info type_inputs old between new first second = record {
   added = first.added ++ second.added;
   broken = all_of_both (IsBrokenForSome info type_inputs) first.added second.added first.broken second.broken;
-  is = second.is ∙ ap (λ failed. with_parts failed second.added) first.is
-      ∙ with_parts-append old first.added second.added;
+  is = rw (second.is, first.is) (with_parts-append old first.added second.added);
 }
 
 -- a context only gains broken parts, where one module that asked met them
@@ -60,7 +44,11 @@ pub gains_by_one : {P : Type 0} (info : P → ProviderInfos) (before after : Con
     → OnlyGainsBroken info before after
 gains_by_one info before after inputs gains code = record {
   inputs = inputs;
-  broken = gains_of_one info before.inputs.type_inputs before.failed after.failed gains;
+  broken = record {
+    added = gains.1.added;
+    broken = broken_for_some info before.inputs.type_inputs gains.0 gains.1.added gains.1.broken;
+    is = gains.1.is;
+  };
   code_failed = code;
 }
 
@@ -69,7 +57,7 @@ pub gains_none : {P : Type 0} (info : P → ProviderInfos) (before after : Conte
     → OnlyGainsBroken info before after
 gains_none info before after same = rw same (record {
   inputs = refl;
-  broken = gains_nothing info before.inputs.type_inputs before.failed;
+  broken = record { added = []; broken = tt; is = refl };
   code_failed = refl;
 })
 

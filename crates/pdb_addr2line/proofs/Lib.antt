@@ -4,6 +4,7 @@ pub mod AgreeLemmas
 pub mod FrameSiteLemmas
 pub mod GainLemmas
 pub mod CallLemmas
+pub mod AnswerErrorLemmas
 pub mod FunctionLemmas
 pub mod FunctionStepLemmas
 pub mod StartLemmas

@@ -1,14 +1,12 @@
 -- A number that is put among others in order.
-use Rattle.std.proofs.Common.{◌≡◌, ◌⊎◌, ℕ, ◌<◌, List, [], ◌∷◌}
-use Rattle.std.proofs.Common.{inl, inr, refl, arith}
+use Rattle.std.proofs.Common.{zero, suc, ◌≡◌, ◌⊎◌, ℕ, ◌<◌, List, [], ◌∷◌}
+use Rattle.std.proofs.Common.{inl, inr, refl, sym, arith}
 use Rattle.std.specs.BTreeSet.{insert_key}
 use Rattle.std.specs.List.{AllByRecursion, Contains}
 use Rattle.std.specs.Ordering.{nat_cmp, match_ordering}
 use Rattle.std.specs.declared.cmp.Ordering.{Ordering}
 use Rattle.std.specs.declared.cmp.Ordering.TheVariants.{Less, Equal, Greater}
 use Rattle.std.proofs.lemmas.Cmp.{ranked}
-use Rattle.std.proofs.lemmas.List.Elements.{Contains-append_right, Contains-append_cases}
-use Rattle.std.proofs.lemmas.List.Elements.{Contains-push_cases}
 use Rattle.std.proofs.lemmas.Map.Lookups.{exact_unsigned}
 use Rattle.pdb_addr2line.specs.FunctionLaws.{Ascend}
 
@@ -42,70 +40,49 @@ ascend_put k (x ∷ xs) up = by_order (nat_cmp k x) refl (ascend_put k xs up.1) 
 
 -- an element of a list with one in front
 pub in_front : {X : Type 0} (x y : X) (xs : List X) → Contains (x ∷ xs) y → (x ≡ y) ⊎ Contains xs y
-in_front x y xs held = by_side (Contains-append_cases (x ∷ []) xs y held) where
-  by_one : Contains [] y ⊎ (x ≡ y) → (x ≡ y) ⊎ Contains xs y
-  by_one (inl none) = let below = none.1 in absurd (omega (arith, below))
-  by_one (inr same) = inl same
-
-  by_side : Contains (x ∷ []) y ⊎ Contains xs y → (x ≡ y) ⊎ Contains xs y
-  by_side (inl one) = by_one (Contains-push_cases [] x y one)
-  by_side (inr rest) = inr rest
+in_front x y xs (zero, within, same) = inl same
+in_front x y xs (suc k, within, same) = inr (k, omega (arith, within), same)
 
 -- the one in front is an element
-pub front : {X : Type 0} (x : X) (xs : List X) → Contains (x ∷ xs) x
-front x xs = (0, omega arith, refl)
+pub front : {X : Type 0} {x y : X} (xs : List X) → x ≡ y → Contains (x ∷ xs) y
+front xs same = (0, omega arith, same)
 
 -- and so are those behind
 pub behind : {X : Type 0} (x y : X) (xs : List X) → Contains xs y → Contains (x ∷ xs) y
-behind x y xs held = Contains-append_right (x ∷ []) xs y held
+behind x y xs (k, within, same) = (suc k, omega (arith, within), same)
 
 -- with a number put among others there are that one and the others
 pub put_cases : (k q : ℕ) (ks : List ℕ) → Contains (insert_key nat_cmp ks k) q → Contains ks q ⊎ (k ≡ q)
-put_cases k q [] held = by_front (in_front k q [] held) where
-  by_front : (k ≡ q) ⊎ Contains [] q → Contains [] q ⊎ (k ≡ q)
-  by_front (inl same) = inr same
-  by_front (inr none) = inl none
+put_cases k q [] held = elim (in_front k q [] held) [ inl same ↦ inr same | inr none ↦ inl none ]
 put_cases k q (x ∷ xs) held = by_order (nat_cmp k x) held (put_cases k q xs) where
-  by_front : (k ≡ q) ⊎ Contains (x ∷ xs) q → Contains (x ∷ xs) q ⊎ (k ≡ q)
-  by_front (inl same) = inr same
-  by_front (inr rest) = inl rest
-
-  by_rest : Contains xs q ⊎ (k ≡ q) → Contains (x ∷ xs) q ⊎ (k ≡ q)
-  by_rest (inl rest) = inl (behind x q xs rest)
-  by_rest (inr same) = inr same
-
-  by_first : (x ≡ q) ⊎ Contains (insert_key nat_cmp xs k) q
-      → (Contains (insert_key nat_cmp xs k) q → Contains xs q ⊎ (k ≡ q)) → Contains (x ∷ xs) q ⊎ (k ≡ q)
-  by_first (inl same) next = inl (rw same (front q xs))
-  by_first (inr rest) next = by_rest (next rest)
-
   by_order : (o : Ordering) → Contains (match_ordering o (k ∷ x ∷ xs) (x ∷ xs) (x ∷ insert_key nat_cmp xs k)) q
       → (Contains (insert_key nat_cmp xs k) q → Contains xs q ⊎ (k ≡ q)) → Contains (x ∷ xs) q ⊎ (k ≡ q)
-  by_order Less h next = by_front (in_front k q (x ∷ xs) h)
+  by_order Less h next = elim (in_front k q (x ∷ xs) h) [ inl same ↦ inr same | inr rest ↦ inl rest ]
   by_order Equal h next = inl h
-  by_order Greater h next = by_first (in_front x q (insert_key nat_cmp xs k) h) next
+  by_order Greater h next = elim (in_front x q (insert_key nat_cmp xs k) h) [
+    | inl same ↦ inl (front xs same)
+    | inr rest ↦ elim (next rest) [ inl later ↦ inl (behind x q xs later) | inr same ↦ inr same ]
+  ]
 
 -- the number that is put is there
 pub put_in : (k : ℕ) (ks : List ℕ) → Contains (insert_key nat_cmp ks k) k
-put_in k [] = front k []
+put_in k [] = front [] refl
 put_in k (x ∷ xs) = by_order (nat_cmp k x) refl (put_in k xs) where
   by_order : (o : Ordering) → nat_cmp k x ≡ o → Contains (insert_key nat_cmp xs k) k
       → Contains (match_ordering o (k ∷ x ∷ xs) (x ∷ xs) (x ∷ insert_key nat_cmp xs k)) k
-  by_order Less is rest = front k (x ∷ xs)
-  by_order Equal is rest = let same : k ≡ x = exact_unsigned k x is in rw same (front x xs)
+  by_order Less is rest = front (x ∷ xs) refl
+  by_order Equal is rest = front xs (sym (exact_unsigned k x is))
   by_order Greater is rest = behind x k (insert_key nat_cmp xs k) rest
 
 -- the others stay
 pub put_contains : (k q : ℕ) (ks : List ℕ) → Contains ks q → Contains (insert_key nat_cmp ks k) q
 put_contains k q [] held = behind k q [] held
 put_contains k q (x ∷ xs) held = by_order (nat_cmp k x) (put_contains k q xs) where
-  by_front : (x ≡ q) ⊎ Contains xs q → (Contains xs q → Contains (insert_key nat_cmp xs k) q)
-      → Contains (x ∷ insert_key nat_cmp xs k) q
-  by_front (inl same) next = rw same (front q (insert_key nat_cmp xs k))
-  by_front (inr rest) next = behind x q (insert_key nat_cmp xs k) (next rest)
-
   by_order : (o : Ordering) → (Contains xs q → Contains (insert_key nat_cmp xs k) q)
       → Contains (match_ordering o (k ∷ x ∷ xs) (x ∷ xs) (x ∷ insert_key nat_cmp xs k)) q
   by_order Less next = behind k q (x ∷ xs) held
   by_order Equal next = held
-  by_order Greater next = by_front (in_front x q xs held) next
+  by_order Greater next = elim (in_front x q xs held) [
+    | inl same ↦ front (insert_key nat_cmp xs k) same
+    | inr rest ↦ behind x q (insert_key nat_cmp xs k) (next rest)
+  ]

@@ -1,5 +1,5 @@
 -- A list of calls, call by call.
-use Rattle.std.proofs.Common.{◌≡◌, ◌∙◌, ℕ, ◌+◌, ◌<◌, List, [], ◌∷◌, ◌++◌, length, take, drop, map, get_or, sym, ap}
+use Rattle.std.proofs.Common.{◌≡◌, ◌∙◌, ℕ, ◌+◌, ◌<◌, List, [], ◌∷◌, ◌++◌, length, take, drop, get_or, sym, ap}
 use Rattle.std.proofs.Common.{refl, append_assoc}
 use Rattle.std.proofs.lemmas.List.{take_more, take-append-drop, map-append}
 use Rattle.pdb_types.specs.TypeInputs.{ProviderInfos}
@@ -29,10 +29,8 @@ appends_more : (before between after : List Answer) (first second : List AnswerV
     → Appends before between first → Appends between after second → Appends before after (first ++ second)
 appends_more before between after first second one two = record {
   appended = one.appended ++ two.appended;
-  is = two.is ∙ ap (λ answers. answers ++ two.appended) one.is ∙ append_assoc before one.appended two.appended;
-  shown = map-append answer_view one.appended two.appended ∙ ap
-      (λ views. views ++ map answer_view two.appended) one.shown
-      ∙ ap (λ views. first ++ views) two.shown;
+  is = rw (two.is, one.is) (append_assoc before one.appended two.appended);
+  shown = rw (map-append answer_view one.appended two.appended, one.shown, two.shown) refl;
 }
 
 -- a context once one call more is made
@@ -42,10 +40,7 @@ pub after_one_call_more : {P : Type 0} (info : P → ProviderInfos) (c between a
     → after ≡ after_call info between (get_or calls i (FindFunction 0))
     → after ≡ after_calls info c (take (i + 1) calls)
 after_one_call_more info c between after calls i below so_far next =
-    let call = get_or calls i (FindFunction 0) in
-    next ∙ ap (λ state. after_call info state call) so_far
-    ∙ sym (after_both info c (take i calls) (call ∷ []))
-    ∙ sym (ap (after_calls info c) (take_more calls i (FindFunction 0) below))
+    rw (take_more calls i (FindFunction 0) below, after_both info c (take i calls) _, ← so_far) next
 
 -- the answers once one call more is made
 pub answers_one_more : {P : Type 0} (info : P → ProviderInfos) (c between : ContextState P) (calls : List Call) (i : ℕ)
@@ -54,15 +49,8 @@ pub answers_one_more : {P : Type 0} (info : P → ProviderInfos) (c between : Co
     → Appends answers after (answer_to info between (get_or calls i (FindFunction 0)) ∷ [])
     → Appends before after (answers_to info c (take (i + 1) calls))
 answers_one_more info c between calls i before answers after below so_far first next =
-    let call = get_or calls i (FindFunction 0) in
-    let here : Appends answers after (answers_to info (after_calls info c (take i calls)) (call ∷ [])) =
-    rw so_far at next in
-    let both = appends_more before answers after _ _ first here in
-    let all : answers_to info c (take (i + 1) calls)
-    ≡ answers_to info c (take i calls) ++ answers_to info (after_calls info c (take i calls)) (call ∷ []) =
-    ap (answers_to info c) (take_more calls i (FindFunction 0) below) ∙ answers_of_both info c (take i calls)
-    (call ∷ []) in
-    rw all both
+    rw (take_more calls i (FindFunction 0) below, answers_of_both info c (take i calls) _)
+    (appends_more before answers after _ _ first (rw so_far at next))
 
 -- the calls so far, the next one, and those after it are all
 split_at : (calls : List Call) (i : ℕ) → i < length calls

@@ -1,7 +1,7 @@
-pub use Rattle.pdb_ranges.specs.InOrder
-pub use Rattle.pdb_ranges.specs.Pick
-pub use Rattle.pdb_ranges.specs.RangeSet
-pub use Rattle.pdb_ranges.specs.Runs
+pub use Rattle.pdb_tables.specs.InOrder
+pub use Rattle.pdb_tables.specs.Pick
+pub use Rattle.pdb_tables.specs.RangeSet
+pub use Rattle.pdb_tables.specs.Runs
 pub use Rattle.pdb_types.specs.Outcomes
 pub use Rattle.pdb_functions.specs.Sections
 pub use Rattle.pdb_functions.specs.Contributions
@@ -31,4 +31,6 @@ pub use Rattle.pdb_function_info.specs.Frames
 pub mod Calls
 pub mod FrameLaws
 pub mod ContextData
+pub mod AnswerErrors
+pub mod BrokenLists
 pub mod MaybeOwned

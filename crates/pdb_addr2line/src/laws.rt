@@ -19,6 +19,9 @@ ghost use Rattle.pdb_addr2line.specs.Lookups.{found_at, function_at, records_of,
 ghost use Rattle.pdb_function_info.specs.Names.{function_name, id_name};
 ghost use Rattle.pdb_addr2line.specs.ContextInputs.{ContextInputs, ContextState, global_functions_of};
 
+pub use crate::answer_laws::{
+    answers_hold_errors_of_the_records, own_row_beside_an_added_range_is_outside,
+};
 pub use crate::function_laws::{start_addresses_are_all_starts, start_addresses_ascend};
 pub use pdb_documents::laws::{
     a_scope_that_repeats_is_circular, an_index_inside_itself_is_circular,
@@ -47,12 +50,12 @@ pub use pdb_laws::picks::{
     global_function_starts_last, inlined_bodies_start_last, line_row_starts_last,
 };
 pub use pdb_laws::refusals::{ids_are_refused_for, signatures_are_refused_for};
-pub use pdb_ranges::laws::{
-    last_painted_gives_the_value, missing_runs_hold_what_is_missing, runs_are_determined,
-    runs_of_ranges_hold_their_numbers,
-};
 pub use pdb_records::laws::{
     hash_of_indices_agrees_with_equality, order_of_indices_agrees_with_equality,
+};
+pub use pdb_tables::laws::{
+    last_painted_gives_the_value, missing_runs_hold_what_is_missing, runs_are_determined,
+    runs_of_ranges_hold_their_numbers,
 };
 use pdb_types::ModuleProvider;
 pub use pdb_types::laws::{

@@ -20,6 +20,7 @@
 
 pub use pdb_records as pdb;
 
+mod answer_laws;
 mod caches;
 mod calls;
 mod context;
@@ -40,8 +41,8 @@ pub use functions::FunctionIter;
 pub use pdb_frames::{Frame, FunctionFrames};
 pub use pdb_function_info::Function;
 pub use pdb_functions::ModuleSectionContribution;
-pub use pdb_ranges::RangeSet;
 pub use pdb_signatures::TypeFormatter;
+pub use pdb_tables::RangeSet;
 pub use pdb_types::{
     Error, IdMap, ItemIndex, ItemMap, ModuleProvider, Result, TypeFormatterFlags, TypeMap,
     TypeSizeCache,

@@ -11,7 +11,7 @@ ghost use Rattle.pdb_functions.specs.ModuleInfos.{readable_info};
 ghost use Rattle.pdb_functions.specs.Procedures.{module_procedure};
 ghost use Rattle.pdb_functions.specs.Spans.{contribution_covers, procedure_covers};
 ghost use Rattle.pdb_functions.specs.SymbolNames.{GoesBySymbol};
-ghost use Rattle.pdb_ranges.specs.Pick.{pick};
+ghost use Rattle.pdb_tables.specs.Pick.{pick};
 ghost use Rattle.pdb_function_info.specs.Names.{GainsBroken};
 ghost use Rattle.pdb_function_info.specs.Function.{function_view, info_of, failed_after_info};
 ghost use Rattle.pdb_addr2line.specs.ContextInputs.{contributions_of, global_functions_of};

@@ -18,25 +18,6 @@ use Rattle.pdb_c.specs.Answers.{gathered}
 use Rattle.pdb_c.specs.Questions.{report_asked, answer_of_handle, text_of_handle, IsLeftBy, IsLeftByReport}
 use Rattle.pdb_c.specs.Questions.{LeavesHandle, LeavesReported, AnswersHandle, AnswersHeld}
 
--- the texts that are shown
-abbrev texts_in : Result Shown Refusal → List ℕ
-texts_in (Ok shown) = shown.texts
-texts_in (Err refusal) = []
-
--- what is shown of a text is that text
-pub text_shown : (asked : Result (List ℕ) Refusal) (found : FoundFrames)
-    → and_then asked (λ text. Ok (shown_text text)) ≡ Ok (shown_view found) → asked ≡ Ok found.texts.items
-text_shown (Ok text) found is = ap Ok (ap texts_in is)
-text_shown (Err refusal) found is = absurd cc
-
--- a text that is refused is refused alike where it is shown
-pub text_not_shown : (asked : Result (List ℕ) Refusal) (refusal : Refusal)
-    → and_then asked (λ text. Ok (shown_text text)) ≡ Err refusal → asked ≡ Err refusal
-text_not_shown (Ok text) refusal is = absurd cc
-text_not_shown (Err other) refusal is =
-    let same : other ≡ refusal = cc in
-    ap Err same
-
 -- what a report leaves by whether it was answered, whatever the answer is
 pub report_left : {A B : Type 0} (a : A) (b : B) (before after : ContextState Records) (command : Command)
     (addresses : List ℕ) → IsLeftByReport (Ok a) before after command addresses
@@ -69,41 +50,27 @@ left_alike {A = A} {B = B} r s before after command addresses (refusals why) lef
 question_alike : {A B : Type 0} (r : Result A Refusal) (s : Result B Refusal) (before : ContextState Records)
     (asked : Question) (after : ContextState Records) → Alike r s
     → IsLeftBy r before asked after → IsLeftBy s before asked after
-question_alike r s before (question.Frames address) after (answers a b) left = left
-question_alike r s before (question.Frames address) after (refusals why) left = left
-question_alike r s before (question.Function address) after (answers a b) left = left
-question_alike r s before (question.Function address) after (refusals why) left = left
-question_alike r s before (question.NextStart address) after alike left = left
 question_alike r s before (question.Report command addresses) after alike left =
     left_alike r s before after command addresses.now alike left
+question_alike r s before (question.NextStart address) after alike left = left
+question_alike r s before _ after (answers a b) left = left
+question_alike r s before _ after (refusals why) left = left
 
 -- and what a handle holds
 pub handle_alike : {A B : Type 0} (r : Result A Refusal) (s : Result B Refusal)
     (held : Option (ContextState Records)) (asked : Question) (held' : Option (ContextState Records)) → Alike r s
     → LeavesHandle r held asked held' → LeavesHandle s held asked held'
-handle_alike r s None asked held' alike left = left
 handle_alike r s (Some context) asked (Some after) alike left = question_alike r s context asked after alike left
-handle_alike r s (Some context) asked None alike left = left
+handle_alike r s _ asked held' alike left = left
 
 -- and what it holds once it was asked for a text
-pub reported_alike : {A B : Type 0} (r : Result A Refusal) (s : Result B Refusal)
-    (held : Option (ContextState Records)) (command : Command) (addresses : Bor (List ℕ))
-    (held' : Option (ContextState Records)) → Alike r s
-    → LeavesHandle r held (question.Report command addresses) held'
-    → LeavesReported s held command addresses.now held'
-reported_alike r s None command addresses held' alike left = left
-reported_alike r s (Some context) command addresses (Some after) alike left =
-    left_alike r s context after command addresses.now alike left
-reported_alike r s (Some context) command addresses None alike left = left
-
 pub texts_alike : {A B : Type 0} (r : Result A Refusal) (s : Result B Refusal)
     (held : Option (ContextState Records)) (command : Command) (addresses : List ℕ)
     (held' : Option (ContextState Records)) → Alike r s
     → LeavesReported r held command addresses held' → LeavesReported s held command addresses held'
-texts_alike r s None command addresses held' alike left = left
 texts_alike r s (Some context) command addresses (Some after) alike left =
     left_alike r s context after command addresses alike left
-texts_alike r s (Some context) command addresses None alike left = left
+texts_alike r s _ command addresses held' alike left = left
 
 -- what was found is alike as it is shown, and a text as its bytes
 pub shown_alike : (found : Result FoundFrames Refusal) → Alike found (shown_result found)
@@ -141,19 +108,3 @@ pub open_answers : (result : Result FoundFrames Refusal) (held : Option (Context
     → AnswersHeld (Some result) held asked → AnswersHandle result held asked
 open_answers result None asked told = absurd told
 open_answers result (Some context) asked told = told
-
--- the text that a handle answers
-pub text_told : (held : Option (ContextState Records)) (command : Command) (addresses : Bor (List ℕ))
-    (found : FoundFrames) → answer_of_handle held (question.Report command addresses) ≡ Ok (shown_view found)
-    → text_of_handle command held addresses.now ≡ Ok found.texts.items
-text_told None command addresses found is = absurd cc
-text_told (Some context) command addresses found is = text_shown (report_asked command context addresses.now) found is
-
-pub text_not_told : (held : Option (ContextState Records)) (command : Command) (addresses : Bor (List ℕ))
-    (why : Refusal) → answer_of_handle held (question.Report command addresses) ≡ Err why
-    → text_of_handle command held addresses.now ≡ Err why
-text_not_told None command addresses why is =
-    let same : Closed ≡ why = cc in
-    ap (λ r. Err r) same
-text_not_told (Some context) command addresses why is =
-    text_not_shown (report_asked command context addresses.now) why is

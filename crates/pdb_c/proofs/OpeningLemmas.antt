@@ -80,10 +80,6 @@ refused_alike command (Err other) addresses why is =
     let same : other ≡ why = cc in
     ap (λ r. Err r) same
 
--- records whose streams could be read are accepted
-pub accepts : (records : Records) → records_refusal records ≡ None → accepted_records records ≡ Ok records
-accepts records is = ap (λ r. unless_refused r records) is
-
 -- records of which a stream could not be read are refused
 pub refuses : (records : Records) (error : Error) → records_refusal records ≡ Some error
     → accepted_records records ≡ Err refusal.RecordsRefused
@@ -96,32 +92,6 @@ not_held (Ok context) why is = absurd cc
 not_held (Err other) why is =
     let same : other ≡ why = cc in
     ap (λ r. Err r) same
-
--- what a handle holds once the records of bytes were put into it
-pub records_left : {A : Type 0} (result : Result A Refusal) (read : Result Records Refusal) (records : Records)
-    (held held' : Option (ContextState Records)) → read ≡ Ok records
-    → LeavesOpened result (context_over records) held held'
-    → LeavesOpened result (and_then read context_over) held held'
-records_left result read records held held' is left = rw is left
-
--- a handle that holds a context over records
-some_held : {A : Type 0} (answer : A) (records : Records) (wanted : Result (ContextState Records) Refusal)
-    (held : Option (ContextState Records)) → context_over records ≡ wanted
-    → (held' : Option (ContextState Records)) → held_by wanted ≡ Ok held' → LeavesSome (Ok answer) held held'
-some_held answer records (Ok context) held made (Some other) is =
-    let same : context ≡ other = cc in
-    record { records = records; made = made ∙ ap (λ c. Ok c) same }
-some_held answer records (Ok context) held made None is = absurd cc
-some_held answer records (Err why) held made held' is = absurd cc
-
--- what a handle holds once some records were put into it
-pub some_left : {A : Type 0} (result : Result A Refusal) (records : Records)
-    (held held' : Option (ContextState Records))
-    → LeavesOpened result (context_over records) held held' → LeavesSome result held held'
-some_left (Ok answer) records held (Some context) left =
-    some_held answer records (context_over records) held refl (Some context) left
-some_left (Ok answer) records held None left = some_held answer records (context_over records) held refl None left
-some_left (Err why) records held held' left = left.0
 
 -- the opening of a PDB file that was answered
 pub file_left : {A : Type 0} (answer : A) (held held' : Option (ContextState Records))
@@ -140,24 +110,4 @@ opens (Err why) held answer is left = absurd cc
 -- the numbers of refusals fit the answer's type
 pub code_fits : (why : Refusal) → to_z w64 (of_z w64 (code why)) ≡ code why
 code_fits refusal.NoAddresses = refl
-code_fits refusal.NotJson = refl
-code_fits refusal.NoRecords = refl
-code_fits refusal.ModuleFiles = refl
-code_fits refusal.RecordsRefused = refl
-code_fits refusal.AddressRefused = refl
-code_fits refusal.OutOfMemory = refl
-code_fits refusal.BufferTooSmall = refl
-code_fits refusal.Closed = refl
-code_fits refusal.NotAPdbFile = refl
-code_fits refusal.Program = refl
-code_fits refusal.PortablePdb = refl
-code_fits refusal.Compressed = refl
-code_fits refusal.OldPdbFile = refl
-code_fits refusal.CutShort = refl
-code_fits refusal.StreamsTooLong = refl
-code_fits refusal.OfObjects = refl
-code_fits refusal.OldTypes = refl
-code_fits refusal.NoSectionHeaders = refl
-code_fits refusal.Rearranged = refl
-code_fits refusal.BrokenStream = refl
-code_fits refusal.NoDebugId = refl
+code_fits _ = refl

@@ -5,7 +5,7 @@ use Rattle.pdb_codeview.specs.declared.files.FileEntry.{FileEntry}
 use Rattle.pdb_codeview.specs.declared.inlinees.ListedInlinee.{ListedInlinee}
 use Rattle.pdb_codeview.specs.Files.{all_entries, file_entries}
 use Rattle.pdb_codeview.specs.Inlinees.{inlinees_in}
-use Rattle.pdb_codeview.specs.ItemLists.{all_items}
+use Rattle.pdb_msf.specs.ItemLists.{all_items}
 
 -- a number below 256, as four bytes
 abbrev small : ℕ → List ℕ

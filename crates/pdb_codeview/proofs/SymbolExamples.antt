@@ -4,11 +4,11 @@ use Rattle.std.specs.Prelude.{codes}
 use Rattle.pdb_records.specs.declared.symbols.Symbol.{Symbol}
 use Rattle.pdb_records.specs.declared.symbols.SymbolData.TheVariants.{Other, Procedure, Public, SeparatedCode, Thunk}
 use Rattle.pdb_msf.specs.declared.faults.TheConstants.{APART, BAD_LENGTH, BAD_NUMBER, CUT}
-use Rattle.pdb_codeview.specs.declared.annotations.Annotation.TheVariants.{AdvanceAndLine, Length}
+use Rattle.pdb_codeview.specs.declared.annotations.Annotation.TheVariants.{AdvanceAndLine, Length, Other}
 use Rattle.pdb_codeview.specs.declared.files.FileEntry.{FileEntry}
 use Rattle.pdb_codeview.specs.Annotations.{annotations}
 use Rattle.pdb_codeview.specs.InlineSites.{ModuleCode, rows_by}
-use Rattle.pdb_codeview.specs.SymbolRecords.{all_records}
+use Rattle.pdb_msf.specs.ItemLists.{all_items}
 use Rattle.pdb_codeview.specs.Symbols.{global_symbols, module_symbols}
 
 -- a number below 256, as two bytes and as four
@@ -40,29 +40,29 @@ draw = record {
 -- of three records two are symbols, and one of these is looked into
 two_symbols : global_symbols (public_draw ++ filler ++ reference)
     ≡ record { items = draw ∷ record { raw_kind = 0x1125; content = Some Other } ∷ []; fault = None }
-unfolding all_records
+unfolding all_items
 two_symbols = refl
 
 -- the bytes end within the second record
 one_cut : global_symbols (public_draw ++ take 7 reference) ≡ record { items = draw ∷ []; fault = Some CUT }
-unfolding all_records
+unfolding all_items
 one_cut = refl
 
 -- a record that has no room for its kind
 no_kind : global_symbols (public_draw ++ short 1 ++ short 0) ≡ record { items = draw ∷ []; fault = Some BAD_LENGTH }
-unfolding all_records
+unfolding all_items
 no_kind = refl
 
 -- a name without a zero behind it
 no_name : global_symbols (16 ∷ 0 ∷ 14 ∷ 17 ∷ [] ++ small 2 ++ small 16 ++ short 1 ++ codes "draw")
     ≡ record { items = record { raw_kind = 0x110e; content = None } ∷ []; fault = None }
-unfolding all_records
+unfolding all_items
 no_name = refl
 
 -- S_PUB32_ST, whose name has its length in front
 older_form : global_symbols (17 ∷ 0 ∷ 9 ∷ 16 ∷ [] ++ small 2 ++ small 16 ++ short 1 ++ 4 ∷ [] ++ codes "draw")
     ≡ record { items = record draw { raw_kind = 0x1009 } ∷ []; fault = None }
-unfolding all_records
+unfolding all_items
 older_form = refl
 
 -- S_GPROC32: pParent, pEnd, pNext, len 26, DbgStart, DbgEnd, typind 0x1001, off 64, seg 1, flags, and the name
@@ -90,7 +90,7 @@ procedure_and_end : (code : ModuleCode) → module_symbols code 4 (procedure_f 4
   } ∷ record { raw_kind = 6; content = Some Other } ∷ [];
   fault = None;
 }
-unfolding all_records
+unfolding all_items
 procedure_and_end code = refl
 
 -- S_THUNK32: pParent, pEnd, pNext, off 32, seg 1, len 5, ord, and the name
@@ -109,7 +109,7 @@ a_thunk : (code : ModuleCode)
       } ∷ [];
       fault = None;
     }
-unfolding all_records
+unfolding all_items
 a_thunk code = refl
 
 -- S_SEPCODE: pParent, pEnd, length 9, scf, off 128, offParent 64, sect 2 and sectParent 1
@@ -128,7 +128,7 @@ separated : (code : ModuleCode)
       } ∷ [];
       fault = None;
     }
-unfolding all_records
+unfolding all_items
 separated code = refl
 
 -- S_TRAMPOLINE: trampType, cbThunk 5, offThunk 8, offTarget 64, sectThunk 2 and sectTarget 1
@@ -146,24 +146,24 @@ a_jump : (code : ModuleCode)
       } ∷ [];
       fault = None;
     }
-unfolding all_records
+unfolding all_items
 a_jump code = refl
 
 -- ChangeCodeOffsetAndLineOffset by 3 bytes and one line, and ChangeCodeLength of 5 bytes; zeros end the list
 abbrev two_annotations : List ℕ
 two_annotations = 11 ∷ 35 ∷ 4 ∷ 5 ∷ 0 ∷ 0 ∷ []
 
-its_annotations : annotations two_annotations ≡ record { items = AdvanceAndLine 3 2 ∷ Length 5 ∷ []; fault = None }
-unfolding annotations
+its_annotations : annotations two_annotations ≡ record { items = AdvanceAndLine 3 2 ∷ Length 5 ∷ Other ∷ []; fault = None }
+unfolding all_items
 its_annotations = refl
 
 -- ChangeCodeOffsetBase isn't followed, and no annotation has the kind 14
 another_chunk : annotations (2 ∷ 1 ∷ []) ≡ record { items = []; fault = Some APART }
-unfolding annotations
+unfolding all_items
 another_chunk = refl
 
 no_annotation : annotations (14 ∷ 1 ∷ []) ≡ record { items = []; fault = Some BAD_NUMBER }
-unfolding annotations
+unfolding all_items
 no_annotation = refl
 
 -- the entry of a file that starts there
@@ -176,7 +176,7 @@ one_row : rows_by (Some (record { file = 24; line = 10 })) (file_at_start 0 ∷ 
       items = record { offset = 67; length = Some 5; file_index = record { 0 = 1 }; line_start = 11 } ∷ [];
       fault = None;
     }
-unfolding annotations
+unfolding all_items
 one_row = refl
 
 -- an inlined function that the module doesn't list

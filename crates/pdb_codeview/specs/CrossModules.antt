@@ -6,7 +6,7 @@ use Rattle.pdb_msf.specs.declared.faults.TheConstants.{CUT}
 use Rattle.pdb_msf.specs.Faults.{◌>>=◌}
 use Rattle.pdb_msf.specs.NumberLists.{listed, number}
 use Rattle.pdb_msf.specs.Readings.{whole}
-use Rattle.pdb_codeview.specs.ItemLists.{all_items}
+use Rattle.pdb_msf.specs.ItemLists.{all_items}
 
 -- the import of so many numbers that stands first behind the key of the other module's name and their count, and what
 -- stands behind it

@@ -8,7 +8,7 @@ use Rattle.pdb_msf.specs.Faults.{◌>>=◌}
 use Rattle.pdb_msf.specs.NumberLists.{number}
 use Rattle.pdb_msf.specs.Readings.{nothing_read}
 use Rattle.pdb_msf.specs.declared.faults.TheConstants.{CUT, UNKNOWN_VERSION}
-use Rattle.pdb_codeview.specs.ItemLists.{all_items, together}
+use Rattle.pdb_msf.specs.ItemLists.{all_items, together}
 use Rattle.pdb_codeview.specs.declared.inlinees.InlineeSource.{InlineeSource}
 use Rattle.pdb_codeview.specs.declared.inlinees.ListedInlinee.{ListedInlinee}
 

@@ -6,7 +6,6 @@ pub mod LineRows
 pub mod Lines
 pub mod ProcedureSpans
 pub mod LineEntries
-pub mod ItemLists
 pub mod Files
 pub mod Inlinees
 pub mod SymbolRecords

@@ -1,7 +1,7 @@
 -- The entries of a module's line program, by its subsections of lines and its procedures.
 use Rattle.std.specs.Prelude.{ℕ, ◌+◌, ◌-◌, ◌^◌, ◌==◌, ◌&&◌, Bool, false, min, nat_lt, nat_le, List, [], ◌∷◌, ◌++◌, map}
 use Rattle.std.specs.Prelude.{if◌then◌else◌}
-use Rattle.pdb_ranges.specs.InOrder.{in_order}
+use Rattle.pdb_tables.specs.InOrder.{in_order}
 use Rattle.pdb_records.specs.declared.lines.LineInfo.{LineInfo}
 use Rattle.pdb_records.specs.declared.lines.SymbolLines.{SymbolLines}
 use Rattle.pdb_codeview.specs.declared.lines.LineSubsection.{LineSubsection}

@@ -1,5 +1,5 @@
 -- The subsection of lines (DEBUG_S_LINES): rows of offset, file and line over bytes of a section.
-use Rattle.std.specs.Prelude.{ℕ, zero, suc, ◌-◌, ◌%◌, ◌^◌, ◌==◌, ◌||◌, nat_lt, Bool, List, [], ◌∷◌, take, drop, length}
+use Rattle.std.specs.Prelude.{ℕ, ◌-◌, ◌*◌, ◌%◌, ◌^◌, ◌==◌, ◌||◌, nat_lt, Bool, not, List, take, drop, length, filter}
 use Rattle.std.specs.Prelude.{Some, None, Result, Ok, Err, if◌then◌else◌}
 use Rattle.pdb_records.specs.Readings.{Read}
 use Rattle.pdb_records.specs.declared.error.StreamError.{StreamError}
@@ -7,12 +7,12 @@ use Rattle.pdb_records.specs.declared.lines.FileIndex.{FileIndex}
 use Rattle.pdb_records.specs.declared.lines.LineInfo.{LineInfo}
 use Rattle.pdb_msf.specs.declared.faults.TheConstants.{BAD_LENGTH, CUT}
 use Rattle.pdb_msf.specs.NumberLists.{number, two_byte_number}
-use Rattle.pdb_msf.specs.Readings.{behind, ending, nothing_read}
+use Rattle.pdb_msf.specs.Readings.{ending}
 use Rattle.pdb_codeview.specs.declared.files.FileEntry.{FileEntry}
 use Rattle.pdb_codeview.specs.declared.lines.LineSubsection.{LineSubsection}
 use Rattle.pdb_codeview.specs.InlineRows.{sum_of}
 use Rattle.pdb_codeview.specs.InlineSites.{file_at}
-use Rattle.pdb_codeview.specs.ItemLists.{all_items, together}
+use Rattle.pdb_msf.specs.ItemLists.{all_items, entry_list, together}
 
 -- a block of rows: where the entry of its file starts, how many rows it has, and their bytes
 pub record BlockBytes : Type 0 where
@@ -55,16 +55,11 @@ abbrev pub line_row : FileIndex → ℕ → List ℕ → LineInfo
 line_row file start row =
     record { offset = sum_of start (number row); file_index = file; line_start = line_start row }
 
--- a row, unless it is of no line
-abbrev pub row_of_line : LineInfo → List LineInfo
-row_of_line row = if is_no_line row.line_start then [] else row ∷ []
-
 -- the rows of a block that has so many, one after the other; one that the bytes end in is cut
-abbrev pub line_rows : FileIndex → ℕ → ℕ → List ℕ → Read LineInfo
-line_rows file start zero bytes = nothing_read None
-line_rows file start (suc count) bytes =
-    if nat_lt (length bytes) 8 then nothing_read (Some CUT) else
-    behind (row_of_line (line_row file start (take 8 bytes))) (line_rows file start count (drop 8 bytes))
+unfoldable pub line_rows : FileIndex → ℕ → ℕ → List ℕ → Read LineInfo
+line_rows file start count bytes =
+    ending (if nat_lt (length bytes) (8 * count) then Some CUT else None)
+    (entry_list (line_row file start) 8 (take (8 * count) bytes))
 
 -- the rows of a block, by the module's files
 abbrev pub block_rows : List FileEntry → ℕ → BlockBytes → Read LineInfo
@@ -74,9 +69,16 @@ block_rows files start block = line_rows (file_at files block.file) start block.
 abbrev pub rows_of_blocks : List FileEntry → ℕ → Read BlockBytes → Read LineInfo
 rows_of_blocks files start blocks = ending blocks.fault (together (block_rows files start) blocks.items)
 
+-- rows but for those of no line
+abbrev pub rows_of_lines : List LineInfo → List LineInfo
+rows_of_lines rows = filter (λ row. not (is_no_line row.line_start)) rows
+
 -- the rows of a subsection in code that starts at an offset, by what stands behind its header
 abbrev pub subsection_rows : List FileEntry → ℕ → List ℕ → Read LineInfo
-subsection_rows files start bytes = rows_of_blocks files start (all_items first_block bytes)
+subsection_rows files start bytes = record {
+  items = rows_of_lines (rows_of_blocks files start (all_items first_block bytes)).items;
+  fault = (rows_of_blocks files start (all_items first_block bytes)).fault;
+}
 
 -- the subsection with this header (CV_DebugSLinesHeader_t: offCon, segCon at 4, flags, and cbCon at 8) and these blocks
 abbrev pub subsection_of : List FileEntry → List ℕ → List ℕ → LineSubsection

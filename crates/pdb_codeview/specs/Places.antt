@@ -2,7 +2,7 @@
 use Rattle.std.specs.Prelude.{ℕ, ◌+◌, ◌*◌, ◌^◌, ◌==◌, Bool, false, nat_le, List, [], ◌∷◌, Option, Some, None}
 use Rattle.std.specs.Prelude.{if◌then◌else◌}
 use Rattle.std.specs.Ordering.{nat_cmp, is_lt}
-use Rattle.pdb_ranges.specs.InOrder.{in_order}
+use Rattle.pdb_tables.specs.InOrder.{in_order}
 use Rattle.pdb_records.specs.declared.addresses.PdbInternalSectionOffset.{PdbInternalSectionOffset}
 
 -- a section offset as a number: sections stand one behind the other, each 4 GiB behind the one before

@@ -1,6 +1,6 @@
 -- Symbol records: how the bytes of a list of symbols are cut into them.
-use Rattle.std.specs.Prelude.{ℕ, zero, suc, ◌+◌, ◌==◌, ◌||◌, Bool, not, nat_lt, nat_le, List, [], ◌∷◌, take, drop}
-use Rattle.std.specs.Prelude.{length, filter, Option, None, Some, Result, Ok, Err, if◌then◌else◌}
+use Rattle.std.specs.Prelude.{ℕ, ◌+◌, ◌-◌, ◌==◌, ◌||◌, Bool, not, nat_lt, nat_le, List, take, drop}
+use Rattle.std.specs.Prelude.{length, filter, Option, None, Result, Ok, Err, if◌then◌else◌}
 use Rattle.std.specs.List.{position_from}
 use Rattle.std.specs.Option.{unwrap_or}
 use Rattle.pdb_records.specs.Readings.{Read}
@@ -8,8 +8,9 @@ use Rattle.pdb_records.specs.declared.error.StreamError.{StreamError}
 use Rattle.pdb_records.specs.declared.symbols.SymbolIndex.{SymbolIndex}
 use Rattle.pdb_msf.specs.declared.faults.TheConstants.{BAD_LENGTH, CUT}
 use Rattle.pdb_msf.specs.Bytes.{counted_text_in, text_in}
+use Rattle.pdb_msf.specs.Faults.{◌>>=◌}
+use Rattle.pdb_msf.specs.ItemLists.{all_items}
 use Rattle.pdb_msf.specs.NumberLists.{two_byte_number}
-use Rattle.pdb_msf.specs.Readings.{behind, nothing_read}
 use Rattle.pdb_codeview.specs.declared.symbol_records.TheConstants.{S_ALIGN, S_SKIP}
 
 -- a symbol record: where it starts in its stream, in bytes; its kind; and what stands behind the kind
@@ -35,21 +36,15 @@ behind_reclen bytes =
 abbrev pub record_at : ℕ → List ℕ → SymbolBytes
 record_at start bytes = record { start = start; raw_kind = two_byte_number bytes; content = drop 2 bytes }
 
--- at most so many records, one after the other until the bytes end, the first of which starts at a place; one that has
--- a fault ends them
-abbrev pub records_up_to : ℕ → ℕ → List ℕ → Read SymbolBytes
-records_up_to zero start bytes = nothing_read None
-records_up_to (suc count) start bytes =
-    if length bytes == 0 then nothing_read None else
-    elim (behind_reclen bytes) as (λ first. Read SymbolBytes) [
-      | Err fault ↦ nothing_read (Some fault)
-      | Ok first ↦ behind (record_at start first ∷ [])
-          (records_up_to count (start + (2 + length first)) (drop (2 + length first) bytes))
-    ]
+-- the record that stands next in a list that ends at a place, and what stands behind it
+abbrev pub first_record : ℕ → List ℕ → Result (SymbolBytes × List ℕ) StreamError
+first_record end bytes = do
+  behind ← behind_reclen bytes
+  Ok (record_at (end - length bytes) behind, drop (2 + length behind) bytes)
 
--- all records of these bytes: each takes four bytes or more, so there are no more of them than bytes
-unfoldable pub all_records : ℕ → List ℕ → Read SymbolBytes
-all_records start bytes = records_up_to (length bytes) start bytes
+-- all records of these bytes, the first of which starts at a place
+abbrev pub all_records : ℕ → List ℕ → Read SymbolBytes
+all_records start bytes = all_items (first_record (start + length bytes)) bytes
 
 -- records that fill the space up to a place (S_ALIGN) or hold one free (S_SKIP) are no symbols
 abbrev pub is_filler : SymbolBytes → Bool

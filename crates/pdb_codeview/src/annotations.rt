@@ -1,15 +1,36 @@
 //! The annotations of an inline site: compressed numbers that say where its code and its lines go on.
 
-ghost use Rattle.std.specs.Prelude.{◌≡◌, ◌≤◌, length, drop, IfErr, IfOk, MatchResult, OnOk, Some, None, option_map};
-ghost use Rattle.std.specs.Prelude.{Ok, Err};
-ghost use Rattle.pdb_codeview.specs.Annotations.{annotation_of, annotations, behind_number, first_annotation};
-ghost use Rattle.pdb_codeview.specs.Annotations.{first_number, of_one_number};
+ghost use Rattle.std.specs.Prelude.{◌≡◌, MatchResult, OnOk, Ok, Err};
+ghost use Rattle.pdb_codeview.specs.Annotations.{annotation_of, behind_number, first_number, of_one_number};
 ghost use Rattle.pdb_codeview.specs.Compressed.{compressed, width};
 
-use pdb_msf::Bytes;
 use pdb_msf::faults::{APART, BAD_NUMBER, Fault};
-use pdb_records::{Reading, StreamError};
-use std::alloc::Global;
+use pdb_msf::{Bytes, ItemReader};
+use pdb_records::StreamError;
+
+const INVALID: u32 = 0;
+
+const CODE_OFFSET: u32 = 1;
+
+const CODE_OFFSET_BASE: u32 = 2;
+
+const CHANGE_CODE_OFFSET: u32 = 3;
+
+const CODE_LENGTH: u32 = 4;
+
+const FILE: u32 = 5;
+
+const LINE_OFFSET: u32 = 6;
+
+const LINE_END_DELTA: u32 = 7;
+
+const COLUMN_END_DELTA: u32 = 10;
+
+const CODE_OFFSET_AND_LINE_OFFSET: u32 = 11;
+
+const CODE_LENGTH_AND_CODE_OFFSET: u32 = 12;
+
+const COLUMN_END: u32 = 13;
 
 /// A step of the list that says where the code of an inlined body stands, and of which lines it is.
 #[derive(Clone, Copy)]
@@ -34,52 +55,34 @@ pub enum Annotation {
     Other,
 }
 
-/// The annotations that these bytes hold, up to their end or an annotation of kind 0.
-pub fn read_annotations(alloc: Global, bytes: &[u8]) -> Result<Reading<Annotation>, Fault>
-    ensures answer { IfOk result (λ read. read ≡ annotations bytes.now) }
-    ensures memory { IfErr result (λ fault. fault ≡ Fault.OutOfMemory) }
-{
-    let mut items = Vec::new(alloc);
-    let mut rest = Bytes::new(bytes);
-    for _ in 0..bytes.len() {
-        if rest.is_empty() {
-            break;
-        }
-        match next_annotation(&mut rest) {
-            Ok(Some(annotation)) => items.push(annotation)?,
-            Ok(None) => break,
-            Err(error) => {
-                return Ok(Reading {
-                    items,
-                    fault: Some(error),
-                });
-            }
-        }
-    }
-    Ok(Reading { items, fault: None })
-}
+/// The annotations of a site. One of the kind 0 ends them.
+pub(crate) struct Annotations;
 
-// The next annotation, unless its kind is 0.
-fn next_annotation(rest: &mut Bytes<'_>) -> Result<Option<Annotation>, StreamError>
-    ensures { MatchResult result (λ first. first_annotation rest.old
-        ≡ Ok (option_map (λ annotation. record { annotation = annotation; next = rest.new }) first))
-        (λ error. first_annotation rest.old ≡ Err error) }
-{
-    let kind = take_number(rest)?;
-    if kind == 0 {
-        return Ok(None);
+impl<'a> ItemReader<'a> for Annotations {
+    type Item = Annotation;
+
+    ghost use Rattle.pdb_codeview.specs.Annotations.{first_annotation};
+
+    ghost first = { λ _. first_annotation };
+
+    fn take(&self, rest: &mut Bytes<'a>) -> Result<Annotation, Fault> {
+        let kind = take_number(rest)?;
+        if kind == INVALID {
+            *rest = Bytes::new(&[]);
+            return Ok(Annotation::Other);
+        }
+        Ok(take_annotation(kind, rest)?)
     }
-    Ok(Some(take_annotation(kind, rest)?))
 }
 
 // The annotation of this kind, with its numbers.
 fn take_annotation(kind: u32, rest: &mut Bytes<'_>) -> Result<Annotation, StreamError>
     ensures { MatchResult result
-        (λ annotation. annotation_of kind rest.old ≡ Ok (record { annotation = annotation; next = rest.new }))
+        (λ annotation. annotation_of kind rest.old ≡ Ok (annotation, rest.new))
         (λ error. annotation_of kind rest.old ≡ Err error) }
 {
     let number = take_number(rest)?;
-    if kind == 12 {
+    if kind == CODE_LENGTH_AND_CODE_OFFSET {
         return Ok(Annotation::LengthAndAdvance(number, take_number(rest)?));
     }
     of_one_number(kind, number)
@@ -90,14 +93,14 @@ fn of_one_number(kind: u32, number: u32) -> Result<Annotation, StreamError>
     ensures { result ≡ of_one_number kind number }
 {
     match kind {
-        1 => Ok(Annotation::Start(number)),
-        2 if number > 0 => Err(APART),
-        3 => Ok(Annotation::Advance(number)),
-        4 => Ok(Annotation::Length(number)),
-        5 => Ok(Annotation::File(number)),
-        6 => Ok(Annotation::Line(number)),
-        11 => Ok(Annotation::AdvanceAndLine(number % 16, number / 16)),
-        2 | 7..=10 | 13 => Ok(Annotation::Other),
+        CODE_OFFSET => Ok(Annotation::Start(number)),
+        CODE_OFFSET_BASE if number > 0 => Err(APART),
+        CHANGE_CODE_OFFSET => Ok(Annotation::Advance(number)),
+        CODE_LENGTH => Ok(Annotation::Length(number)),
+        FILE => Ok(Annotation::File(number)),
+        LINE_OFFSET => Ok(Annotation::Line(number)),
+        CODE_OFFSET_AND_LINE_OFFSET => Ok(Annotation::AdvanceAndLine(number % 16, number / 16)),
+        CODE_OFFSET_BASE | LINE_END_DELTA..=COLUMN_END_DELTA | COLUMN_END => Ok(Annotation::Other),
         _ => Err(BAD_NUMBER),
     }
 }

@@ -1,17 +1,19 @@
 //! The subsection of a module's files, which rows and sites name by where a file's entry starts.
 
-ghost use Rattle.std.specs.Prelude.{◌≡◌, ◌++◌, ℕ, map, Ok, Err, IfErr, IfOk, MatchResult, OnOk};
+ghost use Rattle.std.specs.Prelude.{◌≡◌, ◌++◌, ℕ, map, IfErr, IfOk, OnOk};
 ghost use Rattle.std.specs.BTreeMap.{get};
 ghost use Rattle.std.specs.Ordering.{nat_cmp};
-ghost use Rattle.pdb_codeview.specs.Files.{all_entries, file_entries, file_index, file_position, first_entry};
-ghost use Rattle.pdb_codeview.specs.Files.{named_file};
+ghost use Rattle.pdb_codeview.specs.Files.{all_entries, file_index, file_position, named_file};
 
-use crate::first_values::insert_first;
 use pdb_msf::faults::Fault;
-use pdb_msf::{Bytes, offset_of, u32_at};
+use pdb_msf::{Bytes, ItemReader, offset_of, push_items, u32_at};
 use pdb_records::{FileIndex, FileInfo, StreamError, StringRef};
+use pdb_tables::insert_first;
 use std::alloc::{AllocError, Global};
 use std::collections::BTreeMap;
+
+/// The bytes of an entry in front of its checksum.
+const FRONT: usize = 6;
 
 /// An entry of a subsection of files.
 #[derive(Clone, Copy)]
@@ -99,7 +101,13 @@ fn push_all_entries(
         ≡ entries.old.items ++ (all_entries (map (λ s. s.now) subsections.now)).items) }
 {
     for subsection in subsections {
-        let fault = push_entries(subsection, entries)?;
+        let fault = push_items(
+            &FileEntries {
+                whole: subsection.len(),
+            },
+            subsection,
+            entries,
+        )?;
         if fault.is_some() {
             return Ok(fault);
         }
@@ -107,39 +115,29 @@ fn push_all_entries(
     Ok(None)
 }
 
-// Appends the entries of a subsection.
-fn push_entries(
-    bytes: &[u8],
-    entries: &mut Vec<FileEntry>,
-) -> Result<Option<StreamError>, AllocError>
-    ensures answer { IfOk result (λ fault. fault ≡ (file_entries bytes.now).fault) }
-    ensures state { OnOk result (entries.new.items ≡ entries.old.items ++ (file_entries bytes.now).items) }
-{
-    let mut rest = Bytes::new(bytes);
-    for _ in 0..bytes.len() {
-        if rest.is_empty() {
-            break;
-        }
-        match take_entry(bytes.len(), &mut rest) {
-            Ok(entry) => entries.push(entry)?,
-            Err(error) => return Ok(Some(error)),
-        }
-    }
-    Ok(None)
+/// The entries of a subsection of so many bytes.
+#[derive(Drop)]
+struct FileEntries {
+    whole: usize,
 }
 
-// The next entry of a subsection of so many bytes.
-fn take_entry(whole: usize, rest: &mut Bytes<'_>) -> Result<FileEntry, StreamError>
-    ensures { MatchResult result (λ entry. first_entry whole rest.old ≡ Ok (entry, rest.new))
-        (λ error. first_entry whole rest.old ≡ Err error) }
-{
-    let start = offset_of(whole, rest.len());
-    let front = rest.take(6)?;
-    let name = StringRef(u32_at(front, 0));
-    rest.take(usize::from(front[4]))?;
-    rest.align(whole);
-    Ok(FileEntry {
-        start,
-        info: FileInfo { name },
-    })
+impl<'a> ItemReader<'a> for FileEntries {
+    type Item = FileEntry;
+
+    ghost use Rattle.pdb_codeview.specs.Files.{first_entry};
+
+    ghost first = { λ list. first_entry list.whole };
+
+    fn take(&self, rest: &mut Bytes<'a>) -> Result<FileEntry, Fault> {
+        let left = rest.len();
+        let start = offset_of(self.whole, left);
+        let front = rest.take(FRONT)?;
+        let name = StringRef(u32_at(front, 0));
+        rest.take(usize::from(front[4]))?;
+        rest.align(left);
+        Ok(FileEntry {
+            start,
+            info: FileInfo { name },
+        })
+    }
 }

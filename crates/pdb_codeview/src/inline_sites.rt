@@ -3,13 +3,13 @@
 ghost use Rattle.std.specs.Prelude.{◌≡◌, map, IfErr, IfOk};
 ghost use Rattle.pdb_codeview.specs.InlineSites.{code_of, named_row, site_rows};
 
-use crate::annotations::read_annotations;
+use crate::annotations::Annotations;
 use crate::files::Files;
 use crate::inline_rows::{RowPosition, rows_of};
 use crate::inlinees::Inlinees;
 use crate::lines::file_at;
 use pdb_msf::faults::Fault;
-use pdb_msf::nothing_read;
+use pdb_msf::{nothing_read, read_items};
 use pdb_records::{IdIndex, InlineRow, Reading};
 use std::alloc::{AllocError, Global};
 
@@ -41,7 +41,7 @@ pub fn site_rows(
         file: source.file,
         line: source.line,
     };
-    let annotations = read_annotations(alloc, annotations)?;
+    let annotations = read_items(alloc, &Annotations, annotations)?;
     let rows = rows_of(alloc, &annotations.items, position)?;
     let items = named_rows(alloc, &rows, &code.files)?;
     let fault = annotations.fault;

@@ -3,14 +3,13 @@
 ghost use Rattle.std.specs.Prelude.{◌≡◌, ◌++◌, ℕ, length, map, Ok, Err, IfErr, IfOk, MatchResult, OnOk};
 ghost use Rattle.std.specs.BTreeMap.{get};
 ghost use Rattle.std.specs.Ordering.{nat_cmp};
-ghost use Rattle.pdb_codeview.specs.Inlinees.{all_inlinees, behind_inlinee, first_inlinee, inlinee, inlinee_source};
+ghost use Rattle.pdb_codeview.specs.Inlinees.{all_inlinees, behind_inlinee, inlinee, inlinee_source};
 ghost use Rattle.pdb_codeview.specs.Inlinees.{inlinees_in, listed_inlinee};
-ghost use Rattle.pdb_codeview.specs.ItemLists.{all_items};
 
-use crate::first_values::insert_first;
 use pdb_msf::faults::{Fault, UNKNOWN_VERSION};
-use pdb_msf::{Bytes, u32_at};
+use pdb_msf::{Bytes, ItemReader, push_items, u32_at};
 use pdb_records::{IdIndex, Inlinee, Reading, StreamError};
+use pdb_tables::insert_first;
 use std::alloc::{AllocError, Global};
 use std::collections::BTreeMap;
 
@@ -19,6 +18,9 @@ const ONE_FILE: u32 = 0;
 
 /// A list whose entries have more files.
 const MORE_FILES: u32 = 1;
+
+/// The bytes of an entry in front of its further files.
+const FRONT: usize = 12;
 
 /// Where the body of a function starts that was inlined.
 #[derive(Clone, Copy)]
@@ -119,44 +121,31 @@ fn push_subsection(
     }
     match rest.u32() {
         Ok(form) if form == ONE_FILE || form == MORE_FILES => {
-            push_inlinees(form, rest.rest(), listed)
+            push_items(&InlineeEntries { form }, rest.rest(), listed)
         }
         Ok(_) => Ok(Some(UNKNOWN_VERSION)),
         Err(error) => Ok(Some(error)),
     }
 }
 
-// Appends the entries of a list of this form.
-fn push_inlinees(
+/// The entries of a list of this form.
+#[derive(Drop)]
+struct InlineeEntries {
     form: u32,
-    bytes: &[u8],
-    listed: &mut Vec<ListedInlinee>,
-) -> Result<Option<StreamError>, AllocError>
-    ensures answer { IfOk result (λ fault. fault ≡ (all_items (first_inlinee form) bytes.now).fault) }
-    ensures state { OnOk result (listed.new.items
-        ≡ listed.old.items ++ (all_items (first_inlinee form) bytes.now).items) }
-{
-    let mut rest = Bytes::new(bytes);
-    for _ in 0..bytes.len() {
-        if rest.is_empty() {
-            break;
-        }
-        match take_inlinee(form, &mut rest) {
-            Ok(entry) => listed.push(entry)?,
-            Err(error) => return Ok(Some(error)),
-        }
-    }
-    Ok(None)
 }
 
-// The next entry of a list of this form.
-fn take_inlinee(form: u32, rest: &mut Bytes<'_>) -> Result<ListedInlinee, StreamError>
-    ensures { MatchResult result (λ entry. first_inlinee form rest.old ≡ Ok (entry, rest.new))
-        (λ error. first_inlinee form rest.old ≡ Err error) }
-{
-    let front = rest.take(12)?;
-    pass_files(form, rest)?;
-    Ok(listed_inlinee(front))
+impl<'a> ItemReader<'a> for InlineeEntries {
+    type Item = ListedInlinee;
+
+    ghost use Rattle.pdb_codeview.specs.Inlinees.{first_inlinee};
+
+    ghost first = { λ list. first_inlinee list.form };
+
+    fn take(&self, rest: &mut Bytes<'a>) -> Result<ListedInlinee, Fault> {
+        let front = rest.take(FRONT)?;
+        pass_files(self.form, rest)?;
+        Ok(listed_inlinee(front))
+    }
 }
 
 // Passes over the further files of an entry, which entries of the second form have.

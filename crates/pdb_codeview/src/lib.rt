@@ -7,7 +7,6 @@
 mod annotations;
 mod cross_modules;
 mod files;
-mod first_values;
 mod inline_rows;
 mod inline_sites;
 mod inlinees;

@@ -1,14 +1,14 @@
 //! The subsection of lines: rows of offset, file and line over bytes of a section.
 
-ghost use Rattle.std.specs.Prelude.{◌≡◌, ◌++◌, length, Ok, Err, IfOk, MatchResult, OnOk};
+ghost use Rattle.std.specs.Prelude.{◌≡◌, ◌++◌, length, IfOk, OnOk};
 ghost use Rattle.pdb_msf.specs.Faults.{Gives};
 ghost use Rattle.pdb_codeview.specs.InlineSites.{file_at};
-ghost use Rattle.pdb_codeview.specs.Lines.{block_rows, first_block, line_row, line_rows, line_subsection, row_of_line};
-ghost use Rattle.pdb_codeview.specs.Lines.{subsection_rows};
+ghost use Rattle.pdb_codeview.specs.Lines.{block_rows, line_row, line_subsection, rows_of_lines};
+ghost use Rattle.pdb_msf.specs.ItemLists.{together};
 
 use crate::files::Files;
 use pdb_msf::faults::{BAD_LENGTH, CUT, Fault};
-use pdb_msf::{Bytes, u16_at, u32_at};
+use pdb_msf::{Bytes, ItemReader, push_items, read_items, u16_at, u32_at};
 use pdb_records::{FileIndex, LineInfo, PdbInternalSectionOffset, Reading, StreamError};
 use std::alloc::{AllocError, Global};
 use std::marker::Model;
@@ -21,6 +21,15 @@ pub struct LineSubsection {
     pub size: u32,
     pub rows: Reading<LineInfo>,
 }
+
+/// The bytes in front of a subsection's blocks.
+const SUBSECTION_FRONT: usize = 12;
+
+/// The bytes in front of a block's rows.
+const BLOCK_FRONT: usize = 12;
+
+/// The bytes of a row.
+const ROW: usize = 8;
 
 /// Lines are below this number: the line of a row is the lowest 24 bits of a number.
 const LINES: u32 = 0x0100_0000;
@@ -64,42 +73,38 @@ pub fn read_lines(alloc: Global, bytes: &[u8], files: &Files) -> Result<LineSubs
     ensures { Gives (λ read. read) result (line_subsection files.now.entries.items bytes.now) }
 {
     let mut rest = Bytes::new(bytes);
-    let front = rest.take(12)?;
+    let front = rest.take(SUBSECTION_FRONT)?;
     let offset = PdbInternalSectionOffset {
         section: u16_at(front, 4),
         offset: u32_at(front, 0),
     };
     let mut items = Vec::new(alloc);
-    let fault = push_blocks(rest.rest(), files, offset.offset, &mut items)?;
+    let blocks = read_items(alloc, &LineBlocks, rest.rest())?;
+    let fault = push_blocks(&blocks.items, files, offset.offset, &mut items)?;
     Ok(LineSubsection {
         offset,
         size: u32_at(front, 8),
-        rows: Reading { items, fault },
+        rows: Reading {
+            items: rows_of_lines(items),
+            fault: fault.or(blocks.fault),
+        },
     })
 }
 
 // Appends the rows of these blocks, one block after the other up to the first fault.
 fn push_blocks(
-    bytes: &[u8],
+    blocks: &[LineBlock<'_>],
     files: &Files,
     start: u32,
     rows: &mut Vec<LineInfo>,
 ) -> Result<Option<StreamError>, AllocError>
     ensures answer { IfOk result (λ fault.
-        fault ≡ (subsection_rows files.now.entries.items start bytes.now).fault) }
+        fault ≡ (together (block_rows files.now.entries.items start) blocks.now).fault) }
     ensures state { OnOk result (rows.new.items
-        ≡ rows.old.items ++ (subsection_rows files.now.entries.items start bytes.now).items) }
+        ≡ rows.old.items ++ (together (block_rows files.now.entries.items start) blocks.now).items) }
 {
-    let mut rest = Bytes::new(bytes);
-    for _ in 0..bytes.len() {
-        if rest.is_empty() {
-            break;
-        }
-        let block = match take_block(&mut rest) {
-            Ok(block) => block,
-            Err(error) => return Ok(Some(error)),
-        };
-        let fault = push_block_rows(&block, files, start, rows)?;
+    for block in blocks {
+        let fault = push_block_rows(block, files, start, rows)?;
         if fault.is_some() {
             return Ok(fault);
         }
@@ -107,24 +112,32 @@ fn push_blocks(
     Ok(None)
 }
 
-// The next block.
-fn take_block<'a>(rest: &mut Bytes<'a>) -> Result<LineBlock<'a>, StreamError>
-    ensures { MatchResult result (λ block. first_block rest.old ≡ Ok (block, rest.new))
-        (λ error. first_block rest.old ≡ Err error) }
-{
-    let front = rest.take(12)?;
-    let Some(size) = (u32_at(front, 8) as usize).checked_sub(12) else {
-        return Err(BAD_LENGTH);
-    };
-    let rows = rest.take(size)?;
-    Ok(LineBlock {
-        file: u32_at(front, 0),
-        count: u32_at(front, 4),
-        rows,
-    })
+/// The blocks of a subsection.
+struct LineBlocks;
+
+impl<'a> ItemReader<'a> for LineBlocks {
+    type Item = LineBlock<'a>;
+
+    ghost use Rattle.pdb_codeview.specs.Lines.{first_block};
+
+    ghost first = { λ _. first_block };
+
+    fn take(&self, rest: &mut Bytes<'a>) -> Result<LineBlock<'a>, Fault> {
+        let front = rest.take(BLOCK_FRONT)?;
+        let Some(size) = (u32_at(front, 8) as usize).checked_sub(BLOCK_FRONT) else {
+            return Err(Fault::Broken(BAD_LENGTH));
+        };
+        let rows = rest.take(size)?;
+        Ok(LineBlock {
+            file: u32_at(front, 0),
+            count: u32_at(front, 4),
+            rows,
+        })
+    }
 }
 
 // Appends the rows of a block.
+#[tactic(auto, using(crate::proofs::LineLemmas::rows_cut), unfolding(crate::specs::Lines::line_rows))]
 fn push_block_rows(
     block: &LineBlock<'_>,
     files: &Files,
@@ -136,40 +149,32 @@ fn push_block_rows(
         ≡ rows.old.items ++ (block_rows files.now.entries.items start block.now).items) }
 {
     let file_index = file_at(files, block.file);
-    push_rows(block.rows, block.count, file_index, start, rows)
+    let reader = LineRows { file_index, start };
+    let mut rest = Bytes::new(block.rows);
+    match rest.take(ROW * block.count as usize) {
+        Ok(bytes) => push_items(&reader, bytes, rows),
+        Err(_) => Ok(push_items(&reader, block.rows, rows)?.or(Some(CUT))),
+    }
 }
 
-// Appends so many rows. Those of no line are passed over.
-fn push_rows(
-    bytes: &[u8],
-    count: u32,
+/// The rows of a file, in code that starts at an offset.
+#[derive(Drop)]
+struct LineRows {
     file_index: FileIndex,
     start: u32,
-    rows: &mut Vec<LineInfo>,
-) -> Result<Option<StreamError>, AllocError>
-    ensures answer { IfOk result (λ fault. fault ≡ (line_rows file_index start count bytes.now).fault) }
-    ensures state { OnOk result
-        (rows.new.items ≡ rows.old.items ++ (line_rows file_index start count bytes.now).items) }
-{
-    let mut rest = Bytes::new(bytes);
-    for _ in 0..count {
-        let Ok(row) = rest.take(8) else {
-            return Ok(Some(CUT));
-        };
-        push_row(line_row(row, file_index, start), rows)?;
-    }
-    Ok(None)
 }
 
-// Appends a row, unless it is of no line.
-fn push_row(row: LineInfo, rows: &mut Vec<LineInfo>) -> Result<(), AllocError>
-    ensures { OnOk result (rows.new.items ≡ rows.old.items ++ row_of_line row) }
-{
-    if row.line_start == STEP_THROUGH || row.line_start == STEP_OVER {
-        return Ok(());
+impl<'a> ItemReader<'a> for LineRows {
+    type Item = LineInfo;
+
+    ghost use Rattle.pdb_codeview.specs.Lines.{line_row};
+    ghost use Rattle.pdb_msf.specs.ItemLists.{first_entry};
+
+    ghost first = { λ rows. first_entry (line_row rows.file_index rows.start) 8 };
+
+    fn take(&self, rest: &mut Bytes<'a>) -> Result<LineInfo, Fault> {
+        Ok(line_row(rest.take(ROW)?, self.file_index, self.start))
     }
-    rows.push(row)?;
-    Ok(())
 }
 
 fn line_row(bytes: &[u8], file_index: FileIndex, start: u32) -> LineInfo
@@ -181,4 +186,12 @@ fn line_row(bytes: &[u8], file_index: FileIndex, start: u32) -> LineInfo
         file_index,
         line_start: u32_at(bytes, 4) % LINES,
     }
+}
+
+// The rows but for those of no line.
+fn rows_of_lines(mut rows: Vec<LineInfo>) -> Vec<LineInfo>
+    ensures { result.items ≡ rows_of_lines rows.items }
+{
+    rows.retain(|row| row.line_start != STEP_THROUGH && row.line_start != STEP_OVER);
+    rows
 }

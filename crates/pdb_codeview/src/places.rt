@@ -1,7 +1,7 @@
 //! Section offsets as numbers, and lists that are sorted and gone through by them.
 
 ghost use Rattle.std.specs.Prelude.{◌≡◌, ◌≤◌, ◌<◌, ◌^◌, ℕ, None, IfOk, OnOk};
-ghost use Rattle.pdb_ranges.specs.InOrder.{in_order};
+ghost use Rattle.pdb_tables.specs.InOrder.{in_order};
 ghost use Rattle.pdb_codeview.specs.Places.{place, stands_before, firsts_after, first_of_each_place, from_last};
 
 use pdb_records::PdbInternalSectionOffset;

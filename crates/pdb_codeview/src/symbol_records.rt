@@ -1,14 +1,13 @@
 //! Symbol records: how the bytes of a list of symbols are cut into them, and the names at their ends.
 
-ghost use Rattle.std.specs.Prelude.{◌≡◌, ◌+◌, ◌≤◌, drop, length, Ok, IfErr, IfOk, IfSome, MatchResult, OnErr, OnOk};
-ghost use Rattle.std.specs.Prelude.{Err, option_map};
+ghost use Rattle.std.specs.Prelude.{◌≡◌, ◌≤◌, length, IfErr, IfOk, IfSome, option_map};
 ghost use Rattle.std.specs.List.Sorted.{IsNonDecreasingBy};
-ghost use Rattle.pdb_codeview.specs.SymbolRecords.{behind_reclen, is_filler, name_behind, name_in, position_at};
+ghost use Rattle.pdb_codeview.specs.SymbolRecords.{is_filler, name_behind, name_in, position_at};
 ghost use Rattle.pdb_codeview.specs.SymbolRecords.{record_at, symbol_records};
 
 use pdb_msf::faults::{BAD_LENGTH, Fault};
-use pdb_msf::{Bytes, u16_at};
-use pdb_records::{Reading, StreamError, SymbolIndex};
+use pdb_msf::{Bytes, ItemReader, push_items, u16_at};
+use pdb_records::{Reading, SymbolIndex};
 use std::alloc::Global;
 use std::marker::Model;
 
@@ -91,43 +90,35 @@ pub(crate) fn split_symbol_records<'a>(
     ensures ascending { IfOk result (λ list. IsNonDecreasingBy (λ symbol. symbol.start) list.items) }
     ensures memory { IfErr result (λ fault. fault ≡ Fault.OutOfMemory) }
 {
+    let end = front as usize + bytes.len();
     let mut items = Vec::new(alloc);
-    let mut rest = Bytes::new(bytes);
-    for _ in 0..bytes.len() {
-        if rest.is_empty() {
-            break;
-        }
-        let start = front as usize + bytes.len().saturating_sub(rest.len());
-        let record = match take_behind_reclen(&mut rest) {
-            Ok(record) => record_at(start, record),
-            Err(error) => {
-                return Ok(Reading {
-                    items,
-                    fault: Some(error),
-                });
-            }
-        };
-        if !record.is_filler() {
-            items.push(record)?;
-        }
-    }
-    Ok(Reading { items, fault: None })
+    let fault = push_items(&SymbolRecords { end }, bytes, &mut items)?;
+    items.retain(|record| !record.is_filler());
+    Ok(Reading { items, fault })
 }
 
-// What stands behind the length of the next record.
-fn take_behind_reclen<'a>(rest: &mut Bytes<'a>) -> Result<&'a [u8], StreamError>
-    ensures answer { MatchResult result (λ behind. behind_reclen rest.old ≡ Ok behind.now)
-        (λ error. behind_reclen rest.old ≡ Err error) }
-    ensures state { IfOk result (λ behind. rest.new ≡ drop (2 + length behind.now) rest.old) }
-    ensures least { IfOk result (λ behind. 2 ≤ length behind.now) }
-    ensures within { IfOk result (λ behind. 2 + length behind.now ≤ length rest.old) }
-{
-    let length = rest.u16()?;
-    let behind = rest.take(usize::from(length))?;
-    if length < 2 {
-        return Err(BAD_LENGTH);
+/// The records of a list that ends at a place of its stream.
+#[derive(Drop)]
+struct SymbolRecords {
+    end: usize,
+}
+
+impl<'a> ItemReader<'a> for SymbolRecords {
+    type Item = SymbolRecord<'a>;
+
+    ghost use Rattle.pdb_codeview.specs.SymbolRecords.{first_record};
+
+    ghost first = { λ list. first_record list.end };
+
+    fn take(&self, rest: &mut Bytes<'a>) -> Result<SymbolRecord<'a>, Fault> {
+        let start = self.end.saturating_sub(rest.len());
+        let length = rest.u16()?;
+        let behind = rest.take(usize::from(length))?;
+        if length < 2 {
+            return Err(Fault::Broken(BAD_LENGTH));
+        }
+        Ok(record_at(start, behind))
     }
-    Ok(behind)
 }
 
 // The record that starts at a place, by what stands behind its length.

@@ -9,11 +9,9 @@ use Rattle.pdb_msf.specs.declared.faults.TheConstants.{NO_STREAM, REARRANGED}
 use Rattle.pdb_msf.specs.Msf.{Msf, numbers_place, size_of, stream_of}
 use Rattle.pdb_msf.specs.NumberLists.{listed}
 use Rattle.pdb_msf.specs.Streams.{stream_inside}
-use Rattle.pdb_msf.specs.Readings.{entry_list}
-use Rattle.pdb_codeview.specs.SymbolRecords.{all_records}
+use Rattle.pdb_msf.specs.ItemLists.{all_items}
 use Rattle.pdb_dbi.specs.Contributions.{contribution_list}
 use Rattle.pdb_dbi.specs.Header.{header}
-use Rattle.pdb_dbi.specs.ModuleList.{module_list}
 use Rattle.pdb_dbi.specs.OptionalStreams.{optional_stream}
 use Rattle.pdb_dbi.specs.Sections.{section_headers}
 use Rattle.pdb_container.specs.DebugRecords.{address_map, address_map_of, debug_header, debug_information, debug_stream}
@@ -68,17 +66,17 @@ information : debug_information named ≡ Ok (record {
   section_contributions = record { items = []; fault = None };
 })
 unfolding debug_information debug_header debug_stream stream_of size_of listed stream_inside numbers_place header
-    module_list contribution_list
+    all_items contribution_list
 information = refl
 
 one_section : sections named ≡ Ok (Some (text ∷ []))
 unfolding sections sections_of debug_header debug_stream stream_of size_of listed stream_inside numbers_place header
-    optional_stream section_headers entry_list
+    optional_stream section_headers all_items
 one_section = refl
 
 one_range : address_map named ≡ Ok (record { virtual_address = 4096; virtual_size = 4660 } ∷ [])
 unfolding address_map address_map_of sections_of debug_header debug_stream stream_of size_of listed stream_inside
-    numbers_place header optional_stream section_headers entry_list
+    numbers_place header optional_stream section_headers all_items
 one_range = refl
 
 -- a stream of rearranged addresses at the position 3 that has bytes, and one at the position 4 that has none
@@ -91,7 +89,7 @@ rearranged = refl
 not_rearranged : address_map (msf_with (no_number ++ no_number ++ no_number ++ no_number ++ short 0 ++ short 4))
     ≡ Ok (record { virtual_address = 4096; virtual_size = 4660 } ∷ [])
 unfolding address_map address_map_of sections_of debug_header debug_stream stream_of size_of listed stream_inside
-    numbers_place header optional_stream section_headers entry_list
+    numbers_place header optional_stream section_headers all_items
 not_rearranged = refl
 
 -- no stream of section headers
@@ -131,10 +129,10 @@ one_symbol : global_symbols with_symbol ≡ Ok (record {
   fault = None;
 })
 unfolding global_symbols symbols_in debug_header debug_stream stream_of size_of listed stream_inside numbers_place
-    header all_records
+    header all_items
 one_symbol = refl
 
 no_symbols : global_symbols named ≡ Ok (record { items = []; fault = None })
 unfolding global_symbols symbols_in debug_header debug_stream stream_of size_of listed stream_inside numbers_place
-    header all_records
+    header all_items
 no_symbols = refl

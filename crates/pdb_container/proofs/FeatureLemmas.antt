@@ -1,8 +1,8 @@
 -- What a file lists, number by number.
-use Rattle.std.proofs.Common.{◌≡◌, ◌∙◌, ℕ, suc, ◌-◌, ◌/◌, ◌≤◌, ◌<◌, ◌==◌, ◌||◌, Bool, true, false, List, [], ◌∷◌}
+use Rattle.std.proofs.Common.{◌≡◌, ◌∙◌, ℕ, suc, ◌-◌, ◌/◌, ◌≤◌, ◌<◌, ◌==◌, ◌||◌, Bool, true, false, List, ◌∷◌}
 use Rattle.std.proofs.Common.{drop, length, refl, sym, ap, length-drop, add-one, arith}
 use Rattle.std.proofs.lemmas.Grind.{common_steps}
-use Rattle.std.proofs.Math.Nat.{div-eq-sub-div, div-eq_of_lt}
+use Rattle.std.proofs.Math.Nat.{div-eq-sub-div}
 use Rattle.pdb_msf.specs.NumberLists.{number, numbers}
 use Rattle.pdb_container.specs.declared.info.Features.{Features}
 use Rattle.pdb_container.specs.Info.{all_numbers, features_by}
@@ -22,12 +22,6 @@ first_number bytes there =
     let left : length (drop 4 bytes) ≡ length bytes - 4 = length-drop 4 bytes in
     let count : length bytes / 4 ≡ suc (length (drop 4 bytes) / 4)
     = div-eq-sub-div some there ∙ add-one ((length bytes - 4) / 4) ∙ ap (λ n. suc (n / 4)) (sym left) in
-    ap (λ n. numbers n bytes) count
-
--- too few bytes are no number
-pub no_number : (bytes : List ℕ) → length bytes < 4 → all_numbers bytes ≡ []
-no_number bytes short =
-    let count : length bytes / 4 ≡ 0 = div-eq_of_lt short in
     ap (λ n. numbers n bytes) count
 
 -- either may be asked first
@@ -75,11 +69,3 @@ one_number_more bytes rest all before after listed there at is goes-on ids names
     ∙ ap (λ x. record { ids = after.ids || others.ids; names_only = x })
     (moved before.names_only (listed == 1229867341) others.names_only
     ∙ ap (λ x. x || others.names_only) (sym names_only))
-
--- where no whole number is left, what was listed is all
-pub none_more : (bytes : List ℕ) (all before : Features) → length bytes < 4
-    → all ≡ both before (features_by (all_numbers bytes)) → before ≡ all
-none_more bytes all before short was =
-    sym (was ∙ ap (λ xs. both before (features_by xs)) (no_number bytes short)
-    ∙ ap (λ x. record { ids = x; names_only = before.names_only || false }) (unmoved before.ids)
-    ∙ ap (λ x. record { ids = before.ids; names_only = x }) (unmoved before.names_only))

@@ -4,7 +4,8 @@ use Rattle.std.specs.Prelude.{codes}
 use Rattle.std.proofs.Math.ListN.{replicate}
 use Rattle.pdb_msf.specs.declared.faults.TheConstants.{CUT, NO_STREAM, UNKNOWN_VERSION}
 use Rattle.pdb_container.specs.Info.{features, features_in, named_in, named_stream, version}
-use Rattle.pdb_container.specs.Strings.{all_texts, string_table_in}
+use Rattle.pdb_msf.specs.ItemLists.{all_items}
+use Rattle.pdb_container.specs.Strings.{string_table_in}
 
 -- a number below 256, as four bytes
 abbrev small : ℕ → List ℕ
@@ -75,12 +76,12 @@ two_texts = 254 ∷ 239 ∷ 254 ∷ 239 ∷ [] ++ small 1 ++ small 4 ++ 0 ∷ []
 
 its_texts : string_table_in two_texts
     ≡ Ok ((record { 0 = 0 }, []) ∷ (record { 0 = 1 }, codes "ab") ∷ [])
-unfolding string_table_in all_texts
+unfolding string_table_in all_items
 its_texts = refl
 
 -- the last text has no zero behind it
 cut_text : string_table_in (254 ∷ 239 ∷ 254 ∷ 239 ∷ [] ++ small 1 ++ small 2 ++ codes "ab") ≡ Err CUT
-unfolding string_table_in all_texts
+unfolding string_table_in all_items
 cut_text = refl
 
 another_signature : string_table_in (small 1 ++ small 1 ++ small 0) ≡ Err UNKNOWN_VERSION

@@ -7,5 +7,4 @@ mod ModuleExamples
 pub mod ModuleLemmas
 pub mod NameLemmas
 pub mod RecordLemmas
-pub mod TextLemmas
 mod TypeExamples

@@ -5,8 +5,8 @@ use Rattle.pdb_records.specs.Readings.{Read}
 use Rattle.pdb_records.specs.declared.symbols.Symbol.{Symbol}
 use Rattle.pdb_records.specs.declared.symbols.SymbolData.TheVariants.{Other, Procedure, Thunk}
 use Rattle.pdb_msf.specs.declared.faults.TheConstants.{CUT, UNKNOWN_VERSION}
-use Rattle.pdb_codeview.specs.ItemLists.{all_items}
-use Rattle.pdb_codeview.specs.SymbolRecords.{all_records}
+use Rattle.pdb_msf.specs.ItemLists.{all_items}
+use Rattle.pdb_codeview.specs.Lines.{line_rows}
 use Rattle.pdb_dbi.specs.declared.module_list.ModuleStream.{ModuleStream}
 use Rattle.pdb_container.specs.Modules.{module_in}
 
@@ -99,7 +99,7 @@ whole_module : module_in place stream ≡ record {
   imports = Ok [];
   exports = Ok [];
 }
-unfolding module_in all_items all_records
+unfolding module_in all_items line_rows
 whole_module = refl
 
 -- the stream ends in the second subsection: nothing behind it is known, and the lines aren't either
@@ -110,7 +110,7 @@ cut_module : module_in place (take 120 stream) ≡ record {
   imports = Err CUT;
   exports = Err CUT;
 }
-unfolding module_in all_items all_records
+unfolding module_in all_items line_rows
 cut_module = refl
 
 -- symbols of another form
@@ -121,5 +121,5 @@ other_form : module_in (record place { lines = 0 }) (small 1 ++ procedure_bytes 
   imports = Ok [];
   exports = Ok [];
 }
-unfolding module_in all_items all_records
+unfolding module_in all_items line_rows
 other_form = refl

@@ -4,6 +4,7 @@ use Rattle.std.specs.Prelude.{None, Ok, Err, true, codes}
 use Rattle.std.proofs.Math.ListN.{replicate}
 use Rattle.pdb_records.specs.declared.ids.IdData.TheVariants as id
 use Rattle.pdb_records.specs.declared.types.TypeData.TheVariants as type
+use Rattle.pdb_msf.specs.ItemLists.{all_items}
 use Rattle.pdb_msf.specs.declared.faults.TheConstants.{CUT}
 use Rattle.pdb_msf.specs.Msf.{Msf, numbers_place, size_of, stream_of}
 use Rattle.pdb_msf.specs.NumberLists.{listed}
@@ -11,7 +12,6 @@ use Rattle.pdb_msf.specs.Streams.{stream_inside}
 use Rattle.pdb_tpi.specs.Header.{type_header}
 use Rattle.pdb_tpi.specs.Ids.{id_data, no_ids, string}
 use Rattle.pdb_tpi.specs.Primitives.{primitives}
-use Rattle.pdb_tpi.specs.TypeRecords.{type_records}
 use Rattle.pdb_tpi.specs.Types.{modifier, type_data}
 use Rattle.pdb_container.specs.Info.{features_in}
 use Rattle.pdb_container.specs.TypeRecords.{id_information, type_information}
@@ -65,7 +65,7 @@ one_type : type_information (msf_with has_ids) ≡ Ok (record {
     fault = None;
   };
 })
-unfolding type_information stream_of size_of listed stream_inside numbers_place type_header type_records type_data
+unfolding type_information stream_of size_of listed stream_inside numbers_place type_header all_items type_data
     modifier
 one_type = refl
 
@@ -75,7 +75,7 @@ one_id : id_information (msf_with has_ids) ≡ Ok (record {
     fault = None;
   };
 })
-unfolding id_information stream_of size_of listed stream_inside numbers_place features_in type_header type_records
+unfolding id_information stream_of size_of listed stream_inside numbers_place features_in type_header all_items
     id_data string
 one_id = refl
 

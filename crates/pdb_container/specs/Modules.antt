@@ -12,6 +12,7 @@ use Rattle.pdb_records.specs.declared.symbols.Symbol.{Symbol}
 use Rattle.pdb_msf.specs.declared.faults.TheConstants.{CUT, UNKNOWN_VERSION}
 use Rattle.pdb_msf.specs.Bytes.{padding}
 use Rattle.pdb_msf.specs.Faults.{◌>>=◌}
+use Rattle.pdb_msf.specs.ItemLists.{all_items}
 use Rattle.pdb_msf.specs.NumberLists.{number}
 use Rattle.pdb_msf.specs.Readings.{ending, nothing_read}
 use Rattle.pdb_codeview.specs.declared.files.FileEntry.{FileEntry}
@@ -20,7 +21,6 @@ use Rattle.pdb_codeview.specs.CrossModules.{exports, imports}
 use Rattle.pdb_codeview.specs.Files.{all_entries}
 use Rattle.pdb_codeview.specs.InlineSites.{ModuleCode}
 use Rattle.pdb_codeview.specs.Inlinees.{all_inlinees, inlinee, inlinee_source}
-use Rattle.pdb_codeview.specs.ItemLists.{all_items}
 use Rattle.pdb_codeview.specs.LineEntries.{program_entries}
 use Rattle.pdb_codeview.specs.Lines.{line_subsection}
 use Rattle.pdb_codeview.specs.ProcedureSpans.{symbol_spans}
@@ -33,29 +33,27 @@ pub record SubsectionBytes : Type 0 where
   pub kind : ℕ
   pub content : List ℕ
 
--- what a substream of so many bytes has behind a subsection's content and the bytes that fill up to the next multiple
--- of four
+-- what stands behind a content of so many bytes and those that fill it up to a multiple of four
 abbrev pub behind_content : ℕ → List ℕ → List ℕ
-behind_content whole rest = drop (padding (whole - length rest)) rest
+behind_content size bytes = let rest = drop size bytes in drop (padding (length bytes - length rest)) rest
 
--- the subsection of this kind whose content of so many bytes stands first, in a substream of so many, and what stands
--- behind it
-abbrev pub subsection_of : ℕ → ℕ → ℕ → List ℕ → Result (SubsectionBytes × List ℕ) StreamError
-subsection_of whole kind size bytes =
+-- the subsection of this kind whose content of so many bytes stands first, and what stands behind it
+abbrev pub subsection_of : ℕ → ℕ → List ℕ → Result (SubsectionBytes × List ℕ) StreamError
+subsection_of kind size bytes =
     if nat_lt (length bytes) size then Err CUT else
-    Ok (record { kind = kind; content = take size bytes }, behind_content whole (drop size bytes))
+    Ok (record { kind = kind; content = take size bytes }, behind_content size bytes)
 
--- the subsection that stands next in a substream of so many bytes, and what stands behind it: its kind in four bytes,
--- the size of its content in four, and the content
-abbrev pub first_subsection : ℕ → List ℕ → Result (SubsectionBytes × List ℕ) StreamError
-first_subsection whole bytes =
+-- the subsection that stands next, and what stands behind it: its kind in four bytes, the size of its content in four,
+-- and the content
+abbrev pub first_subsection : List ℕ → Result (SubsectionBytes × List ℕ) StreamError
+first_subsection bytes =
     if nat_lt (length bytes) 4 then Err CUT else
     if nat_lt (length (drop 4 bytes)) 4 then Err CUT else
-    subsection_of whole (number bytes) (number (drop 4 bytes)) (drop 4 (drop 4 bytes))
+    subsection_of (number bytes) (number (drop 4 bytes)) (drop 4 (drop 4 bytes))
 
 -- the subsections of a substream (C13), one after the other
 abbrev pub subsections : SubstreamBytes → Read SubsectionBytes
-subsections substream = ending substream.fault (all_items (first_subsection (length substream.bytes)) substream.bytes)
+subsections substream = ending substream.fault (all_items first_subsection substream.bytes)
 
 -- the contents of all subsections of this kind
 abbrev pub all_of_kind : ℕ → List SubsectionBytes → List (List ℕ)

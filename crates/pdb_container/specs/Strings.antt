@@ -1,32 +1,27 @@
 -- The string table: texts that records name by their places.
-use Rattle.std.specs.Prelude.{ℕ, zero, suc, ◌+◌, ◌==◌, not, nat_lt, List, [], ◌∷◌, take, drop, length, codes}
-use Rattle.std.specs.Prelude.{Some, None, Result, Err, ◌++◌, if◌then◌else◌}
+use Rattle.std.specs.Prelude.{ℕ, ◌+◌, ◌-◌, ◌==◌, not, nat_lt, List, [], ◌∷◌, ◌++◌, take, drop, length, codes}
+use Rattle.std.specs.Prelude.{Result, Ok, Err, if◌then◌else◌}
 use Rattle.pdb_records.specs.Readings.{Read}
 use Rattle.pdb_records.specs.declared.error.StreamError.{StreamError}
 use Rattle.pdb_records.specs.declared.strings.StringRef.{StringRef}
 use Rattle.pdb_msf.specs.declared.faults.TheConstants.{CUT, UNKNOWN_VERSION}
-use Rattle.pdb_msf.specs.Bytes.{text_in}
+use Rattle.pdb_msf.specs.Bytes.{first_text}
 use Rattle.pdb_msf.specs.Faults.{◌>>=◌}
+use Rattle.pdb_msf.specs.ItemLists.{all_items}
 use Rattle.pdb_msf.specs.Msf.{Msf, stream_of}
 use Rattle.pdb_msf.specs.NumberLists.{number}
-use Rattle.pdb_msf.specs.Readings.{behind, nothing_read, whole}
+use Rattle.pdb_msf.specs.Readings.{whole}
 use Rattle.pdb_container.specs.Info.{named_stream}
 
--- at most so many texts, one after the other until the bytes end, each with the place at which it begins; one that has
--- no zero behind it is cut
-abbrev pub texts_up_to : ℕ → ℕ → List ℕ → Read (StringRef × List ℕ)
-texts_up_to zero place bytes = nothing_read None
-texts_up_to (suc count) place bytes =
-    if length bytes == 0 then nothing_read None else
-    elim (text_in bytes) as (λ text. Read (StringRef × List ℕ)) [
-      | None ↦ nothing_read (Some CUT)
-      | Some text ↦ behind ((record { 0 = place }, text) ∷ [])
-          (texts_up_to count (place + (length text + 1)) (drop (length text + 1) bytes))
-    ]
+-- the text that stands next in a table of so many bytes, with the place at which it begins, and what stands behind it
+abbrev pub next_text : ℕ → List ℕ → Result ((StringRef × List ℕ) × List ℕ) StreamError
+next_text whole bytes = do
+  text ← first_text bytes
+  Ok ((record { 0 = whole - length bytes }, text.0), text.1)
 
--- all texts of these bytes, by their places: each takes one byte or more, so there are no more of them than bytes
-unfoldable pub all_texts : List ℕ → Read (StringRef × List ℕ)
-all_texts bytes = texts_up_to (length bytes) 0 bytes
+-- all texts of these bytes, by their places
+abbrev pub all_texts : List ℕ → Read (StringRef × List ℕ)
+all_texts bytes = all_items (next_text (length bytes)) bytes
 
 -- how many bytes the texts have together: the number at 8
 abbrev pub texts_size : List ℕ → ℕ

@@ -55,28 +55,11 @@ pub fn debug_records(alloc: Global, container: &Container<'_>) -> Result<DebugRe
     ensures modules { IfOk result (λ read. read.module_streams.items ≡ streams_of_modules container.now) }
     ensures memory { IfErr result (λ fault. fault ≡ Fault.OutOfMemory) }
 {
-    match part_or_fault(debug_stream(alloc, container))? {
-        Ok(stream) => records_of_stream(alloc, container, stream.as_slice()),
-        Err(error) => Ok(without_debug_stream(alloc, container, error)),
-    }
-}
-
-// What the bytes of that stream lead to.
-#[tactic(auto, unfolding(crate::specs::DebugRecords::debug_header))]
-fn records_of_stream(
-    alloc: Global,
-    container: &Container<'_>,
-    stream: &[u8],
-) -> Result<DebugRecords, Fault>
-    requires { debug_stream container.now ≡ Ok stream.now }
-    ensures information { IfOk result (λ read. read.debug_information ≡ debug_information container.now) }
-    ensures sections { IfOk result (λ read. listed read.sections ≡ sections container.now) }
-    ensures address_map { IfOk result (λ read. read.address_map ≡ address_map container.now) }
-    ensures global_symbols { IfOk result (λ read. tabled read.global_symbols ≡ global_symbols container.now) }
-    ensures modules { IfOk result (λ read. read.module_streams.items ≡ streams_of_modules container.now) }
-    ensures memory { IfErr result (λ fault. fault ≡ Fault.OutOfMemory) }
-{
-    match read_header(stream) {
+    let stream = match part_or_fault(debug_stream(alloc, container))? {
+        Ok(stream) => stream,
+        Err(error) => return Ok(without_debug_stream(alloc, container, error)),
+    };
+    match read_header(stream.as_slice()) {
         Ok(header) => records_of_header(alloc, container, &header),
         Err(error) => Ok(without_debug_stream(alloc, container, error)),
     }

@@ -1,6 +1,6 @@
 //! Functions with their names and types, by where they start.
 
-ghost use Rattle.std.specs.Prelude.{◌≡◌, ◌==◌, ℕ, Some, None, IfOk, OnOk, if◌then◌else◌};
+ghost use Rattle.std.specs.Prelude.{◌≡◌, ℕ, IfOk, OnOk};
 ghost use Rattle.std.specs.BTreeMap.{get};
 ghost use Rattle.std.specs.Option.{option_or};
 ghost use Rattle.std.specs.Ordering.{nat_cmp};
@@ -10,6 +10,7 @@ ghost use Rattle.pdb_container.specs.Functions.{any_function, function_at, funct
 use crate::module_places::ModuleInfoResult;
 use pdb_codeview::place;
 use pdb_records::{RawString, StreamError, Symbol, SymbolData, SymbolTable, TypeIndex};
+use pdb_tables::insert_first;
 use std::alloc::{AllocError, Global};
 use std::collections::BTreeMap;
 
@@ -43,24 +44,6 @@ fn function_of(content: &Option<SymbolData>) -> Option<NamedFunction<'_>>
     }
 }
 
-// Remembers a function, unless one was read before that starts where it does.
-fn insert_first<'m>(
-    functions: &mut Functions<'m>,
-    function: NamedFunction<'m>,
-) -> Result<(), AllocError>
-    ensures { OnOk result ((asked : ℕ) → get nat_cmp functions.new asked
-        ≡ option_or (get nat_cmp functions.old asked)
-        (if function.entry.start == asked then Some function.entry else None)) }
-{
-    if functions.contains_key(&function.start) {
-        return Ok(());
-    }
-    match functions.insert(function.start, function) {
-        Ok(_) => Ok(()),
-        Err(_) => Err(AllocError),
-    }
-}
-
 // Remembers the functions that symbols list, of each place the first.
 fn add_functions<'m>(functions: &mut Functions<'m>, symbols: &'m [Symbol]) -> Result<(), AllocError>
     ensures { OnOk result ((asked : ℕ) → seen (get nat_cmp functions.new asked)
@@ -68,7 +51,7 @@ fn add_functions<'m>(functions: &mut Functions<'m>, symbols: &'m [Symbol]) -> Re
 {
     for symbol in symbols {
         if let Some(function) = function_of(&symbol.content) {
-            insert_first(functions, function)?;
+            insert_first(functions, function.start, function)?;
         }
     }
     Ok(())

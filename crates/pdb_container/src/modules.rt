@@ -1,11 +1,10 @@
 //! A module's stream: its symbols, and the subsections of lines, files, inlinees, imports and exports.
 
-ghost use Rattle.std.specs.Prelude.{◌≡◌, ◌++◌, length, Ok, Err, map, option_map, IfErr, IfOk, MatchResult, OnOk};
+ghost use Rattle.std.specs.Prelude.{◌≡◌, Ok, Err, map, option_map, IfErr, IfOk, MatchResult};
 ghost use Rattle.pdb_msf.specs.Faults.{Gives};
 ghost use Rattle.pdb_codeview.specs.InlineSites.{code_of};
-ghost use Rattle.pdb_codeview.specs.ItemLists.{all_items};
 ghost use Rattle.pdb_container.specs.Modules.{all_of_kind, code_in, exports_of, files_of, first_of_kind};
-ghost use Rattle.pdb_container.specs.Modules.{first_or_empty, first_subsection, imports_of, inlinees_of, line_program};
+ghost use Rattle.pdb_container.specs.Modules.{first_or_empty, imports_of, inlinees_of, line_program};
 ghost use Rattle.pdb_container.specs.Modules.{line_subsections, module_in, module_in_parts, subsections, symbols_in};
 
 use pdb_codeview::{
@@ -14,7 +13,7 @@ use pdb_codeview::{
 };
 use pdb_dbi::{ModuleStream, Substream, take_substream};
 use pdb_msf::faults::{Fault, UNKNOWN_VERSION, part_or_fault};
-use pdb_msf::{Bytes, nothing_read};
+use pdb_msf::{Bytes, ItemReader, nothing_read, read_items};
 use pdb_records::{
     CrossModuleExports, CrossModuleImports, LineProgram, ModuleInfo, Reading, StreamError, Symbol,
 };
@@ -95,46 +94,29 @@ fn read_subsections<'a>(
 ) -> Result<Reading<Subsection<'a>>, AllocError>
     ensures { IfOk result (λ read. read ≡ subsections substream.now) }
 {
-    let mut items = Vec::new(alloc);
-    let fault = push_subsections(substream.bytes, &mut items)?;
-    Ok(Reading {
-        items,
-        fault: fault.or(substream.fault),
-    })
+    let mut list = read_items(alloc, &Subsections, substream.bytes)?;
+    list.fault = list.fault.or(substream.fault);
+    Ok(list)
 }
 
-// Appends the subsections that these bytes are.
-fn push_subsections<'a>(
-    bytes: &'a [u8],
-    list: &mut Vec<Subsection<'a>>,
-) -> Result<Option<StreamError>, AllocError>
-    ensures answer { IfOk result (λ fault. fault ≡ (all_items (first_subsection (length bytes.now)) bytes.now).fault) }
-    ensures state { OnOk result (list.new.items
-        ≡ list.old.items ++ (all_items (first_subsection (length bytes.now)) bytes.now).items) }
-{
-    let mut rest = Bytes::new(bytes);
-    for _ in 0..bytes.len() {
-        if rest.is_empty() {
-            break;
-        }
-        match take_subsection(bytes.len(), &mut rest) {
-            Ok(subsection) => list.push(subsection)?,
-            Err(error) => return Ok(Some(error)),
-        }
+/// Subsections, one after the other.
+struct Subsections;
+
+impl<'a> ItemReader<'a> for Subsections {
+    type Item = Subsection<'a>;
+
+    ghost use Rattle.pdb_container.specs.Modules.{first_subsection};
+
+    ghost first = { λ _. first_subsection };
+
+    fn take(&self, rest: &mut Bytes<'a>) -> Result<Subsection<'a>, Fault> {
+        let kind = rest.u32()?;
+        let length = rest.u32()?;
+        let left = rest.len();
+        let content = rest.take(length as usize)?;
+        rest.align(left);
+        Ok(Subsection { kind, content })
     }
-    Ok(None)
-}
-
-// The next subsection of a substream of so many bytes.
-fn take_subsection<'a>(whole: usize, rest: &mut Bytes<'a>) -> Result<Subsection<'a>, StreamError>
-    ensures { MatchResult result (λ subsection. first_subsection whole rest.old ≡ Ok (subsection, rest.new))
-        (λ error. first_subsection whole rest.old ≡ Err error) }
-{
-    let kind = rest.u32()?;
-    let length = rest.u32()?;
-    let content = rest.take(length as usize)?;
-    rest.align(whole);
-    Ok(Subsection { kind, content })
 }
 
 // The content of the first subsection of this kind.

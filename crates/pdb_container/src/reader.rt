@@ -16,7 +16,7 @@ use crate::module_source::ModuleSource;
 use crate::reach::Reach;
 use crate::records::PdbFile;
 use crate::refusals::refusal_of;
-use crate::type_lists::{TypeLists, put_all_ids, put_all_types};
+use crate::type_lists::{TypeLists, put_all_items};
 use pdb_msf::faults::Fault;
 use pdb_msf::{Container, SourceFault, StreamBytes};
 use pdb_records::{PDB, StreamError};
@@ -332,10 +332,7 @@ impl<'a> PdbReader<'a> {
         ensures front { SameFront records.old records.new }
         ensures modules { records.new.module_infos ≡ records.old.module_infos }
     {
-        put_all_types(alloc, &self.lists.types, records)?;
-        self.lists.types = None;
-        put_all_ids(alloc, &self.lists.ids, records)?;
-        self.lists.ids = None;
+        put_all_items(alloc, &mut self.lists, records)?;
         self.reach = Reach::new(alloc, &self.lists)?;
         Ok(())
     }

@@ -1,12 +1,10 @@
 //! The stream of names: texts by their offsets.
 
-ghost use Rattle.std.specs.Prelude.{◌≡◌, ◌<◌, ◌-◌, ◌^◌, length};
-ghost use Rattle.pdb_container.specs.Strings.{all_texts, string_table_in};
-ghost use Rattle.pdb_msf.specs.Readings.{whole};
+ghost use Rattle.pdb_container.specs.Strings.{string_table_in};
 ghost use Rattle.pdb_msf.specs.Faults.{Gives};
 
 use pdb_msf::faults::{Fault, UNKNOWN_VERSION};
-use pdb_msf::{Bytes, copy_name};
+use pdb_msf::{Bytes, ItemReader, copy_name, read_all_items};
 use pdb_records::{RawString, StringRef, StringTable};
 use std::alloc::Global;
 
@@ -25,32 +23,34 @@ pub fn read_strings(alloc: Global, stream: &[u8]) -> Result<StringTable, Fault>
     bytes.u32()?;
     let length = bytes.u32()?;
     let texts = bytes.take(length as usize)?;
-    let strings = split_texts(alloc, texts)?;
+    let strings = read_all_items(
+        alloc,
+        &Texts {
+            alloc,
+            whole: length,
+        },
+        texts,
+    )?;
     Ok(StringTable { strings })
 }
 
-// The texts of these bytes.
-fn split_texts(alloc: Global, texts: &[u8]) -> Result<Vec<(StringRef, RawString)>, Fault>
-    requires { length texts.now < 2 ^ 32 }
-    ensures { Gives (λ strings. strings.items) result (whole (all_texts texts.now)) }
-{
-    let mut strings = Vec::new(alloc);
-    let mut rest = Bytes::new(texts);
-    for _ in 0..texts.len() {
-        if rest.is_empty() {
-            break;
-        }
-        let key = StringRef(place_of(texts.len(), rest.len()));
-        let text = copy_name(alloc, rest.text()?)?;
-        strings.push((key, text))?;
-    }
-    Ok(strings)
+/// The texts of a table of so many bytes.
+#[derive(Drop)]
+struct Texts {
+    alloc: Global,
+    whole: u32,
 }
 
-// How far a reading has come: the bytes of the whole that are no longer left.
-fn place_of(whole: usize, left: usize) -> u32
-    requires { whole < 2 ^ 32 }
-    ensures { result ≡ whole - left }
-{
-    whole.saturating_sub(left) as u32
+impl<'a> ItemReader<'a> for Texts {
+    type Item = (StringRef, RawString);
+
+    ghost use Rattle.pdb_container.specs.Strings.{next_text};
+
+    ghost first = { λ table. next_text table.whole };
+
+    fn take(&self, rest: &mut Bytes<'a>) -> Result<(StringRef, RawString), Fault> {
+        let place = (self.whole as usize).saturating_sub(rest.len()) as u32;
+        let text = copy_name(self.alloc, rest.text()?)?;
+        Ok((StringRef(place), text))
+    }
 }

@@ -68,38 +68,22 @@ pub fn id_of(
     }
 }
 
-/// Puts into the records all types of a list.
-pub fn put_all_types(
+/// Puts into the records all types and ids, and gives back the lists that they stand in.
+pub fn put_all_items(
     alloc: Global,
-    list: &Option<TypeStream<'_>>,
+    lists: &mut TypeLists<'_>,
     records: &mut PDB,
 ) -> Result<(), AllocError>
     ensures front { SameFront records.old records.new }
     ensures modules { records.new.module_infos ≡ records.old.module_infos }
 {
-    match list {
-        Some(list) => {
-            records.type_information = Ok(list.all_types(alloc)?);
-            Ok(())
-        }
-        None => Ok(()),
+    if let Some(list) = &lists.types {
+        records.type_information = Ok(list.all_types(alloc)?);
     }
-}
-
-/// Puts into the records all ids of a list.
-pub fn put_all_ids(
-    alloc: Global,
-    list: &Option<TypeStream<'_>>,
-    records: &mut PDB,
-) -> Result<(), AllocError>
-    ensures front { SameFront records.old records.new }
-    ensures modules { records.new.module_infos ≡ records.old.module_infos }
-{
-    match list {
-        Some(list) => {
-            records.id_information = Ok(list.all_ids(alloc)?);
-            Ok(())
-        }
-        None => Ok(()),
+    lists.types = None;
+    if let Some(list) = &lists.ids {
+        records.id_information = Ok(list.all_ids(alloc)?);
     }
+    lists.ids = None;
+    Ok(())
 }

@@ -3,8 +3,8 @@
 
 Usage: write_files.py FOLDER
 
-FOLDER, that of the crate, gets the files `args` (the names of the PDB files), `stdout` (what is wanted of all, one after
-the other), and `data/NAME` for each.
+FOLDER, that of the crate, gets the files `args` (the names of the PDB files, and of the records file that stands in
+`data`), `stdout` (what is wanted of all, one after the other), and `data/NAME` for each PDB file.
 """
 import pathlib
 import sys
@@ -17,6 +17,8 @@ import refused_files
 FILES = [("kinds.pdb", kinds.whole), *other_forms.FILES, *broken_parts.FILES,
          *[(name, lambda made=made, why=why: (made(), [why])) for name, made, why in refused_files.FILES]]
 
+RECORDS = "records.json"
+
 
 def main():
     """Writes all files."""
@@ -26,7 +28,8 @@ def main():
         data, lines = made()
         (folder / "data" / name).write_bytes(data)
         wanted += "".join(f"{line}\n" for line in [name, *lines])
-    (folder / "args").write_text("".join(f"{name}\n" for name, _ in FILES))
+    wanted += f"{RECORDS}\n" + (folder / "data" / RECORDS).read_text()
+    (folder / "args").write_text("".join(f"{name}\n" for name in [*[name for name, _ in FILES], RECORDS]))
     (folder / "stdout").write_text(wanted)
 
 

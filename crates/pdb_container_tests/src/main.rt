@@ -1,7 +1,8 @@
 //! Reads the PDB files that its words name, and writes the records of each, or why nothing can be answered.
 //!
 //! What of a file is broken is written too, and whether a reader of single modules that reads all of them comes to other
-//! records. `data/write_files.py` writes the files, by their bytes, and what is wanted of them.
+//! records. `data/write_files.py` writes the files, by their bytes, and what is wanted of them. A records file in the
+//! writer's own form comes out as it went in.
 #![tactic(auto)]
 
 use anyhow::Result;
@@ -9,6 +10,7 @@ use pdb_container::{
     Container, FrontStreams, PdbFile, PdbReader, SourceModules, StreamMap, read_pdb_file,
 };
 use pdb_export::write_records;
+use pdb_json::read_records;
 use pdb_repairs::repair_records;
 use std::alloc::Global;
 use std::rt::Files;
@@ -16,8 +18,20 @@ use std::{env, fs, io};
 
 fn main(rt: HostRuntime) -> Result<()> {
     for name in env::args(&rt)?.skip(1) {
-        show(&rt, name.as_str())?;
+        if name.ends_with(".json") {
+            write_again(&rt, name.as_str())?;
+        } else {
+            show(&rt, name.as_str())?;
+        }
     }
+    Ok(())
+}
+
+/// Writes the records of a records file again.
+fn write_again<R: Files + Print + AllocGlobal>(rt: &R, name: &str) -> Result<()> {
+    println!(rt; "{name}")?;
+    let records = read_records(rt.alloc(), &fs::read(rt, name)?)?;
+    write_records(rt.alloc(), &mut io::writer(rt), &records, &[])?;
     Ok(())
 }
 

@@ -7,9 +7,9 @@ use Rattle.pdb_records.specs.declared.debug_information.SectionContribution.{Sec
 use Rattle.pdb_msf.specs.declared.faults.TheConstants.{CUT, UNKNOWN_VERSION}
 use Rattle.pdb_dbi.specs.Contributions.{contribution_list, contributions}
 use Rattle.pdb_dbi.specs.Header.{header}
-use Rattle.pdb_dbi.specs.ModuleList.{first_module, module_list, module_streams, modules}
+use Rattle.pdb_dbi.specs.ModuleList.{module_streams, modules}
 use Rattle.pdb_dbi.specs.OptionalStreams.{optional_stream}
-use Rattle.pdb_msf.specs.Readings.{entry_list}
+use Rattle.pdb_msf.specs.ItemLists.{all_items}
 use Rattle.pdb_dbi.specs.Sections.{loaded_at, section_headers}
 use Rattle.pdb_dbi.specs.Substreams.{SubstreamBytes}
 
@@ -88,13 +88,13 @@ two_modules : modules (whole_bytes module_bytes) ≡ record {
   items = record { name = codes "a.obj" } ∷ record { name = codes "b" } ∷ [];
   fault = None;
 }
-unfolding module_list first_module
+unfolding all_items
 two_modules = refl
 
 two_streams : module_streams (whole_bytes module_bytes) ≡
     record { stream = 12; symbols = 40; old_lines = 0; lines = 8 }
     ∷ record { stream = 13; symbols = 44; old_lines = 0; lines = 0 } ∷ []
-unfolding module_list first_module
+unfolding all_items
 two_streams = refl
 
 -- a list that ends in the name of its second module
@@ -102,7 +102,7 @@ second_module_cut : modules (whole_bytes (take 141 module_bytes)) ≡ record {
   items = record { name = codes "a.obj" } ∷ [];
   fault = Some CUT;
 }
-unfolding module_list first_module
+unfolding all_items
 second_module_cut = refl
 
 -- both lists of contributions
@@ -114,11 +114,11 @@ two_contributions = record {
 }
 
 contributions_of_v60 : contributions (whole_bytes v60_bytes) ≡ two_contributions
-unfolding contribution_list entry_list
+unfolding contribution_list all_items
 contributions_of_v60 = refl
 
 contributions_of_v2 : contributions (whole_bytes v2_bytes) ≡ two_contributions
-unfolding contribution_list entry_list
+unfolding contribution_list all_items
 contributions_of_v2 = refl
 
 -- a list whose substream ends early, and one of no version
@@ -126,12 +126,12 @@ contributions_cut : contributions (record { bytes = take 32 v60_bytes; fault = S
   items = record { offset = record { section = 1; offset = 16 }; size = 32; «module» = 0 } ∷ [];
   fault = Some CUT;
 }
-unfolding contribution_list entry_list
+unfolding contribution_list all_items
 contributions_cut = refl
 
 no_version : contributions (whole_bytes (small 1 ++ contribution_bytes 1 16 32 0)) ≡
     record { items = []; fault = Some UNKNOWN_VERSION }
-unfolding contribution_list entry_list
+unfolding contribution_list all_items
 no_version = refl
 
 -- the optional debug header: a stream that is there, one that isn't, and one behind its end
@@ -156,11 +156,11 @@ text_section =
 
 one_section : section_headers text_section ≡
     Ok (record { virtual_address = 4096; virtual_size = 4660; execute = true } ∷ [])
-unfolding section_headers entry_list
+unfolding section_headers all_items
 one_section = refl
 
 section_cut : section_headers (text_section ++ take 39 text_section) ≡ Err CUT
-unfolding section_headers entry_list
+unfolding section_headers all_items
 section_cut = refl
 
 one_address_range : loaded_at (record { virtual_address = 4096; virtual_size = 4660; execute = true } ∷ []) ≡

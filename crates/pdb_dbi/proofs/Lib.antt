@@ -1,5 +1,2 @@
-pub mod ContributionLemmas
 mod DbiExamples
-pub mod EntryLemmas
 pub mod ModuleLemmas
-pub mod SectionLemmas

@@ -4,7 +4,8 @@ use Rattle.pdb_records.specs.Readings.{Read}
 use Rattle.pdb_records.specs.declared.debug_information.SectionContribution.{SectionContribution}
 use Rattle.pdb_msf.specs.declared.faults.TheConstants.{CUT, UNKNOWN_VERSION}
 use Rattle.pdb_msf.specs.NumberLists.{number, two_byte_number}
-use Rattle.pdb_msf.specs.Readings.{ending, entry_list, nothing_read}
+use Rattle.pdb_msf.specs.ItemLists.{entry_list}
+use Rattle.pdb_msf.specs.Readings.{ending, nothing_read}
 use Rattle.pdb_dbi.specs.Substreams.{SubstreamBytes}
 
 -- a contribution: its section (ISect) at 0, its Offset at 4, its Size at 8, and its module (ModuleIndex) at 16

@@ -1,20 +1,20 @@
 -- The list of modules.
-use Rattle.std.specs.Prelude.{ℕ, zero, suc, ◌+◌, ◌==◌, List, [], ◌∷◌, take, drop, length, map, Option, Some, None}
-use Rattle.std.specs.Prelude.{option_map, option_and_then, if◌then◌else◌}
+use Rattle.std.specs.Prelude.{ℕ, ◌-◌, List, take, drop, length, map, Result, Ok}
 use Rattle.pdb_records.specs.Readings.{Read}
 use Rattle.pdb_records.specs.declared.debug_information.Module.{Module}
-use Rattle.pdb_msf.specs.declared.faults.TheConstants.{CUT}
-use Rattle.pdb_msf.specs.Bytes.{padding, text_in}
+use Rattle.pdb_records.specs.declared.error.StreamError.{StreamError}
+use Rattle.pdb_msf.specs.Bytes.{first_text, padding}
+use Rattle.pdb_msf.specs.Faults.{◌>>=◌}
+use Rattle.pdb_msf.specs.ItemLists.{all_items}
 use Rattle.pdb_msf.specs.NumberLists.{number, two_byte_number}
+use Rattle.pdb_msf.specs.Readings.{ending}
 use Rattle.pdb_dbi.specs.declared.module_list.ModuleStream.{ModuleStream}
-use Rattle.pdb_msf.specs.Readings.{behind, ending, nothing_read}
 use Rattle.pdb_dbi.specs.Substreams.{SubstreamBytes}
 
--- a module of the list: its name, where its own records stand, and the bytes behind it
+-- a module of the list: its name, and where its own records stand
 pub record ListedModule : Type 0 where
   pub name : List ℕ
   pub stream : ModuleStream
-  pub next : List ℕ
 
 -- where a module's records stand: ModuleSymStream at 34, SymByteSize at 36, C11ByteSize at 40 and C13ByteSize at 44
 abbrev pub module_stream : List ℕ → ModuleStream
@@ -25,39 +25,20 @@ module_stream bytes = record {
   lines = number (drop 44 bytes);
 }
 
--- how many bytes a module with these names takes: 64, each name with its zero, and up to the next multiple of four
-abbrev pub module_size : List ℕ → List ℕ → ℕ
-module_size name object_file =
-    let size = 64 + (length name + 1) + (length object_file + 1) in size + padding size
+-- the module that stands first, and what stands behind it: behind 64 bytes stand its name (ModuleName) and that of its
+-- object file (ObjFileName), which each end in a zero, and what fills all up to a multiple of four bytes
+abbrev pub first_module : List ℕ → Result (ListedModule × List ℕ) StreamError
+first_module bytes = do
+  name ← first_text (drop 64 bytes)
+  object_file ← first_text name.1
+  Ok (
+    record { name = name.0; stream = module_stream (take 64 bytes) },
+    drop (padding (length bytes - length object_file.1)) object_file.1,
+  )
 
--- the module with these two names that the bytes begin with
-abbrev pub named_module : List ℕ → List ℕ → List ℕ → ListedModule
-named_module bytes name object_file = record {
-  name = name;
-  stream = module_stream (take 64 bytes);
-  next = drop (module_size name object_file) bytes;
-}
-
--- the module that these bytes begin with: behind 64 bytes stand its name (ModuleName) and that of its object file
--- (ObjFileName), which each end in a zero
-unfoldable pub first_module : List ℕ → Option ListedModule
-first_module bytes =
-    option_and_then (λ name. option_map (named_module bytes name) (text_in (drop (length name + 1) (drop 64 bytes))))
-    (text_in (drop 64 bytes))
-
--- at most so many modules, one after the other until the bytes end; one that the bytes end in is cut
-abbrev pub modules_up_to : ℕ → List ℕ → Read ListedModule
-modules_up_to zero bytes = nothing_read None
-modules_up_to (suc count) bytes =
-    if length bytes == 0 then nothing_read None else
-    elim (first_module bytes) as (λ first. Read ListedModule) [
-      | None ↦ nothing_read (Some CUT)
-      | Some first ↦ behind (first ∷ []) (modules_up_to count first.next)
-    ]
-
--- all modules of these bytes: each takes more than one, so there are no more of them than bytes
-unfoldable pub module_list : List ℕ → Read ListedModule
-module_list bytes = modules_up_to (length bytes) bytes
+-- all modules of these bytes
+abbrev pub module_list : List ℕ → Read ListedModule
+module_list bytes = all_items first_module bytes
 
 -- the modules of a substream, by their names
 abbrev pub modules : SubstreamBytes → Read Module

@@ -4,7 +4,8 @@ use Rattle.pdb_records.specs.declared.error.StreamError.{StreamError}
 use Rattle.pdb_records.specs.declared.addresses.AddressRange.{AddressRange}
 use Rattle.pdb_records.specs.declared.addresses.ImageSectionHeader.{ImageSectionHeader}
 use Rattle.pdb_msf.specs.NumberLists.{number}
-use Rattle.pdb_msf.specs.Readings.{entry_list, whole}
+use Rattle.pdb_msf.specs.ItemLists.{entry_list}
+use Rattle.pdb_msf.specs.Readings.{whole}
 
 -- a section header: VirtualSize at 8, VirtualAddress at 12, and the flag of code that is run in Characteristics, at 36
 abbrev pub section_header : List ℕ → ImageSectionHeader

@@ -2,11 +2,10 @@
 
 ghost use Rattle.std.specs.Prelude.{◌≡◌, ◌≤◌, length, IfErr, IfOk, IfSome};
 ghost use Rattle.pdb_dbi.specs.Contributions.{contribution, contribution_list, contribution_size, contributions};
-ghost use Rattle.pdb_msf.specs.Readings.{entry_list};
 
 use crate::substreams::Substream;
-use pdb_msf::faults::{CUT, Fault, UNKNOWN_VERSION};
-use pdb_msf::{Bytes, nothing_read, u16_at, u32_at};
+use pdb_msf::faults::{Fault, UNKNOWN_VERSION};
+use pdb_msf::{Bytes, ItemReader, nothing_read, read_items, u16_at, u32_at};
 use pdb_records::{PdbInternalSectionOffset, Reading, SectionContribution};
 use std::alloc::{AllocError, Global};
 
@@ -43,7 +42,7 @@ fn read_list(alloc: Global, bytes: &[u8]) -> Result<Reading<SectionContribution>
         Err(error) => return Ok(nothing_read(alloc, Some(error))),
     };
     match contribution_size(version) {
-        Some(size) => read_entries(alloc, rest.rest(), size),
+        Some(size) => read_items(alloc, &Contributions { size }, rest.rest()),
         None => Ok(nothing_read(alloc, Some(UNKNOWN_VERSION))),
     }
 }
@@ -60,28 +59,24 @@ fn contribution_size(version: u32) -> Option<usize>
     }
 }
 
-// Contributions of this size, one after the other.
-#[tactic(auto, using(crate::proofs::EntryLemmas::entry_steps))]
-fn read_entries(
-    alloc: Global,
-    bytes: &[u8],
+/// Contributions of this size.
+#[derive(Drop)]
+struct Contributions {
     size: usize,
-) -> Result<Reading<SectionContribution>, AllocError>
-    requires { 28 ≤ size }
-    ensures { IfOk result (λ reading. reading ≡ entry_list contribution size bytes.now) }
-{
-    let mut items = Vec::new(alloc);
-    let mut rest = Bytes::new(bytes);
-    while !rest.is_empty() {
-        let Ok(entry) = rest.take(size) else {
-            return Ok(Reading {
-                items,
-                fault: Some(CUT),
-            });
-        };
-        items.push(contribution(entry))?;
+    ghost least: { 28 ≤ size },
+}
+
+impl<'a> ItemReader<'a> for Contributions {
+    type Item = SectionContribution;
+
+    ghost use Rattle.pdb_dbi.specs.Contributions.{contribution};
+    ghost use Rattle.pdb_msf.specs.ItemLists.{first_entry};
+
+    ghost first = { λ list. first_entry contribution list.size };
+
+    fn take(&self, rest: &mut Bytes<'a>) -> Result<SectionContribution, Fault> {
+        Ok(contribution(rest.take(self.size)?))
     }
-    Ok(Reading { items, fault: None })
 }
 
 // The contribution that an entry's bytes are.

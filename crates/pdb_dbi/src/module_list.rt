@@ -1,13 +1,14 @@
 //! The list of modules: their names, and where the records of each stand.
 
-ghost use Rattle.std.specs.Prelude.{◌≡◌, ◌++◌, length, map, Some, None, IfErr, IfOk, OnErr, OnOk};
-ghost use Rattle.pdb_dbi.specs.ModuleList.{first_module, module_list, module_stream, module_streams, modules};
+ghost use Rattle.std.specs.Prelude.{◌≡◌, ◌++◌, length, map, IfErr, IfOk, OnOk};
+ghost use Rattle.pdb_dbi.specs.ModuleList.{module_list, module_stream, module_streams, modules};
 
 use crate::substreams::Substream;
-use pdb_msf::faults::{CUT, Fault};
-use pdb_msf::{Bytes, copy_name, u16_at, u32_at};
-use pdb_records::{Module, Reading, StreamError};
+use pdb_msf::faults::Fault;
+use pdb_msf::{Bytes, ItemReader, copy_name, push_items, u16_at, u32_at};
+use pdb_records::{Module, Reading};
 use std::alloc::Global;
+use std::marker::Model;
 
 /// The bytes in front of a module's names.
 const FRONT: usize = 64;
@@ -26,10 +27,18 @@ pub struct ModuleStream {
 }
 
 /// A module as the list has it.
-#[derive(Clone, Copy)]
+#[derive(Drop)]
 struct ModuleEntry<'a> {
     name: &'a [u8],
     stream: ModuleStream,
+}
+
+impl<'a> Model for ModuleEntry<'a> {
+    ghost use Rattle.pdb_dbi.specs.ModuleList.{ListedModule};
+
+    ghost Value = { ListedModule };
+
+    ghost view = { λ m. record { name = m.name.now; stream = m.stream } };
 }
 
 /// The modules in their order, and beside each where its records stand.
@@ -48,7 +57,6 @@ pub fn read_modules(
 }
 
 // The list that these bytes are, up to the first module that they end in.
-#[tactic(auto, using(crate::proofs::ModuleLemmas::ends))]
 fn read_list(
     alloc: Global,
     bytes: &[u8],
@@ -61,36 +69,36 @@ fn read_list(
         (streams.new.items ≡ streams.old.items ++ map (λ listed. listed.stream) (module_list bytes.now).items) }
     ensures memory { IfErr result (λ fault. fault ≡ Fault.OutOfMemory) }
 {
-    let mut items = Vec::new(alloc);
-    let mut rest = Bytes::new(bytes);
-    while !rest.is_empty() {
-        let Ok(entry) = take_module(&mut rest) else {
-            return Ok(Reading {
-                items,
-                fault: Some(CUT),
-            });
-        };
+    let mut listed = Vec::new(alloc);
+    let fault = push_items(&ModuleEntries, bytes, &mut listed)?;
+    let mut items = Vec::with_capacity(alloc, listed.len())?;
+    for entry in &listed {
         let name = copy_name(alloc, entry.name)?;
-        streams.push(entry.stream)?;
         items.push(Module { name })?;
+        streams.push(entry.stream)?;
     }
-    Ok(Reading { items, fault: None })
+    Ok(Reading { items, fault })
 }
 
-// The next module.
-#[tactic(auto, using(crate::proofs::ModuleLemmas::no_front), unfolding(crate::specs::ModuleList::first_module))]
-fn take_module<'a>(rest: &mut Bytes<'a>) -> Result<ModuleEntry<'a>, StreamError>
-    ensures answer { IfOk result (λ entry. first_module rest.old
-        ≡ Some (record { name = entry.name.now; stream = entry.stream; next = rest.new })) }
-    ensures refused { OnErr result (first_module rest.old ≡ None) }
-{
-    let whole = rest.len();
-    let front = rest.take(FRONT)?;
-    let stream = module_stream(front);
-    let name = rest.text()?;
-    rest.text()?;
-    rest.align(whole);
-    Ok(ModuleEntry { name, stream })
+/// The modules of the list.
+struct ModuleEntries;
+
+impl<'a> ItemReader<'a> for ModuleEntries {
+    type Item = ModuleEntry<'a>;
+
+    ghost use Rattle.pdb_dbi.specs.ModuleList.{first_module};
+
+    ghost first = { λ _. first_module };
+
+    #[tactic(auto, using(crate::proofs::ModuleLemmas::no_front))]
+    fn take(&self, rest: &mut Bytes<'a>) -> Result<ModuleEntry<'a>, Fault> {
+        let whole = rest.len();
+        let stream = module_stream(rest.take(FRONT)?);
+        let name = rest.text()?;
+        rest.text()?;
+        rest.align(whole);
+        Ok(ModuleEntry { name, stream })
+    }
 }
 
 fn module_stream(front: &[u8]) -> ModuleStream

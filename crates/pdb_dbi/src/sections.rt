@@ -5,7 +5,7 @@ ghost use Rattle.pdb_msf.specs.Faults.{Gives};
 ghost use Rattle.pdb_dbi.specs.Sections.{address_range, loaded_at, section_header, section_headers};
 
 use pdb_msf::faults::Fault;
-use pdb_msf::{Bytes, u32_at};
+use pdb_msf::{Bytes, ItemReader, read_all_items, u32_at};
 use pdb_records::{AddressMap, AddressRange, ImageSectionHeader};
 use std::alloc::Global;
 
@@ -16,17 +16,27 @@ const HEADER: usize = 40;
 const EXECUTE: u32 = 0x2000_0000;
 
 /// The headers of the sections.
-#[tactic(auto, using(crate::proofs::SectionLemmas::ends))]
+#[tactic(auto, unfolding(crate::specs::Sections::section_headers))]
 pub fn read_sections(alloc: Global, stream: &[u8]) -> Result<Vec<ImageSectionHeader>, Fault>
     ensures { Gives (λ sections. sections.items) result (section_headers stream.now) }
 {
-    let mut sections = Vec::new(alloc);
-    let mut rest = Bytes::new(stream);
-    while !rest.is_empty() {
-        let entry = rest.take(HEADER)?;
-        sections.push(section_header(entry))?;
+    read_all_items(alloc, &SectionHeaders, stream)
+}
+
+/// Headers, one after the other.
+struct SectionHeaders;
+
+impl<'a> ItemReader<'a> for SectionHeaders {
+    type Item = ImageSectionHeader;
+
+    ghost use Rattle.pdb_dbi.specs.Sections.{section_header};
+    ghost use Rattle.pdb_msf.specs.ItemLists.{first_entry};
+
+    ghost first = { λ _. first_entry section_header 40 };
+
+    fn take(&self, rest: &mut Bytes<'a>) -> Result<ImageSectionHeader, Fault> {
+        Ok(section_header(rest.take(HEADER)?))
     }
-    Ok(sections)
 }
 
 // The section header that an entry's bytes are.

@@ -23,10 +23,7 @@ alike-then (Some (TypeNotFound i)) (Some (TypeNotFound j)) a a' next next' is is
     record { text = text; fault = rw (← is, ← is') alike }
 alike-then (Some (OfError e)) (Some (OfError e')) a a' next next' is is' text alike each =
     record { text = text; fault = rw (← is, ← is') tt }
-alike-then None (Some g) a a' next next' is is' text alike each = absurd alike
-alike-then (Some g) None a a' next next' is is' text alike each = absurd alike
-alike-then (Some (TypeNotFound i)) (Some (OfError e)) a a' next next' is is' text alike each = absurd alike
-alike-then (Some (OfError e)) (Some (TypeNotFound j)) a a' next next' is is' text alike each = absurd alike
+alike-then _ _ a a' next next' is is' text alike each = absurd alike
 
 -- a text that is held back
 alike-buffered : (f f' : Option Failure) (a a' : Run) (u v : List ℕ) → f ≡ a.fault → f' ≡ a'.fault → a.text ≡ a'.text
@@ -36,10 +33,7 @@ alike-buffered (Some (TypeNotFound i)) (Some (TypeNotFound j)) a a' u v is is' t
     record { text = refl; fault = rw (← is, ← is') alike }
 alike-buffered (Some (OfError e)) (Some (OfError e')) a a' u v is is' text alike =
     record { text = refl; fault = rw (← is, ← is') tt }
-alike-buffered None (Some g) a a' u v is is' text alike = absurd alike
-alike-buffered (Some g) None a a' u v is is' text alike = absurd alike
-alike-buffered (Some (TypeNotFound i)) (Some (OfError e)) a a' u v is is' text alike = absurd alike
-alike-buffered (Some (OfError e)) (Some (TypeNotFound j)) a a' u v is is' text alike = absurd alike
+alike-buffered _ _ a a' u v is is' text alike = absurd alike
 
 -- a note in place of a failure
 alike-caught : (f f' : Option Failure) (a a' : Run) → f ≡ a.fault → f' ≡ a'.fault → a.text ≡ a'.text → AlikeFault f f'
@@ -49,10 +43,7 @@ alike-caught (Some (TypeNotFound i)) (Some (TypeNotFound j)) a a' is is' text al
     record { text = rw (text, alike) refl; fault = tt }
 alike-caught (Some (OfError e)) (Some (OfError e')) a a' is is' text alike =
     record { text = text; fault = rw (← is, ← is') tt }
-alike-caught None (Some g) a a' is is' text alike = absurd alike
-alike-caught (Some g) None a a' is is' text alike = absurd alike
-alike-caught (Some (TypeNotFound i)) (Some (OfError e)) a a' is is' text alike = absurd alike
-alike-caught (Some (OfError e)) (Some (TypeNotFound j)) a a' is is' text alike = absurd alike
+alike-caught _ _ a a' is is' text alike = absurd alike
 
 -- a document does alike, whatever failed before
 pub alike-runs : (d : Document) (failed failed' : Parts) → AlikeRuns (run d failed) (run d failed')

@@ -1,20 +1,18 @@
 -- The document that is computed of a plan is the one that it unfolds to.
 use Rattle.std.proofs.Common.{◌≡◌, ℕ, zero, suc, ◌+◌, ◌*◌, ◌^◌, ◌<◌, ◌≤◌, inl, inr, List, arith, mul-le-mul_right}
-use Rattle.pdb_records.specs.declared.types.TypeData.TheVariants.{Primitive, Class, MemberFunction, Procedure, Pointer}
-use Rattle.pdb_records.specs.declared.types.TypeData.TheVariants.{Array, Union, Enumeration, Enumerate, Modifier}
-use Rattle.pdb_records.specs.declared.types.TypeData.TheVariants.{ArgumentList, Other}
+use Rattle.pdb_records.specs.declared.types.TypeData.TheVariants.{Array}
 use Rattle.pdb_types.specs.FailedParts.{Parts}
 use Rattle.pdb_documents.specs.Documents.{Document, Run, run}
 use Rattle.pdb_documents.specs.PrintInputs.{PrintInputs}
-use Rattle.pdb_documents.specs.Plans.{Task, Index, OfType, MethodArguments, Chain, BehindModifier, Modified, Elements}
+use Rattle.pdb_documents.specs.Plans.{Task, OfType, Elements}
 use Rattle.pdb_documents.specs.Plans.{Id, Plan, Done, Later, Seq, Buffered, Catch}
 use Rattle.pdb_documents.specs.Rules.{rule}
-use Rattle.pdb_documents.specs.Unfolding.{Unfolds, done, later, seq, buffered, catch, Runs}
+use Rattle.pdb_documents.specs.Unfolding.{Unfolds, done, later, seq, buffered, catch, HasOneUnfolding, Runs}
 use Rattle.pdb_documents.specs.Printed.{plan_document, task_document, enough_for, document_of}
 use Rattle.pdb_documents.proofs.FreeLemmas.{free_at_most}
 use Rattle.pdb_documents.proofs.RuleLemmas.{EachTask, IsBelow, Before, room, rank}
 use Rattle.pdb_documents.proofs.FallLemmas.{rule-each}
-use Rattle.pdb_documents.proofs.UnfoldingLemmas.{each_unit}
+use Rattle.pdb_documents.proofs.UnfoldingLemmas.{unfolds_once}
 
 -- a plan unfolds to the document that is computed of it, where its tasks do
 pub plan-unfolds : (w : PrintInputs) (next : List ℕ → Task → Document) (P : List ℕ → Task → Type 0)
@@ -28,38 +26,24 @@ plan-unfolds w next P some (Seq p q) each =
 plan-unfolds w next P some (Buffered p after_sigil after_other) each = buffered (plan-unfolds w next P some p each)
 plan-unfolds w next P some (Catch p) each = catch (plan-unfolds w next P some p each)
 
+-- nothing is claimed of any task
+each_unit : (p : Plan) → EachTask (λ inside task. Unit {0}) p
+each_unit (Seq p q) = (each_unit p, each_unit q)
+each_unit (Buffered p after_sigil after_other) = each_unit p
+each_unit (Catch p) = each_unit p
+each_unit _ = tt
+
 -- ranks are bounded
 rank-below : (n : ℕ) (task : Task) → rank n task < n + 4
-rank-below n (Index i) = omega arith
 rank-below n (OfType (Array a)) = omega arith
-rank-below n (OfType (Primitive p)) = omega arith
-rank-below n (OfType (Class c)) = omega arith
-rank-below n (OfType (MemberFunction m)) = omega arith
-rank-below n (OfType (Procedure p)) = omega arith
-rank-below n (OfType (Pointer p)) = omega arith
-rank-below n (OfType (Union u)) = omega arith
-rank-below n (OfType (Enumeration e)) = omega arith
-rank-below n (OfType (Enumerate e)) = omega arith
-rank-below n (OfType (Modifier m)) = omega arith
-rank-below n (OfType (ArgumentList list)) = omega arith
-rank-below n (OfType (Other kind)) = omega arith
-rank-below n (MethodArguments m form) = omega arith
-rank-below n (Chain attributes target) = omega arith
-rank-below n (BehindModifier attributes target) = omega arith
-rank-below n (Modified constant target) = omega arith
 rank-below n (Elements elements levels next) = omega (arith, free_at_most n elements)
 rank-below n (Id met index) = omega (arith, free_at_most n met)
+rank-below n other = omega arith
 
 -- so is room
 room-below : (n : ℕ) (inside : List ℕ) (task : Task) → room n inside task < n + 2
 room-below n inside (Id met index) = omega arith
-room-below n inside (Index i) = omega (arith, free_at_most n inside)
-room-below n inside (OfType type) = omega (arith, free_at_most n inside)
-room-below n inside (MethodArguments m form) = omega (arith, free_at_most n inside)
-room-below n inside (Chain attributes target) = omega (arith, free_at_most n inside)
-room-below n inside (BehindModifier attributes target) = omega (arith, free_at_most n inside)
-room-below n inside (Modified constant target) = omega (arith, free_at_most n inside)
-room-below n inside (Elements elements levels next) = omega (arith, free_at_most n inside)
+room-below n inside other = omega (arith, free_at_most n inside)
 
 -- how many times rules can lead to rules from a task on
 abbrev pub times_left : ℕ → List ℕ → Task → ℕ
@@ -113,6 +97,12 @@ document-by n w below p = plan-unfolds w (task_document w (enough_for n)) (λ in
 pub document-unfolds : (w : PrintInputs) → IsBelow (2 ^ 32) w → (p : Plan) → Unfolds w p (document_of w p)
 unfolding document_of
 document-unfolds w below p = document-by (2 ^ 32) w below p
+
+-- each plan unfolds to that document and to no other
+pub one-unfolding : (w : PrintInputs) → IsBelow (2 ^ 32) w → (p : Plan) → HasOneUnfolding w p
+one-unfolding w below p =
+    let unfolds = document-unfolds w below p in
+    record { unfolded = document_of w p; unfolds = unfolds; only = λ other also. unfolds_once also unfolds }
 
 -- what printing a plan does is what printing its document does
 pub document-runs : (w : PrintInputs) → IsBelow (2 ^ 32) w → (p : Plan) (failed : Parts) (r : Run) → Runs w p failed r

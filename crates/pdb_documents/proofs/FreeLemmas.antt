@@ -1,11 +1,10 @@
 -- How many of the numbers below a bound are not among these.
-use Rattle.std.proofs.Common.{◌≡◌, ℕ, zero, suc, ◌<◌, ◌≤◌, true, false, cond, List, [], ◌∷◌, refl, arith}
+use Rattle.std.proofs.Common.{◌≡◌, ℕ, zero, suc, ◌<◌, ◌≤◌, false, cond, List, [], ◌∷◌, refl, arith}
 use Rattle.std.specs.BTreeSet.{insert_key}
-use Rattle.std.specs.Ordering.{nat_cmp, match_ordering}
-use Rattle.std.specs.Prelude.{◌||◌, Bool, nat_eq}
-use Rattle.std.specs.declared.cmp.Ordering.TheVariants.{Less, Equal, Greater}
+use Rattle.std.specs.Ordering.{nat_cmp}
 use Rattle.std.proofs.lemmas.Map.Lookups.{exact_unsigned}
 use Rattle.std.proofs.lemmas.Bool.{cases_eq}
+use Rattle.std.proofs.lemmas.Bool.Decides.{nat_tests}
 use Rattle.std.proofs.lemmas.Grind.{common_steps}
 use Rattle.pdb_documents.specs.Plans.{is_among}
 
@@ -32,9 +31,7 @@ pub free_at_most : (n : ℕ) (indices : List ℕ) → free n indices ≤ n
 unfolding free
 free_at_most zero indices = omega arith
 free_at_most (suc n) indices =
-    let before = free_at_most n indices in
-    elim (is_among n indices) as (λ b. cond b (free n indices) (suc (free n indices)) ≤ suc n)
-    [ true ↦ omega arith | false ↦ omega arith ]
+    grind (arith, common_steps, free_at_most n indices)
 
 -- as many are free of indices as of others that have the same numbers among them
 pub free-same : (n : ℕ) (a b : List ℕ) → ((q : ℕ) → is_among q a ≡ is_among q b) → free n a ≡ free n b
@@ -42,36 +39,15 @@ unfolding free
 free-same zero a b same = refl
 free-same (suc n) a b same = rw (same n, free-same n a b same)
 
--- a test that is made twice
-once_or_twice : (a b : Bool) → (a || b) ≡ (a || (a || b))
-once_or_twice true b = refl
-once_or_twice false b = refl
-
--- tests that are made in either order
-in_either_order : (a b c : Bool) → (a || (b || c)) ≡ (b || (a || c))
-in_either_order true true c = refl
-in_either_order true false c = refl
-in_either_order false b c = refl
-
 -- a number is among indices with one more, in its place, where it is among them behind it
 pub among-inserted : (q index : ℕ) (indices : List ℕ)
     → is_among q (insert_key nat_cmp indices index) ≡ is_among q (index ∷ indices)
 among-inserted q index [] = refl
 among-inserted q index (first ∷ rest) =
-    let again : is_among q (insert_key nat_cmp rest index) ≡ is_among q (index ∷ rest) = among-inserted q index rest in
-    (elim (nat_cmp index first) as (λ o. nat_cmp index first ≡ o
-    → is_among q (match_ordering o (index ∷ first ∷ rest) (first ∷ rest) (first ∷ insert_key nat_cmp rest index))
-    ≡ is_among q (index ∷ first ∷ rest)) [
-      | Less ↦ λ e. refl
-      | Equal ↦ λ e. let same : index ≡ first = exact_unsigned index first e in
-          rw same (once_or_twice (nat_eq q first) (is_among q rest))
-      | Greater ↦ λ e. rw again (in_either_order (nat_eq q first) (nat_eq q index) (is_among q rest))
-    ]) refl
+    grind (arith, nat_tests, among-inserted q index rest, exact_unsigned index first)
 
 -- an index that was not among these, put in its place, leaves less free
 pub free-inserted : (n i : ℕ) (indices : List ℕ) → i < n → is_among i indices ≡ false
     → free n (insert_key nat_cmp indices i) < free n indices
 free-inserted n i indices below absent =
-    let same : free n (insert_key nat_cmp indices i) ≡ free n (i ∷ indices) =
-    free-same n (insert_key nat_cmp indices i) (i ∷ indices) (λ q. among-inserted q i indices) in
-    rw same (free_lt n i indices below absent)
+    rw (free-same n _ (i ∷ indices) (λ q. among-inserted q i indices)) (free_lt n i indices below absent)

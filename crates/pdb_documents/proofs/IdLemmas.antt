@@ -1,6 +1,6 @@
 -- What the rules of ids leave to be printed.
 use Rattle.std.proofs.Common.{ℕ, ◌≤◌, true, false, cond, List, [], ◌∷◌}
-use Rattle.std.specs.Prelude.{◌||◌, Option, Some, None, codes}
+use Rattle.std.specs.Prelude.{Option, Some, None, codes}
 use Rattle.pdb_records.specs.declared.ids.FunctionId.{FunctionId}
 use Rattle.pdb_records.specs.declared.ids.IdData.{IdData}
 use Rattle.pdb_records.specs.declared.ids.IdData.TheVariants as id
@@ -9,14 +9,11 @@ use Rattle.pdb_records.specs.declared.ids.MemberFunctionId.{MemberFunctionId}
 use Rattle.pdb_records.specs.declared.types.TypeIndex.{TypeIndex}
 use Rattle.pdb_records.specs.declared.types.MemberFunctionType.{MemberFunctionType}
 use Rattle.pdb_records.specs.declared.types.TypeData.{TypeData}
-use Rattle.pdb_records.specs.declared.types.TypeData.TheVariants.{Primitive, Class, MemberFunction, Procedure, Pointer}
-use Rattle.pdb_records.specs.declared.types.TypeData.TheVariants.{Array, Union, Enumeration, Enumerate, Modifier}
-use Rattle.pdb_records.specs.declared.types.TypeData.TheVariants.{ArgumentList, Other}
-use Rattle.pdb_documents.specs.Flags.{without_return_type, without_arguments}
+use Rattle.pdb_records.specs.declared.types.TypeData.TheVariants.{MemberFunction, Procedure}
+use Rattle.pdb_documents.specs.Flags.{without_arguments}
 use Rattle.pdb_documents.specs.Functions.{function_arguments}
 use Rattle.pdb_documents.specs.Ids.{method_id, scope, function_id, id_by_kind}
 use Rattle.pdb_documents.specs.declared.tasks.MethodForm.TheVariants.{Signature}
-use Rattle.pdb_documents.specs.Functions.{unless_left_out}
 use Rattle.pdb_documents.specs.Plans.{Task, Index, MethodArguments, Id, Later, ◌▸◌, written}
 use Rattle.pdb_documents.specs.PrintInputs.{PrintInputs}
 use Rattle.pdb_documents.proofs.FreeLemmas.{free_at_most}
@@ -34,25 +31,9 @@ function_arguments-each P w inside list each =
 method_id-each : (P : List ℕ → Task → Type 0) (w : PrintInputs) (method : MemberFunctionId) (inside : List ℕ)
     (type : TypeData) → ((i : ℕ) → P inside (Index i))
     → ((m : MemberFunctionType) → P inside (MethodArguments m Signature)) → EachTask P (method_id w method inside type)
-method_id-each P w method inside (Primitive p) index arguments = tt
-method_id-each P w method inside (Class c) index arguments = tt
-method_id-each P w method inside (MemberFunction m) index arguments = (
-  tt,
-  (
-    returned-each P inside (unless_left_out (m.is_constructor || without_return_type w.flags) (Some m.return_type))
-        index,
-    (index method.parent.0, (tt, (tt, arguments m))),
-  ),
-)
-method_id-each P w method inside (Procedure p) index arguments = tt
-method_id-each P w method inside (Pointer p) index arguments = tt
-method_id-each P w method inside (Array a) index arguments = tt
-method_id-each P w method inside (Union u) index arguments = tt
-method_id-each P w method inside (Enumeration e) index arguments = tt
-method_id-each P w method inside (Enumerate e) index arguments = tt
-method_id-each P w method inside (Modifier f) index arguments = tt
-method_id-each P w method inside (ArgumentList list) index arguments = tt
-method_id-each P w method inside (Other kind) index arguments = tt
+method_id-each P w method inside (MemberFunction m) index arguments =
+    (tt, (returned-each P inside _ index, (index method.parent.0, (tt, (tt, arguments m)))))
+method_id-each P w method inside other index arguments = tt
 
 -- the scope of a function
 scope-each : (P : List ℕ → Task → Type 0) (met inside : List ℕ) (index : Option IdIndex)
@@ -64,24 +45,11 @@ scope-each P met inside (Some index) each = (each index.0, tt)
 function_id-each : (P : List ℕ → Task → Type 0) (w : PrintInputs) (met : List ℕ) (function : FunctionId)
     (inside : List ℕ) (type : TypeData) → ((i : ℕ) → P inside (Index i)) → ((i : ℕ) → P inside (Id met i))
     → EachTask P (function_id w met function inside type)
-function_id-each P w met function inside (Primitive p) index id = tt
-function_id-each P w met function inside (Class c) index id = tt
-function_id-each P w met function inside (MemberFunction m) index id = tt
 function_id-each P w met function inside (Procedure p) index id = (
-  returned-each P inside (unless_left_out (p.is_constructor || without_return_type w.flags) p.return_type) index,
-  (
-    scope-each P met inside function.scope id,
-    (tt, function_arguments-each P w inside p.argument_list (index p.argument_list.0)),
-  ),
+  returned-each P inside _ index,
+  (scope-each P met inside _ id, (tt, function_arguments-each P w inside _ (index p.argument_list.0))),
 )
-function_id-each P w met function inside (Pointer p) index id = tt
-function_id-each P w met function inside (Array a) index id = tt
-function_id-each P w met function inside (Union u) index id = tt
-function_id-each P w met function inside (Enumeration e) index id = tt
-function_id-each P w met function inside (Enumerate e) index id = tt
-function_id-each P w met function inside (Modifier f) index id = tt
-function_id-each P w met function inside (ArgumentList list) index id = tt
-function_id-each P w met function inside (Other kind) index id = tt
+function_id-each P w met function inside other index id = tt
 
 -- an id, by its kind: it leaves types with the room that they have, and its scope, of which these ids were met
 pub id_by_kind-each : (n : ℕ) (w : PrintInputs) (P : List ℕ → Task → Type 0) (met : List ℕ) (content : IdData)
@@ -89,15 +57,13 @@ pub id_by_kind-each : (n : ℕ) (w : PrintInputs) (P : List ℕ → Task → Typ
     → ((further : List ℕ) (i : ℕ) → P further (Id met i)) → EachTask P (id_by_kind w met content)
 id_by_kind-each n w P met (id.MemberFunction method) type scope =
     let inside = method.function_type.0 ∷ [] in
-    on_read-each P (w.read method.function_type.0) (method_id w method inside)
-    (λ found is. method_id-each P w method inside found (λ i. type inside (Index i) (free_at_most n inside))
+    on_read-each P (w.read method.function_type.0) _ (λ found is. method_id-each P w method inside found
+    (λ i. type inside (Index i) (free_at_most n inside))
     (λ m. type inside (MethodArguments m Signature) (free_at_most n inside)))
 id_by_kind-each n w P met (id.Function function) type scope =
     let inside = function.function_type.0 ∷ [] in
-    on_read-each P (w.read function.function_type.0) (function_id w met function inside)
-    (λ found is. function_id-each P w met function inside found (λ i. type inside (Index i) (free_at_most n inside))
-    (λ i. scope inside i))
-id_by_kind-each n w P met (id.String string) type scope = tt
+    on_read-each P (w.read function.function_type.0) _ (λ found is. function_id-each P w met function inside found
+    (λ i. type inside (Index i) (free_at_most n inside)) (scope inside))
 id_by_kind-each n w P met (id.StringList substrings) type scope =
     (tt, (types_between-each P (codes "\" \"") [] substrings (λ i. type [] (Index i) (free_at_most n [])), tt))
-id_by_kind-each n w P met (id.Other kind) type scope = tt
+id_by_kind-each n w P met other type scope = tt

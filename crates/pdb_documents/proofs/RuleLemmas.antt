@@ -6,9 +6,8 @@ use Rattle.pdb_records.specs.declared.types.TypeIndex.{TypeIndex}
 use Rattle.pdb_records.specs.declared.types.MemberFunctionType.{MemberFunctionType}
 use Rattle.pdb_records.specs.declared.ids.IdData.{IdData}
 use Rattle.pdb_records.specs.declared.types.TypeData.{TypeData}
-use Rattle.pdb_records.specs.declared.types.TypeData.TheVariants.{Primitive, Class, MemberFunction, Procedure, Pointer}
-use Rattle.pdb_records.specs.declared.types.TypeData.TheVariants.{Array, Union, Enumeration, Enumerate, Modifier}
-use Rattle.pdb_records.specs.declared.types.TypeData.TheVariants.{ArgumentList, Other}
+use Rattle.pdb_records.specs.declared.types.TypeData.TheVariants.{Array}
+use Rattle.pdb_records.specs.declared.types.TypeData.TheVariants.{ArgumentList}
 use Rattle.pdb_documents.specs.Flags.{without_arguments}
 use Rattle.pdb_types.specs.ReadError.{ReadErrorView}
 use Rattle.pdb_documents.specs.PrintInputs.{PrintInputs}
@@ -111,24 +110,8 @@ pub on_list-each : (P : List ℕ → Task → Type 0) (w : PrintInputs) (m : Mem
     → EachTask P (on_list w m form inside type)
 on_list-each P w m form inside (ArgumentList list) each =
     on_read-each P (this_of w m.class_type m.this_pointer_type) (method_list w inside form list)
-    (λ this found. (
-      tt,
-      (
-        types_between-each P (comma w.flags) inside (arguments_behind this.argument list) each,
-        tt,
-      ),
-    ))
-on_list-each P w m form inside (Primitive p) each = tt
-on_list-each P w m form inside (Class c) each = tt
-on_list-each P w m form inside (MemberFunction f) each = tt
-on_list-each P w m form inside (Procedure p) each = tt
-on_list-each P w m form inside (Pointer p) each = tt
-on_list-each P w m form inside (Array a) each = tt
-on_list-each P w m form inside (Union u) each = tt
-on_list-each P w m form inside (Enumeration e) each = tt
-on_list-each P w m form inside (Enumerate e) each = tt
-on_list-each P w m form inside (Modifier f) each = tt
-on_list-each P w m form inside (Other kind) each = tt
+    (λ this found. (tt, (types_between-each P (comma w.flags) inside (arguments_behind this.argument list) each, tt)))
+on_list-each P w m form inside other each = tt
 
 -- a method's arguments
 pub method_arguments-each : (n : ℕ) (w : PrintInputs) → IsBelow n w

@@ -14,7 +14,7 @@ use Rattle.pdb_records.specs.declared.strings.StringRef.{StringRef}
 use Rattle.pdb_types.specs.declared.error.Error.{Error}
 use Rattle.pdb_types.specs.declared.error.Error.TheVariants.{PdbError}
 use Rattle.pdb_types.specs.Outcomes.{unless, and_then}
-use Rattle.pdb_ranges.specs.Pick.{pick}
+use Rattle.pdb_tables.specs.Pick.{pick}
 
 -- the entries of a list that was read to its end; refused for the fault where one stands behind them
 abbrev pub read_whole : {T : Type 0} → Read T → Result (List T) Error

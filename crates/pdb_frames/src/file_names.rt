@@ -10,32 +10,12 @@ ghost use Rattle.pdb_frames.specs.FileNames.{KnowsNames};
 ghost use Rattle.pdb_frames.specs.Lines.{file_name};
 
 use crate::lent_names::LentNames;
-use pdb_records::{FileIndex, LineProgram, RawString, StringTable};
+use pdb_records::{FileIndex, LineProgram, StringTable};
+use pdb_tables::insert_first;
 use std::alloc::{AllocError, Global};
 use std::borrow::CowStr;
 use std::collections::BTreeMap;
 use std::marker::Model;
-
-// Remembers a text by the number of its reference, unless an earlier one has the number.
-fn insert_first<'a>(
-    alloc: Global,
-    names: &mut BTreeMap<u32, CowStr<'a>>,
-    number: u32,
-    text: &'a RawString,
-) -> Result<(), AllocError>
-    ensures { OnOk result ((asked : ℕ) → option_map cow_str_bytes (get nat_cmp names.new asked)
-        ≡ option_or (option_map cow_str_bytes (get nat_cmp names.old asked))
-        (if number == asked then Some (lossy text.now) else None)) }
-{
-    if names.contains_key(&number) {
-        return Ok(());
-    }
-    let name = text.to_string_lossy(alloc)?;
-    match names.insert(number, name) {
-        Ok(_) => Ok(()),
-        Err(_) => Err(AllocError),
-    }
-}
 
 // The texts of a table, each by the number of its reference.
 fn names_of(alloc: Global, table: &StringTable) -> Result<BTreeMap<u32, CowStr<'_>>, AllocError>
@@ -43,7 +23,7 @@ fn names_of(alloc: Global, table: &StringTable) -> Result<BTreeMap<u32, CowStr<'
 {
     let mut names = BTreeMap::new(alloc);
     for (reference, text) in &table.strings {
-        insert_first(alloc, &mut names, reference.0, text)?;
+        insert_first(&mut names, reference.0, text.to_string_lossy(alloc)?)?;
     }
     Ok(names)
 }

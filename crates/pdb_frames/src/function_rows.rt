@@ -1,82 +1,71 @@
 //! The line rows of a function by offset, each offset once, found by a binary search.
 
-ghost use Rattle.std.specs.Prelude.{◌≡◌, ◌+◌, ◌≤◌, ℕ, None, nat_lt, length, IfOk, OnOk};
-ghost use Rattle.std.specs.List.{position_or_len};
+ghost use Rattle.std.specs.Prelude.{◌≡◌, ◌+◌, ◌≤◌, ℕ, length, IfOk};
 ghost use Rattle.std.specs.Option.{option_copied};
-ghost use Rattle.pdb_ranges.specs.InOrder.{in_order};
-ghost use Rattle.pdb_ranges.specs.Probes.{digits};
+ghost use Rattle.pdb_tables.specs.Probes.{digits};
 ghost use Rattle.pdb_records.specs.LinePrograms.{Lines};
 ghost use Rattle.pdb_records.specs.Lines.{lines_at};
 ghost use Rattle.pdb_records.specs.declared.addresses.PdbInternalSectionOffset.{PdbInternalSectionOffset};
-ghost use Rattle.pdb_frames.specs.FunctionRows.{row_before, first_rows_after, OffsetsAscend, row_in};
+ghost use Rattle.pdb_frames.specs.FunctionRows.{OffsetsAscend, row_in};
 ghost use Rattle.pdb_frames.specs.Lines.{row_over, function_row};
 
-use pdb_ranges::Probes;
 use pdb_records::{LineInfo, Reading, StreamError};
+use pdb_tables::{Keyed, Probes, first_of_each_key, neighbours_of};
 use pdb_types::{Error, Result};
 use std::alloc::{AllocError, Global};
 use std::marker::Model;
 
-// Puts the rows in order of their offsets. Rows of one offset stay in the order that they had.
-fn sort_by_offset(rows: &mut Vec<LineInfo>) -> Result<(), AllocError>
-    ensures state { OnOk result (rows.new.items ≡ in_order row_before rows.old.items) }
-{
-    rows.sort_by_key(|row| row.offset)
+// A row, which stands in its list by its offset.
+#[derive(Clone, Copy, Drop)]
+struct Row(LineInfo);
+
+// Clauses see it as what the records have.
+impl Model for Row {
+    ghost use Rattle.pdb_records.specs.declared.lines.LineInfo.{LineInfo};
+
+    ghost Value = { LineInfo };
+
+    ghost view = { λ row. row.0 };
+
+    ghost inverse = { λ info. record { 0 = info } };
 }
 
-// Of neighbours with one offset, the first.
-fn first_neighbours(alloc: Global, rows: &[LineInfo]) -> Result<Vec<LineInfo>, AllocError>
-    ensures { IfOk result (λ v. v.items ≡ first_rows_after None rows.now) }
-{
-    let mut counted: Vec<LineInfo> = Vec::new(alloc);
-    let mut before = None;
-    for row in rows {
-        if before != Some(row.offset) {
-            counted.push(*row)?;
-            before = Some(row.offset);
-        }
+impl Keyed for Row {
+    type Key = u32;
+
+    ghost key_of = { λ row. row.offset };
+
+    fn key(&self) -> u32 {
+        self.0.offset
     }
-    Ok(counted)
+}
+
+// The rows in the order in which they are read.
+fn listed(alloc: Global, rows: &[LineInfo]) -> Result<Vec<Row>, AllocError>
+    ensures { IfOk result (λ v. v.items ≡ rows.now) }
+{
+    let mut all = Vec::with_capacity(alloc, rows.len())?;
+    for &row in rows {
+        all.push(Row(row))?;
+    }
+    Ok(all)
 }
 
 // The rows by offset, of each offset the first that is read.
 #[tactic(auto, using(crate::proofs::RowLemmas::firsts_ascend, crate::proofs::RowLemmas::row_over_firsts))]
-fn first_of_each_offset(alloc: Global, rows: &[LineInfo]) -> Result<Vec<LineInfo>, AllocError>
+fn first_of_each_offset(alloc: Global, rows: &[LineInfo]) -> Result<Vec<Row>, AllocError>
     ensures ascend { IfOk result (λ v. OffsetsAscend v.items) }
     ensures over { IfOk result (λ v. (x : ℕ) → row_over v.items x ≡ row_over rows.now x) }
 {
-    let mut sorted = Vec::from_slice(alloc, rows)?;
-    sort_by_offset(&mut sorted)?;
-    let counted = first_neighbours(alloc, &sorted)?;
-    Ok(counted)
-}
-
-// The position of the first row above an offset, or the number of rows where none is. Each row that is
-// looked at counts.
-fn position_above(rows: &[LineInfo], offset: u32, probes: &mut Probes) -> usize
-    requires { OffsetsAscend rows.now }
-    ensures answer { result ≡ position_or_len (λ row. nat_lt offset row.offset) rows.now }
-    ensures within { result ≤ length rows.now }
-    ensures few { probes.new ≤ probes.old + digits (length rows.now) }
-{
-    let mut from = 0;
-    let mut to = rows.len();
-    while from < to {
-        let middle = from + (to - from) / 2;
-        probes.tick();
-        if offset < rows[middle].offset {
-            to = middle;
-        } else {
-            from = middle + 1;
-        }
-    }
-    from
+    let all = listed(alloc, rows)?;
+    let firsts = first_of_each_key(alloc, all)?;
+    Ok(firsts)
 }
 
 // The line rows of a function by offset, each offset once; of equal offsets the first that was read.
 #[derive(Drop)]
 pub(crate) struct FunctionRows {
-    rows: Vec<LineInfo>,
+    rows: Vec<Row>,
     fault: Option<StreamError>,
 }
 
@@ -120,15 +109,13 @@ impl FunctionRows {
     }
 
     // The last row at or below an offset. Each row that is looked at counts.
+    #[tactic(auto, using(crate::proofs::RowLemmas::row_is_last))]
     fn search(&self, offset: u32, probes: &mut Probes) -> Option<LineInfo>
         ensures answer { result ≡ row_over self.now.items offset }
         ensures few { probes.new ≤ probes.old + digits (length self.now.items) }
     {
-        let above = position_above(&self.rows, offset, probes);
-        if above == 0 {
-            return None;
-        }
-        Some(self.rows[above - 1])
+        let row = neighbours_of(&self.rows, offset, probes).up_to?;
+        Some(row.0)
     }
 
     // The row over an offset: the last at or below it. It is found by a binary search. Refused for the fault of the

@@ -1,37 +1,18 @@
 //! The line rows of line programs by section offset, in a table for each module that is made once.
 
-ghost use Rattle.std.specs.Prelude.{◌≡◌, Some, None, IfOk, OnOk, if◌then◌else◌};
+ghost use Rattle.std.specs.Prelude.{◌≡◌, IfOk};
 ghost use Rattle.std.specs.BTreeMap.{get};
-ghost use Rattle.std.specs.Option.{option_copied, option_or};
-ghost use Rattle.pdb_records.specs.Addresses.{is_same_section_offset};
+ghost use Rattle.std.specs.Option.{option_copied};
 ghost use Rattle.pdb_records.specs.Lines.{lines_at};
 ghost use Rattle.pdb_records.specs.declared.addresses.PdbInternalSectionOffset.{PdbInternalSectionOffset};
 ghost use Rattle.pdb_functions.specs.Starts.{section_offset_cmp};
 ghost use Rattle.pdb_frames.specs.CodeCaches.{ModuleRecords, HasProgram, IsEntryCache};
 
 use pdb_records::{LineInfo, LineProgram, PdbInternalSectionOffset, Reading};
+use pdb_tables::insert_first;
 use std::alloc::{AllocError, Global};
 use std::collections::BTreeMap;
 use std::marker::Model;
-
-// Remembers the rows of a section offset, unless an earlier entry has the section offset.
-fn insert_first<'a>(
-    known: &mut BTreeMap<PdbInternalSectionOffset, &'a Reading<LineInfo>>,
-    section_offset: PdbInternalSectionOffset,
-    rows: &'a Reading<LineInfo>,
-) -> Result<(), AllocError>
-    ensures { OnOk result ((asked : PdbInternalSectionOffset) → option_copied (get section_offset_cmp known.new asked)
-        ≡ option_or (option_copied (get section_offset_cmp known.old asked))
-        (if is_same_section_offset section_offset asked then Some rows.now else None)) }
-{
-    if known.contains_key(&section_offset) {
-        return Ok(());
-    }
-    match known.insert(section_offset, rows) {
-        Ok(_) => Ok(()),
-        Err(_) => Err(AllocError),
-    }
-}
 
 // The line rows of one line program, those of each function found by its section offset in a table that is made
 // once.

@@ -9,12 +9,12 @@ use Rattle.std.specs.declared.cmp.Ordering.{Ordering}
 use Rattle.std.specs.declared.cmp.Ordering.TheVariants.{Less, Equal, Greater}
 use Rattle.std.proofs.lemmas.Cmp.{ranked}
 use Rattle.pdb_functions.specs.declared.contributions.ModuleSectionContribution.{ModuleSectionContribution}
-use Rattle.pdb_ranges.specs.InOrder.{put, in_order}
+use Rattle.pdb_tables.specs.InOrder.{put, in_order}
 use Rattle.pdb_functions.specs.Contributions.{is_same_module, contribution_before, intervals_with}
 use Rattle.pdb_functions.specs.Contributions.{intervals_of}
 use Rattle.pdb_functions.specs.ReadingOrder.{AreOnly}
 use Rattle.pdb_functions.specs.Laws.{IsFilled, LiesBefore, AreApart}
-use Rattle.pdb_ranges.proofs.NumberLemmas.{cases_lt}
+use Rattle.pdb_tables.proofs.NumberLemmas.{cases_lt}
 use Rattle.pdb_functions.proofs.ContributionLemmas.{contributions_rank}
 use Rattle.pdb_functions.proofs.OrderLemmas.{all_weaker, all_taken, all_of_order}
 use Rattle.pdb_functions.proofs.IntervalLemmas.{same_fields}

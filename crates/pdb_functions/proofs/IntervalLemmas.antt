@@ -14,8 +14,8 @@ use Rattle.pdb_functions.specs.Contributions.{is_same_module, contribution_befor
 use Rattle.pdb_functions.specs.Contributions.{refused_overlap, overlap_after}
 use Rattle.pdb_functions.specs.Laws.{IsFilled, LiesBefore, AreApart, lies_in, LiesInOneOf, BeginsWithOneOf}
 use Rattle.pdb_functions.specs.Laws.{EndsWithOneOf}
-use Rattle.pdb_ranges.proofs.NumberLemmas.{cases_lt, cases_le, le-leb, eqb_same}
-use Rattle.pdb_ranges.proofs.SortLemmas.{Rises}
+use Rattle.pdb_tables.proofs.NumberLemmas.{cases_lt, cases_le, le-leb, eqb_same}
+use Rattle.pdb_tables.proofs.SortLemmas.{Rises}
 use Rattle.pdb_functions.proofs.OrderLemmas.{all_weaker}
 use Rattle.pdb_functions.proofs.ContributionLemmas.{both_accepted, lies_before_all}
 

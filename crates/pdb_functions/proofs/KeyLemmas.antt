@@ -4,7 +4,7 @@ use Rattle.std.specs.Prelude.{◌==◌, ◌&&◌, nat_le, nat_lt}
 use Rattle.std.proofs.lemmas.Bool.{cases_lt}
 use Rattle.std.proofs.lemmas.Bool.Decides.{nat_tests}
 use Rattle.pdb_records.specs.declared.addresses.PdbInternalSectionOffset.{PdbInternalSectionOffset}
-use Rattle.pdb_ranges.proofs.HasLemmas.{within_below, within_above}
+use Rattle.pdb_tables.proofs.HasLemmas.{within_below, within_above}
 use Rattle.pdb_functions.specs.Keys.{key, HasKeys}
 
 -- the section offsets of a section from a start up to an end

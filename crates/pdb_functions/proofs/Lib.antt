@@ -1,11 +1,8 @@
 pub mod SectionOffsetLemmas
 pub mod KeyLemmas
-pub mod AscendLemmas
 pub mod ContributionLemmas
-pub mod PositionLemmas
 pub mod NeighbourLemmas
 pub mod TableLemmas
-pub mod StartLemmas
 pub mod OrderLemmas
 pub mod IntervalLemmas
 pub mod IntervalByteLemmas
@@ -13,7 +10,6 @@ pub mod MergedLemmas
 pub mod ReadingOrderLemmas
 pub mod ReadingOrderLawLemmas
 pub mod ClearLemmas
-pub mod FirstLemmas
 pub mod ProcedureLemmas
 pub mod ModuleInfoLemmas
 pub mod SymbolLemmas

@@ -14,14 +14,14 @@ use Rattle.pdb_types.specs.declared.error.Error.TheVariants.{PdbError, SectionCo
 use Rattle.pdb_types.specs.declared.error.Error.TheVariants.{OverlappingSectionContributions}
 use Rattle.pdb_types.specs.Outcomes.{unless}
 use Rattle.pdb_functions.specs.declared.contributions.ModuleSectionContribution.{ModuleSectionContribution}
-use Rattle.pdb_ranges.specs.InOrder.{in_order}
+use Rattle.pdb_tables.specs.InOrder.{in_order}
 use Rattle.pdb_functions.specs.Contributions.{is_counted, claimed, claims, is_same_module, refused_ends}
 use Rattle.pdb_functions.specs.Contributions.{reading_refusal, contribution_before, ordered_claims, intervals_of}
 use Rattle.pdb_functions.specs.Contributions.{overlap_after, merged_contributions}
 use Rattle.pdb_functions.specs.Laws.{IsFilled, AreApart, LiesInOneOf, BeginsWithOneOf, EndsWithOneOf}
 use Rattle.pdb_functions.specs.Laws.{IsApartFrom, NeighboursDiffer, IsOverlap}
-use Rattle.pdb_ranges.proofs.NumberLemmas.{cases_lt}
-use Rattle.pdb_ranges.proofs.SortLemmas.{rises_in_order}
+use Rattle.pdb_tables.proofs.NumberLemmas.{cases_lt}
+use Rattle.pdb_tables.proofs.SortLemmas.{rises_in_order}
 use Rattle.pdb_functions.proofs.ContributionLemmas.{contributions_rank}
 use Rattle.pdb_functions.proofs.OrderLemmas.{all_in_order, all_of_order, any-in_order, all_weaker, all_pairs}
 use Rattle.pdb_functions.proofs.IntervalLemmas.{StartsRise, starts_rise, intervals_filled, intervals_rise}

@@ -1,55 +1,31 @@
 -- What the neighbours of a section offset, among starts that ascend, show of the starts in its section.
-use Rattle.std.proofs.Common.{◌≡◌, ◌∙◌, ℕ, Bool, true, false, cond, not, List, [], ◌∷◌, Option, Some, None, refl, sym}
-use Rattle.std.proofs.Common.{ap, inl, inr, arith}
-use Rattle.std.specs.Prelude.{⊤, ◌==◌, ◌&&◌, nat_le, nat_lt, find, if◌then◌else◌}
+use Rattle.std.proofs.Common.{◌≡◌, ◌∙◌, Bool, true, false, cond, not, List, [], ◌∷◌, Option, Some, None, refl, sym}
+use Rattle.std.proofs.Common.{ap, arith}
+use Rattle.std.specs.Prelude.{⊤, ◌==◌, ◌&&◌, nat_le, nat_lt, find}
 use Rattle.std.specs.List.{AllByRecursion}
 use Rattle.std.proofs.lemmas.Bool.Decides.{nat_tests}
 use Rattle.pdb_records.specs.Addresses.{is_same_section_offset}
 use Rattle.pdb_records.specs.declared.addresses.PdbInternalSectionOffset.{PdbInternalSectionOffset}
-use Rattle.pdb_ranges.specs.Pick.{pick}
+use Rattle.pdb_tables.specs.Pick.{pick}
 use Rattle.pdb_functions.specs.GlobalFunctions.{GlobalFunction}
-use Rattle.pdb_ranges.specs.Last.{last_over}
-use Rattle.pdb_functions.specs.Lookup.{global_at, next_global}
+use Rattle.pdb_tables.specs.Last.{last_over}
+use Rattle.pdb_functions.specs.Lookup.{global_at, next_global, where_passes}
 use Rattle.pdb_functions.specs.Spans.{global_function_covers}
-use Rattle.pdb_functions.specs.Starts.{is_before, StandsBefore, StartsAscend}
-use Rattle.pdb_functions.proofs.AscendLemmas.{climbs_in_section}
-use Rattle.pdb_ranges.proofs.LastLemmas.{pick-last}
-use Rattle.pdb_functions.proofs.PositionLemmas.{is_before_test}
-
--- what is there, where it passes the test
-abbrev pub where_passes : {T : Type 0} → (T → Bool) → Option T → Option T
-where_passes q None = None
-where_passes q (Some x) = if q x then Some x else None
-
--- what is there and passes is kept
-pub passing_is_kept : {T : Type 0} (q : T → Bool) (x : T) (o : Option T) → Some x ≡ o → q x ≡ true
-    → Some x ≡ where_passes q o
-passing_is_kept q x o is passes = rw (← is, passes) refl
-
--- what is there and fails leaves nothing
-pub failing_is_none : {T : Type 0} (q : T → Bool) (x : T) (o : Option T) → Some x ≡ o → q x ≡ false
-    → None ≡ where_passes q o
-failing_is_none q x o is fails = rw (← is, fails) refl
-
--- nothing leaves nothing
-pub none_is_none : {T : Type 0} (q : T → Bool) (o : Option T) → None ≡ o → None ≡ where_passes q o
-none_is_none q o is = rw (← is) refl
-
--- of two numbers that are not one the test fails
-pub not_eqb : (m n : ℕ) → (m ≡ n → ⊥) → (m == n) ≡ false
-not_eqb m n other = grind (arith, nat_tests)
+use Rattle.pdb_functions.specs.Starts.{is_before, StartsAscend}
+use Rattle.pdb_tables.proofs.LastLemmas.{pick-last}
+use Rattle.pdb_functions.proofs.SectionOffsetLemmas.{climbs_in_section, is_before_test}
 
 -- the element that is there starts before all of a list
 abbrev IsAhead : {T : Type 0} → (T → PdbInternalSectionOffset) → Option T → List T → Type 0
 IsAhead start None xs = ⊤
-IsAhead start (Some y) xs = AllByRecursion (λ x. StandsBefore (start y) (start x)) xs
+IsAhead start (Some y) xs = AllByRecursion (λ x. is_before (start y) (start x) ≡ true) xs
 
 -- the last start that passes a test is the last one up to the section offset, where that passes another test
 module _ {T : Type 0} (start : T → PdbInternalSectionOffset) (section_offset : PdbInternalSectionOffset)
     (over q : PdbInternalSectionOffset → Bool)
     (agree : (s : PdbInternalSectionOffset) → is_before section_offset s ≡ false → over s ≡ q s)
     (behind : (s : PdbInternalSectionOffset) → is_before section_offset s ≡ true → over s ≡ false)
-    (only : (r s : PdbInternalSectionOffset) → StandsBefore r s → is_before section_offset s ≡ false → q s ≡ false
+    (only : (r s : PdbInternalSectionOffset) → is_before r s ≡ true → is_before section_offset s ≡ false → q s ≡ false
     → q r ≡ false) where
   next_ahead : (before : Option T) (x : T) (xs : List T) → IsAhead start before (x ∷ xs) → IsAhead start before xs
   next_ahead None x xs ahead = tt
@@ -104,8 +80,8 @@ find_none over (x ∷ xs) none = rw none.0 (find_none over xs none.1)
 -- a test that fails of all that stand behind a start fails of all that follow it
 none_behind : {T : Type 0} (start : T → PdbInternalSectionOffset) (over : PdbInternalSectionOffset → Bool)
     (s : PdbInternalSectionOffset)
-    → ((r : PdbInternalSectionOffset) → StandsBefore s r → over r ≡ false) → (xs : List T)
-    → AllByRecursion (λ x. StandsBefore s (start x)) xs → AllByRecursion (λ x. over (start x) ≡ false) xs
+    → ((r : PdbInternalSectionOffset) → is_before s r ≡ true → over r ≡ false) → (xs : List T)
+    → AllByRecursion (λ x. is_before s (start x) ≡ true) xs → AllByRecursion (λ x. over (start x) ≡ false) xs
 none_behind start over s fails [] all = tt
 none_behind start over s fails (x ∷ xs) all = (fails (start x) all.0, none_behind start over s fails xs all.1)
 
@@ -116,9 +92,8 @@ first_is_last section_offset [] up = refl
 first_is_last section_offset (f ∷ fs) up = by_test (is_same_section_offset f.start section_offset) refl
     (first_is_last section_offset fs up.1) where
       other : is_same_section_offset f.start section_offset ≡ true → (r : PdbInternalSectionOffset)
-          → StandsBefore f.start r → is_same_section_offset r section_offset ≡ false
-      other here r (inl p) = grind (arith, nat_tests)
-      other here r (inr p) = grind (arith, nat_tests)
+          → is_before f.start r ≡ true → is_same_section_offset r section_offset ≡ false
+      other here r before = let h = rw (is_before_test f.start r) at before in grind (arith, nat_tests)
 
       by_test : (t : Bool) → is_same_section_offset f.start section_offset ≡ t
           → global_at section_offset fs ≡ last_over (λ g. is_same_section_offset g.start section_offset) None fs
@@ -143,11 +118,12 @@ at_from_last section_offset fs up =
         → is_same_section_offset s section_offset ≡ false
     behind s before = let h = rw (is_before_test section_offset s) at before in grind (arith, nat_tests)
 
-    only : (r s : PdbInternalSectionOffset) → StandsBefore r s → is_before section_offset s ≡ false
+    only : (r s : PdbInternalSectionOffset) → is_before r s ≡ true → is_before section_offset s ≡ false
         → is_same_section_offset s section_offset ≡ false
         → is_same_section_offset r section_offset ≡ false
-    only r s (inl p) up_to other = let h = rw (is_before_test section_offset s) at up_to in grind (arith, nat_tests)
-    only r s (inr p) up_to other = let h = rw (is_before_test section_offset s) at up_to in grind (arith, nat_tests)
+    only r s before up_to other =
+        let h = rw (is_before_test section_offset s) at up_to in let k = rw (is_before_test r s) at before in
+        grind (arith, nat_tests)
 
 -- the function over a section offset is the last one up to it, where that starts in the section
 pub over_from_last : (section_offset : PdbInternalSectionOffset) (fs : List GlobalFunction)
@@ -175,11 +151,12 @@ over_from_last section_offset fs up =
     behind : (s : PdbInternalSectionOffset) → is_before section_offset s ≡ true → covers s ≡ false
     behind s before = let h = rw (is_before_test section_offset s) at before in grind (arith, nat_tests)
 
-    only : (r s : PdbInternalSectionOffset) → StandsBefore r s → is_before section_offset s ≡ false
+    only : (r s : PdbInternalSectionOffset) → is_before r s ≡ true → is_before section_offset s ≡ false
         → (s.section == section_offset.section) ≡ false
         → (r.section == section_offset.section) ≡ false
-    only r s (inl p) up_to other = let h = rw (is_before_test section_offset s) at up_to in grind (arith, nat_tests)
-    only r s (inr p) up_to other = let h = rw (is_before_test section_offset s) at up_to in grind (arith, nat_tests)
+    only r s before up_to other =
+        let h = rw (is_before_test section_offset s) at up_to in let k = rw (is_before_test r s) at before in
+        grind (arith, nat_tests)
 
 -- the next function of the section is the first one behind the section offset, where that starts in the section
 pub next_from_first : (section_offset : PdbInternalSectionOffset) (fs : List GlobalFunction)
@@ -203,10 +180,9 @@ next_from_first section_offset (f ∷ fs) up =
 
     elsewhere : is_before section_offset f.start ≡ true → (f.start.section == section_offset.section) ≡ false
         → (r : PdbInternalSectionOffset)
-        → StandsBefore f.start r → lies_behind r ≡ false
-    elsewhere before other r (inl p) = let h = rw (is_before_test section_offset f.start) at before in
-        grind (arith, nat_tests)
-    elsewhere before other r (inr p) = let h = rw (is_before_test section_offset f.start) at before in
+        → is_before f.start r ≡ true → lies_behind r ≡ false
+    elsewhere before other r next =
+        let h = rw (is_before_test section_offset f.start) at before in let k = rw (is_before_test f.start r) at next in
         grind (arith, nat_tests)
 
     not_here : (f.start.section == section_offset.section) ≡ false → lies_behind f.start ≡ false

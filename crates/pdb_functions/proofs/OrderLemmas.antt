@@ -2,8 +2,8 @@
 use Rattle.std.proofs.Common.{◌≡◌, ◌∙◌, Bool, true, false, cond, List, [], ◌∷◌, refl, ap}
 use Rattle.std.specs.Prelude.{⊤, ◌||◌}
 use Rattle.std.specs.List.{AllByRecursion, list_any}
-use Rattle.pdb_ranges.specs.InOrder.{put, in_order}
-use Rattle.pdb_ranges.proofs.SortLemmas.{all_put}
+use Rattle.pdb_tables.specs.InOrder.{put, in_order}
+use Rattle.pdb_tables.proofs.SortLemmas.{all_put}
 
 -- what holds of each element holds of each in a weaker form
 pub all_weaker : {T : Type 0} (P Q : T → Type 0) → ((x : T) → P x → Q x) → (xs : List T) → AllByRecursion P xs

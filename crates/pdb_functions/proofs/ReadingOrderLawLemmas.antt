@@ -10,14 +10,14 @@ use Rattle.pdb_types.specs.declared.error.Error.{Error}
 use Rattle.pdb_types.specs.declared.error.Error.TheVariants.{PdbError}
 use Rattle.pdb_types.specs.Outcomes.{first_refusal, unless}
 use Rattle.pdb_functions.specs.declared.contributions.ModuleSectionContribution.{ModuleSectionContribution}
-use Rattle.pdb_ranges.specs.InOrder.{put, in_order}
+use Rattle.pdb_tables.specs.InOrder.{put, in_order}
 use Rattle.pdb_functions.specs.Contributions.{claims, is_same_module, refused_ends, contribution_before, intervals_with}
 use Rattle.pdb_functions.specs.Contributions.{intervals_of, overlap_after, merged_contributions}
 use Rattle.pdb_functions.specs.ReadingOrder.{AreOnly, StartsNeverFall, reading_intervals, refusal_after}
 use Rattle.pdb_functions.specs.ReadingOrder.{joining_refusal}
 use Rattle.pdb_functions.specs.ReadingOrder.{merged_in_reading_order}
 use Rattle.pdb_functions.specs.Laws.{IsFilled, LiesBefore}
-use Rattle.pdb_ranges.proofs.SortLemmas.{Rises, rises_in_order}
+use Rattle.pdb_tables.proofs.SortLemmas.{Rises, rises_in_order}
 use Rattle.pdb_functions.proofs.ContributionLemmas.{contributions_rank, both_accepted}
 use Rattle.pdb_functions.proofs.OrderLemmas.{all_weaker, all_in_order}
 use Rattle.pdb_functions.proofs.IntervalLemmas.{same_fields, starts_rise, apart_from_starts, intervals_filled}

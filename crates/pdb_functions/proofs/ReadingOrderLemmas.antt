@@ -9,7 +9,7 @@ use Rattle.pdb_functions.specs.Contributions.{claims, is_same_module, refused_en
 use Rattle.pdb_functions.specs.Contributions.{intervals_with, intervals_of}
 use Rattle.pdb_functions.specs.ReadingOrder.{interval_after, reading_intervals, refused_order, refusal_after}
 use Rattle.pdb_functions.specs.ReadingOrder.{StartsNeverFall}
-use Rattle.pdb_ranges.proofs.NumberLemmas.{cases_lt, eqb_same}
+use Rattle.pdb_tables.proofs.NumberLemmas.{cases_lt, eqb_same}
 use Rattle.pdb_functions.proofs.ContributionLemmas.{both_accepted}
 use Rattle.pdb_functions.proofs.IntervalLemmas.{same_fields}
 

@@ -5,8 +5,8 @@ use Rattle.std.specs.Prelude.{option_and_then}
 use Rattle.std.proofs.lemmas.List.{length-reverse, reverse-reverse}
 use Rattle.pdb_records.specs.Addresses.{holds, offset_from}
 use Rattle.pdb_records.specs.declared.addresses.AddressRange.{AddressRange}
-use Rattle.pdb_ranges.specs.Segments.{value_at, painted_in_turn}
-use Rattle.pdb_ranges.proofs.TurnLemmas.{painted_in_turn-last}
+use Rattle.pdb_tables.specs.Segments.{value_at, painted_in_turn}
+use Rattle.pdb_tables.proofs.TurnLemmas.{painted_in_turn-last}
 use Rattle.pdb_functions.specs.SectionTables.{section_offset_in, section_segments}
 use Rattle.pdb_functions.specs.declared.section_table.SectionStart.{SectionStart}
 

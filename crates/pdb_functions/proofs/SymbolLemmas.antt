@@ -14,10 +14,11 @@ use Rattle.pdb_records.specs.declared.symbols.Symbol.{Symbol}
 use Rattle.pdb_records.specs.declared.symbols.SymbolData.{SymbolData}
 use Rattle.pdb_records.specs.declared.symbols.SymbolData.TheVariants.{Public, Procedure, SeparatedCode, Thunk}
 use Rattle.pdb_records.specs.declared.symbols.SymbolData.TheVariants.{InlineSite, Other}
-use Rattle.pdb_ranges.specs.InOrder.{put, in_order}
-use Rattle.pdb_ranges.specs.Pick.{pick, IsPick, IsPicked}
-use Rattle.pdb_ranges.proofs.PickLemmas.{pick_is_picked}
-use Rattle.pdb_ranges.proofs.SortLemmas.{all_put}
+use Rattle.pdb_tables.specs.InOrder.{put, in_order}
+use Rattle.pdb_tables.specs.Keyed.{is_lower, is_same_key, firsts_after}
+use Rattle.pdb_tables.specs.Pick.{pick, IsPick, IsPicked}
+use Rattle.pdb_tables.proofs.PickLemmas.{pick_is_picked}
+use Rattle.pdb_tables.proofs.SortLemmas.{all_put}
 use Rattle.pdb_functions.specs.declared.contributions.ModuleSectionContribution.{ModuleSectionContribution}
 use Rattle.pdb_functions.specs.GlobalFunctions.{GlobalFunction}
 use Rattle.pdb_types.specs.TypeInputs.{ProviderInfos}
@@ -26,7 +27,7 @@ use Rattle.pdb_functions.specs.Lookup.{found_or_global, function_in_contribution
 use Rattle.pdb_functions.specs.Procedures.{ModuleProcedure, unless_empty, procedure_data, procedure_at, last_counted}
 use Rattle.pdb_functions.specs.Procedures.{procedures_from, symbol_procedures, info_procedures, provided_procedures}
 use Rattle.pdb_functions.specs.Spans.{contribution_covers, procedure_covers, global_function_covers}
-use Rattle.pdb_functions.specs.Starts.{is_at, starts_before, firsts_after}
+use Rattle.pdb_functions.specs.Starts.{section_offset_cmp}
 use Rattle.pdb_functions.specs.SymbolNames.{name_by_symbol, GoesBySymbol}
 use Rattle.pdb_functions.proofs.OrderLemmas.{all_in_order}
 
@@ -160,29 +161,29 @@ differ_in_order before (x ∷ xs) differ =
 -- what holds of all holds of the first of each start
 all_firsts : (start : ModuleProcedure → PdbInternalSectionOffset) (P : ModuleProcedure → Type 0)
     (before : Option PdbInternalSectionOffset) (xs : List ModuleProcedure) → AllByRecursion P xs
-    → AllByRecursion P (firsts_after start before xs)
+    → AllByRecursion P (firsts_after section_offset_cmp start before xs)
 all_firsts start P before [] all = tt
 all_firsts start P before (x ∷ xs) all =
-    by_test (is_at before (start x)) (all_firsts start P before xs all.1)
+    by_test (is_same_key section_offset_cmp before (start x)) (all_firsts start P before xs all.1)
     (all_firsts start P (Some (start x)) xs all.1) where
-      by_test : (t : Bool) → AllByRecursion P (firsts_after start before xs)
-          → AllByRecursion P (firsts_after start (Some (start x)) xs)
-          → AllByRecursion P (cond t (firsts_after start before xs)
-          (x ∷ firsts_after start (Some (start x)) xs))
+      by_test : (t : Bool) → AllByRecursion P (firsts_after section_offset_cmp start before xs)
+          → AllByRecursion P (firsts_after section_offset_cmp start (Some (start x)) xs)
+          → AllByRecursion P (cond t (firsts_after section_offset_cmp start before xs)
+          (x ∷ firsts_after section_offset_cmp start (Some (start x)) xs))
       by_test true same other = same
       by_test false same other = (all.0, other)
 
 -- and the first of each start are of different symbols
 differ_firsts : (start : ModuleProcedure → PdbInternalSectionOffset)
     (before : Option PdbInternalSectionOffset) (xs : List ModuleProcedure) → SymbolsDiffer xs
-    → SymbolsDiffer (firsts_after start before xs)
+    → SymbolsDiffer (firsts_after section_offset_cmp start before xs)
 differ_firsts start before [] differ = tt
 differ_firsts start before (x ∷ xs) differ =
-    by_test (is_at before (start x)) (differ_firsts start before xs differ.1)
+    by_test (is_same_key section_offset_cmp before (start x)) (differ_firsts start before xs differ.1)
     (differ_firsts start (Some (start x)) xs differ.1) where
-      by_test : (t : Bool) → SymbolsDiffer (firsts_after start before xs)
-          → SymbolsDiffer (firsts_after start (Some (start x)) xs)
-          → SymbolsDiffer (cond t (firsts_after start before xs) (x ∷ firsts_after start (Some (start x)) xs))
+      by_test : (t : Bool) → SymbolsDiffer (firsts_after section_offset_cmp start before xs)
+          → SymbolsDiffer (firsts_after section_offset_cmp start (Some (start x)) xs)
+          → SymbolsDiffer (cond t (firsts_after section_offset_cmp start before xs) (x ∷ firsts_after section_offset_cmp start (Some (start x)) xs))
       by_test true same other = same
       by_test false same other = (
         all_firsts start (λ q. (x.symbol_index.0 == q.symbol_index.0) ≡ false)
@@ -193,8 +194,8 @@ differ_firsts start before (x ∷ xs) differ =
 -- the procedures of symbols
 symbols_differ : (symbols : List Symbol) → SymbolsDiffer (symbol_procedures symbols)
 symbols_differ symbols =
-    differ_firsts (λ p. p.offset) None (in_order (starts_before (λ p. p.offset)) (procedures_from 0 None symbols))
-    (differ_in_order (starts_before (λ p. p.offset)) (procedures_from 0 None symbols) (all_differ 0 None symbols))
+    differ_firsts (λ p. p.offset) None (in_order (is_lower section_offset_cmp (λ p. p.offset)) (procedures_from 0 None symbols))
+    (differ_in_order (is_lower section_offset_cmp (λ p. p.offset)) (procedures_from 0 None symbols) (all_differ 0 None symbols))
 
 -- the procedures of a module's records
 info_differ : (info : ModuleInfo) → SymbolsDiffer (info_procedures info)

@@ -12,7 +12,7 @@ use Rattle.pdb_types.specs.declared.error.Error.{Error}
 use Rattle.pdb_types.specs.declared.error.Error.TheVariants.{PdbError, SectionContributionEndTooLarge}
 use Rattle.pdb_types.specs.declared.error.Error.TheVariants.{OverlappingSectionContributions}
 use Rattle.pdb_functions.specs.declared.contributions.ModuleSectionContribution.{ModuleSectionContribution}
-use Rattle.pdb_ranges.specs.InOrder.{in_order}
+use Rattle.pdb_tables.specs.InOrder.{in_order}
 use Rattle.pdb_types.specs.Outcomes.{first_refusal, unless}
 use Rattle.pdb_functions.specs.Sections.{is_executable}
 

@@ -1,7 +1,7 @@
 -- Section offsets as single numbers, by which tables of segments are searched.
 use Rattle.std.specs.Prelude.{◌≡◌, ℕ, ◌+◌, ◌*◌, ◌^◌, ◌<◌, Bool}
 use Rattle.pdb_records.specs.declared.addresses.PdbInternalSectionOffset.{PdbInternalSectionOffset}
-use Rattle.pdb_ranges.specs.RangeSet.{is_within}
+use Rattle.pdb_tables.specs.RangeSet.{is_within}
 
 -- the number of a section offset: each section has room for 2^34 offsets
 abbrev pub key : PdbInternalSectionOffset → ℕ

@@ -1,5 +1,5 @@
 -- The function over a section offset of the program.
-use Rattle.std.specs.Prelude.{ℕ, List, [], Option, Some, None, slice_get, find}
+use Rattle.std.specs.Prelude.{ℕ, Bool, List, [], Option, Some, None, slice_get, find}
 use Rattle.std.specs.Prelude.{nat_le, nat_lt, ◌==◌, ◌&&◌, option_and_then, if◌then◌else◌}
 use Rattle.pdb_records.specs.Addresses.{is_same_section_offset}
 use Rattle.pdb_records.specs.declared.addresses.PdbInternalSectionOffset.{PdbInternalSectionOffset}
@@ -7,7 +7,7 @@ use Rattle.pdb_records.specs.declared.debug_information.Module.{Module}
 use Rattle.pdb_functions.specs.declared.contributions.ModuleSectionContribution.{ModuleSectionContribution}
 use Rattle.pdb_functions.specs.GlobalFunctions.{GlobalFunction}
 use Rattle.pdb_functions.specs.Procedures.{ModuleProcedure, provided_procedures}
-use Rattle.pdb_ranges.specs.Pick.{pick}
+use Rattle.pdb_tables.specs.Pick.{pick}
 use Rattle.pdb_functions.specs.Spans.{contribution_covers, procedure_covers, global_function_covers}
 use Rattle.pdb_functions.specs.declared.lookup.FoundFunction as code
 use Rattle.pdb_functions.specs.declared.lookup.FoundFunction.TheVariants as variant
@@ -58,6 +58,11 @@ abbrev pub function_over : ProviderInfos → List Module → List ModuleSectionC
 function_over infos modules contributions globals section_offset =
     let contribution = find (contribution_covers section_offset) contributions in
     option_and_then (function_in_contribution infos modules globals section_offset) contribution
+
+-- what is there, where it passes a test
+abbrev pub where_passes : {T : Type 0} → (T → Bool) → Option T → Option T
+where_passes passes None = None
+where_passes passes (Some x) = if passes x then Some x else None
 
 -- the first global function of a list that starts at a section offset
 abbrev pub global_at : PdbInternalSectionOffset → List GlobalFunction → Option GlobalFunction

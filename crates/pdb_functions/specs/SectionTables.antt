@@ -3,7 +3,7 @@ use Rattle.std.specs.Prelude.{ℕ, ◌+◌, ◌-◌, List, [], ◌∷◌, Option
 use Rattle.pdb_records.specs.Addresses.{numbered}
 use Rattle.pdb_records.specs.declared.addresses.PdbInternalSectionOffset.{PdbInternalSectionOffset}
 use Rattle.pdb_records.specs.declared.addresses.AddressRange.{AddressRange}
-use Rattle.pdb_ranges.specs.declared.segment.Segment.{Segment}
+use Rattle.pdb_tables.specs.declared.segment.Segment.{Segment}
 use Rattle.pdb_functions.specs.declared.section_table.SectionStart.{SectionStart}
 
 -- the section offset of an address in a section, which is numbered from 1 by its position in the list

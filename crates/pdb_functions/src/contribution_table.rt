@@ -1,13 +1,13 @@
 //! A table of merged contributions: which of them lies over a section offset.
 
 ghost use Rattle.std.specs.Prelude.{◌≡◌, ◌+◌, ◌*◌, ◌≤◌, find, length, IfOk};
-ghost use Rattle.pdb_ranges.specs.Probes.{digits};
+ghost use Rattle.pdb_tables.specs.Probes.{digits};
 ghost use Rattle.pdb_functions.specs.Spans.{contribution_covers};
 
 use crate::contributions::ModuleSectionContribution;
 use crate::span_table::{Keys, Span, find, key, segments_of};
-use pdb_ranges::{Probes, Segments};
 use pdb_records::PdbInternalSectionOffset;
+use pdb_tables::{Probes, Segments};
 use std::alloc::{AllocError, Global};
 use std::marker::Model;
 
@@ -43,7 +43,7 @@ impl Model for ContributionTable {
     ghost use Rattle.std.specs.Prelude.{◌≡◌, ◌*◌, ◌^◌, ◌<◌, ◌≤◌, List, find, length, reverse};
     ghost use Rattle.std.specs.Prelude.{slice_get, option_and_then};
     ghost use Rattle.pdb_records.specs.declared.addresses.PdbInternalSectionOffset.{PdbInternalSectionOffset};
-    ghost use Rattle.pdb_ranges.specs.Segments.{value_at};
+    ghost use Rattle.pdb_tables.specs.Segments.{value_at};
     ghost use Rattle.pdb_functions.specs.declared.contributions.ModuleSectionContribution.{ModuleSectionContribution};
     ghost use Rattle.pdb_functions.specs.Keys.{key};
     ghost use Rattle.pdb_functions.specs.Spans.{contribution_covers};

@@ -2,7 +2,7 @@
 
 ghost use Rattle.std.specs.Prelude.{◌≡◌, ◌≢◌, None, Some, IfOk, OnOk, MatchResult};
 ghost use Rattle.pdb_types.specs.declared.error.Error.TheVariants.{OutOfMemory};
-ghost use Rattle.pdb_ranges.specs.InOrder.{in_order};
+ghost use Rattle.pdb_tables.specs.InOrder.{in_order};
 ghost use Rattle.pdb_types.specs.Outcomes.{Gives, Refuses};
 ghost use Rattle.pdb_functions.specs.Contributions.{is_counted, claimed, claims, is_same_module};
 ghost use Rattle.pdb_functions.specs.Contributions.{refused_end, refused_ends, contribution_before};

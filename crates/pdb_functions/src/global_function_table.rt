@@ -1,18 +1,18 @@
 //! A table of global functions by start: the one over a section offset, the one at it, and the next.
 
-ghost use Rattle.std.specs.Prelude.{◌≡◌, ◌+◌, ◌≤◌, None, not, map, option_map, find, length};
-ghost use Rattle.pdb_ranges.specs.Pick.{pick};
-ghost use Rattle.pdb_ranges.specs.Probes.{digits};
+ghost use Rattle.std.specs.Prelude.{◌≡◌, ◌==◌, ◌+◌, ◌≤◌, None, not, map, option_map, find, length};
+ghost use Rattle.pdb_records.specs.Addresses.{is_same_section_offset};
+ghost use Rattle.pdb_tables.specs.Pick.{pick};
+ghost use Rattle.pdb_tables.specs.Probes.{digits};
 ghost use Rattle.pdb_functions.specs.GlobalFunctions.{global_function};
-ghost use Rattle.pdb_ranges.specs.Last.{last_over};
-ghost use Rattle.pdb_functions.specs.Lookup.{next_global, global_at};
+ghost use Rattle.pdb_tables.specs.Last.{last_over};
+ghost use Rattle.pdb_functions.specs.Lookup.{next_global, global_at, where_passes};
 ghost use Rattle.pdb_functions.specs.Spans.{global_function_covers};
 ghost use Rattle.pdb_functions.specs.Starts.{is_before, StartsAscend};
 
 use crate::global_functions::GlobalFunction;
-use crate::starts::position_behind;
-use pdb_ranges::Probes;
 use pdb_records::PdbInternalSectionOffset;
+use pdb_tables::{Neighbours, Probes, neighbours_of};
 use std::marker::Model;
 
 /// Global functions by section and start, each start once.
@@ -57,36 +57,21 @@ impl<'a> GlobalFunctionTable<'a> {
         self.functions.len()
     }
 
-    // The last function that starts at a section offset or ahead of it. Each entry that is looked at counts.
-    fn last_up_to(
+    // The functions next to a section offset: the last that starts there or ahead of it, and the first behind it. Each
+    // function that is looked at counts.
+    fn neighbours(
         &self,
         section_offset: PdbInternalSectionOffset,
         probes: &mut Probes,
-    ) -> Option<GlobalFunction<'a>>
-        ensures answer { option_map global_function result
+    ) -> Neighbours<GlobalFunction<'a>>
+        ensures up_to { option_map global_function result.up_to
             ≡ last_over (λ f. not (is_before section_offset f.start)) None self.now }
+        ensures behind { option_map global_function result.above
+            ≡ find (λ f. is_before section_offset f.start) self.now }
         ensures ascend { StartsAscend (λ f. f.start) self.now }
         ensures few { probes.new ≤ probes.old + digits (length self.now) }
     {
-        let behind = position_behind(&self.functions, section_offset, probes);
-        if behind == 0 {
-            return None;
-        }
-        Some(self.functions[behind - 1])
-    }
-
-    // The first function that starts behind a section offset. Each entry that is looked at counts.
-    fn first_behind(
-        &self,
-        section_offset: PdbInternalSectionOffset,
-        probes: &mut Probes,
-    ) -> Option<GlobalFunction<'a>>
-        ensures answer { option_map global_function result ≡ find (λ f. is_before section_offset f.start) self.now }
-        ensures ascend { StartsAscend (λ f. f.start) self.now }
-        ensures few { probes.new ≤ probes.old + digits (length self.now) }
-    {
-        let behind = position_behind(&self.functions, section_offset, probes);
-        self.functions.get(behind).copied()
+        neighbours_of(&self.functions, section_offset, probes)
     }
 
     /// The last function that starts at or below a section offset in its section. It is found by a binary search.
@@ -97,22 +82,16 @@ impl<'a> GlobalFunctionTable<'a> {
         ensures { option_map global_function result
             ≡ pick (global_function_covers section_offset) (λ f. f.start.offset) self.now }
     {
-        match self.last_up_to(section_offset, &mut Probes::new()) {
-            Some(function) if function.start_offset.section == section_offset.section => Some(
-                function,
-            ),
-            _ => None,
-        }
+        let next_to = self.neighbours(section_offset, &mut Probes::new());
+        in_section(next_to.up_to, section_offset.section)
     }
 
     /// The function that starts at a section offset. It is found by a binary search.
     pub fn function_at(&self, start: PdbInternalSectionOffset) -> Option<GlobalFunction<'a>>
         ensures { option_map global_function result ≡ global_at start self.now }
     {
-        match self.last_up_to(start, &mut Probes::new()) {
-            Some(function) if function.start_offset == start => Some(function),
-            _ => None,
-        }
+        let next_to = self.neighbours(start, &mut Probes::new());
+        starting_at(next_to.up_to, start)
     }
 
     /// The next function of a section behind an offset. It is found by a binary search.
@@ -122,9 +101,32 @@ impl<'a> GlobalFunctionTable<'a> {
     ) -> Option<GlobalFunction<'a>>
         ensures { option_map global_function result ≡ next_global section_offset self.now }
     {
-        match self.first_behind(section_offset, &mut Probes::new()) {
-            Some(next) if next.start_offset.section == section_offset.section => Some(next),
-            _ => None,
-        }
+        let next_to = self.neighbours(section_offset, &mut Probes::new());
+        in_section(next_to.above, section_offset.section)
+    }
+}
+
+// A function, where it starts in a section.
+fn in_section(function: Option<GlobalFunction<'_>>, section: u16) -> Option<GlobalFunction<'_>>
+    ensures { option_map global_function result
+        ≡ where_passes (λ f. f.start.section == section) (option_map global_function function.entry) }
+{
+    match function {
+        Some(function) if function.start_offset.section == section => Some(function),
+        _ => None,
+    }
+}
+
+// A function, where it starts at a section offset.
+fn starting_at(
+    function: Option<GlobalFunction<'_>>,
+    start: PdbInternalSectionOffset,
+) -> Option<GlobalFunction<'_>>
+    ensures { option_map global_function result
+        ≡ where_passes (λ f. is_same_section_offset f.start start) (option_map global_function function.entry) }
+{
+    match function {
+        Some(function) if function.start_offset == start => Some(function),
+        _ => None,
     }
 }

@@ -8,10 +8,10 @@ ghost use Rattle.pdb_functions.specs.Starts.{first_of_each_start};
 
 use crate::global_function_table::GlobalFunctionTable;
 use crate::sections::{executable_section_ends, is_executable_section};
-use crate::starts::{HasStart, first_of_each_start};
 use pdb_records::{
     ImageSectionHeader, PdbInternalSectionOffset, RawString, Symbol, SymbolData, is_public_kind,
 };
+use pdb_tables::{Keyed, first_of_each_key};
 use std::alloc::{AllocError, Global};
 
 /// Where a function starts, as the whole program's symbols and contributions show it.
@@ -23,10 +23,12 @@ pub struct GlobalFunction<'a> {
     pub name: Option<&'a RawString>,
 }
 
-impl HasStart for GlobalFunction<'_> {
-    ghost start_of = { λ f. f.start_offset };
+impl Keyed for GlobalFunction<'_> {
+    type Key = PdbInternalSectionOffset;
 
-    fn start(&self) -> PdbInternalSectionOffset {
+    ghost key_of = { λ f. f.start_offset };
+
+    fn key(&self) -> PdbInternalSectionOffset {
         self.start_offset
     }
 }
@@ -107,6 +109,6 @@ pub fn compute_global_functions<'a>(
     add_placeholders(&mut functions, contribution_starts)?;
     let ends = executable_section_ends(alloc, sections)?;
     add_placeholders(&mut functions, &ends)?;
-    let counted = first_of_each_start(alloc, functions)?;
+    let counted = first_of_each_key(alloc, functions)?;
     Ok(GlobalFunctionTable::new(counted))
 }

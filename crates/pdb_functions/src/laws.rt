@@ -21,7 +21,7 @@ ghost use Rattle.pdb_functions.specs.GlobalFunctions.{listed_functions, global_f
 ghost use Rattle.pdb_functions.specs.Procedures.{ModuleProcedure, procedure_at, procedures_from};
 ghost use Rattle.pdb_functions.specs.Procedures.{symbol_procedures, info_procedures};
 ghost use Rattle.pdb_functions.specs.Lookup.{global_at};
-ghost use Rattle.pdb_ranges.specs.Pick.{pick, IsPicked};
+ghost use Rattle.pdb_tables.specs.Pick.{pick, IsPicked};
 ghost use Rattle.pdb_functions.specs.Spans.{procedure_covers};
 ghost use Rattle.pdb_functions.specs.ReadingOrder.{reading_intervals, merged_in_reading_order, AreOnly};
 ghost use Rattle.pdb_functions.specs.ReadingOrder.{StartsNeverFall};

@@ -18,7 +18,6 @@ mod procedures;
 mod section_table;
 mod sections;
 mod span_table;
-mod starts;
 
 pub use contribution_table::ContributionTable;
 pub use contributions::{ModuleSectionContribution, compute_section_contributions};

@@ -3,7 +3,7 @@
 ghost use Rattle.std.specs.Prelude.{◌≡◌, ◌≢◌, None, Some, map, option_map, IfOk, MatchResult};
 ghost use Rattle.pdb_records.specs.declared.error.Error.TheVariants.{Stream};
 ghost use Rattle.pdb_types.specs.declared.error.Error.TheVariants.{PdbError, OutOfMemory};
-ghost use Rattle.pdb_ranges.specs.Pick.{pick};
+ghost use Rattle.pdb_tables.specs.Pick.{pick};
 ghost use Rattle.pdb_functions.specs.Procedures.{module_procedure, info_procedures};
 ghost use Rattle.pdb_functions.specs.Spans.{procedure_covers};
 

@@ -4,15 +4,17 @@ ghost use Rattle.std.specs.Prelude.{◌≡◌, ◌<◌, [], true, Some, IfSome, 
 ghost use Rattle.std.specs.Borrow.{sem};
 ghost use Rattle.std.specs.Io.BufRead.{Rests};
 ghost use Rattle.std.specs.Option.{option_copied, option_map_or};
+ghost use Rattle.pdb_tables.specs.Slots.{held};
 ghost use Rattle.pdb_types.specs.TypeInputs.{ProviderInfos};
 ghost use Rattle.pdb_functions.specs.Lookup.{procedures_of_module};
 ghost use Rattle.pdb_functions.specs.Procedures.{info_procedures};
-ghost use Rattle.pdb_functions.specs.ModuleInfos.{readable_info, IsModuleInfoCache, cached_info_at, IsCachedInfo};
+ghost use Rattle.pdb_functions.specs.ModuleInfos.{readable_info, IsModuleInfoCache, IsCachedInfo};
 ghost use mir.Syntax.{named};
 
 use crate::module_info::BasicModuleInfo;
 use crate::named_info::NamedInfo;
 use pdb_records::{Module, RawString};
+use pdb_tables::make_slot;
 use pdb_types::{Error, ModuleProvider};
 use std::alloc::{AllocError, Global};
 use std::marker::Model;
@@ -76,7 +78,7 @@ fn cached_at<'k, 'a>(
     cached: &'k [Option<NamedInfo<'a>>],
     module_index: usize,
 ) -> Option<&'k NamedInfo<'a>>
-    ensures { option_copied result ≡ cached_info_at cached.now module_index }
+    ensures { option_copied result ≡ held cached.now module_index }
 {
     match cached.get(module_index) {
         Some(entry) => entry.as_ref(),
@@ -92,18 +94,6 @@ fn serves(cached: &[Option<NamedInfo<'_>>], module_index: usize, name: &RawStrin
         Some(entry) => entry.name.0 == name.0,
         None => false,
     }
-}
-
-// Makes a slot for what is cached at a module index.
-fn make_slot(cached: &mut Vec<Option<NamedInfo<'_>>>, module_index: usize) -> Result<(), AllocError>
-    ensures is_cache { (infos : ProviderInfos) → IsModuleInfoCache infos cached.old.items
-        → IsModuleInfoCache infos cached.new.items }
-    ensures slot { OnOk result (module_index < length cached.new.items) }
-{
-    while cached.len() <= module_index {
-        cached.push(None)?;
-    }
-    Ok(())
 }
 
 // Caches what was made of the module at a module index, in the place of what was cached there.

@@ -1,16 +1,16 @@
 //! A table of a module's procedures: of those over a section offset the one that starts last.
 
 ghost use Rattle.std.specs.Prelude.{◌≡◌, ◌+◌, ◌*◌, ◌≤◌, map, option_map, length, IfOk};
-ghost use Rattle.pdb_ranges.specs.Pick.{pick};
-ghost use Rattle.pdb_ranges.specs.Probes.{digits};
+ghost use Rattle.pdb_tables.specs.Pick.{pick};
+ghost use Rattle.pdb_tables.specs.Probes.{digits};
 ghost use Rattle.pdb_functions.specs.Procedures.{module_procedure};
 ghost use Rattle.pdb_functions.specs.Spans.{procedure_covers};
 ghost use Rattle.pdb_functions.specs.Starts.{StartsAscend};
 
 use crate::procedures::ProcedureSymbolFunction;
 use crate::span_table::{Keys, Span, find, key, segments_of};
-use pdb_ranges::{Probes, Segments};
 use pdb_records::PdbInternalSectionOffset;
+use pdb_tables::{Probes, Segments};
 use std::alloc::{AllocError, Global};
 use std::marker::Model;
 
@@ -38,8 +38,8 @@ impl<'a> Model for ProcedureTable<'a> {
     ghost use Rattle.std.specs.Prelude.{◌≡◌, ◌*◌, ◌^◌, ◌<◌, ◌≤◌, List, map, length};
     ghost use Rattle.std.specs.Prelude.{option_map, option_and_then, slice_get};
     ghost use Rattle.pdb_records.specs.declared.addresses.PdbInternalSectionOffset.{PdbInternalSectionOffset};
-    ghost use Rattle.pdb_ranges.specs.Pick.{pick};
-    ghost use Rattle.pdb_ranges.specs.Segments.{value_at};
+    ghost use Rattle.pdb_tables.specs.Pick.{pick};
+    ghost use Rattle.pdb_tables.specs.Segments.{value_at};
     ghost use Rattle.pdb_functions.specs.Keys.{key};
     ghost use Rattle.pdb_functions.specs.Procedures.{ModuleProcedure, module_procedure};
     ghost use Rattle.pdb_functions.specs.Spans.{procedure_covers};

@@ -10,11 +10,11 @@ ghost use Rattle.pdb_functions.specs.Procedures.{module_procedure, unless_empty,
 ghost use Rattle.pdb_functions.specs.Procedures.{procedure_at, procedures_from, symbol_procedures};
 ghost use Rattle.pdb_functions.specs.Starts.{StartsAscend};
 
-use crate::starts::{HasStart, first_of_each_start};
 use pdb_records::{
     PdbInternalSectionOffset, ProcedureSymbol, RawString, SeparatedCodeSymbol, Symbol, SymbolData,
     SymbolIndex, ThunkSymbol, TypeIndex, is_code_kind,
 };
+use pdb_tables::{Keyed, first_of_each_key};
 use std::alloc::{AllocError, Global};
 
 /// A procedure of a module: a function with its size, its type, and its place in the module's symbols.
@@ -34,10 +34,12 @@ pub struct ProcedureSymbolFunction<'a> {
     pub type_index: TypeIndex,
 }
 
-impl HasStart for ProcedureSymbolFunction<'_> {
-    ghost start_of = { λ p. p.offset };
+impl Keyed for ProcedureSymbolFunction<'_> {
+    type Key = PdbInternalSectionOffset;
 
-    fn start(&self) -> PdbInternalSectionOffset {
+    ghost key_of = { λ p. p.offset };
+
+    fn key(&self) -> PdbInternalSectionOffset {
         self.offset
     }
 }
@@ -149,6 +151,6 @@ pub(crate) fn compute_procedures(
     ensures ascend { IfOk result (λ v. StartsAscend (λ p. p.offset) v.items) }
 {
     let procedures = procedures_in_reading_order(alloc, symbols)?;
-    let counted = first_of_each_start(alloc, procedures)?;
+    let counted = first_of_each_key(alloc, procedures)?;
     Ok(counted)
 }

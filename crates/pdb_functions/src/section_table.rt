@@ -2,11 +2,11 @@
 
 ghost use Rattle.std.specs.Prelude.{◌≡◌, ◌+◌, ◌*◌, ◌≤◌, length, option_and_then, IfOk};
 ghost use Rattle.pdb_records.specs.Addresses.{internal_offset};
-ghost use Rattle.pdb_ranges.specs.Probes.{digits};
+ghost use Rattle.pdb_tables.specs.Probes.{digits};
 ghost use Rattle.pdb_functions.specs.SectionTables.{section_offset_in, section_segments};
 
-use pdb_ranges::{Probes, Segment, Segments};
 use pdb_records::{AddressMap, AddressRange, PdbInternalSectionOffset, Rva};
+use pdb_tables::{Probes, Segment, Segments};
 use std::alloc::{AllocError, Global};
 use std::marker::Model;
 
@@ -62,7 +62,7 @@ impl<'a> Model for SectionTable<'a> {
     ghost use Rattle.std.specs.Prelude.{◌≡◌, ◌*◌, ◌≤◌, ℕ, List, length, option_and_then};
     ghost use Rattle.pdb_records.specs.Addresses.{offset_from};
     ghost use Rattle.pdb_records.specs.declared.addresses.AddressRange.{AddressRange};
-    ghost use Rattle.pdb_ranges.specs.Segments.{value_at};
+    ghost use Rattle.pdb_tables.specs.Segments.{value_at};
     ghost use Rattle.pdb_functions.specs.SectionTables.{section_offset_in};
 
     ghost Value = { List AddressRange };

@@ -2,13 +2,13 @@
 
 ghost use Rattle.std.specs.Prelude.{◌≡◌, ◌+◌, ◌*◌, ◌^◌, ◌<◌, ◌≤◌, Bool, None, length, slice_get, option_and_then, IfOk};
 ghost use Rattle.pdb_records.specs.declared.addresses.PdbInternalSectionOffset.{PdbInternalSectionOffset};
-ghost use Rattle.pdb_ranges.specs.Probes.{digits};
-ghost use Rattle.pdb_ranges.specs.Segments.{value_at};
+ghost use Rattle.pdb_tables.specs.Probes.{digits};
+ghost use Rattle.pdb_tables.specs.Segments.{value_at};
 ghost use Rattle.pdb_functions.specs.Keys.{key, HasKeys};
-ghost use Rattle.pdb_ranges.specs.Last.{last_over};
+ghost use Rattle.pdb_tables.specs.Last.{last_over};
 
-use pdb_ranges::{Probes, Segment, Segments};
 use pdb_records::PdbInternalSectionOffset;
+use pdb_tables::{Probes, Segment, Segments};
 use std::alloc::{AllocError, Global};
 
 // The keys that a section has room for: more than twice as many as it has offsets, so that what starts in

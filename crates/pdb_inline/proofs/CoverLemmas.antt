@@ -6,21 +6,21 @@ use Rattle.std.specs.Prelude.{Option, ◌==◌, nat_le}
 use Rattle.std.proofs.lemmas.Bool.{cases_order, lt-ltb, le-ltb, le-leb, lt-leb, eq-eqb, ne_eqb}
 use Rattle.std.proofs.Math.Bool.{or_assoc}
 use Rattle.std.proofs.lemmas.List.Folds.{list_any-append}
-use Rattle.pdb_ranges.specs.RangeSet.{is_within, has}
-use Rattle.pdb_ranges.proofs.HasLemmas.{has-append}
+use Rattle.pdb_tables.specs.RangeSet.{is_within, has}
+use Rattle.pdb_tables.proofs.HasLemmas.{has-append}
 use Rattle.pdb_records.specs.declared.ids.IdIndex.{IdIndex}
 use Rattle.pdb_records.specs.declared.lines.FileIndex.{FileIndex}
 use Rattle.pdb_records.specs.declared.symbols.InlineRow.{InlineRow}
 use Rattle.pdb_records.specs.declared.symbols.InlineSiteSymbol.{InlineSiteSymbol}
-use Rattle.pdb_ranges.specs.InOrder.{put, in_order}
+use Rattle.pdb_tables.specs.InOrder.{put, in_order}
 use Rattle.pdb_inline.specs.Sites.{Site, SiteAtDepth, at_depth, depth}
 use Rattle.pdb_inline.specs.InlineRows.{row_range, row_ranges, counted_rows}
 use Rattle.pdb_inline.specs.InlineRanges.{own_range, own_ranges, added_range, added_ranges, range_before, inline_ranges}
-use Rattle.pdb_ranges.specs.Runs.{missing_runs}
+use Rattle.pdb_tables.specs.Runs.{missing_runs}
 use Rattle.pdb_inline.specs.CoveredRuns.{deeper_ranges, added_by_depth}
 use Rattle.pdb_inline.specs.InlineStacks.{lies_over, has_range_over, is_covered}
 use Rattle.pdb_inline.proofs.NestingLemmas.{AreNested}
-use Rattle.pdb_ranges.proofs.MissingRunLemmas.{has-missing_runs}
+use Rattle.pdb_tables.proofs.MissingRunLemmas.{has-missing_runs}
 use Rattle.pdb_inline.proofs.InlineRangeLemmas.{ranges_by_depth_are}
 
 -- an element passes a test among others wherever it is put

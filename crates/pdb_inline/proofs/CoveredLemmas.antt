@@ -7,8 +7,8 @@ use Rattle.std.proofs.Math.ListN.{drop_of_length-le}
 use Rattle.std.proofs.lemmas.Bool.{lt-ltb}
 use Rattle.std.proofs.lemmas.List.{reverse-append, take-append-drop}
 use Rattle.std.proofs.lemmas.Option.{get_or_from_slice_get, slice_get_within}
-use Rattle.pdb_ranges.specs.RangeSet.{is_within, has}
-use Rattle.pdb_ranges.proofs.HasLemmas.{has-append}
+use Rattle.pdb_tables.specs.RangeSet.{is_within, has}
+use Rattle.pdb_tables.proofs.HasLemmas.{has-append}
 use Rattle.pdb_inline.specs.declared.missing_rows.CoveredRun.{CoveredRun}
 use Rattle.pdb_inline.specs.CoveredRuns.{is_on_stack}
 

@@ -6,11 +6,11 @@ use Rattle.std.proofs.lemmas.List.{drop_more}
 use Rattle.std.specs.Global.{Vec}
 use Rattle.std.proofs.lemmas.Bool.{ne_eqb, eqb-true}
 use Rattle.std.proofs.lemmas.Bool.Decides.{nat_tests}
-use Rattle.pdb_ranges.specs.declared.segment.Segment.{Segment}
-use Rattle.pdb_ranges.specs.Last.{last_over}
-use Rattle.pdb_ranges.specs.Segments.{painted_in_turn}
-use Rattle.pdb_ranges.specs.RangeSet.{is_within}
-use Rattle.pdb_ranges.proofs.TurnLemmas.{painted_in_turn-push}
+use Rattle.pdb_tables.specs.declared.segment.Segment.{Segment}
+use Rattle.pdb_tables.specs.Last.{last_over}
+use Rattle.pdb_tables.specs.Segments.{painted_in_turn}
+use Rattle.pdb_tables.specs.RangeSet.{is_within}
+use Rattle.pdb_tables.proofs.TurnLemmas.{painted_in_turn-push}
 use Rattle.pdb_inline.specs.declared.inline_ranges.InlineRange.{InlineRange}
 use Rattle.pdb_inline.specs.declared.listed_ranges.ListedRange.{ListedRange}
 use Rattle.pdb_inline.specs.InlineStacks.{lies_over}

@@ -6,11 +6,11 @@ use Rattle.std.specs.Prelude.{Option, Some, None, ◌⊎◌, nat_lt}
 use Rattle.std.proofs.lemmas.Bool.{cases_Bool, or_cases, or_left, or_right, eq-eqb, eqb-true, and_parts}
 use Rattle.std.proofs.lemmas.List.{drop-drop}
 use Rattle.std.proofs.lemmas.List.Folds.{list_any-append}
-use Rattle.pdb_ranges.specs.RangeSet.{has}
-use Rattle.pdb_ranges.proofs.HasLemmas.{has-append}
+use Rattle.pdb_tables.specs.RangeSet.{has}
+use Rattle.pdb_tables.proofs.HasLemmas.{has-append}
 use Rattle.pdb_records.specs.declared.ids.IdIndex.{IdIndex}
 use Rattle.pdb_inline.specs.declared.inline_ranges.InlineRange.{InlineRange}
-use Rattle.pdb_ranges.specs.Pick.{pick, later_start}
+use Rattle.pdb_tables.specs.Pick.{pick, later_start}
 use Rattle.pdb_inline.specs.Sites.{Site, depth}
 use Rattle.pdb_inline.specs.InlineRows.{row_ranges, counted_rows}
 use Rattle.pdb_inline.specs.InlineRanges.{is_inside, inner_ranges, missing, own_ranges, added_ranges}
@@ -19,7 +19,7 @@ use Rattle.pdb_inline.specs.InlineStacks.{lies_over, has_range_over, depths, wit
 use Rattle.pdb_inline.specs.InlineStacks.{site_ranges, is_over, IsSoleOver, IsDirectlyInside}
 use Rattle.pdb_inline.proofs.NestingLemmas.{AreNested}
 use Rattle.pdb_inline.proofs.InsideLemmas.{is_among}
-use Rattle.pdb_ranges.proofs.MissingRunLemmas.{has-missing_runs}
+use Rattle.pdb_tables.proofs.MissingRunLemmas.{has-missing_runs}
 use Rattle.pdb_inline.proofs.CoverLemmas.{over_own, over_added}
 use Rattle.pdb_inline.proofs.WellNestedLemmas.{contains_cases, all_at, nested_positions}
 

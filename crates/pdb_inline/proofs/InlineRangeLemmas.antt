@@ -1,10 +1,7 @@
 -- The list of inline ranges.
 use Rattle.std.proofs.Common.{◌≡◌, ℕ, List, [], map, Option, Some, None, Ok, refl}
 use Rattle.std.specs.Prelude.{option_map}
-use Rattle.std.specs.Cmp.{IsTotalOrder, IsStrictWeakOrder}
-use Rattle.std.proofs.lemmas.Cmp.{then_total, on_total, nat_cmp_total}
 use Rattle.std.proofs.lemmas.List.Folds.{flat_map-map}
-use Rattle.std.proofs.lemmas.List.Sorted.{ranks_by}
 use Rattle.pdb_records.specs.declared.error.Error.TheVariants.{Stream}
 use Rattle.pdb_records.specs.declared.error.StreamError.{StreamError}
 use Rattle.pdb_records.specs.declared.ids.IdIndex.{IdIndex}
@@ -13,18 +10,10 @@ use Rattle.pdb_types.specs.declared.error.Error.TheVariants.{PdbError}
 use Rattle.pdb_types.specs.Outcomes.{unless}
 use Rattle.pdb_inline.specs.Sites.{Site, SiteAtDepth, Walk, at_depth, walk, unless_met}
 use Rattle.pdb_inline.specs.declared.inline_ranges.InlineRange.{InlineRange}
-use Rattle.pdb_inline.specs.InlineRanges.{own_ranges, range_cmp, range_before, inline_ranges}
+use Rattle.pdb_inline.specs.InlineRanges.{own_ranges, inline_ranges}
 use Rattle.pdb_inline.specs.CoveredRuns.{ranges_by_depth}
 use Rattle.pdb_inline.proofs.NestingLemmas.{AreNested, procedure_nested}
 use Rattle.pdb_inline.proofs.InsideLemmas.{added_in_all}
-
--- ranges have one order
-pub range_cmp_total : IsTotalOrder range_cmp
-range_cmp_total = then_total (on_total (λ r. r.call_depth) nat_cmp_total) (on_total (λ r. r.start_offset) nat_cmp_total)
-
--- and so one comes before another, or they tie
-pub ranges_rank : IsStrictWeakOrder range_before
-ranges_rank = ranks_by range_cmp_total (λ r. r)
 
 -- the ranges of nested sites are those by depth
 pub ranges_by_depth_are : (inlinees : List IdIndex) (sites : List Site) → AreNested 0 [] sites

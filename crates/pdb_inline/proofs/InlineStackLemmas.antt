@@ -6,10 +6,10 @@ use native.Mathlib.Nat.{suc-add}
 use Rattle.std.specs.Prelude.{Option, Some, None, is_some, nat_lt}
 use Rattle.std.proofs.lemmas.Bool.{cases_lt, cases_Bool, le-leb, lt-leb, ne_eqb, leb-true, and_parts, and_from}
 use Rattle.std.proofs.lemmas.Bool.{or_cases, or_left, or_right}
-use Rattle.pdb_ranges.specs.RangeSet.{has}
+use Rattle.pdb_tables.specs.RangeSet.{has}
 use Rattle.pdb_records.specs.declared.ids.IdIndex.{IdIndex}
 use Rattle.pdb_inline.specs.declared.inline_ranges.InlineRange.{InlineRange}
-use Rattle.pdb_ranges.specs.Pick.{pick, later_start}
+use Rattle.pdb_tables.specs.Pick.{pick, later_start}
 use Rattle.pdb_inline.specs.Sites.{Site, at_depth, depth}
 use Rattle.pdb_inline.specs.InlineRows.{row_ranges}
 use Rattle.pdb_inline.specs.InlineRanges.{inline_ranges}

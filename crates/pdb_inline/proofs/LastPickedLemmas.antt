@@ -4,44 +4,28 @@ use Rattle.std.proofs.Common.{Some, None, refl, sym, ap, arith}
 use Rattle.std.specs.Prelude.{⊤, nat_lt}
 use Rattle.std.specs.Option.{option_or}
 use Rattle.std.specs.List.{AllByRecursion}
-use Rattle.std.specs.Ordering.{nat_cmp, is_lt, MatchOrdering}
-use Rattle.std.specs.declared.cmp.Ordering.{Ordering}
-use Rattle.std.specs.declared.cmp.Ordering.TheVariants.{Less, Equal, Greater}
-use Rattle.std.specs.Cmp.{IsStrictWeakOrder}
+use Rattle.std.specs.Ordering.{nat_cmp, is_lt}
 use Rattle.std.proofs.lemmas.Bool.{lt-ltb, le-ltb}
-use Rattle.std.proofs.lemmas.Cmp.{ranked, nat_cmp_total}
+use Rattle.std.proofs.lemmas.Bool.Decides.{nat_tests}
+use Rattle.std.proofs.lemmas.Cmp.{nat_cmp_total}
 use Rattle.std.proofs.lemmas.Grind.{reverse_onto}
 use Rattle.std.proofs.lemmas.List.Sorted.{ranks_by}
-use Rattle.pdb_ranges.specs.InOrder.{put, in_order}
-use Rattle.pdb_ranges.specs.Last.{last_over}
-use Rattle.pdb_ranges.specs.Pick.{pick, later_start}
-use Rattle.pdb_ranges.proofs.LastLemmas.{last_over-or}
-use Rattle.pdb_ranges.proofs.PickLemmas.{later_start_assoc}
-use Rattle.pdb_ranges.proofs.SortLemmas.{Rises, rises_in_order}
-
--- one starts before another
-abbrev pub earlier : {T : Type 0} → (T → ℕ) → T → T → Bool
-earlier start a b = is_lt (nat_cmp (start a) (start b))
-
--- starts have one order
-pub earlier_ranks : {T : Type 0} (start : T → ℕ) → IsStrictWeakOrder (earlier start)
-earlier_ranks start = ranks_by nat_cmp_total start
+use Rattle.pdb_tables.specs.InOrder.{put, in_order}
+use Rattle.pdb_tables.specs.Keyed.{is_lower}
+use Rattle.pdb_tables.specs.Last.{last_over}
+use Rattle.pdb_tables.specs.Pick.{pick, later_start}
+use Rattle.pdb_tables.proofs.NumberLemmas.{less_test}
+use Rattle.pdb_tables.proofs.LastLemmas.{last_over-or}
+use Rattle.pdb_tables.proofs.PickLemmas.{later_start_assoc}
+use Rattle.pdb_tables.proofs.SortLemmas.{Rises, rises_in_order}
 
 -- what comes before another number is smaller
-pub less_from : (m n : ℕ) → is_lt (nat_cmp m n) ≡ true → m < n
-less_from m n is = by_order (nat_cmp m n) is (ranked m n (nat_cmp m n) refl) where
-  by_order : (o : Ordering) → is_lt o ≡ true → MatchOrdering o (m < n) (m ≡ n) (n < m) → m < n
-  by_order Less is fact = fact
-  by_order Equal is fact = absurd cc
-  by_order Greater is fact = absurd cc
+less_from : (m n : ℕ) → is_lt (nat_cmp m n) ≡ true → m < n
+less_from m n is = grind (arith, nat_tests, sym (less_test m n) ∙ is)
 
 -- what doesn't is no smaller
 pub no_less_from : (m n : ℕ) → is_lt (nat_cmp m n) ≡ false → n ≤ m
-no_less_from m n is = by_order (nat_cmp m n) is (ranked m n (nat_cmp m n) refl) where
-  by_order : (o : Ordering) → is_lt o ≡ false → MatchOrdering o (m < n) (m ≡ n) (n < m) → n ≤ m
-  by_order Less is fact = absurd cc
-  by_order Equal is fact = omega arith
-  by_order Greater is fact = omega arith
+no_less_from m n is = grind (arith, nat_tests, sym (less_test m n) ∙ is)
 
 -- of those that pass the test the one of greatest start; of equal starts the last
 abbrev pub pick_back : {T : Type 0} → (T → Bool) → (T → ℕ) → List T → Option T
@@ -84,18 +68,18 @@ last_of_all {T = T} P over before (x ∷ xs) there all =
 
 -- where one starts no later than another, and none starts before that, it starts no later than any
 no_later_than_all : {T : Type 0} (start : T → ℕ) (x y : T) (zs : List T) → start x ≤ start y
-    → AllByRecursion (λ z. earlier start z y ≡ false) zs → AllByRecursion (λ z. start x ≤ start z) zs
+    → AllByRecursion (λ z. is_lower nat_cmp start z y ≡ false) zs → AllByRecursion (λ z. start x ≤ start z) zs
 no_later_than_all start x y [] low all = tt
 no_later_than_all start x y (z ∷ zs) low all =
     let h : start y ≤ start z = no_less_from (start z) (start y) all.0 in
     (omega arith, no_later_than_all start x y zs low all.1)
 
 -- one that is put in its place is the last of those that pass, unless a later one passes
-last_of_put : {T : Type 0} (over : T → Bool) (start : T → ℕ) (x : T) (ys : List T) → Rises (earlier start) ys
-    → last_over over None (put (earlier start) x ys) ≡ later_start start (last_over over None ys)
+last_of_put : {T : Type 0} (over : T → Bool) (start : T → ℕ) (x : T) (ys : List T) → Rises (is_lower nat_cmp start) ys
+    → last_over over None (put (is_lower nat_cmp start) x ys) ≡ later_start start (last_over over None ys)
     (cond (over x) (Some x) None)
 last_of_put over start x [] up = refl
-last_of_put {T = T} over start x (y ∷ ys) up = by_test (earlier start y x) refl (last_of_put over start x ys up.1) where
+last_of_put {T = T} over start x (y ∷ ys) up = by_test (is_lower nat_cmp start y x) refl (last_of_put over start x ys up.1) where
   later : (w : Option T) (s t : Bool) → start y < start x
       → option_or (later_start start w (cond t (Some x) None)) (cond s (Some y) None)
       ≡ later_start start (option_or w (cond s (Some y) None)) (cond t (Some x) None)
@@ -115,13 +99,13 @@ last_of_put {T = T} over start x (y ∷ ys) up = by_test (earlier start y x) ref
   ahead (Some w) true all = rw (le-ltb (start w) (start x) all) refl
   ahead (Some w) false all = refl
 
-  by_test : (b : Bool) → earlier start y x ≡ b
-      → last_over over None (put (earlier start) x ys) ≡ later_start start (last_over over None ys)
+  by_test : (b : Bool) → is_lower nat_cmp start y x ≡ b
+      → last_over over None (put (is_lower nat_cmp start) x ys) ≡ later_start start (last_over over None ys)
       (cond (over x) (Some x) None)
-      → last_over over None (cond b (y ∷ put (earlier start) x ys) (x ∷ y ∷ ys))
+      → last_over over None (cond b (y ∷ put (is_lower nat_cmp start) x ys) (x ∷ y ∷ ys))
       ≡ later_start start (last_over over None (y ∷ ys)) (cond (over x) (Some x) None)
   by_test true is rest =
-      last_over-or over (cond (over y) (Some y) None) (put (earlier start) x ys)
+      last_over-or over (cond (over y) (Some y) None) (put (is_lower nat_cmp start) x ys)
       ∙ (ap (λ (o : Option T). option_or o (cond (over y) (Some y) None)) rest
       ∙ (later (last_over over None ys) (over y) (over x) (less_from (start y) (start x) is)
       ∙ ap (λ (o : Option T). later_start start o (cond (over x) (Some x) None))
@@ -134,15 +118,15 @@ last_of_put {T = T} over start x (y ∷ ys) up = by_test (earlier start y x) ref
 
 -- the last of a list in order is the one of greatest start; of equal starts the last
 last_in_order : {T : Type 0} (over : T → Bool) (start : T → ℕ) (xs : List T)
-    → last_over over None (in_order (earlier start) xs) ≡ pick_back over start xs
+    → last_over over None (in_order (is_lower nat_cmp start) xs) ≡ pick_back over start xs
 last_in_order over start [] = refl
 last_in_order {T = T} over start (x ∷ xs) =
-    last_of_put over start x (in_order (earlier start) xs) (rises_in_order (earlier_ranks start) xs)
+    last_of_put over start x (in_order (is_lower nat_cmp start) xs) (rises_in_order (ranks_by nat_cmp_total start) xs)
     ∙ ap (λ (o : Option T). later_start start o (cond (over x) (Some x) None)) (last_in_order over start xs)
 
 -- of a list by starts, where of equal starts the last stands first, the last that passes is picked
 pub last_is_picked : {T : Type 0} (over : T → Bool) (start : T → ℕ) (xs : List T)
-    → last_over over None (in_order (earlier start) (reverse xs)) ≡ pick over start xs
+    → last_over over None (in_order (is_lower nat_cmp start) (reverse xs)) ≡ pick over start xs
 last_is_picked over start xs = last_in_order over start (reverse xs) ∙ pick_back-reverse over start xs
 
 -- what holds of all holds of the one that is picked

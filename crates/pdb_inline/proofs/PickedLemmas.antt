@@ -3,7 +3,7 @@ use Rattle.std.proofs.Common.{◌≡◌, ◌∙◌, ℕ, suc, ◌+◌, ◌-◌, 
 use Rattle.std.proofs.Common.{inr}
 use Rattle.std.specs.Prelude.{Some, is_some}
 use Rattle.std.proofs.lemmas.Bool.{cases_lt}
-use Rattle.pdb_ranges.specs.Pick.{pick}
+use Rattle.pdb_tables.specs.Pick.{pick}
 use Rattle.pdb_inline.specs.declared.inline_ranges.InlineRange.{InlineRange}
 use Rattle.pdb_inline.specs.InlineStacks.{lies_over, depths, stack_from}
 use Rattle.pdb_inline.proofs.InlineStackLemmas.{is_some-pick, no_range_past}

@@ -1,25 +1,12 @@
 -- What is picked at each depth, as slots are made and filled.
-use Rattle.std.proofs.Common.{◌≡◌, ◌∙◌, ℕ, zero, suc, ◌<◌, ◌≤◌, List, [], ◌∷◌, ◌++◌, length, Option, Some, None, refl}
+use Rattle.std.proofs.Common.{◌≡◌, ◌∙◌, ℕ, ◌<◌, ◌≤◌, List, length, Option, Some, None}
 use Rattle.std.proofs.Common.{sym, inl, inr}
 use Rattle.std.specs.Borrow.{Bor}
 use Rattle.std.proofs.lemmas.Bool.{cases_lt}
-use Rattle.pdb_ranges.specs.Pick.{pick}
+use Rattle.pdb_tables.specs.Pick.{pick}
 use Rattle.pdb_inline.specs.declared.inline_ranges.InlineRange.{InlineRange}
 use Rattle.pdb_inline.specs.InlineStacks.{lies_over}
 use Rattle.pdb_inline.specs.PickedSlots.{picked_at}
-
--- nothing is picked without slots
-nothing_picked : (depth : ℕ) → picked_at [] depth ≡ None
-nothing_picked zero = refl
-nothing_picked (suc depth) = refl
-
--- with one more empty slot the same is picked
-pub picked_more : (slots : List (Option (Bor InlineRange))) (depth : ℕ)
-    → picked_at (slots ++ None ∷ []) depth ≡ picked_at slots depth
-picked_more [] zero = refl
-picked_more [] (suc depth) = nothing_picked depth ∙ sym (nothing_picked (suc depth))
-picked_more (slot ∷ slots) zero = refl
-picked_more (slot ∷ slots) (suc depth) = picked_more slots depth
 
 -- where slots have what is picked at each depth that is less than the number of ranges, and nothing behind, what
 -- they have is picked

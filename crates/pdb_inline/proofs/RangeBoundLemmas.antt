@@ -8,13 +8,16 @@ use Rattle.std.specs.Ordering.{nat_cmp}
 use Rattle.std.proofs.lemmas.Bool.{or_cases, or_left, or_right, leb-true, le-leb}
 use Rattle.std.proofs.lemmas.Bool.Decides.{nat_tests}
 use Rattle.std.proofs.lemmas.List.Sorted.{list_any-IsPermutation}
-use Rattle.pdb_ranges.specs.RangeSet.{is_within}
-use Rattle.pdb_ranges.proofs.HasLemmas.{within_above}
-use Rattle.pdb_ranges.proofs.NumberLemmas.{eqb_same}
-use Rattle.pdb_ranges.proofs.SortLemmas.{Rises, rises_from_sorted}
+use Rattle.pdb_tables.specs.RangeSet.{is_within}
+use Rattle.pdb_tables.proofs.HasLemmas.{within_above}
+use Rattle.pdb_tables.proofs.NumberLemmas.{eqb_same}
+use Rattle.pdb_tables.proofs.SortLemmas.{Rises, rises_from_sorted}
 use Rattle.pdb_inline.specs.declared.inline_ranges.InlineRange.{InlineRange}
 use Rattle.pdb_inline.specs.RangeBounds.{bounds, ChangesAt}
-use Rattle.pdb_inline.proofs.LastPickedLemmas.{earlier, earlier_ranks, no_less_from}
+use Rattle.std.proofs.lemmas.Cmp.{nat_cmp_total}
+use Rattle.std.proofs.lemmas.List.Sorted.{ranks_by}
+use Rattle.pdb_tables.specs.Keyed.{is_lower}
+use Rattle.pdb_inline.proofs.LastPickedLemmas.{no_less_from}
 
 -- a number is up to another, or one of these
 abbrev pub is_held : ℕ → List ℕ → ℕ → Bool
@@ -101,7 +104,7 @@ none_past n x (r ∷ ranges) up held = (
 )
 
 -- what rises is no smaller than what stands first
-no_smaller : (b : ℕ) (bs : List ℕ) → AllByRecursion (λ c. earlier (λ n. n) c b ≡ false) bs
+no_smaller : (b : ℕ) (bs : List ℕ) → AllByRecursion (λ c. is_lower nat_cmp (λ n. n) c b ≡ false) bs
     → AllByRecursion (λ c. b ≤ c) bs
 no_smaller b [] all = tt
 no_smaller b (c ∷ bs) all = (no_less_from c b all.0, no_smaller b bs all.1)
@@ -109,7 +112,7 @@ no_smaller b (c ∷ bs) all = (no_less_from c b all.0, no_smaller b bs all.1)
 -- values that are the same where ranges lie alike, and nothing where none lies, change at the ranges' bounds alone
 pub changes_at_bounds : (values : ℕ → List ℕ) (ranges : List InlineRange)
     → ((x n : ℕ) → AreAlike x n ranges → values x ≡ values n) → ((x : ℕ) → AreNotOver x ranges → values x ≡ [])
-    → (n : ℕ) (bs : List ℕ) → AllByRecursion (λ b. n ≤ b) bs → Rises (earlier (λ m. m)) bs → AreHeld n bs ranges
+    → (n : ℕ) (bs : List ℕ) → AllByRecursion (λ b. n ≤ b) bs → Rises (is_lower nat_cmp (λ m. m)) bs → AreHeld n bs ranges
     → ChangesAt values n bs
 changes_at_bounds values ranges alike none n [] low up held = λ x from. none x (none_past n x ranges from held)
 changes_at_bounds values ranges alike none n (b ∷ bs) low up held =
@@ -149,7 +152,7 @@ pub changes_at_sorted : (values : ℕ → List ℕ) (ranges : List InlineRange) 
     → IsPermutation (bounds ranges) bs → IsSorted nat_cmp bs → ChangesAt values 0 bs
 changes_at_sorted values ranges bs alike none same sorted =
     changes_at_bounds values ranges alike none 0 bs (all_from_zero bs)
-    (rises_from_sorted (earlier_ranks (λ n. n)) bs sorted)
+    (rises_from_sorted (ranks_by nat_cmp_total (λ n. n)) bs sorted)
     (own_held bs ranges ranges (λ v there. sym (list_any-IsPermutation (λ b. v == b) (bounds ranges) bs same) ∙ there))
 
 -- ranges have two bounds each

@@ -9,7 +9,7 @@ use Rattle.pdb_inline.specs.declared.inline_ranges.InlineRange.{InlineRange}
 use Rattle.pdb_inline.specs.Sites.{Site, depth}
 use Rattle.pdb_inline.specs.InlineRanges.{missing, own_ranges, added_ranges, read_ranges}
 use Rattle.pdb_inline.specs.InlineRanges.{range_before, inline_ranges}
-use Rattle.pdb_ranges.specs.InOrder.{put, in_order}
+use Rattle.pdb_tables.specs.InOrder.{put, in_order}
 use Rattle.pdb_inline.specs.InlineStacks.{lies_over, inline_stack}
 use Rattle.pdb_inline.specs.InlineStacks.{site_ranges}
 use Rattle.pdb_inline.proofs.WellNestedLemmas.{contains_cases}

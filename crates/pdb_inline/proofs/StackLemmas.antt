@@ -8,9 +8,9 @@ use Rattle.std.specs.Option.{option_to_list}
 use Rattle.std.proofs.lemmas.List.{drop_more}
 use Rattle.std.proofs.lemmas.Bool.{cases_Bool, cases_lt}
 use Rattle.std.proofs.lemmas.Bool.Decides.{nat_tests}
-use Rattle.pdb_ranges.specs.Pick.{pick, later_start}
-use Rattle.pdb_ranges.specs.RangeSet.{is_within}
-use Rattle.pdb_ranges.proofs.PickLemmas.{map-pick}
+use Rattle.pdb_tables.specs.Pick.{pick, later_start}
+use Rattle.pdb_tables.specs.RangeSet.{is_within}
+use Rattle.pdb_tables.proofs.PickLemmas.{map-pick}
 use Rattle.pdb_inline.specs.declared.inline_ranges.InlineRange.{InlineRange}
 use Rattle.pdb_inline.specs.declared.listed_ranges.ListedRange.{ListedRange}
 use Rattle.pdb_inline.specs.DepthTables.{picked_positions, with_outer_position, up_to_gap}

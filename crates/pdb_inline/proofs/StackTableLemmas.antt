@@ -4,11 +4,11 @@ use Rattle.std.proofs.Common.{length-append, Option, Some, None, refl, sym, ap, 
 use Rattle.std.specs.Prelude.{option_map, slice_range}
 use Rattle.std.proofs.Math.Seq.{drop-append_seam}
 use Rattle.std.proofs.lemmas.List.{take-append-le, drop-append-le, length-drop, take_all}
-use Rattle.pdb_ranges.specs.declared.segment.Segment.{Segment}
-use Rattle.pdb_ranges.specs.RangeSet.{is_within}
-use Rattle.pdb_ranges.specs.Segments.{painted, value_at}
-use Rattle.pdb_ranges.specs.Probes.{digits}
-use Rattle.pdb_ranges.proofs.DigitLemmas.{digits_mono}
+use Rattle.pdb_tables.specs.declared.segment.Segment.{Segment}
+use Rattle.pdb_tables.specs.RangeSet.{is_within}
+use Rattle.pdb_tables.specs.Segments.{painted, value_at}
+use Rattle.pdb_tables.specs.Probes.{digits}
+use Rattle.pdb_tables.proofs.DigitLemmas.{digits_mono}
 use Rattle.pdb_inline.specs.declared.inline_ranges.InlineRange.{InlineRange}
 use Rattle.pdb_inline.specs.StackTable.{with_stacks, LiesIn, or_empty, stack_over, IsTableOf}
 

@@ -3,13 +3,13 @@
 use Rattle.std.specs.Prelude.{ℕ, Bool, false, ◌||◌, ◌&&◌, List, [], ◌∷◌, ◌++◌, nat_lt, reverse, if◌then◌else◌}
 use Rattle.std.specs.List.{flat_map}
 use Rattle.pdb_records.specs.declared.ids.IdIndex.{IdIndex}
-use Rattle.pdb_ranges.specs.RangeSet.{is_within}
+use Rattle.pdb_tables.specs.RangeSet.{is_within}
 use Rattle.pdb_inline.specs.declared.missing_rows.CoveredRun.{CoveredRun}
 use Rattle.pdb_inline.specs.declared.inline_ranges.InlineRange.{InlineRange}
 use Rattle.pdb_inline.specs.InlineRows.{row_ranges}
-use Rattle.pdb_ranges.specs.InOrder.{in_order}
+use Rattle.pdb_tables.specs.InOrder.{in_order}
 use Rattle.pdb_inline.specs.InlineRanges.{own_ranges, added_ranges, range_before}
-use Rattle.pdb_ranges.specs.Runs.{missing_runs}
+use Rattle.pdb_tables.specs.Runs.{missing_runs}
 use Rattle.pdb_inline.specs.Sites.{SiteAtDepth}
 
 -- what the rows of the sites cover that follow at once and are deeper

@@ -1,8 +1,8 @@
 -- Tables of which range is picked at each depth, by its position.
 use Rattle.std.specs.Prelude.{ℕ, zero, suc, ◌+◌, List, [], ◌∷◌, Option, Some, None, length, map}
 use Rattle.std.specs.Global.{Vec}
-use Rattle.pdb_ranges.specs.declared.segment.Segment.{Segment}
-use Rattle.pdb_ranges.specs.Segments.{value_at}
+use Rattle.pdb_tables.specs.declared.segment.Segment.{Segment}
+use Rattle.pdb_tables.specs.Segments.{value_at}
 use Rattle.pdb_inline.specs.declared.inline_ranges.InlineRange.{InlineRange}
 use Rattle.pdb_inline.specs.ListedRanges.{picked_position}
 

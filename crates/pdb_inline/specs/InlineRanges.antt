@@ -10,9 +10,9 @@ use Rattle.pdb_records.specs.declared.symbols.InlineRow.{InlineRow}
 use Rattle.pdb_records.specs.declared.symbols.InlineSiteSymbol.{InlineSiteSymbol}
 use Rattle.pdb_types.specs.declared.error.Error.{Error}
 use Rattle.pdb_inline.specs.declared.inline_ranges.InlineRange.{InlineRange}
-use Rattle.pdb_ranges.specs.InOrder.{in_order}
+use Rattle.pdb_tables.specs.InOrder.{in_order}
 use Rattle.pdb_inline.specs.InlineRows.{counted_rows, row_end, row_ranges}
-use Rattle.pdb_ranges.specs.Runs.{missing_runs}
+use Rattle.pdb_tables.specs.Runs.{missing_runs}
 use Rattle.pdb_inline.specs.Sites.{Site, depth, walk, unless_met}
 
 -- the range of a row, which a site at a depth has

@@ -1,8 +1,9 @@
 -- Ranges with their positions in a list.
-use Rattle.std.specs.Prelude.{ℕ, ◌+◌, Bool, List, [], ◌∷◌, reverse, Option, Some, option_map, if◌then◌else◌}
-use Rattle.std.specs.Ordering.{nat_cmp, is_lt}
-use Rattle.pdb_ranges.specs.InOrder.{in_order}
-use Rattle.pdb_ranges.specs.Pick.{pick}
+use Rattle.std.specs.Prelude.{ℕ, ◌+◌, List, [], ◌∷◌, reverse, Option, Some, option_map, if◌then◌else◌}
+use Rattle.std.specs.Ordering.{nat_cmp}
+use Rattle.pdb_tables.specs.InOrder.{in_order}
+use Rattle.pdb_tables.specs.Keyed.{is_lower}
+use Rattle.pdb_tables.specs.Pick.{pick}
 use Rattle.pdb_inline.specs.declared.inline_ranges.InlineRange.{InlineRange}
 use Rattle.pdb_inline.specs.declared.listed_ranges.ListedRange.{ListedRange}
 use Rattle.pdb_inline.specs.InlineStacks.{lies_over}
@@ -12,13 +13,9 @@ abbrev pub listed : ℕ → List InlineRange → List ListedRange
 listed position [] = []
 listed position (range ∷ ranges) = record { position = position; range = range } ∷ listed (position + 1) ranges
 
--- one starts before another
-abbrev pub starts_before : ListedRange → ListedRange → Bool
-starts_before a b = is_lt (nat_cmp a.range.start_offset b.range.start_offset)
-
 -- the ranges by their starts; of equal starts the last of the list stands first
 abbrev pub ranges_by_start : List InlineRange → List ListedRange
-ranges_by_start ranges = in_order starts_before (reverse (listed 0 ranges))
+ranges_by_start ranges = in_order (is_lower nat_cmp (λ listed. listed.range.start_offset)) (reverse (listed 0 ranges))
 
 -- the position of the last of the ranges of a depth over a number, or else what was there before
 abbrev pub last_position : ℕ → ℕ → Option ℕ → List ListedRange → Option ℕ

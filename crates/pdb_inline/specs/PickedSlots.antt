@@ -1,10 +1,11 @@
 -- What is picked at each depth, as it is held: a slot for each depth, in order.
-use Rattle.std.specs.Prelude.{ℕ, List, Option, slice_get, option_and_then}
+use Rattle.std.specs.Prelude.{ℕ, List, Option}
 use Rattle.std.specs.Borrow.{Bor}
 use Rattle.std.specs.Option.{option_copied}
+use Rattle.pdb_tables.specs.Slots.{held}
 use Rattle.pdb_inline.specs.declared.inline_ranges.InlineRange.{InlineRange}
 
 -- what is picked at a depth: what its slot has, if there is one
 abbrev pub picked_at : List (Option (Bor InlineRange)) → ℕ → Option InlineRange
 picked_at slots depth =
-    option_copied (option_and_then (λ (slot : Option (Bor InlineRange)). slot) (slice_get slots depth))
+    option_copied (held slots depth)

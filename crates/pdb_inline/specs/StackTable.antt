@@ -2,8 +2,8 @@
 use Rattle.std.specs.Prelude.{◌≡◌, ⊤, ℕ, ◌*◌, ◌≤◌, ◌++◌, List, [], ◌∷◌, Option}
 use Rattle.std.specs.Prelude.{Some, None, map, length, slice_get, slice_range}
 use Rattle.std.specs.Option.{option_to_list}
-use Rattle.pdb_ranges.specs.declared.segment.Segment.{Segment}
-use Rattle.pdb_ranges.specs.Segments.{value_at}
+use Rattle.pdb_tables.specs.declared.segment.Segment.{Segment}
+use Rattle.pdb_tables.specs.Segments.{value_at}
 use Rattle.pdb_inline.specs.declared.inline_ranges.InlineRange.{InlineRange}
 use Rattle.pdb_inline.specs.InlineStacks.{inline_stack}
 

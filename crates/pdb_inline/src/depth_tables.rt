@@ -2,13 +2,13 @@
 
 ghost use Rattle.std.specs.Prelude.{◌≡◌, ◌==◌, ◌<◌, ◌≤◌, ◌++◌, ◌∷◌, [], ℕ, map};
 ghost use Rattle.std.specs.Prelude.{length, None, IfOk, OnOk, if◌then◌else◌};
-ghost use Rattle.pdb_ranges.specs.Segments.{value_at, painted_in_turn};
+ghost use Rattle.pdb_tables.specs.Segments.{value_at, painted_in_turn};
 ghost use Rattle.pdb_inline.specs.ListedRanges.{last_position};
 ghost use Rattle.pdb_inline.specs.DepthTables.{segments_at, picked_positions, positions_in};
 
 use crate::inline_ranges::InlineRange;
 use crate::listed_ranges::{ListedRange, ranges_by_start};
-use pdb_ranges::{Probes, Segment, Segments};
+use pdb_tables::{Probes, Segment, Segments};
 use std::alloc::{AllocError, Global};
 
 // No segment at each of so many depths.

@@ -2,16 +2,16 @@
 
 ghost use Rattle.std.specs.Prelude.{◌≡◌, ◌++◌, map, IfOk, OnOk, OnErr};
 ghost use Rattle.std.specs.List.{flat_map};
-ghost use Rattle.pdb_ranges.specs.InOrder.{in_order};
 ghost use Rattle.pdb_types.specs.Outcomes.{Gives};
 ghost use Rattle.pdb_inline.specs.CoveredRuns.{read_by_depth, ranges_by_depth};
-ghost use Rattle.pdb_inline.specs.InlineRanges.{own_range, own_ranges, range_before, procedure_inline_ranges};
+ghost use Rattle.pdb_inline.specs.InlineRanges.{own_range, own_ranges, procedure_inline_ranges};
 ghost use Rattle.pdb_inline.specs.Sites.{site_view};
 
 use crate::inline_rows::{counted_rows, row_end};
 use crate::missing_rows::ranges_added_to_sites;
 use crate::sites::{Site, procedure_sites};
 use pdb_records::{FileIndex, IdIndex, InlineRow, ModuleInfo, SymbolIndex};
+use pdb_tables::{Keyed, sort_by_key};
 use pdb_types::Result;
 use std::alloc::{AllocError, Global};
 use std::collections::BTreeSet;
@@ -31,6 +31,16 @@ pub struct InlineRange {
     pub file_index: Option<FileIndex>,
     /// The line that it comes from, where that is known.
     pub line_start: Option<u32>,
+}
+
+impl Keyed for InlineRange {
+    type Key = (usize, u64);
+
+    ghost key_of = { λ range. (range.call_depth, range.start_offset) };
+
+    fn key(&self) -> (usize, u64) {
+        (self.call_depth, self.start_offset)
+    }
 }
 
 // Adds the ranges of rows, which a site has.
@@ -72,13 +82,6 @@ fn own_ranges_of_sites(
     Ok(ranges)
 }
 
-// Puts ranges in order of their depths and starts. Those with one depth and start stay as they stood.
-fn sort(ranges: &mut Vec<InlineRange>) -> Result<(), AllocError>
-    ensures { OnOk result (ranges.new.items ≡ in_order range_before ranges.old.items) }
-{
-    ranges.sort_by_key(|range| (range.call_depth, range.start_offset))
-}
-
 // The ranges of sites as they are read: of their own rows, and then what is added for the rows of sites
 // inside them.
 fn read_ranges(
@@ -103,7 +106,7 @@ fn ranges_of_sites(
     ensures { IfOk result (λ v. v.items ≡ ranges_by_depth inlinees.now.keys (map site_view sites.now)) }
 {
     let mut ranges = read_ranges(alloc, inlinees, sites)?;
-    sort(&mut ranges)?;
+    sort_by_key(&mut ranges)?;
     Ok(ranges)
 }
 

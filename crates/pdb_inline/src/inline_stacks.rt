@@ -2,12 +2,13 @@
 
 ghost use Rattle.std.specs.Prelude.{◌≡◌, ◌==◌, ◌<◌, ◌≤◌, ℕ, length, Some, None, IfOk, OnOk, if◌then◌else◌};
 ghost use Rattle.std.specs.Option.{option_copied};
-ghost use Rattle.pdb_ranges.specs.Pick.{pick, later_start};
-ghost use Rattle.pdb_ranges.specs.RangeSet.{is_within};
+ghost use Rattle.pdb_tables.specs.Pick.{pick, later_start};
+ghost use Rattle.pdb_tables.specs.RangeSet.{is_within};
 ghost use Rattle.pdb_inline.specs.InlineStacks.{lies_over, inline_stack};
 ghost use Rattle.pdb_inline.specs.PickedSlots.{picked_at};
 
 use crate::inline_ranges::InlineRange;
+use pdb_tables::make_slot;
 use std::alloc::{AllocError, Global};
 
 // Of two ranges the one that starts later; of equal starts the first.
@@ -18,17 +19,6 @@ fn later<'r>(picked: Option<&'r InlineRange>, range: &'r InlineRange) -> &'r Inl
         Some(other) if other.start_offset >= range.start_offset => other,
         _ => range,
     }
-}
-
-// Makes a slot for what is picked at a depth.
-fn make_slot(picked: &mut Vec<Option<&InlineRange>>, depth: usize) -> Result<(), AllocError>
-    ensures unchanged { (other : ℕ) → picked_at picked.new.items other ≡ picked_at picked.old.items other }
-    ensures slot { OnOk result (depth < length picked.new.items) }
-{
-    while picked.len() <= depth {
-        picked.push(None)?;
-    }
-    Ok(())
 }
 
 // Picks a range at its depth, unless the one that is picked there starts as late.

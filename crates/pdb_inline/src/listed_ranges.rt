@@ -1,10 +1,10 @@
 //! Inline ranges with their positions in a list, in order of their starts.
 
-ghost use Rattle.std.specs.Prelude.{◌≡◌, reverse, IfOk, OnOk};
-ghost use Rattle.pdb_ranges.specs.InOrder.{in_order};
-ghost use Rattle.pdb_inline.specs.ListedRanges.{listed, starts_before, ranges_by_start};
+ghost use Rattle.std.specs.Prelude.{◌≡◌, reverse, IfOk};
+ghost use Rattle.pdb_inline.specs.ListedRanges.{listed, ranges_by_start};
 
 use crate::inline_ranges::InlineRange;
+use pdb_tables::{Keyed, sort_by_key};
 use std::alloc::{AllocError, Global};
 
 // A range of a list, and the position at which it stands there.
@@ -12,6 +12,16 @@ use std::alloc::{AllocError, Global};
 pub(crate) struct ListedRange {
     pub(crate) position: usize,
     pub(crate) range: InlineRange,
+}
+
+impl Keyed for ListedRange {
+    type Key = u64;
+
+    ghost key_of = { λ listed. listed.range.start_offset };
+
+    fn key(&self) -> u64 {
+        self.range.start_offset
+    }
 }
 
 // The ranges of a list with their positions.
@@ -25,13 +35,6 @@ fn listed(alloc: Global, ranges: &[InlineRange]) -> Result<Vec<ListedRange>, All
     Ok(all)
 }
 
-// Puts ranges in order of their starts. Those with one start stay as they stood.
-fn sort(ranges: &mut Vec<ListedRange>) -> Result<(), AllocError>
-    ensures { OnOk result (ranges.new.items ≡ in_order starts_before ranges.old.items) }
-{
-    ranges.sort_by_key(|listed| listed.range.start_offset)
-}
-
 // The ranges of a list with their positions, by their starts; of equal starts the last of the list stands first.
 pub(crate) fn ranges_by_start(
     alloc: Global,
@@ -41,6 +44,6 @@ pub(crate) fn ranges_by_start(
 {
     let mut all = listed(alloc, ranges)?;
     all.reverse();
-    sort(&mut all)?;
+    sort_by_key(&mut all)?;
     Ok(all)
 }

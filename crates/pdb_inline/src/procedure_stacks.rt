@@ -1,7 +1,7 @@
 //! The stacks of a procedure's inline ranges: from a table where that is small, else from the list.
 
 ghost use Rattle.std.specs.Prelude.{◌≡◌, ◌+◌, ◌*◌, ◌≤◌, map, length, slice_get, Some, IfOk, IfSome};
-ghost use Rattle.pdb_ranges.specs.Probes.{digits};
+ghost use Rattle.pdb_tables.specs.Probes.{digits};
 ghost use Rattle.pdb_inline.specs.InlineStacks.{inline_stack};
 ghost use Rattle.pdb_inline.specs.StackTable.{ranges_at};
 
@@ -9,7 +9,7 @@ use crate::inline_ranges::InlineRange;
 use crate::inline_stacks::inline_stack;
 use crate::range_bounds::sorted_bounds;
 use crate::stack_table::StackTable;
-use pdb_ranges::Probes;
+use pdb_tables::Probes;
 use std::alloc::{AllocError, Global};
 use std::marker::Model;
 

@@ -1,8 +1,8 @@
 //! Tables of the stacks of inlined bodies over each offset, found by a binary search.
 
 ghost use Rattle.std.specs.Prelude.{◌≡◌, ℕ, ◌+◌, ◌*◌, ◌≤◌, [], length, IfOk, OnOk, if◌then◌else◌};
-ghost use Rattle.pdb_ranges.specs.Probes.{digits};
-ghost use Rattle.pdb_ranges.specs.RangeSet.{is_within};
+ghost use Rattle.pdb_tables.specs.Probes.{digits};
+ghost use Rattle.pdb_tables.specs.RangeSet.{is_within};
 ghost use Rattle.pdb_inline.specs.DepthTables.{positions_in, inline_positions};
 ghost use Rattle.pdb_inline.specs.RangeBounds.{ChangesAt};
 ghost use Rattle.pdb_inline.specs.StackTable.{stack_over, HasStacks};
@@ -10,7 +10,7 @@ ghost use Rattle.pdb_inline.specs.StackTable.{stack_over, HasStacks};
 use crate::depth_tables::{depth_tables, push_positions};
 use crate::inline_ranges::InlineRange;
 use crate::range_bounds::sorted_bounds;
-use pdb_ranges::{Probes, Segments};
+use pdb_tables::{Probes, Segments};
 use std::alloc::{AllocError, Global};
 use std::marker::Model;
 
@@ -27,8 +27,8 @@ pub struct StackTable {
 // Clauses see a table as its segments, which show the positions over each number.
 impl Model for StackTable {
     ghost use Rattle.std.specs.Prelude.{ℕ, List, length};
-    ghost use Rattle.pdb_ranges.specs.declared.segment.Segment.{Segment};
-    ghost use Rattle.pdb_ranges.specs.Segments.{value_at};
+    ghost use Rattle.pdb_tables.specs.declared.segment.Segment.{Segment};
+    ghost use Rattle.pdb_tables.specs.Segments.{value_at};
     ghost use Rattle.pdb_inline.specs.StackTable.{with_stacks, LiesIn};
 
     ghost Value = { List (Segment (List ℕ)) };

@@ -3,8 +3,8 @@ use Rattle.std.proofs.Common.{◌≡◌, ℕ, zero, suc, ◌+◌, ◌≤◌, tru
 use Rattle.std.specs.List.{AllByRecursion}
 use Rattle.std.proofs.lemmas.Bool.Decides.{nat_tests}
 use Rattle.std.proofs.Math.Nat.{le-max_left, le-max_right}
-use Rattle.pdb_ranges.specs.Pick.{pick, IsPicked}
-use Rattle.pdb_ranges.proofs.PickLemmas.{pick_is_picked}
+use Rattle.pdb_tables.specs.Pick.{pick, IsPicked}
+use Rattle.pdb_tables.proofs.PickLemmas.{pick_is_picked}
 use Rattle.pdb_inline.specs.declared.inline_ranges.InlineRange.{InlineRange}
 use Rattle.pdb_inline.specs.InlineStacks.{lies_over, depths, with_outer, stack_from}
 use Rattle.pdb_laws.specs.Picks.{ArePickedByDepth}

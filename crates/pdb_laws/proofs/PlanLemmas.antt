@@ -62,271 +62,256 @@ IsGoodPlan Good (Seq p q) = IsGoodPlan Good p × IsGoodPlan Good q
 IsGoodPlan Good (Buffered p after_sigil after_other) = IsGoodPlan Good p
 IsGoodPlan Good (Catch p) = IsGoodPlan Good p
 
--- a text
-pub good_text : (Good : ErrorView → Type 0) → HasPrintErrors Good → (text : List ℕ) → IsGoodPlan Good (written text)
-good_text Good has text = λ failed e is. absurd (cc)
+-- where these errors are among some
+module _ (Good : ErrorView → Type 0) (has : HasPrintErrors Good) where
+  -- a text
+  pub good_text : (text : List ℕ) → IsGoodPlan Good (written text)
+  good_text text = λ failed e is. absurd (cc)
 
--- an error that is one of these
-good_error : (Good : ErrorView → Type 0) → HasPrintErrors Good → (error_view : ErrorView) → Good error_view
-    → IsGoodDocument Good (document.Fail (OfError error_view))
-good_error Good has error_view good = λ failed e is. let same : error_view ≡ e = cc in subst Good same good
+  -- an error that is one of these
+  good_error : (error_view : ErrorView) → Good error_view → IsGoodDocument Good (document.Fail (OfError error_view))
+  good_error error_view good = λ failed e is. let same : error_view ≡ e = cc in subst Good same good
 
--- a part of the records
-good_ask : (Good : ErrorView → Type 0) → HasPrintErrors Good → (part : Part) (error_view : ErrorView)
-    → Good error_view → IsGoodDocument Good (document.Ask part error_view)
-good_ask Good has part error_view good = λ failed e is. let same : part_error failed part error_view ≡ e = cc in
-    subst Good same (by_test (has_failed failed part)) where
-      before : (p : Part) → Good (unsuccessful p)
-      before (Imports module_index) = has.reading.imports_failed
-      before (Exports module_index) = has.reading.exports_failed
+  -- a part of the records
+  good_ask : (part : Part) (error_view : ErrorView)
+      → Good error_view → IsGoodDocument Good (document.Ask part error_view)
+  good_ask part error_view good = λ failed e is. let same : part_error failed part error_view ≡ e = cc in
+      subst Good same (by_test (has_failed failed part)) where
+        before : (p : Part) → Good (unsuccessful p)
+        before (Imports module_index) = has.reading.imports_failed
+        before (Exports module_index) = has.reading.exports_failed
 
-      by_test : (t : Bool) → Good (cond t (unsuccessful part) error_view)
-      by_test true = before part
-      by_test false = good
+        by_test : (t : Bool) → Good (cond t (unsuccessful part) error_view)
+        by_test true = before part
+        by_test false = good
 
--- why something can't be read
-good_refusal : (Good : ErrorView → Type 0) → HasPrintErrors Good → (read_error_view : ReadErrorView)
-    → IsGoodReadError Good read_error_view → IsGoodDocument Good (refusal read_error_view)
-good_refusal Good has (Missing index) good = λ failed e is. absurd (cc)
-good_refusal Good has (Unimplemented kind) good = good_error Good has (Plain (PdbError (UnimplementedTypeKind kind)))
-    (has.reading.of_records (UnimplementedTypeKind kind))
-good_refusal Good has (Refused e) good = good_error Good has e good
-good_refusal Good has (Broken part e) good = good_ask Good has part e good
+  -- why something can't be read
+  good_refusal : (read_error_view : ReadErrorView)
+      → IsGoodReadError Good read_error_view → IsGoodDocument Good (refusal read_error_view)
+  good_refusal (Missing index) good = λ failed e is. absurd (cc)
+  good_refusal (Unimplemented kind) good = good_error (Plain (PdbError (UnimplementedTypeKind kind)))
+      (has.reading.of_records (UnimplementedTypeKind kind))
+  good_refusal (Refused e) good = good_error e good
+  good_refusal (Broken part e) good = good_ask part e good
 
--- why what is printed where it stands can't be read
-pub good_note : (Good : ErrorView → Type 0) → HasPrintErrors Good → (read_error_view : ReadErrorView)
-    → IsGoodReadError Good read_error_view → IsGoodDocument Good (note_or_refusal read_error_view)
-good_note Good has (Missing index) good = λ failed e is. absurd (cc)
-good_note Good has (Unimplemented kind) good = λ failed e is. absurd (cc)
-good_note Good has (Refused e) good = good_error Good has e good
-good_note Good has (Broken part e) good = good_ask Good has part e good
+  -- why what is printed where it stands can't be read
+  pub good_note : (read_error_view : ReadErrorView)
+      → IsGoodReadError Good read_error_view → IsGoodDocument Good (note_or_refusal read_error_view)
+  good_note (Missing index) good = λ failed e is. absurd (cc)
+  good_note (Unimplemented kind) good = λ failed e is. absurd (cc)
+  good_note (Refused e) good = good_error e good
+  good_note (Broken part e) good = good_ask part e good
 
--- what follows what is needed
-pub good_on_read : {A : Type 0} (Good : ErrorView → Type 0) → HasPrintErrors Good
-    → (r : Result A ReadErrorView) (next : A → Plan) → IsGoodReading Good r
-    → ((answer : A) → IsGoodPlan Good (next answer)) → IsGoodPlan Good (on_read r next)
-good_on_read Good has (Ok answer) next reads plans = plans answer
-good_on_read Good has (Err read_error_view) next reads plans = good_refusal Good has read_error_view reads
+  -- what follows what is needed
+  pub good_on_read : {A : Type 0} (r : Result A ReadErrorView) (next : A → Plan) → IsGoodReading Good r
+      → ((answer : A) → IsGoodPlan Good (next answer)) → IsGoodPlan Good (on_read r next)
+  good_on_read (Ok answer) next reads plans = plans answer
+  good_on_read (Err read_error_view) next reads plans = good_refusal read_error_view reads
 
--- what follows what is printed where it stands
-pub good_on_printed : {A : Type 0} (Good : ErrorView → Type 0) → HasPrintErrors Good
-    → (r : Result A ReadErrorView) (next : A → Plan) → IsGoodReading Good r
-    → ((answer : A) → IsGoodPlan Good (next answer)) → IsGoodPlan Good (on_printed r next)
-good_on_printed Good has (Ok answer) next reads plans = plans answer
-good_on_printed Good has (Err read_error_view) next reads plans = good_note Good has read_error_view reads
+  -- what follows what is printed where it stands
+  pub good_on_printed : {A : Type 0} (r : Result A ReadErrorView) (next : A → Plan) → IsGoodReading Good r
+      → ((answer : A) → IsGoodPlan Good (next answer)) → IsGoodPlan Good (on_printed r next)
+  good_on_printed (Ok answer) next reads plans = plans answer
+  good_on_printed (Err read_error_view) next reads plans = good_note read_error_view reads
 
--- what a function returns
-pub good_returned : (Good : ErrorView → Type 0) → HasPrintErrors Good
-    → (inside : List ℕ) (index : Option TypeIndex) → IsGoodPlan Good (returned inside index)
-good_returned Good has inside None = good_text Good has []
-good_returned Good has inside (Some index) = (tt, good_text Good has (codes " "))
+  -- what a function returns
+  pub good_returned : (inside : List ℕ) (index : Option TypeIndex) → IsGoodPlan Good (returned inside index)
+  good_returned inside None = good_text []
+  good_returned inside (Some index) = (tt, good_text (codes " "))
 
--- further types
-good_further : (Good : ErrorView → Type 0) → HasPrintErrors Good → (separator inside : List ℕ) (list : List TypeIndex)
-    → IsGoodPlan Good (further_types separator inside list)
-good_further Good has separator inside [] = good_text Good has []
-good_further Good has separator inside (next ∷ rest) =
-    (good_text Good has separator, (tt, good_further Good has separator inside rest))
+  -- further types
+  good_further : (separator inside : List ℕ) (list : List TypeIndex)
+      → IsGoodPlan Good (further_types separator inside list)
+  good_further separator inside [] = good_text []
+  good_further separator inside (next ∷ rest) =
+      (good_text separator, (tt, good_further separator inside rest))
 
--- types between separators
-pub good_between : (Good : ErrorView → Type 0) → HasPrintErrors Good
-    → (separator inside : List ℕ) (list : List TypeIndex) → IsGoodPlan Good (types_between separator inside list)
-good_between Good has separator inside [] = good_text Good has []
-good_between Good has separator inside (next ∷ rest) = (tt, good_further Good has separator inside rest)
+  -- types between separators
+  pub good_between : (separator inside : List ℕ) (list : List TypeIndex) → IsGoodPlan Good (types_between separator inside list)
+  good_between separator inside [] = good_text []
+  good_between separator inside (next ∷ rest) = (tt, good_further separator inside rest)
 
--- a function's arguments
-pub good_arguments : (Good : ErrorView → Type 0) → HasPrintErrors Good
-    → (w : PrintInputs) (inside : List ℕ) (list : TypeIndex) → IsGoodPlan Good (function_arguments w inside list)
-good_arguments Good has w inside list = by_test (without_arguments w.flags) where
-  by_test : (t : Bool) → IsGoodPlan Good
-      (cond t (written []) (written (codes "(") ▸ Later inside (Index list.0) ▸ written (codes ")")))
-  by_test true = good_text Good has []
-  by_test false = (good_text Good has (codes "("), (tt, good_text Good has (codes ")")))
+  -- a function's arguments
+  pub good_arguments : (w : PrintInputs) (inside : List ℕ) (list : TypeIndex) → IsGoodPlan Good (function_arguments w inside list)
+  good_arguments w inside list = by_test (without_arguments w.flags) where
+    by_test : (t : Bool) → IsGoodPlan Good
+        (cond t (written []) (written (codes "(") ▸ Later inside (Index list.0) ▸ written (codes ")")))
+    by_test true = good_text []
+    by_test false = (good_text (codes "("), (tt, good_text (codes ")")))
 
--- the end of a chain of pointers
-good_chain_end : (Good : ErrorView → Type 0) → HasPrintErrors Good
-    → (w : PrintInputs) (attributes : List Attribute) (inside : List ℕ) (type : TypeData)
-    → IsGoodPlan Good (chain_end w attributes inside type)
-good_chain_end Good has w attributes inside (MemberFunction m) = (
-  good_returned Good has inside (unless_left_out m.is_constructor (Some m.return_type)),
-  (
-    good_text Good has (codes "("),
-    (tt, (good_text Good has (attributes_text w.flags Opening attributes), (good_text Good has (codes ")"), tt))),
-  ),
-)
-good_chain_end Good has w attributes inside (Procedure p) = (
-  good_returned Good has inside (unless_left_out p.is_constructor p.return_type),
-  (
-    good_text Good has (codes "("),
+  -- the end of a chain of pointers
+  good_chain_end : (w : PrintInputs) (attributes : List Attribute) (inside : List ℕ) (type : TypeData)
+      → IsGoodPlan Good (chain_end w attributes inside type)
+  good_chain_end w attributes inside (MemberFunction m) = (
+    good_returned inside (unless_left_out m.is_constructor (Some m.return_type)),
     (
-      good_text Good has (attributes_text w.flags Opening attributes),
-      (good_text Good has (codes ")("), (tt, good_text Good has (codes ")"))),
+      good_text (codes "("),
+      (tt, (good_text (attributes_text w.flags Opening attributes), (good_text (codes ")"), tt))),
     ),
-  ),
-)
-good_chain_end Good has w attributes inside other = tt
+  )
+  good_chain_end w attributes inside (Procedure p) = (
+    good_returned inside (unless_left_out p.is_constructor p.return_type),
+    (
+      good_text (codes "("),
+      (
+        good_text (attributes_text w.flags Opening attributes),
+        (good_text (codes ")("), (tt, good_text (codes ")"))),
+      ),
+    ),
+  )
+  good_chain_end w attributes inside other = tt
 
--- what follows a modifier in a chain of pointers
-pub good_behind_modifier : (Good : ErrorView → Type 0) → HasPrintErrors Good
-    → (w : PrintInputs) (attributes : List Attribute) (inside : List ℕ) (type : TypeData)
-    → IsGoodPlan Good (behind_modifier w attributes inside type)
-good_behind_modifier Good has w attributes inside (Pointer p) = tt
-good_behind_modifier Good has w attributes inside other = good_chain_end Good has w attributes inside other
+  -- what follows a modifier in a chain of pointers
+  pub good_behind_modifier : (w : PrintInputs) (attributes : List Attribute) (inside : List ℕ) (type : TypeData)
+      → IsGoodPlan Good (behind_modifier w attributes inside type)
+  good_behind_modifier w attributes inside (Pointer p) = tt
+  good_behind_modifier w attributes inside other = good_chain_end w attributes inside other
 
--- what follows a pointer in a chain of pointers
-pub good_behind_pointer : (Good : ErrorView → Type 0) → HasPrintErrors Good
-    → (w : PrintInputs) (attributes : List Attribute) (inside : List ℕ) (type : TypeData)
-    → IsGoodPlan Good (behind_pointer w attributes inside type)
-good_behind_pointer Good has w attributes inside (Pointer p) = tt
-good_behind_pointer Good has w attributes inside (Modifier m) = tt
-good_behind_pointer Good has w attributes inside other = good_chain_end Good has w attributes inside other
+  -- what follows a pointer in a chain of pointers
+  pub good_behind_pointer : (w : PrintInputs) (attributes : List Attribute) (inside : List ℕ) (type : TypeData)
+      → IsGoodPlan Good (behind_pointer w attributes inside type)
+  good_behind_pointer w attributes inside (Pointer p) = tt
+  good_behind_pointer w attributes inside (Modifier m) = tt
+  good_behind_pointer w attributes inside other = good_chain_end w attributes inside other
 
--- an element of an array
-pub good_element : (Good : ErrorView → Type 0) → HasPrintErrors Good
-    → (w : PrintInputs) (inside elements levels : List ℕ) (index : ℕ) (type : TypeData)
-    → IsGoodPlan Good (element w inside elements levels index type)
-good_element Good has w inside elements levels index (Array a) = tt
-good_element Good has w inside elements levels index other =
-    by_met (w.size index).met (Later inside (OfType other) ▸ written (dimensions_text levels (w.size index).size))
-    (tt, good_text Good has []) where
-      by_met : (met : Option Part) (p : Plan) → IsGoodPlan Good p → IsGoodPlan Good (met_before met p)
-      by_met None p plan = plan
-      by_met (Some part) p plan = ((λ failed e is. absurd (cc)), plan)
+  -- an element of an array
+  pub good_element : (w : PrintInputs) (inside elements levels : List ℕ) (index : ℕ) (type : TypeData)
+      → IsGoodPlan Good (element w inside elements levels index type)
+  good_element w inside elements levels index (Array a) = tt
+  good_element w inside elements levels index other =
+      by_met (w.size index).met (Later inside (OfType other) ▸ written (dimensions_text levels (w.size index).size))
+      (tt, good_text []) where
+        by_met : (met : Option Part) (p : Plan) → IsGoodPlan Good p → IsGoodPlan Good (met_before met p)
+        by_met None p plan = plan
+        by_met (Some part) p plan = ((λ failed e is. absurd (cc)), plan)
 
--- the target of a modifier
-pub good_modified : (Good : ErrorView → Type 0) → HasPrintErrors Good
-    → (w : PrintInputs) (constant : Bool) (inside : List ℕ) (type : TypeData)
-    → IsGoodPlan Good (modified w constant inside type)
-good_modified Good has w constant inside (Pointer p) = tt
-good_modified Good has w constant inside (Primitive p) = good_text Good has []
-good_modified Good has w constant inside other = (good_text Good has [], tt)
+  -- the target of a modifier
+  pub good_modified : (w : PrintInputs) (constant : Bool) (inside : List ℕ) (type : TypeData)
+      → IsGoodPlan Good (modified w constant inside type)
+  good_modified w constant inside (Pointer p) = tt
+  good_modified w constant inside (Primitive p) = good_text []
+  good_modified w constant inside other = (good_text [], tt)
 
--- a type, by its kind
-pub good_kind : (Good : ErrorView → Type 0) → HasPrintErrors Good
-    → (w : PrintInputs) (inside : List ℕ) (type : TypeData)
-    → IsGoodPlan Good (by_kind w inside type)
-good_kind Good has w inside (Primitive p) = good_text Good has []
-good_kind Good has w inside (Class c) = good_text Good has []
-good_kind Good has w inside (Union u) = good_text Good has []
-good_kind Good has w inside (Enumeration e) = good_text Good has []
-good_kind Good has w inside (Enumerate e) = good_text Good has []
-good_kind Good has w inside (MemberFunction m) = (
-  good_returned Good has inside
-      (unless_left_out (m.is_constructor || without_return_type w.flags) (Some m.return_type)),
-  (good_text Good has (codes "()"), tt),
-)
-good_kind Good has w inside (Procedure p) = (
-  good_returned Good has inside (unless_left_out (p.is_constructor || without_return_type w.flags) p.return_type),
-  (good_text Good has (codes "()("), tt),
-)
-good_kind Good has w inside (ArgumentList list) = good_between Good has (comma w.flags) inside list
-good_kind Good has w inside (Pointer p) = tt
-good_kind Good has w inside (Array a) = tt
-good_kind Good has w inside (Modifier m) = tt
-good_kind Good has w inside (Other kind) = good_text Good has []
-
--- what a method's `this` shows
-good_this : (Good : ErrorView → Type 0) → HasPrintErrors Good → (w : PrintInputs) → AreGoodPrintInputs Good w
-    → (class : TypeIndex) (this : Option TypeIndex) → IsGoodReading Good (this_of w class this)
-good_this Good has w reads class None = tt
-good_this Good has w reads class (Some this) = reads_then Good (w.read this.0) (this_by_type w class this)
-    (reads.types this.0) by_type where
-      by_target : (p : TypeIndex) (t : Bool)
-          → IsGoodReading Good (cond t (Ok (plain_this false))
-          (and_then (w.read p.0) (λ target. Ok (this_by_target class this target))))
-      by_target p true = tt
-      by_target p false = reads_then Good (w.read p.0) (λ target. Ok (this_by_target class this target))
-          (reads.types p.0)
-          (λ target. tt)
-
-      by_type : (type : TypeData) → IsGoodReading Good (this_by_type w class this type)
-      by_type (Pointer p) = by_target p.underlying_type (p.underlying_type.0 == class.0)
-      by_type other = tt
-
--- a method's list of arguments
-pub good_on_list : (Good : ErrorView → Type 0) → HasPrintErrors Good → (w : PrintInputs) → AreGoodPrintInputs Good w
-    → (m : MemberFunctionType) (form : MethodForm) (inside : List ℕ) (type : TypeData)
-    → IsGoodPlan Good (on_list w m form inside type)
-good_on_list Good has w reads m form inside (ArgumentList list) =
-    good_on_read Good has (this_of w m.class_type m.this_pointer_type) (method_list w inside form list)
-    (good_this Good has w reads m.class_type m.this_pointer_type)
-    (λ this. (
-      good_text Good has (codes "("),
-      (good_between Good has (comma w.flags) inside (arguments_behind this.argument list), good_text Good has []),
-    ))
-good_on_list Good has w reads m form inside other =
-    good_error Good has (Plain ArgumentTypeNotArgumentList) has.no_list
-
--- the scope of a function
-good_scope : (Good : ErrorView → Type 0) → HasPrintErrors Good → (met inside : List ℕ) (index : Option IdIndex)
-    → IsGoodPlan Good (scope met inside index)
-good_scope Good has met inside None = good_text Good has []
-good_scope Good has met inside (Some index) = (tt, good_text Good has (codes "::"))
-
--- a function of a class
-good_method_id : (Good : ErrorView → Type 0) → HasPrintErrors Good
-    → (w : PrintInputs) (method : MemberFunctionId) (inside : List ℕ) (type : TypeData)
-    → IsGoodPlan Good (method_id w method inside type)
-good_method_id Good has w method inside (MemberFunction m) = (
-  good_text Good has [],
-  (
-    good_returned Good has inside
+  -- a type, by its kind
+  pub good_kind : (w : PrintInputs) (inside : List ℕ) (type : TypeData) → IsGoodPlan Good (by_kind w inside type)
+  good_kind w inside (Primitive p) = good_text []
+  good_kind w inside (Class c) = good_text []
+  good_kind w inside (Union u) = good_text []
+  good_kind w inside (Enumeration e) = good_text []
+  good_kind w inside (Enumerate e) = good_text []
+  good_kind w inside (MemberFunction m) = (
+    good_returned inside
         (unless_left_out (m.is_constructor || without_return_type w.flags) (Some m.return_type)),
-    (tt, (good_text Good has (codes "::"), (good_text Good has [], tt))),
-  ),
-)
-good_method_id Good has w method inside other =
-    good_error Good has (Plain MemberFunctionIdIsNotMemberFunctionType) has.no_method
+    (good_text (codes "()"), tt),
+  )
+  good_kind w inside (Procedure p) = (
+    good_returned inside (unless_left_out (p.is_constructor || without_return_type w.flags) p.return_type),
+    (good_text (codes "()("), tt),
+  )
+  good_kind w inside (ArgumentList list) = good_between (comma w.flags) inside list
+  good_kind w inside (Pointer p) = tt
+  good_kind w inside (Array a) = tt
+  good_kind w inside (Modifier m) = tt
+  good_kind w inside (Other kind) = good_text []
 
--- a function of no class
-good_function_id : (Good : ErrorView → Type 0) → HasPrintErrors Good
-    → (w : PrintInputs) (met : List ℕ) (function : FunctionId) (inside : List ℕ) (type : TypeData)
-    → IsGoodPlan Good (function_id w met function inside type)
-good_function_id Good has w met function inside (Procedure p) = (
-  good_returned Good has inside (unless_left_out (p.is_constructor || without_return_type w.flags) p.return_type),
-  (
-    good_scope Good has met inside function.scope,
-    (good_text Good has [], good_arguments Good has w inside p.argument_list),
-  ),
-)
-good_function_id Good has w met function inside other =
-    good_error Good has (Plain FunctionIdIsNotProcedureType) has.no_procedure
+  -- what a method's `this` shows
+  good_this : (w : PrintInputs) → AreGoodPrintInputs Good w
+      → (class : TypeIndex) (this : Option TypeIndex) → IsGoodReading Good (this_of w class this)
+  good_this w reads class None = tt
+  good_this w reads class (Some this) = reads_then Good (w.read this.0) (this_by_type w class this)
+      (reads.types this.0) by_type where
+        by_target : (p : TypeIndex) (t : Bool) → IsGoodReading Good (cond t (Ok (plain_this false))
+            (and_then (w.read p.0) (λ target. Ok (this_by_target class this target))))
+        by_target p true = tt
+        by_target p false = reads_then Good (w.read p.0) (λ target. Ok (this_by_target class this target))
+            (reads.types p.0)
+            (λ target. tt)
 
--- an id, by its kind
-pub good_id : (Good : ErrorView → Type 0) → HasPrintErrors Good → (w : PrintInputs) → AreGoodPrintInputs Good w
-    → (met : List ℕ) (content : IdData) → IsGoodPlan Good (id_by_kind w met content)
-good_id Good has w reads met (id.MemberFunction method) =
-    good_on_read Good has (w.read method.function_type.0) (method_id w method (method.function_type.0 ∷ []))
-    (reads.types method.function_type.0) (good_method_id Good has w method (method.function_type.0 ∷ []))
-good_id Good has w reads met (id.Function function) = good_on_read Good has (w.read function.function_type.0)
-    (function_id w met function (function.function_type.0 ∷ [])) (reads.types function.function_type.0)
-    (good_function_id Good has w met function (function.function_type.0 ∷ []))
-good_id Good has w reads met (id.String string) = good_text Good has []
-good_id Good has w reads met (id.StringList substrings) =
-    (good_text Good has [], (good_between Good has (codes "\" \"") [] substrings, good_text Good has []))
-good_id Good has w reads met (id.Other kind) = good_text Good has []
+        by_type : (type : TypeData) → IsGoodReading Good (this_by_type w class this type)
+        by_type (Pointer p) = by_target p.underlying_type (p.underlying_type.0 == class.0)
+        by_type other = tt
 
--- the signature of a function
-pub good_signature : (Good : ErrorView → Type 0) → HasPrintErrors Good → (w : PrintInputs) → AreGoodPrintInputs Good w
-    → (name : List ℕ) (index : ℕ) → IsGoodPlan Good (signature w name index)
-good_signature Good has w reads name index = by_test (index == 0) where
-  by_type : (inside : List ℕ) (type : TypeData) → IsGoodPlan Good (signature_by_type w name inside type)
-  by_type inside (MemberFunction m) = (
-    good_text Good has [],
+  -- a method's list of arguments
+  pub good_on_list : (w : PrintInputs) → AreGoodPrintInputs Good w
+      → (m : MemberFunctionType) (form : MethodForm) (inside : List ℕ) (type : TypeData)
+      → IsGoodPlan Good (on_list w m form inside type)
+  good_on_list w reads m form inside (ArgumentList list) =
+      good_on_read (this_of w m.class_type m.this_pointer_type) (method_list w inside form list)
+      (good_this w reads m.class_type m.this_pointer_type)
+      (λ this. (
+        good_text (codes "("),
+        (good_between (comma w.flags) inside (arguments_behind this.argument list), good_text []),
+      ))
+  good_on_list w reads m form inside other =
+      good_error (Plain ArgumentTypeNotArgumentList) has.no_list
+
+  -- the scope of a function
+  good_scope : (met inside : List ℕ) (index : Option IdIndex) → IsGoodPlan Good (scope met inside index)
+  good_scope met inside None = good_text []
+  good_scope met inside (Some index) = (tt, good_text (codes "::"))
+
+  -- a function of a class
+  good_method_id : (w : PrintInputs) (method : MemberFunctionId) (inside : List ℕ) (type : TypeData)
+      → IsGoodPlan Good (method_id w method inside type)
+  good_method_id w method inside (MemberFunction m) = (
+    good_text [],
     (
-      good_returned Good has inside
+      good_returned inside
           (unless_left_out (m.is_constructor || without_return_type w.flags) (Some m.return_type)),
-      (good_text Good has [], tt),
+      (tt, (good_text (codes "::"), (good_text [], tt))),
     ),
   )
-  by_type inside (Procedure p) = (
-    good_returned Good has inside (unless_left_out (p.is_constructor || without_return_type w.flags) p.return_type),
-    (good_text Good has [], good_arguments Good has w inside p.argument_list),
-  )
-  by_type inside other = good_text Good has name
+  good_method_id w method inside other =
+      good_error (Plain MemberFunctionIdIsNotMemberFunctionType) has.no_method
 
-  by_test : (t : Bool) → IsGoodPlan Good
-      (cond t (written (function_name name)) (on_read (w.read index) (signature_by_type w name (index ∷ []))))
-  by_test true = good_text Good has []
-  by_test false = good_on_read Good has (w.read index) (signature_by_type w name (index ∷ [])) (reads.types index)
-      (by_type (index ∷ []))
+  -- a function of no class
+  good_function_id : (w : PrintInputs) (met : List ℕ) (function : FunctionId) (inside : List ℕ) (type : TypeData)
+      → IsGoodPlan Good (function_id w met function inside type)
+  good_function_id w met function inside (Procedure p) = (
+    good_returned inside (unless_left_out (p.is_constructor || without_return_type w.flags) p.return_type),
+    (
+      good_scope met inside function.scope,
+      (good_text [], good_arguments w inside p.argument_list),
+    ),
+  )
+  good_function_id w met function inside other =
+      good_error (Plain FunctionIdIsNotProcedureType) has.no_procedure
+
+  -- an id, by its kind
+  pub good_id : (w : PrintInputs) → AreGoodPrintInputs Good w
+      → (met : List ℕ) (content : IdData) → IsGoodPlan Good (id_by_kind w met content)
+  good_id w reads met (id.MemberFunction method) =
+      good_on_read (w.read method.function_type.0) (method_id w method (method.function_type.0 ∷ []))
+      (reads.types method.function_type.0) (good_method_id w method (method.function_type.0 ∷ []))
+  good_id w reads met (id.Function function) = good_on_read (w.read function.function_type.0)
+      (function_id w met function (function.function_type.0 ∷ [])) (reads.types function.function_type.0)
+      (good_function_id w met function (function.function_type.0 ∷ []))
+  good_id w reads met (id.String string) = good_text []
+  good_id w reads met (id.StringList substrings) =
+      (good_text [], (good_between (codes "\" \"") [] substrings, good_text []))
+  good_id w reads met (id.Other kind) = good_text []
+
+  -- the signature of a function
+  pub good_signature : (w : PrintInputs) → AreGoodPrintInputs Good w
+      → (name : List ℕ) (index : ℕ) → IsGoodPlan Good (signature w name index)
+  good_signature w reads name index = by_test (index == 0) where
+    by_type : (inside : List ℕ) (type : TypeData) → IsGoodPlan Good (signature_by_type w name inside type)
+    by_type inside (MemberFunction m) = (
+      good_text [],
+      (
+        good_returned inside
+            (unless_left_out (m.is_constructor || without_return_type w.flags) (Some m.return_type)),
+        (good_text [], tt),
+      ),
+    )
+    by_type inside (Procedure p) = (
+      good_returned inside (unless_left_out (p.is_constructor || without_return_type w.flags) p.return_type),
+      (good_text [], good_arguments w inside p.argument_list),
+    )
+    by_type inside other = good_text name
+
+    by_test : (t : Bool) → IsGoodPlan Good
+        (cond t (written (function_name name)) (on_read (w.read index) (signature_by_type w name (index ∷ []))))
+    by_test true = good_text []
+    by_test false = good_on_read (w.read index) (signature_by_type w name (index ∷ [])) (reads.types index)
+        (by_type (index ∷ []))

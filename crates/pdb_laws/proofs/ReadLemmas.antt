@@ -74,144 +74,137 @@ pub reads_then : {A B : Type 0} (Good : ErrorView → Type 0) (r : Result A Read
 reads_then Good (Ok answer) next first second = second answer
 reads_then Good (Err read_error_view) next first second = first
 
--- an error of the records
-good_record : (Good : ErrorView → Type 0) → HasReadErrors Good → (e : records.Error)
-    → IsGoodReadError Good (read_error_view_by e)
-good_record Good has (Stream fault) = has.of_records (Stream fault)
-good_record Good has (TypeNotFound index) = tt
-good_record Good has (UnimplementedTypeKind kind) = tt
-good_record Good has (CrossModuleRefNotFound index) = has.of_records (CrossModuleRefNotFound index)
-good_record Good has (StringNotFound reference) = has.of_records (StringNotFound reference)
+-- where these errors are among some
+module _ (Good : ErrorView → Type 0) (has : HasReadErrors Good) where
+  -- an error of the records
+  good_record : (e : records.Error) → IsGoodReadError Good (read_error_view_by e)
+  good_record (Stream fault) = has.of_records (Stream fault)
+  good_record (TypeNotFound index) = tt
+  good_record (UnimplementedTypeKind kind) = tt
+  good_record (CrossModuleRefNotFound index) = has.of_records (CrossModuleRefNotFound index)
+  good_record (StringNotFound reference) = has.of_records (StringNotFound reference)
 
--- what an entry says
-good_said : {I D : Type 0} (Good : ErrorView → Type 0) → HasReadErrors Good
-    → (fault : Option StreamError) (number : ℕ) (item : Option (Item I D)) → IsGoodReading Good (said fault number item)
-good_said Good has None number None = good_record Good has (TypeNotFound number)
-good_said Good has (Some fault) number None = good_record Good has (Stream fault)
-good_said {D = D} Good has fault number (Some item) = by_content item.content where
-  by_content : (content : Result D records.Error) → IsGoodReading Good (answered content)
-  by_content (Ok answer) = tt
-  by_content (Err e) = good_record Good has e
+  -- what an entry says
+  good_said : {I D : Type 0} (fault : Option StreamError) (number : ℕ) (item : Option (Item I D)) → IsGoodReading Good (said fault number item)
+  good_said None number None = good_record (TypeNotFound number)
+  good_said (Some fault) number None = good_record (Stream fault)
+  good_said {D = D} fault number (Some item) = by_content item.content where
+    by_content : (content : Result D records.Error) → IsGoodReading Good (answered content)
+    by_content (Ok answer) = tt
+    by_content (Err e) = good_record e
 
--- an answer is refused for nothing but these errors
-abbrev IsGoodAnswer : {A : Type 0} → (ErrorView → Type 0) → Result A Error → Type 0
-IsGoodAnswer Good (Ok answer) = ⊤
-IsGoodAnswer Good (Err e) = Good (Plain e)
+  -- an answer is refused for nothing but these errors
+  abbrev IsGoodAnswer : {A : Type 0} → (ErrorView → Type 0) → Result A Error → Type 0
+  IsGoodAnswer Good (Ok answer) = ⊤
+  IsGoodAnswer Good (Err e) = Good (Plain e)
 
--- the records of a module
-good_info : (Good : ErrorView → Type 0) → HasReadErrors Good → (w : LinkInputs) (module_index : ℕ)
-    → IsGoodAnswer Good (module_info w module_index)
-good_info Good has w module_index = by_module (slice_get w.modules module_index) where
-  by_answer : (answer : Result (Option ModuleInfo) StreamError) → IsGoodAnswer Good (provided_info module_index answer)
-  by_answer (Ok (Some info)) = tt
-  by_answer (Ok None) = has.no_info module_index
-  by_answer (Err fault) = has.of_records (Stream fault)
+  -- the records of a module
+  good_info : (w : LinkInputs) (module_index : ℕ) → IsGoodAnswer Good (module_info w module_index)
+  good_info w module_index = by_module (slice_get w.modules module_index) where
+    by_answer : (answer : Result (Option ModuleInfo) StreamError) → IsGoodAnswer Good (provided_info module_index answer)
+    by_answer (Ok (Some info)) = tt
+    by_answer (Ok None) = has.no_info module_index
+    by_answer (Err fault) = has.of_records (Stream fault)
 
-  by_module : (m : Option Module) → IsGoodAnswer Good (info_of w module_index m)
-  by_module None = has.past_list module_index
-  by_module (Some m) = by_answer (w.info module_index m)
+    by_module : (m : Option Module) → IsGoodAnswer Good (info_of w module_index m)
+    by_module None = has.past_list module_index
+    by_module (Some m) = by_answer (w.info module_index m)
 
--- a stream of them
-good_stream : {A : Type 0} (Good : ErrorView → Type 0) → HasReadErrors Good
-    → (w : LinkInputs) (module_index : ℕ) (stream : ModuleInfo → Result A StreamError)
-    → IsGoodAnswer Good (and_then (module_info w module_index) (λ info. streamed (stream info)))
-good_stream {A = A} Good has w module_index stream =
-    by_info (module_info w module_index) (good_info Good has w module_index) where
-      by_stream : (content : Result A StreamError) → IsGoodAnswer Good (streamed content)
-      by_stream (Ok content) = tt
-      by_stream (Err fault) = has.of_records (Stream fault)
+  -- a stream of them
+  good_stream : {A : Type 0} (w : LinkInputs) (module_index : ℕ) (stream : ModuleInfo → Result A StreamError)
+      → IsGoodAnswer Good (and_then (module_info w module_index) (λ info. streamed (stream info)))
+  good_stream {A = A} w module_index stream =
+      by_info (module_info w module_index) (good_info w module_index) where
+        by_stream : (content : Result A StreamError) → IsGoodAnswer Good (streamed content)
+        by_stream (Ok content) = tt
+        by_stream (Err fault) = has.of_records (Stream fault)
 
-      by_info : (info : Result ModuleInfo Error) → IsGoodAnswer Good info
-          → IsGoodAnswer Good (and_then info (λ info. streamed (stream info)))
-      by_info (Ok info) good = by_stream (stream info)
-      by_info (Err e) good = good
+        by_info : (info : Result ModuleInfo Error) → IsGoodAnswer Good info
+            → IsGoodAnswer Good (and_then info (λ info. streamed (stream info)))
+        by_info (Ok info) good = by_stream (stream info)
+        by_info (Err e) good = good
 
--- a part of the records
-good_part : {A : Type 0} (Good : ErrorView → Type 0) → HasReadErrors Good → (part : Part) (content : Result A Error)
-    → IsGoodAnswer Good content → IsGoodReading Good (unbroken part content)
-good_part Good has part (Ok content) good = tt
-good_part Good has part (Err e) good = good
+  -- a part of the records
+  good_part : {A : Type 0} (part : Part) (content : Result A Error)
+      → IsGoodAnswer Good content → IsGoodReading Good (unbroken part content)
+  good_part part (Ok content) good = tt
+  good_part part (Err e) good = good
 
--- the index that a module exports
-good_export : (Good : ErrorView → Type 0) → HasReadErrors Good → (w : LinkInputs) (local module_index : ℕ)
-    → IsGoodReading Good (export_of w local module_index)
-good_export Good has w local module_index =
-    reads_then Good (unbroken (Exports module_index) (exports w module_index))
-    (λ list. found_export local (exported local list))
-    (good_part Good has (Exports module_index) (exports w module_index)
-    (good_stream Good has w module_index (λ info. info.exports)))
-    (λ list. by_export (exported local list))
-  where
-    by_export : (found : Option ℕ) → IsGoodReading Good (found_export local found)
-    by_export None = has.no_export local
-    by_export (Some index) = tt
+  -- the index that a module exports
+  good_export : (w : LinkInputs) (local module_index : ℕ) → IsGoodReading Good (export_of w local module_index)
+  good_export w local module_index =
+      reads_then Good (unbroken (Exports module_index) (exports w module_index))
+      (λ list. found_export local (exported local list))
+      (good_part (Exports module_index) (exports w module_index)
+      (good_stream w module_index (λ info. info.exports)))
+      (λ list. by_export (exported local list))
+    where
+      by_export : (found : Option ℕ) → IsGoodReading Good (found_export local found)
+      by_export None = has.no_export local
+      by_export (Some index) = tt
 
--- the index that an import leads to
-good_target : (Good : ErrorView → Type 0) → HasReadErrors Good
-    → (w : LinkInputs) (strings : List (StringRef × List ℕ)) (reference : StringRef) (local : ℕ)
-    → IsGoodReading Good (import_target w strings (reference, local))
-good_target Good has w strings reference local =
-    reads_then Good (module_under w.modules strings reference) (λ module_index. export_of w local module_index)
-    (reads_then Good (found_text reference (string_at reference strings)) (λ name. module_named w.modules name)
-    (by_text (string_at reference strings)) (λ name. by_position name (last_position_from 0 (is_named name) w.modules)))
-    (λ module_index. good_export Good has w local module_index)
-  where
-    by_text : (text : Option (List ℕ)) → IsGoodReading Good (found_text reference text)
-    by_text None = good_record Good has (StringNotFound reference.0)
-    by_text (Some text) = tt
+  -- the index that an import leads to
+  good_target : (w : LinkInputs) (strings : List (StringRef × List ℕ)) (reference : StringRef) (local : ℕ)
+      → IsGoodReading Good (import_target w strings (reference, local))
+  good_target w strings reference local =
+      reads_then Good (module_under w.modules strings reference) (λ module_index. export_of w local module_index)
+      (reads_then Good (found_text reference (string_at reference strings)) (λ name. module_named w.modules name)
+      (by_text (string_at reference strings)) (λ name. by_position name (last_position_from 0 (is_named name) w.modules)))
+      (λ module_index. good_export w local module_index)
+    where
+      by_text : (text : Option (List ℕ)) → IsGoodReading Good (found_text reference text)
+      by_text None = good_record (StringNotFound reference.0)
+      by_text (Some text) = tt
 
-    by_position : (name : List ℕ) (found : Option ℕ) → IsGoodReading Good (found_module name found)
-    by_position name None = has.no_module (str_to_ascii_lowercase (lossy name))
-    by_position name (Some module_index) = tt
+      by_position : (name : List ℕ) (found : Option ℕ) → IsGoodReading Good (found_module name found)
+      by_position name None = has.no_module (str_to_ascii_lowercase (lossy name))
+      by_position name (Some module_index) = tt
 
--- an index across modules
-good_across : (Good : ErrorView → Type 0) → HasReadErrors Good → (w : LinkInputs) (module_index index : ℕ)
-    → IsGoodReading Good (across w module_index index)
-good_across Good has w module_index index =
-    reads_then Good (texts w.strings) _ (by_texts w.strings) (λ strings.
-    reads_then Good (unbroken (Imports module_index) (imports w module_index)) _
-    (good_part Good has (Imports module_index) (imports w module_index)
-    (good_stream Good has w module_index (λ info. info.imports))) (λ list.
-    reads_then Good (answered (imported list index)) _ (by_import (imported list index))
-    (λ target. good_target Good has w strings target.0 target.1)))
-  where
-    by_texts : (strings : Option (List (StringRef × List ℕ))) → IsGoodReading Good (texts strings)
-    by_texts None = has.no_texts
-    by_texts (Some strings) = tt
+  -- an index across modules
+  good_across : (w : LinkInputs) (module_index index : ℕ) → IsGoodReading Good (across w module_index index)
+  good_across w module_index index =
+      reads_then Good (texts w.strings) _ (by_texts w.strings) (λ strings.
+      reads_then Good (unbroken (Imports module_index) (imports w module_index)) _
+      (good_part (Imports module_index) (imports w module_index)
+      (good_stream w module_index (λ info. info.imports))) (λ list.
+      reads_then Good (answered (imported list index)) _ (by_import (imported list index))
+      (λ target. good_target w strings target.0 target.1)))
+    where
+      by_texts : (strings : Option (List (StringRef × List ℕ))) → IsGoodReading Good (texts strings)
+      by_texts None = has.no_texts
+      by_texts (Some strings) = tt
 
-    by_import : (target : Result (StringRef × ℕ) records.Error) → IsGoodReading Good (answered target)
-    by_import (Ok target) = tt
-    by_import (Err e) = good_record Good has e
+      by_import : (target : Result (StringRef × ℕ) records.Error) → IsGoodReading Good (answered target)
+      by_import (Ok target) = tt
+      by_import (Err e) = good_record e
 
--- an index that is resolved, and its entry
-good_reading : {I D : Type 0} (Good : ErrorView → Type 0) → HasReadErrors Good
-    → (number_of : I → ℕ) (w : LinkInputs) (list : Read (Item I D)) (module_index index : ℕ)
-    → IsGoodReading Good (reading number_of w list module_index index)
-good_reading {D = D} Good has number_of w list module_index index = by_size (nat_lt index (2 ^ 32)) where
-  by_width : (t : Bool) → IsGoodReading Good (cond t (Ok index) (across w module_index index))
-  by_width true = tt
-  by_width false = good_across Good has w module_index index
+  -- an index that is resolved, and its entry
+  good_reading : {I D : Type 0} (number_of : I → ℕ) (w : LinkInputs) (list : Read (Item I D)) (module_index index : ℕ)
+      → IsGoodReading Good (reading number_of w list module_index index)
+  good_reading {D = D} number_of w list module_index index = by_size (nat_lt index (2 ^ 32)) where
+    by_width : (t : Bool) → IsGoodReading Good (cond t (Ok index) (across w module_index index))
+    by_width true = tt
+    by_width false = good_across w module_index index
 
-  next : ℕ → Result (ℕ × D) ReadErrorView
-  next number = and_then (entry number_of list number) (λ content. Ok (number, content))
+    next : ℕ → Result (ℕ × D) ReadErrorView
+    next number = and_then (entry number_of list number) (λ content. Ok (number, content))
 
-  by_size : (t : Bool) → IsGoodReading Good
-      (cond t (and_then (resolved w module_index index) next) (Err (Missing index)))
-  by_size true =
-      reads_then Good (resolved w module_index index) next (by_width (nat_lt index (2 ^ 31))) (λ number.
-      reads_then Good (entry number_of list number) (λ content. Ok (number, content))
-      (good_said Good has list.fault number (first_item number_of number list.items)) (λ content. tt))
-  by_size false = tt
+    by_size : (t : Bool) → IsGoodReading Good
+        (cond t (and_then (resolved w module_index index) next) (Err (Missing index)))
+    by_size true =
+        reads_then Good (resolved w module_index index) next (by_width (nat_lt index (2 ^ 31))) (λ number.
+        reads_then Good (entry number_of list number) (λ content. Ok (number, content))
+        (good_said list.fault number (first_item number_of number list.items)) (λ content. tt))
+    by_size false = tt
 
--- all print inputs are refused for nothing but errors of reading
-pub print_inputs_are_good : (Good : ErrorView → Type 0) → HasReadErrors Good
-    → (link_inputs : LinkInputs) (types : Read (Item TypeIndex TypeData)) (ids : Read (Item IdIndex IdData))
-    (pointer : ℕ) (flags : TypeFormatterFlags) (module_index : ℕ)
-    → AreGoodPrintInputs Good (print_inputs_of link_inputs types ids pointer flags module_index)
-unfolding type_at id_at
-print_inputs_are_good Good has link_inputs types ids pointer flags module_index = record {
-  types = λ index. reads_then Good (read_type link_inputs types module_index index) (λ read. Ok read.1)
-      (good_reading Good has (λ i. i.0) link_inputs types module_index index) (λ read. tt);
-  ids = λ index. reads_then Good (reading (λ i. i.0) link_inputs ids module_index index) (λ read. Ok read.1)
-      (good_reading Good has (λ i. i.0) link_inputs ids module_index index) (λ read. tt);
-}
+  -- all print inputs are refused for nothing but errors of reading
+  pub print_inputs_are_good : (link_inputs : LinkInputs) (types : Read (Item TypeIndex TypeData)) (ids : Read (Item IdIndex IdData))
+      (pointer : ℕ) (flags : TypeFormatterFlags) (module_index : ℕ)
+      → AreGoodPrintInputs Good (print_inputs_of link_inputs types ids pointer flags module_index)
+  unfolding type_at id_at
+  print_inputs_are_good link_inputs types ids pointer flags module_index = record {
+    types = λ index. reads_then Good (read_type link_inputs types module_index index) (λ read. Ok read.1)
+        (good_reading (λ i. i.0) link_inputs types module_index index) (λ read. tt);
+    ids = λ index. reads_then Good (reading (λ i. i.0) link_inputs ids module_index index) (λ read. Ok read.1)
+        (good_reading (λ i. i.0) link_inputs ids module_index index) (λ read. tt);
+  }

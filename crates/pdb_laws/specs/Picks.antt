@@ -1,6 +1,6 @@
 -- What is picked at each depth.
 use Rattle.std.specs.Prelude.{ℕ, ◌+◌, List, [], ◌∷◌, None}
-use Rattle.pdb_ranges.specs.Pick.{IsPick, IsPicked}
+use Rattle.pdb_tables.specs.Pick.{IsPick, IsPicked}
 use Rattle.pdb_inline.specs.declared.inline_ranges.InlineRange.{InlineRange}
 use Rattle.pdb_inline.specs.InlineStacks.{lies_over}
 

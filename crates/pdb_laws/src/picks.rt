@@ -5,7 +5,7 @@
 ghost use Rattle.std.specs.Prelude.{ℕ, List, nat_le};
 ghost use Rattle.pdb_records.specs.declared.addresses.PdbInternalSectionOffset.{PdbInternalSectionOffset};
 ghost use Rattle.pdb_records.specs.declared.lines.LineInfo.{LineInfo};
-ghost use Rattle.pdb_ranges.specs.Pick.{pick, IsPicked};
+ghost use Rattle.pdb_tables.specs.Pick.{pick, IsPicked};
 ghost use Rattle.pdb_functions.specs.GlobalFunctions.{GlobalFunction};
 ghost use Rattle.pdb_functions.specs.Spans.{global_function_covers};
 ghost use Rattle.pdb_inline.specs.declared.inline_ranges.InlineRange.{InlineRange};

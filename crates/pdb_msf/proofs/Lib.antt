@@ -3,6 +3,7 @@ pub mod BlockLemmas
 pub mod ExcerptLemmas
 pub mod ExtentLemmas
 pub mod FrontLemmas
+pub mod ItemListLemmas
 pub mod NumberLemmas
 pub mod SizeLemmas
 pub mod StreamLemmas

@@ -2,6 +2,7 @@ pub mod Bytes
 pub mod ContainerFault
 pub mod Directory
 pub mod Faults
+pub mod ItemLists
 pub mod Msf
 pub mod NumberLists
 pub mod Readings

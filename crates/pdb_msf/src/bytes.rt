@@ -72,12 +72,12 @@ impl<'a> Bytes<'a> {
         Ok(taken)
     }
 
-    /// Passes over the bytes up to the next place that is a multiple of four, counted from the end of the
-    /// first `whole` bytes that these are the rest of. Where the bytes end before, nothing is left.
-    pub fn align(&mut self, whole: usize)
-        ensures { self.new ≡ drop (padding (whole - length self.old)) self.old }
+    /// Passes over the bytes up to the next place that is a multiple of four, counted from where so many were left.
+    /// Where the bytes end before, nothing is left.
+    pub fn align(&mut self, left: usize)
+        ensures { self.new ≡ drop (padding (left - length self.old)) self.old }
     {
-        let read = whole.saturating_sub(self.rest.len());
+        let read = left.saturating_sub(self.rest.len());
         self.rest = bytes_from(self.rest, (4 - read % 4) % 4);
     }
 

@@ -1,8 +1,8 @@
 //! Contributions of which two modules claim one byte: the smaller ones are left out.
 
 use crate::repairs::Repair;
-use pdb_ranges::{Probes, Segment, Segments};
 use pdb_records::{DebugInformation, ImageSectionHeader, SectionContribution};
+use pdb_tables::{Probes, Segment, Segments};
 use std::alloc::{AllocError, Global};
 
 /// How many offsets a section has.

@@ -1,7 +1,6 @@
 pub mod ReportLemmas
 pub mod FileReportLemmas
 pub mod ListLemmas
-pub mod PathLemmas
 pub mod ContextLemmas
 pub mod AnswerTextLemmas
 pub mod RunLemmas

@@ -5,6 +5,5 @@ pub mod Reports
 pub mod Arguments
 pub mod FileReports
 pub mod Stops
-pub mod ModulePaths
 pub mod Runs
 pub mod AnswerTexts

@@ -1,14 +1,12 @@
 -- How a run of the program ends.
-use Rattle.std.specs.Prelude.{◌≡◌, ◌⊎◌, Bool, true, false, List, ℕ, Option, Some, None, Result, Ok, Err, string_bytes}
-use Rattle.std.specs.List.{Contains}
+use Rattle.std.specs.Prelude.{◌≡◌, ◌⊎◌, true, List, ℕ, Option, Some, None, Result, Ok, Err, string_bytes}
 use Rattle.std.specs.Io.KnownBytes.{Keeps}
-use Rattle.std.specs.declared.io.ErrorKind.{ErrorKind}
-use Rattle.std.specs.declared.io.ErrorKind.TheVariants as kind
 use Rattle.pdb_types.specs.declared.error.Error.TheVariants.{OutOfMemory}
 use Rattle.pdb_json_values.specs.declared.faults.RecordFault.{RecordFault}
-use Rattle.pdb_json_values.specs.Faults.{Fault, IsFaultOf}
+use Rattle.pdb_json_values.specs.Faults.{IsFaultOf}
 use Rattle.serde_json.specs.Data.{Data}
 use Rattle.pdb_json.specs.RecordsFile.{records_of_files, wanted_files_of, module_files_of}
+use Rattle.pdb_records_files.specs.ModuleFiles.{IsWantedPath}
 use Rattle.pdb_report_lib.specs.declared.stops.Stop.{Stop}
 use Rattle.pdb_report_lib.specs.declared.stops.Stop.TheVariants.{Refused, Usage, CannotRead}
 use Rattle.pdb_report_lib.specs.declared.stops.Stop.TheVariants.{CannotReadModule, CannotWrite}
@@ -16,12 +14,6 @@ use Rattle.pdb_report_lib.specs.declared.stops.Stop.TheVariants as stop
 use Rattle.pdb_report_lib.specs.Stops.{EndsOverFile}
 use Rattle.pdb_report_lib.specs.Sinks.{SinkState}
 use Rattle.pdb_report_lib.specs.Arguments.{Asked}
-use Rattle.pdb_report_lib.specs.ModulePaths.{module_path}
-
--- the system had no memory
-abbrev pub is_out_of_memory : ErrorKind → Bool
-is_out_of_memory kind.OutOfMemory = true
-is_out_of_memory _ = false
 
 -- a file can't be read, and is shown by its path; or memory ran out
 abbrev pub IsReadStop : List ℕ → Stop → Type 0
@@ -31,23 +23,6 @@ IsReadStop path (stop.Records shown fault) = ⊥
 IsReadStop path (CannotReadModule shown) = ⊥
 IsReadStop path Usage = ⊥
 IsReadStop path CannotWrite = ⊥
-
--- the module file at a path can't be read, and is shown by its path; or memory ran out
-abbrev pub IsModuleReadStop : List ℕ → Stop → Type 0
-IsModuleReadStop path (CannotReadModule shown) = string_bytes shown ≡ path
-IsModuleReadStop path (Refused error) = error ≡ OutOfMemory
-IsModuleReadStop path (CannotRead shown) = ⊥
-IsModuleReadStop path (stop.Records shown fault) = ⊥
-IsModuleReadStop path Usage = ⊥
-IsModuleReadStop path CannotWrite = ⊥
-
--- a path is that of one of the module files which are wanted beside a records file
-pub record IsWantedPath (records_path : List ℕ) (files : Result (List (List ℕ)) Fault) (path : List ℕ) : Type 0 where
-  pub names : List (List ℕ)
-  pub wanted : files ≡ Ok names
-  pub name : List ℕ
-  pub among : Contains names name
-  pub shown : path ≡ module_path records_path name
 
 -- a module file that a records file with this value wants can't be read, and is shown by its path; or the value shows
 -- no module files; or memory ran out

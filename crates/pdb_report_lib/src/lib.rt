@@ -4,7 +4,6 @@
 mod arguments;
 mod file_reports;
 pub mod laws;
-mod module_paths;
 mod printed_frames;
 mod printed_lines;
 mod reports;
@@ -14,7 +13,8 @@ mod stops;
 
 pub use arguments::{Request, parse, parse_address};
 pub use file_reports::{report_file, report_read};
+pub use pdb_records_files::ran_out_of_memory;
 pub use reports::{Command, ReportFault, report};
-pub use runs::{ran_out_of_memory, run};
+pub use runs::run;
 pub use sinks::{Out, Sink, SinkFault};
 pub use stops::Stop;

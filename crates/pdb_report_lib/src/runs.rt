@@ -1,20 +1,18 @@
 //! `run`, which does what a command line asks for: it reads the files and writes the report.
 
-ghost use Rattle.std.specs.Prelude.{◌≡◌, IfErr, map, string_bytes};
-ghost use Rattle.std.specs.IoError.{error_kind};
-ghost use Rattle.serde_json.specs.View.{view};
+ghost use Rattle.std.specs.Prelude.{IfErr, map, string_bytes};
+ghost use Rattle.serde_json.specs.Data.{Data};
+ghost use Rattle.pdb_records_files.specs.ModuleFiles.{AreModuleFileFaults};
 ghost use Rattle.pdb_report_lib.specs.Arguments.{asked};
-ghost use Rattle.pdb_report_lib.specs.ModulePaths.{module_path};
-ghost use Rattle.pdb_report_lib.specs.Runs.{EndsRun, IsReadStop, IsModuleReadStop, AreModuleReadStops};
-ghost use Rattle.pdb_report_lib.specs.Runs.{is_out_of_memory};
+ghost use Rattle.pdb_report_lib.specs.Runs.{EndsRun, IsReadStop, AreModuleReadStops};
 
 use crate::arguments::parse;
 use crate::file_reports::report_file;
-use crate::module_paths::module_path;
 use crate::sinks::{Out, Sink};
 use crate::stops::Stop;
 use pdb_addr2line::Error;
 use pdb_json::RecordsFile;
+use pdb_records_files::{ModuleFileFault, ran_out_of_memory, read_module_files};
 use std::rt::Files;
 use std::{fs, io};
 
@@ -44,7 +42,10 @@ pub fn run<'w, R: Files + AllocGlobal, W: io::Write>(
         Err(fault) => return Err(Stop::Records(request.path, fault)),
     };
     drop(bytes);
-    let files = read_module_files(rt, request.path, &file)?;
+    let files = match read_module_files(rt, request.path, &file) {
+        Ok(files) => files,
+        Err(fault) => return Err(module_stop(request.path, fault)),
+    };
     let ended = report_file(rt.alloc(), &request, file, &files, out);
     match out.flush() {
         Ok(()) => ended,
@@ -63,49 +64,13 @@ fn read_file<'w, R: Files + AllocGlobal>(rt: &R, path: &'w str) -> Result<Vec<u8
     }
 }
 
-// The bytes of the module files that a records file names, in order.
-fn read_module_files<'w, R: Files + AllocGlobal>(
-    rt: &R,
-    records_path: &'w str,
-    file: &RecordsFile,
-) -> Result<Vec<Vec<u8>>, Stop<'w>>
-    ensures { IfErr result (AreModuleReadStops records_path.now (view file.now.value)) }
+// Why a run ends over a records file whose module files can't be read.
+fn module_stop(path: &str, fault: ModuleFileFault) -> Stop<'_>
+    ensures { (value : Data) → AreModuleFileFaults path.now value fault → AreModuleReadStops path.now value result }
 {
-    let names = match file.module_files() {
-        Ok(names) => names,
-        Err(fault) => return Err(Stop::Records(records_path, fault)),
-    };
-    let mut files = Vec::new(rt.alloc());
-    for name in &names {
-        let bytes = read_module_file(rt, records_path, name.as_str())?;
-        if files.push(bytes).is_err() {
-            return Err(Stop::Refused(Error::OutOfMemory));
-        }
+    match fault {
+        ModuleFileFault::OutOfMemory => Stop::Refused(Error::OutOfMemory),
+        ModuleFileFault::CannotRead(path) => Stop::CannotReadModule(path),
+        ModuleFileFault::Records(fault) => Stop::Records(path, fault),
     }
-    Ok(files)
-}
-
-// The bytes of the module file of this name.
-fn read_module_file<'w, R: Files + AllocGlobal>(
-    rt: &R,
-    records_path: &str,
-    name: &str,
-) -> Result<Vec<u8>, Stop<'w>>
-    ensures { IfErr result (IsModuleReadStop (module_path records_path.now name.now)) }
-{
-    let Ok(path) = module_path(rt.alloc(), records_path, name) else {
-        return Err(Stop::Refused(Error::OutOfMemory));
-    };
-    match fs::read(rt, path.as_str()) {
-        Ok(bytes) => Ok(bytes),
-        Err(error) if ran_out_of_memory(&error) => Err(Stop::Refused(Error::OutOfMemory)),
-        Err(_) => Err(Stop::CannotReadModule(path)),
-    }
-}
-
-/// Whether the system had no memory.
-pub fn ran_out_of_memory(error: &io::Error) -> bool
-    ensures { result ≡ is_out_of_memory (error_kind error.now) }
-{
-    matches!(error.kind(), io::ErrorKind::OutOfMemory)
 }

@@ -1,7 +1,7 @@
 -- How what is still to be done goes on.
-use Rattle.std.proofs.Common.{◌≡◌, ℕ, ◌+◌, ◌<◌, ◌≤◌, List, ◌∷◌, ◌++◌, true, length, drop, refl, sym, ap, subst, ◌∙◌}
+use Rattle.std.proofs.Common.{◌≡◌, ℕ, ◌+◌, ◌<◌, ◌≤◌, List, ◌∷◌, ◌++◌, true, length, refl, subst}
 use Rattle.std.proofs.Common.{arith, append_assoc}
-use Rattle.std.specs.Prelude.{Option, Some, None, is_some, if◌then◌else◌}
+use Rattle.std.specs.Prelude.{Option, Some, None, is_some}
 use Rattle.std.proofs.Math.Seq.{take-append_seam, drop-append_seam, take-length}
 use Rattle.std.proofs.lemmas.List.{append-nil}
 use Rattle.pdb_types.specs.FailedParts.{Parts}
@@ -48,24 +48,21 @@ goes_later w inside task k c = record {
   falls = λ cost counts. let a = counts.later inside task in omega arith;
 }
 
+-- a run with a text before it
+abbrev behind : List ℕ → Run → Run
+behind text r = record { text = text ++ r.text; fault = r.fault; failed = r.failed }
+
 -- a text, and then one run after another
 then-inner : (text : List ℕ) (g : Option Failure) (r : Run) (next : Parts → Run)
-    → ◌≡◌ {A = Run} (record {
-      text = text ++ (then_by g r next).text;
-      fault = (then_by g r next).fault;
-      failed =
-          (then_by g r next).failed;
-    }) (then_by g (record { text = text ++ r.text; fault = r.fault; failed = r.failed }) next)
-then-inner text None r next =
-    ap (λ (t : List ℕ). record { text = t; fault = (next r.failed).fault; failed = (next r.failed).failed })
-    (sym (append_assoc text r.text (next r.failed).text))
+    → behind text (then_by g r next) ≡ then_by g (behind text r) next
+then-inner text None r next = rw append_assoc refl
 then-inner text (Some e) r next = refl
 
 -- one document after another is printed one after the other
 then-seq : (f : Option Failure) (c : Run) (a b : Document) → f ≡ c.fault
     → then_by f c (run (document.Seq a b)) ≡ then_by (then_by f c (run a)).fault (then_by f c (run a)) (run b)
 then-seq None c a b is = then-inner c.text (run a c.failed).fault (run a c.failed) (run b)
-then-seq (Some e) c a b is = subst (λ (f : Option Failure). c ≡ then_by f c (run b)) is refl
+then-seq (Some e) c a b is = rw (← is) refl
 
 -- the documents of two plans in a row
 seq-ends : (w : PrintInputs) (p q : Plan) (k : List PendingPlan) (c end : Run)
@@ -73,7 +70,7 @@ seq-ends : (w : PrintInputs) (p q : Plan) (k : List PendingPlan) (c end : Run)
     → Ends w k (then_by (then_by c.fault c (run a)).fault (then_by c.fault c (run a)) (run b)) end) → (d : Document)
     → Unfolds w (Seq p q) d → Ends w k (then_by c.fault c (run d)) end
 seq-ends w p q k c end ends d (seq {a = a} {b = b} x y) =
-    subst (λ (r : Run). Ends w k r end) (sym (then-seq c.fault c a b refl)) (ends a x b y)
+    rw (then-seq c.fault c a b refl) (ends a x b y)
 
 -- a plan of two becomes the two in a row
 pub goes_seq : (w : PrintInputs) (p q : Plan) (k : List PendingPlan) (c : Run)
@@ -85,28 +82,16 @@ goes_seq w p q k c = record {
 
 -- a text, and then one that is held back
 buffered-inner : (text : List ℕ) (g : Option Failure) (r : Run) (u v : List ℕ)
-    → ◌≡◌ {A = Run} (record {
-      text = text ++ (buffered_by g r u v).text;
-      fault = (buffered_by g r u v).fault;
-      failed =
-          (buffered_by g r u v).failed;
-    }) (released_by g (record { text = text ++ r.text; fault = r.fault; failed = r.failed }) (length text) u v)
-buffered-inner text None r u v =
-    let same : drop (length text) (text ++ r.text) ≡ r.text = drop-append_seam text r.text in
-    rw same (ap (λ (t : List ℕ). record { text = t; fault = None; failed = r.failed })
-    (sym (append_assoc text r.text (if ends_in_sigil r.text then u else v))))
-buffered-inner text (Some e) r u v =
-    ap (λ (t : List ℕ). record { text = t; fault = r.fault; failed = r.failed })
-    (append-nil text ∙ sym (take-append_seam text r.text))
+    → behind text (buffered_by g r u v) ≡ released_by g (behind text r) (length text) u v
+buffered-inner text None r u v = rw (drop-append_seam text r.text, append_assoc) refl
+buffered-inner text (Some e) r u v = rw (append-nil text, take-append_seam text r.text) refl
 
 -- a document that is held back is printed, and then released
 then-buffered : (f : Option Failure) (c : Run) (a : Document) (u v : List ℕ) → f ≡ c.fault
     → then_by f c (run (document.Buffered a u v)) ≡ released_by (then_by f c (run a)).fault (then_by f c (run a))
     (length c.text) u v
 then-buffered None c a u v is = buffered-inner c.text (run a c.failed).fault (run a c.failed) u v
-then-buffered (Some e) c a u v is =
-    subst (λ (f : Option Failure). c ≡ released_by f c (length c.text) u v) is
-    (ap (λ (t : List ℕ). record { text = t; fault = c.fault; failed = c.failed }) (sym (take-length c.text)))
+then-buffered (Some e) c a u v is = rw (← is, take-length c.text) refl
 
 -- the document of a plan that is held back
 buffered-ends : (w : PrintInputs) (p : Plan) (u v : List ℕ) (k : List PendingPlan) (c end : Run)
@@ -114,36 +99,27 @@ buffered-ends : (w : PrintInputs) (p : Plan) (u v : List ℕ) (k : List PendingP
     → Ends w k (released_by (then_by c.fault c (run a)).fault (then_by c.fault c (run a)) (length c.text) u v) end)
     → (d : Document) → Unfolds w (Buffered p u v) d → Ends w k (then_by c.fault c (run d)) end
 buffered-ends w p u v k c end ends d (buffered {a = a} x) =
-    subst (λ (r : Run). Ends w k r end) (sym (then-buffered c.fault c a u v refl)) (ends a x)
+    rw (then-buffered c.fault c a u v refl) (ends a x)
 
 -- a plan that is held back is printed from here on, and then released
 pub goes_buffered : (w : PrintInputs) (p : Plan) (u v : List ℕ) (k : List PendingPlan) (c : Run) (mark : ℕ)
     → mark ≡ length c.text → Goes w 0 (Then (Buffered p u v) ∷ k) c (Then p ∷ HeldBack mark u v ∷ k) c
-goes_buffered w p u v k c mark is =
-    subst (λ (m : ℕ). Goes w 0 (Then (Buffered p u v) ∷ k) c (Then p ∷ HeldBack m u v ∷ k) c) (sym is) (record {
-      ends = λ end ends. buffered-ends w p u v k c end ends;
-      falls = λ cost counts. let a = counts.buffered p u v in omega arith;
-    })
+goes_buffered w p u v k c mark is = rw is (record {
+  ends = λ end ends. buffered-ends w p u v k c end ends;
+  falls = λ cost counts. let a = counts.buffered p u v in omega arith;
+})
 
 -- a text, and then one that a note may follow
-caught-inner : (text : List ℕ) (g : Option Failure) (r : Run) → g ≡ r.fault
-    → ◌≡◌ {A = Run} (record {
-      text = text ++ (caught_by g r).text;
-      fault = (caught_by g r).fault;
-      failed =
-          (caught_by g r).failed;
-    }) (caught_by g (record { text = text ++ r.text; fault = r.fault; failed = r.failed }))
-caught-inner text None r is = refl
-caught-inner text (Some (document.TypeNotFound i)) r is =
-    ap (λ (t : List ℕ). record { text = t; fault = None; failed = r.failed })
-    (sym (append_assoc text r.text (missing_text i)))
-caught-inner text (Some (document.OfError e)) r is = refl
+caught-inner : (text : List ℕ) (g : Option Failure) (r : Run)
+    → behind text (caught_by g r) ≡ caught_by g (behind text r)
+caught-inner text (Some (document.TypeNotFound i)) r = rw (append_assoc text r.text (missing_text i)) refl
+caught-inner text _ r = refl
 
 -- a document that a note may follow is printed, and then the note
 then-caught : (c : Run) (a : Document) → c.fault ≡ None
     → then_by c.fault c (run (document.Catch a)) ≡ caught_by (then_by c.fault c (run a)).fault
     (then_by c.fault c (run a))
-then-caught c a is = rw is (caught-inner c.text (run a c.failed).fault (run a c.failed) refl)
+then-caught c a is = rw is (caught-inner c.text (run a c.failed).fault (run a c.failed))
 
 -- the document of a plan that a note may follow
 catch-ends : (w : PrintInputs) (p : Plan) (k : List PendingPlan) (c end : Run) → c.fault ≡ None
@@ -151,7 +127,7 @@ catch-ends : (w : PrintInputs) (p : Plan) (k : List PendingPlan) (c end : Run) �
     → Ends w k (caught_by (then_by c.fault c (run a)).fault (then_by c.fault c (run a))) end) → (d : Document)
     → Unfolds w (Catch p) d → Ends w k (then_by c.fault c (run d)) end
 catch-ends w p k c end none ends d (catch {a = a} x) =
-    subst (λ (r : Run). Ends w k r end) (sym (then-caught c a none)) (ends a x)
+    rw (then-caught c a none) (ends a x)
 
 -- a plan that a note may follow is printed, and then the note
 pub goes_catch : (w : PrintInputs) (p : Plan) (k : List PendingPlan) (c : Run) → c.fault ≡ None
@@ -171,7 +147,7 @@ done-ends w d k c end ends d' done = ends
 pub goes_done : (w : PrintInputs) (d : Document) (k : List PendingPlan) (c c' : Run) → c' ≡ then_by c.fault c (run d)
     → Goes w 1 (Then (Done d) ∷ k) c k c'
 goes_done w d k c c' is = record {
-  ends = λ end ends. done-ends w d k c end (subst (λ (r : Run). Ends w k r end) is ends);
+  ends = λ end ends. done-ends w d k c end (rw is at ends);
   falls = λ cost counts. let a = counts.done d in omega arith;
 }
 
@@ -203,14 +179,10 @@ goes_closing w k c = record { ends = λ end ends. ends; falls = λ cost counts. 
 -- a note follows where a type was missing
 pub goes_caught : (w : PrintInputs) (k : List PendingPlan) (c c' : Run) → c' ≡ caught_by c.fault c
     → Goes w 1 (Caught ∷ k) c k c'
-goes_caught w k c c' is = record {
-  ends = λ end ends. subst (λ (r : Run). Ends w k r end) is ends;
-  falls =
-      λ cost counts. omega arith;
-}
+goes_caught w k c c' is = rw is (record { ends = λ end ends. ends; falls = λ cost counts. omega arith })
 
 -- pointers follow their target, or nothing of it stays
 pub goes_held_back : (w : PrintInputs) (mark : ℕ) (u v : List ℕ) (k : List PendingPlan) (c c' : Run)
     → c' ≡ released_by c.fault c mark u v → Goes w 1 (HeldBack mark u v ∷ k) c k c'
 goes_held_back w mark u v k c c' is =
-    record { ends = λ end ends. subst (λ (r : Run). Ends w k r end) is ends; falls = λ cost counts. omega arith }
+    rw is (record { ends = λ end ends. ends; falls = λ cost counts. omega arith })

@@ -5,12 +5,6 @@ use Rattle.pdb_documents.specs.BrokenParts.{AddsBroken}
 use Rattle.pdb_documents.specs.PrintInputs.{formatter_inputs}
 use Rattle.pdb_signatures.specs.Formatters.{Formatter, IsLater}
 use Rattle.pdb_signatures.proofs.LoopLemmas.{adds-then}
-use Rattle.pdb_signatures.proofs.ReadLemmas.{adds_none}
-
--- a formatter that is as it was
-pub later-same : {P : Type 0} {info : P → ProviderInfos} {module_index : ℕ} {old new : Formatter P} → new ≡ old
-    → IsLater info module_index old new
-later-same is = record { type_inputs = ap (λ f. f.type_inputs) is; broken = adds_none (ap (λ f. f.failed) is) }
 
 -- a formatter that was as before, and then met broken parts
 pub later-adds : {P : Type 0} {info : P → ProviderInfos} {module_index : ℕ} {old mid new : Formatter P} → mid ≡ old

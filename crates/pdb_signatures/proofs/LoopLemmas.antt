@@ -1,22 +1,21 @@
 -- Printing, turn by turn.
-use Rattle.std.proofs.Common.{◌≡◌, ◌^◌, ℕ, suc, ◌+◌, ◌<◌, Bool, true, false, cond, nat_eq, List, [], ◌∷◌, ◌++◌, refl}
-use Rattle.std.proofs.Common.{sym, ap, subst, ◌∙◌, arith}
-use Rattle.std.specs.Prelude.{None, is_some, Result, Ok, Err}
+use Rattle.std.proofs.Common.{◌≡◌, ◌^◌, ℕ, suc, ◌+◌, ◌<◌, Bool, true, false, nat_eq, List, [], ◌∷◌, ◌++◌, refl}
+use Rattle.std.proofs.Common.{sym, ap, ◌∙◌, arith}
+use Rattle.std.specs.Prelude.{None, is_some, Ok, Err}
 use Rattle.pdb_records.specs.declared.types.TypeData.{TypeData}
 use Rattle.pdb_types.specs.ReadError.{ReadErrorView}
 use Rattle.pdb_documents.specs.Signatures.{signature, signature_by_type}
-use Rattle.pdb_documents.specs.Wording.{function_name}
 use Rattle.std.specs.List.{AllByRecursion}
 use Rattle.pdb_types.specs.declared.flags.TypeFormatterFlags.{TypeFormatterFlags}
 use Rattle.pdb_types.specs.declared.read_error.Part.{Part}
 use Rattle.pdb_types.specs.FailedParts.{Parts}
 use Rattle.pdb_documents.specs.declared.tasks.Task as tasks
 use Rattle.pdb_documents.specs.declared.tasks.Pending.{Pending}
-use Rattle.pdb_documents.specs.declared.tasks.Pending.TheVariants.{Print, Close, EndId, EndCatch, EndBuffer}
+use Rattle.pdb_documents.specs.declared.tasks.Pending.TheVariants.{Print, Close, EndCatch, EndBuffer}
 use Rattle.pdb_documents.specs.BrokenParts.{IsBroken, with_parts, AddsBroken}
 use Rattle.pdb_documents.specs.Documents.{Document, Run, run, then_by}
 use Rattle.pdb_documents.specs.PrintInputs.{PrintInputs}
-use Rattle.pdb_documents.specs.Plans.{Plan, Done, Later, Seq, Buffered, Catch, is_among, on_read, refusal, written}
+use Rattle.pdb_documents.specs.Plans.{Plan, Done, Later, Seq, Buffered, Catch, refusal}
 use Rattle.pdb_documents.specs.Rules.{rule}
 use Rattle.pdb_documents.specs.Unfolding.{Unfolds, Runs, done, later, seq, buffered, catch}
 use Rattle.pdb_documents.specs.Progress.{Stage, beginning, with_step, Opens, open_in, task_plan, stage_run, ended_run}
@@ -79,51 +78,29 @@ step-ended : (w : PrintInputs) (step : Pending) (rest : List Pending) (c c' : Ru
     → ((task : tasks.Task) → step ≡ Print task → is_some c.fault ≡ true) → c' ≡ ended_run w.flags step c
     → Goes w 1 (plans w (step ∷ rest)) c (plans w rest) c'
 step-ended w (Print task) rest c c' over is =
-    subst (λ (r : Run). Goes w 1 (plans w (Print task ∷ rest)) c (plans w rest) r) (sym is)
-    (goes_over w (task_plan w (open_in rest) task) (plans w rest) c (over task refl))
-step-ended w (Close index) rest c c' over is =
-    subst (λ (r : Run). Goes w 1 (plans w (Close index ∷ rest)) c (plans w rest) r) (sym is)
-    (goes_closing w (plans w rest) c)
-step-ended w (EndId outer index) rest c c' over is =
-    subst (λ (r : Run). Goes w 1 (plans w (EndId outer index ∷ rest)) c (plans w rest) r) (sym is)
-    (goes_closing w (plans w rest) c)
+    rw is (goes_over w (task_plan w (open_in rest) task) (plans w rest) c (over task refl))
 step-ended w EndCatch rest c c' over is = goes_caught w (plans w rest) c c' is
 step-ended w (EndBuffer mark attributes) rest c c' over is = goes_held_back w mark _ _ (plans w rest) c c' is
+step-ended w _ rest c c' over is = rw is (goes_closing w (plans w rest) c)
 
 -- what is passed over is passed over for a failure
 over-failed : (step : Pending) (s : Stage) → IsPassedOver step s → (task : tasks.Task) → step ≡ Print task
     → is_some s.failure ≡ true
 over-failed (Print other) s over task is = over
-over-failed (Close index) s over task is = cc
-over-failed (EndId outer index) s over task is = cc
-over-failed EndCatch s over task is = cc
-over-failed (EndBuffer mark attributes) s over task is = cc
+over-failed _ s over task is = cc
 
 -- a stage whose next step has ended or was passed over
 pub ended-goes : (w : PrintInputs) (flags : TypeFormatterFlags) (old new : Stage) (f : Parts) → w.flags ≡ flags
     → Ended flags old new → Goes w 1 (plans w old.steps) (stage_run old f) (plans w new.steps) (stage_run new f)
 ended-goes w flags old new f same_flags ended =
-    let is : stage_run new f ≡ ended_run w.flags ended.step (stage_run old f) =
-    ended.run f ∙ ap (λ (t : TypeFormatterFlags). ended_run t ended.step (stage_run old f)) (sym same_flags) in
-    subst (λ (xs : List Pending). Goes w 1 (plans w xs) (stage_run old f) (plans w new.steps) (stage_run new f))
-    (sym ended.taken)
-    (step-ended w ended.step new.steps (stage_run old f) (stage_run new f)
-    (over-failed ended.step old ended.passed_over) is)
+    rw ended.taken (step-ended w ended.step new.steps (stage_run old f) (stage_run new f)
+    (over-failed ended.step old ended.passed_over) (rw same_flags (ended.run f)))
 
 -- a stage whose next step was printed
 pub printed-goes : (w : PrintInputs) (task : tasks.Task) (old mid new : Stage) (f f' : Parts)
     → old ≡ with_step (Print task) mid → Advances w (task_plan w (open_in mid.steps) task) 1 mid f new f'
     → Goes w 1 (plans w old.steps) (stage_run old f) (plans w new.steps) (stage_run new f')
-printed-goes w task old mid new f f' taken advances =
-    subst (λ (s : Stage). Goes w 1 (plans w s.steps) (stage_run s f) (plans w new.steps) (stage_run new f'))
-    (sym taken) advances
-
--- at the end nothing is left
-pub ends-here : (w : PrintInputs) (k : List PendingPlan) (c : Run) (s : Stage) (f : Parts)
-    → Goes w 0 k c (plans w s.steps) (stage_run s f) → s.steps ≡ [] → Ends w k c (stage_run s f)
-ends-here w k c s f goes empty =
-    goes.ends (stage_run s f) (subst (λ (xs : List Pending). Ends w (plans w xs) (stage_run s f) (stage_run s f))
-    (sym empty) refl)
+printed-goes w task old mid new f f' taken advances = rw taken advances
 
 -- each of these is broken, and each of those
 all-broken : (w : PrintInputs) (a b : List Part) → AllByRecursion (IsBroken w) a → AllByRecursion (IsBroken w) b
@@ -140,17 +117,9 @@ adds-then {w = w} {a = a} first second = record {
       ∙ with_parts-append a first.added second.added);
 }
 
--- no part was added yet
-pub adds-nothing : {w : PrintInputs} {a : Parts} → AddsBroken w a a
-adds-nothing = record { added = []; broken = tt; is = refl }
-
 -- a plan that is a document unfolds to it
 done-is : {w : PrintInputs} {d d' : Document} → Unfolds w (Done d) d' → d' ≡ d
 done-is done = refl
-
--- what a run does after nothing is what it does
-from-beginning : (f : Parts) (d : Document) → then_by None (stage_run beginning f) (run d) ≡ run d f
-from-beginning f d = refl
 
 -- the signature of a function whose type was read begins while its index is open
 pub begins_stands : (w : PrintInputs) (name : List ℕ) (index : ℕ) (type : TypeData) (old mid new : Stage)
@@ -158,21 +127,13 @@ pub begins_stands : (w : PrintInputs) (name : List ℕ) (index : ℕ) (type : Ty
     → Opens index old mid opened → f' ≡ f → Stands w 0 (signature_by_type w name (open_in mid.steps) type) mid new
     → Begins w (signature w name index) f new f'
 begins_stands w name index type old mid new f f' some read is true opens same stands = λ end ends d unfolds.
-    let plan : signature w name index ≡ signature_by_type w name (index ∷ []) type =
-    ap (λ b. cond b (written (function_name name)) (on_read (w.read index) (signature_by_type w name (index ∷ []))))
-    some ∙ ap (λ (r : Result TypeData ReadErrorView). on_read r (signature_by_type w name (index ∷ []))) read in
-    let entered : mid ≡ with_step (Close index) beginning = opens.1 ∙ ap (with_step (Close index)) is in
     let here : Stands w 0 (signature_by_type w name (index ∷ []) type) (with_step (Close index) beginning) new =
-    subst (λ (s : Stage). Stands w 0 (signature_by_type w name (open_in s.steps) type) s new) entered stands in
-    let run_here : stage_run new f ≡ stage_run (with_step (Close index) beginning) f =
-    same_run (with_step (Close index) beginning) new f here.text here.failure in
-    let from : Ends w (plans w new.steps) (stage_run (with_step (Close index) beginning) f) end =
-    subst (λ (r : Run). Ends w (plans w new.steps) r end) (ap (λ (g : Parts). stage_run new g) same ∙ run_here) ends in
-    (here.goes (stage_run (with_step (Close index) beginning) f)).ends end from d
-    (subst (λ (p : Plan). Unfolds w p d) plan unfolds)
+    rw (opens.1, is) at stands in
+    let run_here = same_run (with_step (Close index) beginning) new f here.text here.failure in
+    (here.goes (stage_run (with_step (Close index) beginning) f)).ends end (rw (same, run_here) at ends) d
+    (rw (some, read) at unfolds)
 begins_stands w name index type old mid new f f' some read is false opens same stands =
-    let none : is_among index (open_in old.steps) ≡ false = ap (λ (s : Stage). is_among index (open_in s.steps)) is in
-    absurd (let both : true ≡ false = sym opens.0 ∙ none in cc)
+    absurd (let both : true ≡ false = sym opens.0 ∙ rw is refl in cc)
 
 -- the signature of a function whose type can't be read fails
 pub begins_refused : (w : PrintInputs) (name : List ℕ) (index : ℕ) (read_error_view : ReadErrorView) (old new : Stage)
@@ -180,21 +141,13 @@ pub begins_refused : (w : PrintInputs) (name : List ℕ) (index : ℕ) (read_err
     → new.steps ≡ old.steps → stage_run new f' ≡ then_by None (stage_run old f) (run (refusal read_error_view))
     → Begins w (signature w name index) f new f'
 begins_refused w name index read_error_view old new f f' some read_error is steps ran = λ end ends d unfolds.
-    let plan : signature w name index ≡ Done (refusal read_error_view) =
-    ap (λ b. cond b (written (function_name name)) (on_read (w.read index) (signature_by_type w name (index ∷ []))))
-    some ∙ ap (λ (r : Result TypeData ReadErrorView). on_read r (signature_by_type w name (index ∷ []))) read_error in
-    let none : new.steps ≡ [] = steps ∙ ap (λ (s : Stage). s.steps) is in
-    let whole : stage_run new f' ≡ run (refusal read_error_view) f =
-    ran ∙ ap (λ (s : Stage). then_by None (stage_run s f) (run (refusal read_error_view))) is in
-    let done : stage_run new f' ≡ end =
-    subst (λ (xs : List Pending). Ends w (plans w xs) (stage_run new f') end) none ends in
-    let same : d ≡ refusal read_error_view = done-is (subst (λ (p : Plan). Unfolds w p d) plan unfolds) in
+    let whole : stage_run new f' ≡ run (refusal read_error_view) f = rw is at ran in
+    let done : stage_run new f' ≡ end = rw (steps, is) at ends in
+    let same : d ≡ refusal read_error_view = done-is (rw (some, read_error) at unfolds) in
     ap (λ (x : Document). run x f) same ∙ (sym whole ∙ done)
 
 -- where a task is all that is to be done, printing comes to what its plan does
 pub begins_task : (w : PrintInputs) (task : tasks.Task) (old new : Stage) (f : Parts) (end : Run) → old ≡ beginning
     → new ≡ with_step (Print task) old → Ends w (plans w new.steps) (stage_run new f) end
     → Runs w (task_plan w [] task) f end
-begins_task w task old new f end is first ends =
-    let all : new ≡ with_step (Print task) beginning = first ∙ ap (with_step (Print task)) is in
-    subst (λ (s : Stage). Ends w (plans w s.steps) (stage_run s f) end) all ends
+begins_task w task old new f end is first ends = rw (first, is) at ends

@@ -3,9 +3,7 @@ use Rattle.std.proofs.Common.{◌≡◌, ℕ, true, false, cond, nat_eq, [], ◌
 use Rattle.std.specs.Prelude.{Option, Some, None, Result, Ok, Err}
 use Rattle.pdb_records.specs.declared.types.TypeIndex.{TypeIndex}
 use Rattle.pdb_records.specs.declared.types.TypeData.{TypeData}
-use Rattle.pdb_records.specs.declared.types.TypeData.TheVariants.{Primitive, Class, MemberFunction, Procedure, Pointer}
-use Rattle.pdb_records.specs.declared.types.TypeData.TheVariants.{Array, Union, Enumeration, Enumerate, Modifier}
-use Rattle.pdb_records.specs.declared.types.TypeData.TheVariants.{ArgumentList, Other}
+use Rattle.pdb_records.specs.declared.types.TypeData.TheVariants.{Pointer}
 use Rattle.pdb_records.specs.declared.ids.IdData.{IdData}
 use Rattle.pdb_documents.specs.declared.this.This.{This}
 use Rattle.pdb_documents.specs.Methods.{plain_this, this_by_target, this_by_type, this_of}
@@ -17,7 +15,6 @@ use Rattle.pdb_types.specs.Errors.{error_view}
 use Rattle.pdb_types.specs.FailedParts.{Parts, with_part, with_met}
 use Rattle.pdb_types.specs.Outcomes.{and_then}
 use Rattle.pdb_types.specs.ReadError.{ReadErrorView, Broken, Matches}
-use Rattle.pdb_documents.specs.Plans.{refusal, note_or_refusal}
 use Rattle.pdb_signatures.specs.ReadErrorViews.{IsViewOf}
 use Rattle.pdb_documents.specs.BrokenParts.{IsBroken, AddsBroken}
 use Rattle.pdb_documents.specs.PrintInputs.{PrintInputs}
@@ -27,10 +24,7 @@ matches-view : {A B : Type 0} (view : A → B) (read_error : ReadError) (read_er
     (r : Result B ReadErrorView) → Matches view (Err read_error) r → IsViewOf read_error read_error_view
     → r ≡ Err read_error_view
 matches-view view code.OutOfMemory read_error_view r matches is = absurd is
-matches-view view (code.Missing n) read_error_view r matches is = rw is matches
-matches-view view (code.Unimplemented k) read_error_view r matches is = rw is matches
-matches-view view (code.Refused e) read_error_view r matches is = rw is matches
-matches-view view (code.Broken part e) read_error_view r matches is = rw is matches
+matches-view view _ read_error_view r matches is = rw is matches
 
 -- why something can't be read, as the answer of a definition
 pub read_error-is : {B : Type 0} (r : Result B ReadErrorView) (read_error : ReadError)
@@ -54,16 +48,6 @@ pub read_error-id-broken : (w : PrintInputs) (index : ℕ) (read_error : ReadErr
 read_error-id-broken w index read_error matches part e broken =
     let met = read_error-is (w.read_id index) read_error (Broken part (error_view e)) matches (rw broken refl) in
     (index, inr (inr (rw met refl)))
-
--- where it is neither missing nor of an unknown kind, there is no note of it
-pub note-refusal : (read_error : ReadError) (read_error_view : ReadErrorView) → IsViewOf read_error read_error_view
-    → ((n : ℕ) → read_error ≡ code.Missing n → ⊥) → ((k : ℕ) → read_error ≡ code.Unimplemented k → ⊥)
-    → note_or_refusal read_error_view ≡ refusal read_error_view
-note-refusal code.OutOfMemory read_error_view is not_missing not_unimplemented = absurd is
-note-refusal (code.Missing n) read_error_view is not_missing not_unimplemented = absurd (not_missing n refl)
-note-refusal (code.Unimplemented k) read_error_view is not_missing not_unimplemented = absurd (not_unimplemented k refl)
-note-refusal (code.Refused e) read_error_view is not_missing not_unimplemented = rw is refl
-note-refusal (code.Broken part e) read_error_view is not_missing not_unimplemented = rw is refl
 
 -- no part was added
 pub adds_none : {w : PrintInputs} {old new : Parts} → new ≡ old → AddsBroken w old new
@@ -100,23 +84,9 @@ this_by_type-read_error w class this (Pointer p) read_error_view is =
     (and_then (w.read p.underlying_type.0) (λ target. Ok (this_by_target class this target))) ≡ Err read_error_view
     → (index : ℕ) × (w.read index ≡ Err read_error_view)) [
       | true ↦ λ e. absurd (ok_is_no_err e)
-      | false ↦ λ e. (
-        p.underlying_type.0,
-        then-read_error (w.read p.underlying_type.0)
-            (this_by_target class this) read_error_view e,
-      )
+      | false ↦ λ e. (p.underlying_type.0, then-read_error (w.read p.underlying_type.0) _ read_error_view e)
     ]) is
-this_by_type-read_error w class this (Primitive x) read_error_view is = absurd (ok_is_no_err is)
-this_by_type-read_error w class this (Class x) read_error_view is = absurd (ok_is_no_err is)
-this_by_type-read_error w class this (MemberFunction x) read_error_view is = absurd (ok_is_no_err is)
-this_by_type-read_error w class this (Procedure x) read_error_view is = absurd (ok_is_no_err is)
-this_by_type-read_error w class this (Array x) read_error_view is = absurd (ok_is_no_err is)
-this_by_type-read_error w class this (Union x) read_error_view is = absurd (ok_is_no_err is)
-this_by_type-read_error w class this (Enumeration x) read_error_view is = absurd (ok_is_no_err is)
-this_by_type-read_error w class this (Enumerate x) read_error_view is = absurd (ok_is_no_err is)
-this_by_type-read_error w class this (Modifier x) read_error_view is = absurd (ok_is_no_err is)
-this_by_type-read_error w class this (ArgumentList x) read_error_view is = absurd (ok_is_no_err is)
-this_by_type-read_error w class this (Other x) read_error_view is = absurd (ok_is_no_err is)
+this_by_type-read_error w class this _ read_error_view is = absurd (ok_is_no_err is)
 
 -- the same, for a method that may have no `this`
 pub this-read_error : (w : PrintInputs) (class : TypeIndex) (this : Option TypeIndex)

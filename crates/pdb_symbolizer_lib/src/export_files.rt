@@ -1,12 +1,12 @@
 //! The records file, and the files of modules, that `--export` writes.
 
-use crate::input_files::{beside, ran_out_of_memory};
 use crate::options::Export;
 use crate::status_line::{StatusLine, Watched};
 use crate::stops::Stop;
 use pdb_addr2line::Error;
 use pdb_addr2line::pdb::{ModuleInfo, PDB};
 use pdb_export::{ExportFault, write_module, write_records};
+use pdb_records_files::{module_path, ran_out_of_memory};
 use std::alloc::Global;
 use std::rt::Files;
 use std::time::Clock;
@@ -60,7 +60,7 @@ fn write_modules<R: Files + Eprint + Clock + AllocGlobal>(
 }
 
 fn make_folder<R: Files + AllocGlobal>(rt: &R, path: &str, folder: &str) -> Result<(), Stop> {
-    let folder = beside(rt.alloc(), path, folder)?;
+    let folder = module_path(rt.alloc(), path, folder)?;
     let outcome = match fs::create_dir_all(rt, folder.as_str()) {
         Ok(()) => Ok(()),
         Err(error) => Err(fault_of(&error)),
@@ -75,7 +75,7 @@ fn write_beside<R: Files + Eprint + Clock + AllocGlobal>(
     name: &str,
     info: &ModuleInfo,
 ) -> Result<(), Stop> {
-    let path = beside(rt.alloc(), path, name)?;
+    let path = module_path(rt.alloc(), path, name)?;
     let outcome = write_module_file(rt, status_line, path.as_str(), info);
     written_to(rt.alloc(), path.as_str(), outcome)
 }

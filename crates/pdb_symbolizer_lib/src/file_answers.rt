@@ -32,6 +32,23 @@ pub struct Questions<'q, 'w> {
     pub names: &'q SymbolNames,
 }
 
+impl<'q, 'w> Questions<'q, 'w> {
+    /// What is asked of a file that was opened.
+    pub fn new(
+        options: &'q Options<'w>,
+        file: &'q str,
+        input: &InputFile,
+        names: &'q SymbolNames,
+    ) -> Self {
+        Questions {
+            options,
+            file,
+            origin: Origin::new(options.base, input.image_base, options.adjust),
+            names,
+        }
+    }
+}
+
 /// Answers the addresses of the command line, or else the lines of standard input, over one file.
 pub fn answer_file<R: Files + Input + Print + Eprint + AllocGlobal>(
     rt: &R,
@@ -78,12 +95,7 @@ fn answer_over<R: Input + Print + Eprint + AllocGlobal, F: Read + Seek + Drop>(
 ) -> Result<(), Stop> {
     let mut hint = hint_for(options, input);
     let names = SymbolNames::new(rt.alloc(), &input.records)?;
-    let questions = Questions {
-        options,
-        file: path,
-        origin: Origin::new(options.base, input.image_base, options.adjust),
-        names: &names,
-    };
+    let questions = Questions::new(options, path, input, &names);
     let mut modules = ModuleReader::new(rt.alloc(), reader, &input.records)?;
     if options.addresses.is_empty() {
         answer_input(rt, &questions, &mut hint, input, &mut modules)

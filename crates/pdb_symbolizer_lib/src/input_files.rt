@@ -14,7 +14,8 @@ use pdb_container::{
 };
 use pdb_identity::{CodeId, ProgramFile, read_program};
 use pdb_json::RecordsFile;
-use std::alloc::{AllocError, Global};
+use pdb_records_files::{ModuleFileFault, ran_out_of_memory, read_module_files};
+use std::alloc::Global;
 use std::fs;
 use std::io::{self, Read, Seek};
 use std::rt::Files;
@@ -284,7 +285,10 @@ fn read_module_records<R: Files + AllocGlobal>(
     path: &str,
     file: RecordsFile,
 ) -> Result<InputFile, Stop> {
-    let files = read_module_files(rt, path, &file)?;
+    let files = match read_module_files(rt, path, &file) {
+        Ok(files) => files,
+        Err(fault) => return Err(module_file_stop(rt.alloc(), path, fault)),
+    };
     match file.read_records(&files) {
         Ok(records) => Ok(InputFile {
             path: String::from_str(rt.alloc(), path)?,
@@ -307,62 +311,14 @@ pub fn read_file<R: Files + AllocGlobal>(rt: &R, path: &str) -> Result<Vec<u8>, 
     }
 }
 
-/// The bytes of a file that another file names. A folder, a device or a pipe is refused: what is in a file must not
-/// have the reader wait, or read without an end.
-pub fn read_regular_file<R: Files + AllocGlobal>(rt: &R, path: &str) -> io::Result<Vec<u8>> {
-    if fs::metadata(rt, path)?.is_file() {
-        fs::read(rt, path)
-    } else {
-        Err(io::Error::from(io::ErrorKind::InvalidInput))
+/// Why a run ends over a records file whose module files can't be read.
+fn module_file_stop(alloc: Global, path: &str, fault: ModuleFileFault) -> Stop {
+    match fault {
+        ModuleFileFault::OutOfMemory => Stop::Refused(Error::OutOfMemory),
+        ModuleFileFault::CannotRead(path) => Stop::CannotRead(path),
+        ModuleFileFault::Records(fault) => match String::from_str(alloc, path) {
+            Ok(path) => Stop::Records(path, fault),
+            Err(_) => Stop::Refused(Error::OutOfMemory),
+        },
     }
-}
-
-/// The bytes of the module files that a records file names, in order.
-fn read_module_files<R: Files + AllocGlobal>(
-    rt: &R,
-    path: &str,
-    file: &RecordsFile,
-) -> Result<Vec<Vec<u8>>, Stop> {
-    let names = match file.module_files() {
-        Ok(names) => names,
-        Err(fault) => return Err(Stop::Records(String::from_str(rt.alloc(), path)?, fault)),
-    };
-    read_named_files(rt, path, &names)
-}
-
-fn read_named_files<R: Files + AllocGlobal>(
-    rt: &R,
-    path: &str,
-    names: &[String],
-) -> Result<Vec<Vec<u8>>, Stop> {
-    let mut files = Vec::new(rt.alloc());
-    for name in names {
-        files.push(read_module_file(rt, path, name.as_str())?)?;
-    }
-    Ok(files)
-}
-
-fn read_module_file<R: Files + AllocGlobal>(
-    rt: &R,
-    records: &str,
-    name: &str,
-) -> Result<Vec<u8>, Stop> {
-    let path = beside(rt.alloc(), records, name)?;
-    match read_regular_file(rt, path.as_str()) {
-        Ok(bytes) => Ok(bytes),
-        Err(error) => Err(cannot_read(rt.alloc(), path.as_str(), &error)),
-    }
-}
-
-/// The path of a name beside a file: the name itself where it begins with a slash.
-pub fn beside(alloc: Global, path: &str, name: &str) -> Result<String, AllocError> {
-    match (name.starts_with('/'), path.rsplit_once('/')) {
-        (false, Some((folder, _))) => format!(in alloc; "{folder}/{name}"),
-        _ => String::from_str(alloc, name),
-    }
-}
-
-/// Whether the error is that there was no memory.
-pub fn ran_out_of_memory(error: &io::Error) -> bool {
-    matches!(error.kind(), io::ErrorKind::OutOfMemory)
 }

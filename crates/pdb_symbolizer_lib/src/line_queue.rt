@@ -1,8 +1,8 @@
 //! Lines of standard input, as many at once as are ready, so that what they ask for can be read together.
 
-use crate::input_files::ran_out_of_memory;
 use crate::stops::Stop;
 use pdb_addr2line::Error;
+use pdb_records_files::ran_out_of_memory;
 use std::alloc::Global;
 use std::io::{self, BufRead, BufReader, Read};
 

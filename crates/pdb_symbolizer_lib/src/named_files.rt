@@ -2,7 +2,6 @@
 //!
 //! Those that follow one another and name the same file are answered by one context.
 
-use crate::addresses::Origin;
 use crate::answers::{write_answer, write_no_answer};
 use crate::base_hints::BaseHint;
 use crate::file_answers::{
@@ -140,12 +139,7 @@ fn answer_lines_of<R: Print + Eprint + AllocGlobal, F: Read + Seek + Drop, T: Re
 ) -> Result<(), Stop> {
     let mut hint = hint_for(options, input);
     let names = SymbolNames::new(rt.alloc(), &input.records)?;
-    let questions = Questions {
-        options,
-        file: path,
-        origin: Origin::new(options.base, input.image_base, options.adjust),
-        names: &names,
-    };
+    let questions = Questions::new(options, path, input, &names);
     let mut modules = ModuleReader::new(rt.alloc(), reader, &input.records)?;
     for _ in 0..u64::MAX {
         let addresses = addresses_of_lines(rt.alloc(), &questions, queue)?;

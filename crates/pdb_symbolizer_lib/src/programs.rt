@@ -1,13 +1,14 @@
 //! The PDB file of a program, looked for where that names it, beside it and in folders; and of a module, in folders.
 
 use crate::file_bytes::{FileBytes, open_regular_bytes};
-use crate::input_files::{SourceFile, ran_out_of_memory};
+use crate::input_files::SourceFile;
 use crate::options::Options;
 use crate::paths::file_name;
 use crate::stops::Stop;
 use pdb_addr2line::Error;
 use pdb_container::{ContainerFault, DebugId, OpenFault, read_identity_of};
 use pdb_identity::{CodeView, ProgramFile};
+use pdb_records_files::ran_out_of_memory;
 use pdb_symbolication::WantedModule;
 use std::alloc::{AllocError, Global};
 use std::io::{Read, Seek};

@@ -1,13 +1,13 @@
 //! Why a run ended early, in words, and the exit status that goes with it.
 
 use crate::arguments::EXAMPLES;
-use crate::input_files::ran_out_of_memory;
 use clap::error::ErrorKind;
 use pdb_addr2line::Error;
 use pdb_breakpad::SymbolFileFault;
 use pdb_container::{ContainerFault, DebugId, Refusal};
 use pdb_export::ExportFault;
 use pdb_json::RecordFault;
+use pdb_records_files::ran_out_of_memory;
 use std::alloc::{AllocError, AllocFailed};
 use std::io;
 

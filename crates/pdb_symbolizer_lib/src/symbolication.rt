@@ -1,11 +1,11 @@
 //! Answers to requests of the symbolication API on standard input: one request, or one on each line.
 
 use crate::file_answers::write_out;
-use crate::input_files::ran_out_of_memory;
 use crate::options::{Options, RequestForm};
 use crate::stops::Stop;
 use crate::symbolized_modules::texts_of_modules;
 use pdb_addr2line::Error;
+use pdb_records_files::ran_out_of_memory;
 use pdb_symbolication::{RecordFault, Request, WantedModules, error_line, write_answer};
 use std::io::{self, BufRead, BufReader, BufWriter, Read};
 use std::rt::Files;

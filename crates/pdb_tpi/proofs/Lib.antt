@@ -1,5 +1,4 @@
 pub mod ContentLemmas
-pub mod IndexLemmas
 pub mod ItemLemmas
 pub mod NumberLemmas
 pub mod PrimitiveLemmas

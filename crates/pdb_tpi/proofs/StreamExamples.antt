@@ -13,7 +13,7 @@ use Rattle.pdb_tpi.specs.Header.{type_header}
 use Rattle.pdb_tpi.specs.Ids.{function, id_data, ids_of, member_function, no_ids, string, string_list}
 use Rattle.pdb_tpi.specs.IndexLists.{index_list}
 use Rattle.pdb_tpi.specs.Primitives.{primitive_kinds, primitives}
-use Rattle.pdb_tpi.specs.TypeRecords.{type_records}
+use Rattle.pdb_msf.specs.ItemLists.{all_items}
 use Rattle.pdb_tpi.specs.TypeStream.{TypeList}
 use Rattle.pdb_tpi.specs.Types.{argument_list, modifier, type_at, type_data, types_of}
 
@@ -65,31 +65,31 @@ three_types =
 -- behind the primitives stand the three types
 stream_means : types_of (header 3 32 ++ type_bytes)
     ≡ Ok (record { items = record { items = primitives ++ three_types; fault = None } })
-unfolding type_header type_records type_data modifier argument_list index_list
+unfolding type_header all_items type_data modifier argument_list index_list
 stream_means = refl
 
 -- the stream ends within the last of these records, which is cut
 stream_cut : types_of (header 3 32 ++ take 30 type_bytes)
     ≡ Ok (record { items = record { items = primitives ++ take 2 three_types; fault = Some CUT } })
-unfolding type_header type_records type_data modifier argument_list index_list
+unfolding type_header all_items type_data modifier argument_list index_list
 stream_cut = refl
 
 -- TypeRecordBytes ends behind the second one, and the stream before that is said to end
 records_cut : types_of (header 3 40 ++ take 24 type_bytes)
     ≡ Ok (record { items = record { items = primitives ++ take 2 three_types; fault = Some CUT } })
-unfolding type_header type_records type_data modifier argument_list index_list
+unfolding type_header all_items type_data modifier argument_list index_list
 records_cut = refl
 
 -- what stands behind TypeRecordBytes is no record
 records_end : types_of (header 2 24 ++ type_bytes)
     ≡ Ok (record { items = record { items = primitives ++ take 2 three_types; fault = None } })
-unfolding type_header type_records type_data modifier argument_list index_list
+unfolding type_header all_items type_data modifier argument_list index_list
 records_end = refl
 
 -- a record that has no room for its kind
 no_kind : types_of (header 1 3 ++ 1 ∷ 0 ∷ 5 ∷ [])
     ≡ Ok (record { items = record { items = primitives ++ []; fault = Some BAD_LENGTH } })
-unfolding type_header type_records
+unfolding type_header all_items
 no_kind = refl
 
 -- a stream of an older version, one that ends in its header, and one whose records begin behind its end
@@ -170,7 +170,7 @@ method_means = refl
 -- LF_SUBSTR_LIST: two strings
 strings_mean : id_data 0x1604 (small 2 ++ recorded 0 ++ recorded 1)
     ≡ Ok (id.StringList (index 0x1000 ∷ index 0x1001 ∷ []))
-unfolding id_data string_list index_list
+unfolding id_data string_list index_list all_items
 strings_mean = refl
 
 -- LF_STRING_ID: id and name, and one whose name has no zero behind it
@@ -209,7 +209,7 @@ one_id : ids_of (header 1 12 ++ 10 ∷ 0 ∷ 5 ∷ 22 ∷ [] ++ small 0 ++ codes
         fault = None;
       };
     })
-unfolding type_header type_records id_data string
+unfolding type_header all_items id_data string
 one_id = refl
 
 no_bytes : ids_of [] ≡ Ok no_ids

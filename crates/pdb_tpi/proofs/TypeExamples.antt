@@ -9,6 +9,7 @@ use Rattle.pdb_records.specs.declared.types.TypeIndex.{TypeIndex}
 use Rattle.pdb_records.specs.declared.types.Variant.TheVariants.{I8, I16, I32, I64, U16}
 use Rattle.pdb_msf.specs.declared.faults.TheConstants.{BAD_NUMBER, CUT}
 use Rattle.pdb_tpi.specs.Aggregates.{class, enumerate, enumeration, newer_class, newer_union, sized_names, union}
+use Rattle.pdb_msf.specs.ItemLists.{all_items}
 use Rattle.pdb_tpi.specs.IndexLists.{index_list}
 use Rattle.pdb_tpi.specs.Numbers.{numeric_leaf, size_in}
 use Rattle.pdb_tpi.specs.Types.{argument_list, array, member_function, modifier, pointer, procedure, type_data}
@@ -113,11 +114,11 @@ abbrev arguments : List ℕ
 arguments = small 2 ++ recorded 1 ++ small 116
 
 arguments_mean : type_data 0x1201 arguments ≡ Ok (type.ArgumentList (index 0x1001 ∷ index 0x74 ∷ []))
-unfolding type_data argument_list index_list
+unfolding type_data argument_list index_list all_items
 arguments_mean = refl
 
 arguments_cut : type_data 0x1201 (take 11 arguments) ≡ Err (Stream CUT)
-unfolding type_data argument_list index_list
+unfolding type_data argument_list index_list all_items
 arguments_cut = refl
 
 -- LF_ENUMERATE: attr, LF_CHAR with -1, and the name

@@ -1,11 +1,12 @@
 -- Records of types and ids: how the bytes of a list are cut into them.
-use Rattle.std.specs.Prelude.{◌≡◌, ℕ, zero, suc, ◌+◌, ◌==◌, nat_lt, List, [], ◌∷◌, take, drop, length, map}
-use Rattle.std.specs.Prelude.{slice_get, Option, Some, None, if◌then◌else◌}
+use Rattle.std.specs.Prelude.{◌≡◌, ℕ, ◌+◌, ◌-◌, ◌^◌, min, nat_lt, List, take, drop, length, map, slice_get}
+use Rattle.std.specs.Prelude.{Option, Some, None, Result, Ok, Err, if◌then◌else◌}
 use Rattle.pdb_records.specs.Readings.{Read}
 use Rattle.pdb_records.specs.declared.error.StreamError.{StreamError}
 use Rattle.pdb_msf.specs.declared.faults.TheConstants.{BAD_LENGTH, CUT}
+use Rattle.pdb_msf.specs.Faults.{◌>>=◌}
+use Rattle.pdb_msf.specs.ItemLists.{all_items}
 use Rattle.pdb_msf.specs.NumberLists.{two_byte_number}
-use Rattle.pdb_msf.specs.Readings.{behind, nothing_read}
 
 -- a record: its kind, which is the number of a leaf (LF_..), and what stands behind the kind
 pub record TypeBytes : Type 0 where
@@ -33,19 +34,24 @@ record_fault bytes =
     if nat_lt (record_len bytes) 2 then Some BAD_LENGTH else
     None
 
--- at most so many records, one after the other until the bytes end; one that has a fault ends them
-abbrev pub records_up_to : ℕ → List ℕ → Read TypeBytes
-records_up_to zero bytes = nothing_read None
-records_up_to (suc count) bytes =
-    if length bytes == 0 then nothing_read None else
-    elim (record_fault bytes) as (λ fault. Read TypeBytes) [
-      | Some fault ↦ nothing_read (Some fault)
-      | None ↦ behind (first_record bytes ∷ []) (records_up_to count (drop (2 + record_len bytes) bytes))
-    ]
+-- the record that stands first, unless it has this fault, and what stands behind it
+abbrev pub unless_faulty : Option StreamError → List ℕ → Result (TypeBytes × List ℕ) StreamError
+unless_faulty (Some fault) bytes = Err fault
+unless_faulty None bytes = Ok (first_record bytes, drop (2 + record_len bytes) bytes)
 
--- all records of these bytes: each takes four bytes or more, so there are no more of them than bytes
-unfoldable pub type_records : List ℕ → Read TypeBytes
-type_records bytes = records_up_to (length bytes) bytes
+-- the record that stands first, and what stands behind it
+abbrev pub next_record : List ℕ → Result (TypeBytes × List ℕ) StreamError
+next_record bytes = unless_faulty (record_fault bytes) bytes
+
+-- all records of these bytes
+abbrev pub type_records : List ℕ → Read TypeBytes
+type_records bytes = all_items next_record bytes
+
+-- where the record that stands next in a list of so many bytes starts, at most 2 ^ 32 - 1, and what stands behind it
+abbrev pub next_start : ℕ → List ℕ → Result (ℕ × List ℕ) StreamError
+next_start whole bytes = do
+  read ← next_record bytes
+  Ok (min (whole - length bytes) (2 ^ 32 - 1), read.1)
 
 -- the records that start at these places
 abbrev pub records_at : List ℕ → List ℕ → List TypeBytes

@@ -4,8 +4,8 @@ ghost use Rattle.std.specs.Prelude.{◌≡◌, ◌+◌, ◌<◌, ◌≤◌, ◌^
 ghost use Rattle.pdb_tpi.specs.TypeRecords.{AreStarts, first_record, record_fault, record_len, records_at};
 ghost use Rattle.pdb_tpi.specs.TypeRecords.{type_records};
 
-use pdb_msf::faults::BAD_LENGTH;
-use pdb_msf::{Bytes, offset_of};
+use pdb_msf::faults::{BAD_LENGTH, Fault};
+use pdb_msf::{Bytes, ItemReader, offset_of, read_items};
 use pdb_records::{Reading, StreamError};
 use std::alloc::{AllocError, Global};
 use std::marker::Model;
@@ -27,28 +27,35 @@ impl<'a> Model for TypeRecord<'a> {
 }
 
 /// Where the records of a list start, in bytes from its own start.
+#[tactic(auto, using(crate::proofs::TypeRecordLemmas::listed))]
 pub(crate) fn record_starts(alloc: Global, bytes: &[u8]) -> Result<Reading<u32>, AllocError>
     requires { length bytes.now < 2 ^ 32 }
     ensures items { IfOk result (λ starts. records_at starts.items bytes.now ≡ (type_records bytes.now).items) }
     ensures fault { IfOk result (λ starts. starts.fault ≡ (type_records bytes.now).fault) }
     ensures starts { IfOk result (λ starts. AreStarts starts.items bytes.now) }
 {
-    let mut items = Vec::new(alloc);
-    let mut rest = Bytes::new(bytes);
-    for _ in 0..bytes.len() {
-        if rest.is_empty() {
-            break;
-        }
-        let start = offset_of(bytes.len(), rest.len());
-        if let Err(error) = take_record(&mut rest) {
-            return Ok(Reading {
-                items,
-                fault: Some(error),
-            });
-        }
-        items.push(start)?;
+    let whole = bytes.len();
+    read_items(alloc, &RecordStarts { whole }, bytes)
+}
+
+/// Where each record of a list of so many bytes starts.
+#[derive(Drop)]
+struct RecordStarts {
+    whole: usize,
+}
+
+impl<'a> ItemReader<'a> for RecordStarts {
+    type Item = u32;
+
+    ghost use Rattle.pdb_tpi.specs.TypeRecords.{next_start};
+
+    ghost first = { λ list. next_start list.whole };
+
+    fn take(&self, rest: &mut Bytes<'a>) -> Result<u32, Fault> {
+        let start = offset_of(self.whole, rest.len());
+        take_record(rest)?;
+        Ok(start)
     }
-    Ok(Reading { items, fault: None })
 }
 
 /// The next record of a list.

@@ -1,5 +1,5 @@
 -- The first entries with their numbers, among entries whose numbers ascend and among others.
-use Rattle.std.proofs.Common.{◌≡◌, ◌∙◌, ℕ, zero, suc, add-one, ◌+◌, ◌-◌, ◌<◌, ◌≤◌, Bool, true, false, cond, nat_eq}
+use Rattle.std.proofs.Common.{◌≡◌, ◌∙◌, ℕ, zero, suc, add-one, ◌+◌, ◌-◌, ◌<◌, ◌≤◌, Bool, true, false, nat_eq}
 use Rattle.std.proofs.Common.{List, [], ◌∷◌, ◌++◌, take, drop, length, get_or, Some, None, Ok, Err, refl, sym, ap, inl}
 use Rattle.std.proofs.Common.{inr, arith}
 use Rattle.std.specs.Prelude.{find, slice_get}
@@ -84,9 +84,7 @@ module _ {T : Type 0} (number_of : T → ℕ) where
   take-more : (entries : List T) (i : ℕ) (entry : T) → i < length entries → entry ≡ get_or entries i entry
       → take (i + 1) entries ≡ take i entries ++ (entry ∷ [])
   take-more entries i entry within is =
-      let more : take (i + 1) entries ≡ take i entries ++ (get_or entries i entry ∷ []) =
-      rw add-one (take-suc entries i entry within) in
-      more ∙ ap (λ x. take i entries ++ (x ∷ [])) (sym is)
+      rw (add-one, take-suc entries i entry within, ← is) refl
 
   -- the first entry among one more is that among those before, else the one more
   pub first_more : (entries : List T) (i : ℕ) (entry : T) → i < length entries → entry ≡ get_or entries i entry
@@ -107,18 +105,14 @@ module _ {T : Type 0} (number_of : T → ℕ) where
       → (number : ℕ) → first_numbered number_of number (take i entries) ≡ None
       → nat_eq (number_of entry) number ≡ false → first_numbered number_of number (take (i + 1) entries) ≡ None
   first_other entries i entry within is number absent other =
-      first_more entries i entry within is number
-      ∙ (ap (λ found. option_or found (first_numbered number_of number (entry ∷ []))) absent
-      ∙ ap (λ found. cond found (Some entry) None) other)
+      rw (first_more entries i entry within is number, absent, other) refl
 
   -- one more entry of the number is the first of it, where there was none
   pub first_here : (entries : List T) (i : ℕ) (entry : T) → i < length entries → entry ≡ get_or entries i entry
       → (number : ℕ) → first_numbered number_of number (take i entries) ≡ None
       → nat_eq (number_of entry) number ≡ true → first_numbered number_of number (take (i + 1) entries) ≡ Some entry
   first_here entries i entry within is number absent here =
-      first_more entries i entry within is number
-      ∙ (ap (λ found. option_or found (first_numbered number_of number (entry ∷ []))) absent
-      ∙ ap (λ found. cond found (Some entry) None) here)
+      rw (first_more entries i entry within is number, absent, here) refl
 
   -- the first entry of all is that of those at the beginning, else that of the others
   pub first_split : (entries : List T) (i number : ℕ) → first_numbered number_of number entries
@@ -132,7 +126,7 @@ module _ {T : Type 0} (number_of : T → ℕ) where
       → first_numbered number_of number (take i entries) ≡ Some entry
       → first_numbered number_of number entries ≡ Some entry
   first_take entries i number entry found =
-      first_split entries i number ∙ ap (λ o. option_or o (first_numbered number_of number (drop i entries))) found
+      rw (first_split entries i number, found) refl
 
   -- no entries ascend
   pub ascends_none : Ascends number_of []

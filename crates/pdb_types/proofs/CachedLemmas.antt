@@ -1,12 +1,11 @@
 -- What a map knows of the entries of a list.
-use Rattle.std.proofs.Common.{◌≡◌, ℕ, zero, suc, ◌+◌, ◌<◌, ◌≤◌, ◌∙◌, List, [], ◌∷◌, take, drop, length, get_or, sym, ap}
-use Rattle.std.proofs.Common.{arith}
+use Rattle.std.proofs.Common.{◌≡◌, ℕ, zero, suc, ◌+◌, ◌<◌, ◌≤◌, ◌∙◌, List, [], ◌∷◌, take, drop, length, get_or, sym}
+use Rattle.std.proofs.Common.{arith, refl}
 use Rattle.std.specs.Prelude.{Option, Some, None, option_map}
 use Rattle.std.specs.Option.{option_or}
 use Rattle.std.specs.Borrow.{Bor}
 use Rattle.std.specs.BTreeMap.{BTreeMap, get}
-use Rattle.std.specs.Ordering.{nat_cmp, is_eq}
-use Rattle.std.specs.Map.{lookup}
+use Rattle.std.specs.Ordering.{nat_cmp}
 use Rattle.pdb_types.specs.Ascending.{first_numbered}
 use Rattle.pdb_types.specs.CachedEntries.{Knows}
 use Rattle.pdb_types.proofs.AscendingLemmas.{first_more, first_take, first_split}
@@ -31,22 +30,18 @@ module _ {T : Type 0} (number_of : T → ℕ) where
       → Knows number_of (take (i + 1) entries) new
   unfolding Knows
   knows_more entries i entry old new within is knew learned number =
-      learned number
-      ∙ (ap (λ found. option_or found (first_numbered number_of number (entry ∷ []))) (knew number)
-      ∙ sym (first_more number_of entries i entry within is number))
+      rw (learned number, knew number) (sym (first_more number_of entries i entry within is number))
 
   -- a map that answers as before knows what it knew
   pub knows_same : (entries : List T) (old new : BTreeMap ℕ (Bor T)) → Knows number_of entries old
       → ((number : ℕ) → get nat_cmp new number ≡ get nat_cmp old number) → Knows number_of entries new
   unfolding Knows
-  knows_same entries old new knew same number = ap (λ found. option_map (λ entry. entry.now) found) (same number)
-      ∙ knew number
+  knows_same entries old new knew same number = rw (same number) (knew number)
 
   -- an empty map knows the entries of an empty list
   pub knows_nothing : (known : BTreeMap ℕ (Bor T)) → known.entries ≡ [] → Knows number_of [] known
   unfolding Knows
-  knows_nothing known empty number =
-      ap (λ found. option_map (λ entry. entry.now) found) (ap (λ es. lookup (λ k. is_eq (nat_cmp number k)) es) empty)
+  knows_nothing known empty number = rw empty refl
 
   -- what the map has is the first entry of its number
   pub knows_first : (entries : List T) (i : ℕ) (known : BTreeMap ℕ (Bor T)) (number : ℕ) (entry : T)
@@ -73,9 +68,7 @@ module _ {T : Type 0} (number_of : T → ℕ) where
   -- what is first behind a beginning that lacks the number is first in all
   pub first_behind : (entries : List T) (i number : ℕ) → None ≡ first_numbered number_of number (take i entries)
       → first_numbered number_of number (drop i entries) ≡ first_numbered number_of number entries
-  first_behind entries i number absent =
-      sym (first_split number_of entries i number
-      ∙ ap (λ o. option_or o (first_numbered number_of number (drop i entries))) (sym absent))
+  first_behind entries i number absent = rw (first_split number_of entries i number, ← absent) refl
 
   -- so is what a map has that knows the entries behind it
   pub knows_behind : (entries : List T) (i number : ℕ) (known : BTreeMap ℕ (Bor T))

@@ -1,10 +1,11 @@
 -- A chain of types ends within as many steps as there are entries, or never.
-use Rattle.std.proofs.Common.{◌≡◌, ◌⊎◌, inl, inr, ◌^◌, ◌<◌, ◌∙◌, ℕ, zero, suc, ◌≤◌, Bool, true, false, cond, eqb, ◌||◌}
+use Rattle.std.proofs.Common.{◌≡◌, ◌⊎◌, inl, inr, ◌^◌, ◌<◌, ◌∙◌, ℕ, zero, suc, ◌≤◌, Bool, true, false, cond, eqb}
 use Rattle.std.proofs.Common.{List, [], ◌∷◌, length, map, refl, sym, ap, subst, arith}
-use Rattle.std.specs.Prelude.{Option, Some, None, Result, Ok, Err, nat_lt}
+use Rattle.std.specs.Prelude.{Option, Some, None, Result, Ok, Err}
 use Rattle.std.specs.List.{AllByRecursion, IsDistinct, list_any}
 use Rattle.std.specs.Result.{result_unwrap_or}
-use Rattle.std.proofs.lemmas.Bool.{ltb-true, eqb-true, eq-eqb, or_right}
+use Rattle.std.proofs.lemmas.Bool.{false_from_ne_true, eqb-true}
+use Rattle.std.proofs.lemmas.Bool.Decides.{nat_tests}
 use Rattle.std.proofs.lemmas.Cmp.{nat_eq_equiv}
 use Rattle.std.proofs.lemmas.List.{length-map}
 use Rattle.std.proofs.lemmas.Map.Made.{length-le_from_is_member}
@@ -90,15 +91,12 @@ keys_along-among : (next : ℕ → Step) (key : ℕ → ℕ) (keys : List ℕ) (
     (ends : EndsWith next steps index size) → KeysAmong next key keys → (q : ℕ)
     → list_any (eqb q) (keys_along next key steps index size ends) ≡ true → list_any (eqb q) keys ≡ true
 keys_along-among next key keys zero index size ends among q here = cc
-keys_along-among next key keys (suc steps) index size ends among q here =
-    by_test (eqb q (key index)) refl here (keys_along-among next key keys steps ends.0.0 size ends.2 among q)
-  where
-    by_test : (t : Bool) → eqb q (key index) ≡ t
-        → (t || list_any (eqb q) (keys_along next key steps ends.0.0 size ends.2)) ≡ true
-        → (list_any (eqb q) (keys_along next key steps ends.0.0 size ends.2) ≡ true → list_any (eqb q) keys ≡ true)
-        → list_any (eqb q) keys ≡ true
-    by_test true same _ _ = rw (eqb-true q (key index) same) (among index ends.0 ends.1)
-    by_test false other later rest = rest later
+keys_along-among next key keys (suc steps) index size ends among q here = grind (
+  arith,
+  nat_tests,
+  among index ends.0 ends.1,
+  keys_along-among next key keys steps ends.0.0 size ends.2 among q,
+)
 
 -- an index that is farther from its end than all of a chain has a key of its own
 keys_along-apart : (next : ℕ → Step) (key : ℕ → ℕ) → KeysDetermine next key → (far first : ℕ) (end : TypeSize)
@@ -106,17 +104,13 @@ keys_along-apart : (next : ℕ → Step) (key : ℕ → ℕ) → KeysDetermine n
     → steps ≤ far → AllByRecursion (λ q. eqb (key first) q ≡ false) (keys_along next key steps index size ends)
 keys_along-apart next key determine far first end long zero index size ends within = tt
 keys_along-apart next key determine far first end long (suc steps) index size ends within = (
-  by_test (eqb (key first) (key index)) refl,
-  keys_along-apart next key determine far first end long steps ends.0.0 size ends.2 (omega arith),
-) where
-  by_test : (t : Bool) → eqb (key first) (key index) ≡ t → t ≡ false
-  by_test false other = refl
-  by_test true same =
-      let e : next first ≡ next index =
-      determine first index long.0 ends.0 long.1 ends.1 (eqb-true (key first) (key index) same) in
+  false_from_ne_true (eqb (key first) (key index)) (λ same.
+      let e = determine first index long.0 ends.0 long.1 ends.1 (eqb-true (key first) (key index) same) in
       let equal : suc far ≡ suc steps = steps_to_end next (suc far) (suc steps) index end size
       (long.0, sym e ∙ long.1, long.2) ends in
-      absurd (omega arith)
+      absurd (omega arith)),
+  keys_along-apart next key determine far first end long steps ends.0.0 size ends.2 (omega arith),
+)
 
 -- the indices of a chain that go on have different keys
 keys_along-distinct : (next : ℕ → Step) (key : ℕ → ℕ) → KeysDetermine next key
@@ -133,8 +127,7 @@ keys_along-distinct next key determine (suc steps) index size ends = (
 steps-le_keys : (next : ℕ → Step) (key : ℕ → ℕ) (keys : List ℕ) → KeysDetermine next key → KeysAmong next key keys
     → (steps index : ℕ) (size : TypeSize) → EndsWith next steps index size → steps ≤ length keys
 steps-le_keys next key keys determine among steps index size ends =
-    subst (λ (n : ℕ). n ≤ length keys) (length-keys_along next key steps index size ends)
-    (length-le_from_is_member nat_eq_equiv (keys_along next key steps index size ends) keys
+    rw length-keys_along at (length-le_from_is_member nat_eq_equiv (keys_along next key steps index size ends) keys
     (keys_along-distinct next key determine steps index size ends)
     (keys_along-among next key keys steps index size ends among))
 
@@ -146,15 +139,7 @@ numbers items = map (λ item. item.index.0) items
 first_item-among : (number : ℕ) (items : List (Item TypeIndex TypeData)) (found : Item TypeIndex TypeData)
     → first_item (λ i. i.0) number items ≡ Some found → list_any (eqb number) (numbers items) ≡ true
 first_item-among number [] found is = cc
-first_item-among number (item ∷ items) found is =
-    by_test (eqb item.index.0 number) refl is (first_item-among number items found) where
-      by_test : (t : Bool) → eqb item.index.0 number ≡ t
-          → cond t (Some item) (first_item (λ i. i.0) number items) ≡ Some found
-          → (first_item (λ i. i.0) number items ≡ Some found → list_any (eqb number) (numbers items) ≡ true)
-          → list_any (eqb number) (numbers (item ∷ items)) ≡ true
-      by_test true same _ _ = rw (eq-eqb number item.index.0 (sym (eqb-true item.index.0 number same))) refl
-      by_test false other later rest = or_right (eqb number item.index.0) (list_any (eqb number) (numbers items))
-          (rest later)
+first_item-among number (item ∷ items) found is = grind (arith, nat_tests, first_item-among number items found)
 
 -- what follows an index that stands for this
 abbrev follows : Read (Item TypeIndex TypeData) → ℕ → Result ℕ ReadErrorView → Step
@@ -186,18 +171,12 @@ follows_within link types pointer module_index index within =
 step-follows : (link : LinkInputs) (types : Read (Item TypeIndex TypeData)) (pointer module_index index : ℕ)
     (further : TypeIndex) → step link types pointer module_index index ≡ Next further
     → step link types pointer module_index index ≡ follows types pointer (resolved link module_index index)
-step-follows link types pointer module_index index further on =
-    (elim (nat_lt index (2 ^ 32)) as (λ b. follows_within link types pointer module_index index b ≡ Next further
-    → follows_within link types pointer module_index index b ≡ follows types pointer (resolved link module_index index))
-    [ true ↦ λ e. refl | false ↦ λ e. cc ]) on
+step-follows link types pointer module_index index further on = grind (arith, nat_tests, on)
 
 -- only an index of 32 bits goes on
 pub step-below : (link : LinkInputs) (types : Read (Item TypeIndex TypeData)) (pointer module_index index : ℕ)
     (further : TypeIndex) → step link types pointer module_index index ≡ Next further → index < 2 ^ 32
-step-below link types pointer module_index index further on =
-    (elim (nat_lt index (2 ^ 32)) as (λ b. nat_lt index (2 ^ 32) ≡ b
-    → follows_within link types pointer module_index index b ≡ Next further
-    → index < 2 ^ 32) [ true ↦ λ e _. ltb-true index (2 ^ 32) e | false ↦ λ _ e. cc ]) refl on
+step-below link types pointer module_index index further on = grind (arith, nat_tests, on)
 
 -- the number that an index stands for, where it stands for one
 abbrev number_of : LinkInputs → ℕ → ℕ → ℕ
@@ -219,17 +198,16 @@ numbers_determine link types pointer module_index i j further other on onward sa
     let entry = follows-entry types pointer (resolved link module_index i) further (sym on_entry ∙ on) in
     let next = follows-entry types pointer (resolved link module_index j) other (sym next_entry ∙ onward) in
     let equal : entry.0 ≡ next.0 = rw (entry.1, next.1) at same in
-    on_entry ∙ (ap (follows types pointer) (entry.1 ∙ (ap (λ n. Ok n) equal ∙ sym next.1)) ∙ sym next_entry)
+    rw (on_entry, next_entry, entry.1, next.1, equal) refl
 
 -- a chain that ends has no more steps than there are entries
 pub steps_within : (link : LinkInputs) (types : Read (Item TypeIndex TypeData)) (pointer module_index index steps : ℕ)
     (size : TypeSize) → EndsWith (step link types pointer module_index) steps index size → steps ≤ length types.items
 steps_within link types pointer module_index index steps size ends =
     let next = step link types pointer module_index in
-    let within = steps-le_keys next (number_of link module_index) (numbers types.items)
+    rw length-map at (steps-le_keys next (number_of link module_index) (numbers types.items)
     (numbers_determine link types pointer module_index)
-    (numbers_among link types pointer module_index) steps index size ends in
-    subst (λ (n : ℕ). steps ≤ n) (length-map types.items (λ item. item.index.0)) within
+    (numbers_among link types pointer module_index) steps index size ends)
 
 -- however many steps a chain has, where it ends, the size at its end is the type's
 pub type_size-at_end : (link : LinkInputs) (types : Read (Item TypeIndex TypeData))

@@ -1,23 +1,22 @@
 -- Sizes that are given to names behind an entry.
 use Rattle.std.proofs.Common.{true, false, cond, nat_eq, ◌≡◌, ℕ, ◌+◌, ◌<◌, ◌∙◌, List, [], ◌∷◌, drop, length, get_or}
-use Rattle.std.proofs.Common.{refl, sym, ap}
-use Rattle.std.specs.Prelude.{Bool, Option, Some, None, Result, Ok, Err, option_and_then}
+use Rattle.std.proofs.Common.{refl, sym, ap, arith}
+use Rattle.std.specs.Prelude.{Option, Some, None, Result, Ok, Err, option_and_then}
 use Rattle.std.specs.Option.{option_or, unwrap_or}
 use Rattle.std.specs.Borrow.{Bor}
 use Rattle.std.specs.BTreeMap.{BTreeMap, get}
-use Rattle.std.specs.Map.{lookup}
-use Rattle.std.specs.Ordering.{nat_cmp, is_eq}
-use Rattle.std.specs.Cmp.Lexicographic.{slice_cmp}
+use Rattle.std.specs.Ordering.{nat_cmp}
 use Rattle.std.specs.Result.{result_ok}
 use Rattle.std.specs.Str.{bytes_eq}
 use Rattle.std.proofs.lemmas.List.{drop_more}
+use Rattle.std.proofs.lemmas.Bool.Decides.{nat_tests}
 use Rattle.pdb_records.specs.Readings.{Read}
 use Rattle.pdb_records.specs.declared.error.Error as records
 use Rattle.pdb_records.specs.declared.types.Item.{Item}
 use Rattle.pdb_records.specs.declared.types.TypeIndex.{TypeIndex}
 use Rattle.pdb_records.specs.declared.types.TypeData.{TypeData}
 use Rattle.pdb_types.specs.ForwardReferences.{Aggregate, aggregate, item_aggregate, size_behind, size_for}
-use Rattle.pdb_types.specs.ForwardReferences.{definition_size, first_definition, entries_behind, referred_name}
+use Rattle.pdb_types.specs.ForwardReferences.{first_definition, entries_behind, referred_name}
 use Rattle.pdb_types.specs.ForwardReferences.{entry_name, forward_size, size_under, Defines, Tabulates}
 use Rattle.pdb_types.specs.Items.{first_item}
 use Rattle.pdb_types.specs.Resolution.{answered}
@@ -27,26 +26,22 @@ use Rattle.pdb_types.specs.TypeSizes.{size_elsewhere}
 -- a definition gives its size to its name, and leaves other names what they had
 pub size_for-or : (name : List ℕ) (a : Aggregate) (before : Option ℕ) → a.forward_reference ≡ false
     → cond (bytes_eq a.name name) (Some a.size) before ≡ option_or (size_for name a) before
-size_for-or name a before defines =
-    let cases : (same : Bool) → cond same (Some a.size) before ≡ option_or (cond same (Some a.size) None) before =
-    elim [ true ↦ refl | false ↦ refl ] in
-    rw defines (cases (bytes_eq a.name name))
+size_for-or name a before defines = grind (arith, nat_tests, defines)
 
 -- the entries from here on are this one and those behind it
 pub drop-here : {A : Type 0} (xs : List A) (i left : ℕ) (x : A) → i + 1 ≡ left → i < length xs → x ≡ get_or xs i x
     → drop i xs ≡ x ∷ drop left xs
-drop-here xs i left x next within is = rw (← next) (drop_more xs i x within ∙ ap (λ y. y ∷ drop (i + 1) xs) (sym is))
+drop-here xs i left x next within is = rw (← next, drop_more xs i x within, ← is) refl
 
 -- an empty map has what no entries define
 pub defines_nothing : (sizes : BTreeMap (Bor (List ℕ)) ℕ) → sizes.entries ≡ [] → Defines [] sizes
 unfolding Defines
-defines_nothing sizes empty name =
-    ap (λ es. lookup (λ (k : Bor (List ℕ)). is_eq (slice_cmp nat_cmp name k.now)) es) empty
+defines_nothing sizes empty name = rw empty refl
 
 -- an empty table has what no entries answer
 pub tabulates_nothing : (sizes : BTreeMap ℕ ℕ) → sizes.entries ≡ [] → Tabulates [] sizes
 unfolding Tabulates
-tabulates_nothing sizes empty number = ap (λ es. lookup (λ k. is_eq (nat_cmp number k)) es) empty
+tabulates_nothing sizes empty number = rw empty refl
 
 -- a map that takes up an entry before those that it has the definitions of has its definition too
 pub defines_more : (behind : List (Item TypeIndex TypeData)) (item : Item TypeIndex TypeData)
@@ -55,9 +50,7 @@ pub defines_more : (behind : List (Item TypeIndex TypeData)) (item : Item TypeIn
     → size_under new name ≡ option_or (option_and_then (size_for name) found_aggregate) (size_under old name))
     → Defines (item ∷ behind) new
 unfolding Defines
-defines_more behind item found_aggregate old new is defined step name =
-    step name ∙ (ap (λ t. option_or (option_and_then (size_for name) t) (size_under old name)) is ∙ ap
-    (λ size. option_or (definition_size name item) size) (defined name))
+defines_more behind item found_aggregate old new is defined step name = rw (step name, is, defined name) refl
 
 -- what a map has under the own name of an entry is its size among the entries that it has the definitions of
 pub forward_size_among-by_name : (behind : List (Item TypeIndex TypeData)) (sizes : BTreeMap (Bor (List ℕ)) ℕ)
@@ -95,19 +88,7 @@ tabulates_more behind item number found_aggregate size by_name old new same is a
     let own : size ≡ forward_size_among behind item =
     answers ∙ (forward_size_among-by_name behind by_name defined (option_and_then referred_name found_aggregate) ∙ ap
     (λ t. option_and_then (λ name. first_definition name behind) (option_and_then referred_name t)) is) in
-    step n ∙ (ap (λ m. cond (nat_eq m n) size (get nat_cmp old n)) same ∙
-    (ap (λ s. cond (nat_eq (item.index.0) n) s (get nat_cmp old n)) own ∙
-    (ap (λ s. cond (nat_eq (item.index.0) n) (forward_size_among behind item) s) (tabulated n) ∙ sym
-    (forward_size-first n item behind))))
-
--- an index that no entry has has nothing behind it
-pub entries_behind-absent : (number : ℕ) (items : List (Item TypeIndex TypeData))
-    → first_item (λ index. index.0) number items ≡ None → entries_behind number items ≡ []
-entries_behind-absent number [] absent = refl
-entries_behind-absent number (item ∷ items) absent =
-    (elim (nat_eq (item.index.0) number) as (λ b. cond b (Some item) (first_item (λ index. index.0) number items)
-    ≡ None → cond b items (entries_behind number items) ≡ [])
-    [ true ↦ λ e. cc | false ↦ λ e. entries_behind-absent number items e ]) absent
+    rw (step n, same, own, tabulated n) (sym (forward_size-first n item behind))
 
 -- the size behind an entry of the name that it goes by, where it is a forward reference
 forward_size-aggregate : (number : ℕ) (a : Aggregate) (items : List (Item TypeIndex TypeData))
@@ -116,10 +97,7 @@ forward_size-aggregate : (number : ℕ) (a : Aggregate) (items : List (Item Type
     → a.forward_reference ≡ true
     → forward_size number items ≡ size_behind number a.name items
 forward_size-aggregate number a items found is is_aggregate refers =
-    let sized : Option (List ℕ) → Option ℕ = option_and_then (λ name. size_behind number name items) in
-    ap (λ o. sized (option_and_then entry_name o)) is
-    ∙ (ap (λ t. sized (option_and_then referred_name t)) is_aggregate ∙ ap
-    (λ b. sized (cond b (Some a.name) None)) refers)
+    rw (is, is_aggregate, refers) refl
 
 -- the size of a forward reference that was read is that behind it by its own name
 pub forward_size-read : (types : Read (Item TypeIndex TypeData)) (number : ℕ) (type : TypeData) (a : Aggregate)
@@ -152,7 +130,4 @@ pub size_elsewhere-forward : (number own : ℕ) (items : List (Item TypeIndex Ty
     (a : Aggregate) (size : Option ℕ) → found_aggregate ≡ Some a → a.forward_reference ≡ true
     → size ≡ size_behind number a.name items
     → unwrap_or size own ≡ unwrap_or (option_and_then (size_elsewhere number items) found_aggregate) own
-size_elsewhere-forward number own items found_aggregate a size is refers found =
-    ap (λ s. unwrap_or s own) (found ∙ sym
-    (ap (option_and_then (size_elsewhere number items)) is ∙ ap
-    (λ b. cond b (size_behind number a.name items) None) refers))
+size_elsewhere-forward number own items found_aggregate a size is refers found = rw (is, refers, found) refl

@@ -1,5 +1,5 @@
 -- Module indices, read from the front.
-use Rattle.std.proofs.Common.{◌≡◌, ◌∙◌, ℕ, ◌+◌, ◌<◌, Bool, true, false, cond, List, length, drop, get_or, refl, sym, ap}
+use Rattle.std.proofs.Common.{◌≡◌, ℕ, ◌+◌, ◌<◌, Bool, true, false, cond, List, length, drop, get_or, refl}
 use Rattle.std.specs.Prelude.{Option, Some, None}
 use Rattle.std.specs.Option.{option_or}
 use Rattle.std.proofs.lemmas.List.{at_drop_more}
@@ -18,7 +18,5 @@ pub last_position-more : {A : Type 0} (test : A → Bool) (known : Option ℕ) (
     → option_or (last_position_from (i + 1) test (drop (i + 1) xs)) (cond (test x) (Some i) known) ≡ option_or
     (last_position_from i test (drop i xs)) known
 last_position-more test known xs i x within is =
-    option_or-here (last_position_from (i + 1) test (drop (i + 1) xs)) known (test x) i
-    ∙ (ap (λ y. option_or (option_or (last_position_from (i + 1) test (drop (i + 1) xs))
-    (cond (test y) (Some i) None)) known) is
-    ∙ sym (at_drop_more (λ ys. option_or (last_position_from i test ys) known) xs i x within))
+    rw (at_drop_more (λ ys. option_or (last_position_from i test ys) known) xs i x within, ← is)
+    (option_or-here (last_position_from (i + 1) test (drop (i + 1) xs)) known (test x) i)

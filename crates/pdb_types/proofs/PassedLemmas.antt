@@ -1,7 +1,7 @@
 -- The indices that a chain of types passes.
 use Rattle.std.proofs.Common.{◌≡◌, inl, inr, ◌∙◌, ℕ, zero, suc, ◌+◌, refl, sym, ap, subst, arith}
 use Rattle.std.specs.Prelude.{length, List, [], ◌∷◌, true, cond}
-use Rattle.std.specs.declared.cmp.Ordering.TheVariants.{Less, Equal, Greater}
+use Rattle.std.specs.declared.cmp.Ordering.TheVariants.{Equal}
 use Rattle.std.specs.Ordering.{nat_cmp, is_eq}
 use Rattle.std.specs.List.{list_any, AllByRecursion}
 use Rattle.std.specs.Cmp.{tied_itself, nat_cmp_total}
@@ -42,39 +42,37 @@ never_ends next steps index back k size ends =
     let equal : k ≡ after.0 = steps_to_end next k after.0 index size size ends after.2 in
     absurd (omega (arith, after.1))
 
--- a chain that leads to one that never ends never ends
-never_before : (next : ℕ → Step) (steps index other : ℕ) → Leads next steps index other → NeverEnds next other
-    → NeverEnds next index
-never_before next steps index other leads never k size ends =
-    let after = ends_after next steps k index other size leads ends in never after.0 size after.2
+-- a type has the size of the one that its chain goes on with
+type_size-next : (link : LinkInputs) (types : Read (Item TypeIndex TypeData)) (pointer module_index index : ℕ)
+    (further : TypeIndex) → step link types pointer module_index index ≡ Next further
+    → type_size link types pointer module_index index ≡ type_size link types pointer module_index further.0
+type_size-next link types pointer module_index index further on =
+    by_end (ends_or_not next (length types.items) further.0) where
+      next : ℕ → Step
+      next = step link types pointer module_index
 
--- a chain that leads to one that ends has its end
-ends_before : (next : ℕ → Step) (steps k index other : ℕ) (size : TypeSize) → Leads next steps index other
-    → EndsWith next k other size → (total : ℕ) × EndsWith next total index size
-ends_before next zero k index other size leads ends = (k, subst (λ (i : ℕ). EndsWith next k i size) (sym leads) ends)
-ends_before next (suc steps) k index other size leads ends =
-    let after = ends_before next steps k leads.0.0 other size leads.2 ends in
-    (suc after.0, (leads.0, leads.1, after.1))
+      by_end : EndsOrNot next (length types.items) further.0
+          → type_size link types pointer module_index index ≡ type_size link types pointer module_index further.0
+      by_end (inl (k, size, ends)) =
+          type_size-at_end link types pointer module_index index (suc k) size (further, on, ends)
+          ∙ sym (type_size-at_end link types pointer module_index further.0 k size ends)
+      by_end (inr longer) =
+          let never : NeverEnds next further.0 = λ k size ends.
+          let within = steps_within link types pointer module_index further.0 k size ends in
+          let more = longer k size ends in absurd (omega arith) in
+          type_size-never link types pointer module_index index (λ k size ends.
+          let after = ends_after next 1 k index further.0 size (further, on, refl) ends in never after.0 size after.2)
+          ∙ sym (type_size-never link types pointer module_index further.0 never)
 
 -- a type has the size of each that its chain leads to
 pub type_size-leads : (link : LinkInputs) (types : Read (Item TypeIndex TypeData))
     (pointer module_index index other steps : ℕ) → Leads (step link types pointer module_index) steps index other
     → type_size link types pointer module_index index ≡ type_size link types pointer module_index other
-type_size-leads link types pointer module_index index other steps leads =
-    by_end (ends_or_not (step link types pointer module_index) (length types.items) other) where
-      by_end : EndsOrNot (step link types pointer module_index) (length types.items) other
-          → type_size link types pointer module_index index ≡ type_size link types pointer module_index other
-      by_end (inl (k, size, ends)) = let total =
-          ends_before (step link types pointer module_index) steps k index other size leads ends in
-          type_size-at_end link types pointer module_index index total.0 size total.1 ∙ sym
-          (type_size-at_end link types pointer module_index other k size ends)
-      by_end (inr longer) =
-          let never : NeverEnds (step link types pointer module_index) other = λ k size ends. let within =
-          steps_within link types pointer module_index other k size ends in let more = longer k size ends in
-          absurd (omega arith) in
-          type_size-never link types pointer module_index index
-          (never_before (step link types pointer module_index) steps index other leads never) ∙ sym
-          (type_size-never link types pointer module_index other never)
+type_size-leads link types pointer module_index index other zero leads =
+    ap (type_size link types pointer module_index) leads
+type_size-leads link types pointer module_index index other (suc steps) leads =
+    type_size-next link types pointer module_index index leads.0 leads.1
+    ∙ type_size-leads link types pointer module_index leads.0.0 other steps leads.2
 
 -- a type whose chain comes back to it has no size
 pub type_size-back : (link : LinkInputs) (types : Read (Item TypeIndex TypeData)) (pointer module_index index steps : ℕ)
@@ -94,6 +92,16 @@ type_size-repeats link types pointer module_index index repeated before steps le
     type_size-leads link types pointer module_index index repeated before leads
     ∙ type_size-back link types pointer module_index repeated steps back
 
+-- where each index that was passed leads to another, it has the size of that
+pub passed_alike : (link : LinkInputs) (types : Read (Item TypeIndex TypeData)) (pointer module_index index : ℕ)
+    (size : TypeSize) (passed : BTreeSet ℕ) → type_size link types pointer module_index index ≡ size
+    → ((other : ℕ) → contains nat_cmp passed other ≡ true
+    → (steps : ℕ) × Leads (step link types pointer module_index) (suc steps) other index)
+    → (other : ℕ) → contains nat_cmp passed other ≡ true → type_size link types pointer module_index other ≡ size
+passed_alike link types pointer module_index index size passed is each other there =
+    let led = each other there in
+    type_size-leads link types pointer module_index other index (suc led.0) led.1 ∙ is
+
 -- a chain with one more step
 pub leads_more : (next : ℕ → Step) (steps index other : ℕ) (further : TypeIndex) → Leads next steps index other
     → next other ≡ Next further → Leads next (suc steps) index further.0
@@ -106,9 +114,8 @@ pub with_one : (P : ℕ → Type 0) (old new : BTreeSet ℕ) (index : ℕ) → U
     → ((q : ℕ) → contains nat_cmp old q ≡ true → P q) → (q : ℕ) → contains nat_cmp new q ≡ true → P q
 with_one P old new index updates here each q there =
     (elim (nat_cmp index q) as (λ o. nat_cmp index q ≡ o → cond (is_eq o) true (contains nat_cmp old q) ≡ true → P q) [
-      | Less ↦ λ _ e. each q e
       | Equal ↦ λ tied _. subst P (nat_cmp-IsAntisymmetric index q tied) here
-      | Greater ↦ λ _ e. each q e
+      | _ ↦ λ _ e. each q e
     ]) refl (sym (updates.0 q) ∙ there)
 
 -- what holds of each number of a set holds of each key

@@ -1,15 +1,16 @@
 -- Entries that were read by an index.
-use Rattle.std.proofs.Common.{◌≡◌, ◌^◌, ◌<◌, ℕ, true, false, cond, ap, refl}
-use Rattle.std.specs.Prelude.{Result, Ok, Err, nat_lt}
+use Rattle.std.proofs.Common.{◌≡◌, ◌^◌, ◌<◌, ℕ, ap}
+use Rattle.std.specs.Prelude.{Result, Ok, Err}
 use Rattle.std.specs.Result.{result_unwrap_or}
-use Rattle.std.proofs.lemmas.Bool.{ltb-true}
+use Rattle.std.proofs.lemmas.Bool.Decides.{nat_tests}
+use Rattle.std.proofs.Common.{arith}
 use Rattle.pdb_records.specs.Readings.{Read}
 use Rattle.pdb_records.specs.declared.types.Item.{Item}
 use Rattle.pdb_types.specs.Outcomes.{and_then}
 use Rattle.pdb_types.specs.Reading.{entry, reading}
 use Rattle.pdb_types.specs.Resolution.{resolved}
 use Rattle.pdb_types.specs.TypeInputs.{LinkInputs}
-use Rattle.pdb_types.specs.ReadError.{ReadErrorView, Missing}
+use Rattle.pdb_types.specs.ReadError.{ReadErrorView}
 
 -- a number, and what its entry says
 abbrev paired : {D : Type 0} → ℕ → D → Result (ℕ × D) ReadErrorView
@@ -41,21 +42,15 @@ read_by-entry number_of list (Err t) number content e = cc
 pub reading-entry : {I D : Type 0} (number_of : I → ℕ) (link : LinkInputs) (list : Read (Item I D))
     (module_index index number : ℕ) (content : D)
     → reading number_of link list module_index index ≡ paired number content → entry number_of list number ≡ Ok content
-reading-entry number_of link list module_index index number content read =
-    (elim (nat_lt index (2 ^ 32)) as (λ b. cond b (read_by number_of list (resolved link module_index index))
-    (Err (Missing index)) ≡ paired number content → entry number_of list number ≡ Ok content) [
-      | true ↦ λ e. read_by-entry number_of list (resolved link module_index index) number content e
-      | false ↦ λ e. cc
-    ]) read
+reading-entry number_of link list module_index index number content read = grind (
+  arith,
+  nat_tests,
+  read,
+  read_by-entry number_of list (resolved link module_index index) number content,
+)
 
 -- only an index of 32 bits is read, whatever is made of it
 pub reading-below : {I D A : Type 0} (number_of : I → ℕ) (link : LinkInputs) (list : Read (Item I D))
     (module_index index : ℕ) (made : ℕ × D → Result A ReadErrorView) (content : A)
     → and_then (reading number_of link list module_index index) made ≡ Ok content → index < 2 ^ 32
-reading-below number_of link list module_index index made content read =
-    (elim (nat_lt index (2 ^ 32)) as (λ b. nat_lt index (2 ^ 32) ≡ b
-    → and_then (cond b (read_by number_of list (resolved link module_index index)) (Err (Missing index))) made
-    ≡ Ok content → index < 2 ^ 32) [
-      | true ↦ λ e _. ltb-true index (2 ^ 32) e
-      | false ↦ λ _ e. cc
-    ]) refl read
+reading-below number_of link list module_index index made content read = grind (arith, nat_tests, read)

@@ -2,7 +2,7 @@
 use Rattle.std.proofs.Common.{◌≡◌, ◌∙◌, ℕ, List, [], cond, refl, sym, ap, subst}
 use Rattle.std.specs.Prelude.{Some, None, Ok}
 use Rattle.std.specs.declared.cmp.Ordering.{Ordering}
-use Rattle.std.specs.declared.cmp.Ordering.TheVariants.{Less, Equal, Greater}
+use Rattle.std.specs.declared.cmp.Ordering.TheVariants.{Equal}
 use Rattle.std.specs.Ordering.{nat_cmp, ordering_then, is_eq}
 use Rattle.std.specs.FinMap.{IsAntisymmetric, nat_cmp-IsAntisymmetric}
 use Rattle.std.specs.Map.{lookup}
@@ -12,7 +12,7 @@ use Rattle.pdb_types.specs.declared.type_cache.TypeCache.{TypeCache}
 use Rattle.pdb_types.specs.declared.type_cache.Asked.{Asked}
 use Rattle.pdb_types.specs.declared.type_sizes.TypeSize.{TypeSize}
 use Rattle.pdb_types.specs.Outcomes.{and_then}
-use Rattle.pdb_types.specs.Resolution.{texts, module_under, exports}
+use Rattle.pdb_types.specs.Resolution.{texts, module_under}
 use Rattle.pdb_types.specs.TypeInputs.{TypeInputs, ProviderInfos, LinkInputs, link_inputs}
 use Rattle.pdb_types.specs.TypeSizes.{size_of}
 use Rattle.pdb_types.specs.TypeCache.{IsNameCache, IsExportCache, IsSizeCache, asked_cmp, IsCacheOf, IsCacheAfter}
@@ -39,10 +39,9 @@ pub is_cache_more : {K X : Type 0} (cmp : K → K → Ordering) → IsAntisymmet
     → HoldsOfEach cmp P m → HoldsOfEach cmp P n
 is_cache_more {K} {X} cmp apart P m n k x updates here is_cache q y got =
     (elim (cmp k q) as (λ o. cmp k q ≡ o → cond (is_eq o) (Some x) (get cmp m q) ≡ Some y → P q y) [
-      | Less ↦ λ _ e. is_cache q y e
       | Equal ↦ λ tied e. let same : k ≡ q = apart k q tied in let value : x ≡ y = cc in
           subst (λ (z : K). P z y) same (subst (λ (z : X). P k z) value here)
-      | Greater ↦ λ _ e. is_cache q y e
+      | _ ↦ λ _ e. is_cache q y e
     ]) refl (sym (updates.0 q) ∙ got)
 
 -- the question of a module index and an index
@@ -54,10 +53,9 @@ pub asked_cmp-apart : IsAntisymmetric asked_cmp
 asked_cmp-apart a b tied =
     (elim (nat_cmp a.module_index b.module_index) as (λ o. nat_cmp a.module_index b.module_index ≡ o
     → ordering_then o (nat_cmp a.index b.index) ≡ Equal → a ≡ b) [
-      | Less ↦ λ _ e. cc
       | Equal ↦ λ first e. ap (λ p. question p a.index) (nat_cmp-IsAntisymmetric _ _ first) ∙ ap
           (question b.module_index) (nat_cmp-IsAntisymmetric _ _ e)
-      | Greater ↦ λ _ e. cc
+      | _ ↦ λ _ e. cc
     ]) refl tied
 
 -- where nothing was found yet, the type cache is a cache of the type inputs
@@ -74,60 +72,23 @@ is_cache_new info inputs cache types ids named found forward sizes = record {
   sizes = is_cache_of_nothing asked_cmp _ cache.sizes sizes;
 }
 
--- a type cache with other names of modules that fit
-pub caches_named : {P : Type 0} (info : P → ProviderInfos) (inputs : TypeInputs P) (cache : TypeCache)
-    (named : BTreeMap ℕ ℕ)
+-- a type cache with other names of modules, exports and sizes that fit
+pub caches_with : {P : Type 0} (info : P → ProviderInfos) (inputs : TypeInputs P) (cache : TypeCache)
+    (named : BTreeMap ℕ ℕ) (found : BTreeMap ℕ (List (ℕ × ℕ))) (sizes : BTreeMap Asked TypeSize)
     → IsCacheOf info inputs cache → IsNameCache (link_inputs info inputs) named
-    → IsCacheAfter info inputs cache (record cache { named = named })
-caches_named info inputs cache named is_cache more =
-    record {
-      is_cache = record {
-        types = is_cache.types;
-        ids = is_cache.ids;
-        named = more;
-        exports =
-            is_cache.exports;
-        forward = is_cache.forward;
-        sizes = is_cache.sizes;
-      };
-      failed = refl;
-    }
-
--- a type cache with other exports that fit
-pub caches_exports : {P : Type 0} (info : P → ProviderInfos) (inputs : TypeInputs P) (cache : TypeCache)
-    (found : BTreeMap ℕ (List (ℕ × ℕ))) → IsCacheOf info inputs cache → IsExportCache (link_inputs info inputs) found
-    → IsCacheAfter info inputs cache (record cache { exports = found })
-caches_exports info inputs cache found is_cache more =
-    record {
-      is_cache = record {
-        types = is_cache.types;
-        ids = is_cache.ids;
-        named = is_cache.named;
-        exports =
-            more;
-        forward = is_cache.forward;
-        sizes = is_cache.sizes;
-      };
-      failed = refl;
-    }
-
--- a type cache with other sizes that fit
-pub caches_sizes : {P : Type 0} (info : P → ProviderInfos) (inputs : TypeInputs P) (cache : TypeCache)
-    (sizes : BTreeMap Asked TypeSize) → IsCacheOf info inputs cache → IsSizeCache info inputs sizes
-    → IsCacheAfter info inputs cache (record cache { sizes = sizes })
-caches_sizes info inputs cache sizes is_cache more =
-    record {
-      is_cache = record {
-        types = is_cache.types;
-        ids = is_cache.ids;
-        named = is_cache.named;
-        exports =
-            is_cache.exports;
-        forward = is_cache.forward;
-        sizes = more;
-      };
-      failed = refl;
-    }
+    → IsExportCache (link_inputs info inputs) found → IsSizeCache info inputs sizes
+    → IsCacheAfter info inputs cache (record cache { named = named; exports = found; sizes = sizes })
+caches_with info inputs cache named found sizes is_cache names more others = record {
+  is_cache = record {
+    types = is_cache.types;
+    ids = is_cache.ids;
+    named = names;
+    exports = more;
+    forward = is_cache.forward;
+    sizes = others;
+  };
+  failed = refl;
+}
 
 -- one more module index
 pub names_more : (link : LinkInputs) (strings : List (StringRef × List ℕ)) (reference module_index : ℕ)
@@ -140,54 +101,12 @@ names_more link strings reference module_index m n there found updates is_cache 
     (λ r p. and_then (texts link.strings) (λ strings. module_under link.modules strings (record { 0 = r })) ≡ Ok p) m n
     reference module_index updates (rw there found) is_cache
 
--- names that stay
-pub names_same : (link : LinkInputs) (m n : BTreeMap ℕ ℕ) → n.entries ≡ m.entries → IsNameCache link m
-    → IsNameCache link n
-unfolding IsNameCache
-names_same link m n same is_cache = is_cache_same nat_cmp _ m n same is_cache
-
 -- a module index that was found under a reference is that of the module
 pub names_found : (link : LinkInputs) (strings : List (StringRef × List ℕ)) (reference module_index : ℕ)
     (m : BTreeMap ℕ ℕ) → link.strings ≡ Some strings → IsNameCache link m → get nat_cmp m reference ≡ Some module_index
     → module_under link.modules strings (record { 0 = reference }) ≡ Ok module_index
 unfolding IsNameCache
 names_found link strings reference module_index m there is_cache got = rw there at (is_cache reference module_index got)
-
--- one more module's exports
-pub exports_more : (link : LinkInputs) (module_index : ℕ) (list : List (ℕ × ℕ)) (m n : BTreeMap ℕ (List (ℕ × ℕ)))
-    → exports link module_index ≡ Ok list → Updates nat_cmp m n module_index (Some list) → IsExportCache link m
-    → IsExportCache link n
-unfolding IsExportCache
-exports_more link module_index list m n found updates is_cache =
-    is_cache_more nat_cmp nat_cmp-IsAntisymmetric
-    (λ p l. exports link p ≡ Ok l) m n module_index list updates found is_cache
-
--- exports that stay
-pub exports_same : (link : LinkInputs) (m n : BTreeMap ℕ (List (ℕ × ℕ))) → n.entries ≡ m.entries → IsExportCache link m
-    → IsExportCache link n
-unfolding IsExportCache
-exports_same link m n same is_cache = is_cache_same nat_cmp _ m n same is_cache
-
--- exports that were found are the module's
-pub exports_found : (link : LinkInputs) (module_index : ℕ) (list : List (ℕ × ℕ)) (m : BTreeMap ℕ (List (ℕ × ℕ)))
-    → IsExportCache link m → get nat_cmp m module_index ≡ Some list → exports link module_index ≡ Ok list
-unfolding IsExportCache
-exports_found link module_index list m is_cache got = is_cache module_index list got
-
--- one more size
-pub sizes_more : {P : Type 0} (info : P → ProviderInfos) (inputs : TypeInputs P) (asked : Asked) (size : TypeSize)
-    (m n : BTreeMap Asked TypeSize) → size_of info inputs asked.module_index asked.index ≡ size
-    → Updates asked_cmp m n asked (Some size) → IsSizeCache info inputs m → IsSizeCache info inputs n
-unfolding IsSizeCache
-sizes_more info inputs asked size m n found updates is_cache =
-    is_cache_more asked_cmp asked_cmp-apart
-    (λ a z. size_of info inputs a.module_index a.index ≡ z) m n asked size updates found is_cache
-
--- sizes that stay
-pub sizes_same : {P : Type 0} (info : P → ProviderInfos) (inputs : TypeInputs P) (m n : BTreeMap Asked TypeSize)
-    → n.entries ≡ m.entries → IsSizeCache info inputs m → IsSizeCache info inputs n
-unfolding IsSizeCache
-sizes_same info inputs m n same is_cache = is_cache_same asked_cmp _ m n same is_cache
 
 -- a size that was found is the type's
 pub sizes_found : {P : Type 0} (info : P → ProviderInfos) (inputs : TypeInputs P) (asked : Asked) (size : TypeSize)

@@ -2,8 +2,8 @@
 
 use crate::checks::Checks;
 use pdb_inline::{InlineRange, ProcedureStacks, StackTable, inline_stack};
-use pdb_ranges::Probes;
 use pdb_records::IdIndex;
+use pdb_tables::Probes;
 use std::alloc::{AllocError, Global};
 
 /// A range: its start and end, and its depth.

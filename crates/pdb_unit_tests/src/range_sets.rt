@@ -1,7 +1,7 @@
 //! Checks of sets of numbers.
 
 use crate::checks::Checks;
-use pdb_ranges::RangeSet;
+use pdb_tables::RangeSet;
 use std::alloc::{AllocError, Global};
 
 /// A range: its start, and its end behind it.

@@ -1,7 +1,7 @@
 //! Checks of tables of segments.
 
 use crate::checks::Checks;
-use pdb_ranges::{Probes, Segment, Segments};
+use pdb_tables::{Probes, Segment, Segments};
 use std::alloc::{AllocError, Global};
 
 /// A segment: its start, its end and its value.
@@ -86,8 +86,8 @@ fn looks_at_nothing(table: &Segments<u8>) -> bool {
     table.find(7, &mut probes).is_none() && probes.count() == 1
 }
 
-/// How many entries of a list a binary search for x looks at, where the entry at a place is the range from 4 times
-/// the place on, of two numbers.
+/// How many entries of a list a binary search for the first one that starts above x looks at, where the entry at a
+/// place is the range from 4 times the place on.
 fn looks(entries: usize, x: u64) -> u64 {
     let (mut from, mut to) = (0, entries);
     for looks in 0..64u64 {
@@ -95,13 +95,10 @@ fn looks(entries: usize, x: u64) -> u64 {
             return looks;
         }
         let middle = from + (to - from) / 2;
-        let start = (middle as u64).saturating_mul(4);
-        if x < start {
+        if x < (middle as u64).saturating_mul(4) {
             to = middle;
-        } else if x - start >= 2 {
-            from = middle + 1;
         } else {
-            return looks + 1;
+            from = middle + 1;
         }
     }
     64

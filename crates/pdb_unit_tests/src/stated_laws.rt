@@ -2,7 +2,7 @@
 
 use pdb_functions::laws as functions;
 use pdb_inline::laws as inline;
-use pdb_ranges::laws as ranges;
+use pdb_tables::laws as ranges;
 
 /// States each law once.
 pub(crate) fn are_stated() {

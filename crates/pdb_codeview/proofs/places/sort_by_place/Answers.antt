@@ -4,7 +4,7 @@ use Rattle.std.proofs.lemmas.Fn.{always_returns_same}
 use Rattle.std.proofs.lemmas.Result.{on_ok_weaker}
 use Rattle.std.proofs.lemmas.Cmp.{nat_cmp_total}
 use Rattle.std.proofs.lemmas.List.Sorted.{ranks_by}
-use Rattle.pdb_ranges.proofs.SortLemmas.{sorted_is_in_order}
+use Rattle.pdb_tables.proofs.SortLemmas.{sorted_is_in_order}
 use Rattle.pdb_codeview.proofs.places.sort_by_place.Goals as goal
 
 pub returns : goal.returns

@@ -1,8 +1,5 @@
-use Rattle.pdb_documents.specs.PrintInputs.{print_inputs_of}
 use Rattle.pdb_documents.proofs.UnfoldingLemmas.{inside-refused}
 use Rattle.pdb_documents.proofs.laws.an_index_inside_itself_is_circular.Goals as goal
 
 pub returns : goal.returns
-returns c = λ link_inputs types ids pointer flags module_index inside index type found open_already failed.
-    inside-refused (print_inputs_of link_inputs types ids pointer flags module_index) inside index type found
-    open_already failed
+returns c = λ link_inputs types ids pointer flags module_index. inside-refused _

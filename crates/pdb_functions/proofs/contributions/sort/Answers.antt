@@ -1,5 +1,5 @@
 use Rattle.std.proofs.lemmas.Result.{on_ok_weaker}
-use Rattle.pdb_ranges.proofs.SortLemmas.{sorted_is_in_order}
+use Rattle.pdb_tables.proofs.SortLemmas.{sorted_is_in_order}
 use Rattle.pdb_functions.proofs.ContributionLemmas.{contributions_rank}
 use Rattle.pdb_functions.proofs.contributions.sort.Goals as goal
 

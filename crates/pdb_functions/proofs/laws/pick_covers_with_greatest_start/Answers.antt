@@ -1,5 +1,5 @@
 use Rattle.pdb_functions.specs.Spans.{procedure_covers}
-use Rattle.pdb_ranges.proofs.PickLemmas.{pick_is_picked}
+use Rattle.pdb_tables.proofs.PickLemmas.{pick_is_picked}
 use Rattle.pdb_functions.proofs.laws.pick_covers_with_greatest_start.Goals as goal
 
 pub returns : goal.returns

@@ -2,8 +2,8 @@ use Rattle.std.proofs.Common.{length, refl, arith}
 use Rattle.std.proofs.lemmas.List.{length-append}
 use Rattle.std.proofs.lemmas.Option.{slice_get_read}
 use Rattle.std.proofs.Math.ListN.{drop_of_length-le}
-use Rattle.pdb_ranges.proofs.SegmentLemmas.{drop_is}
-use Rattle.pdb_ranges.proofs.TurnLemmas.{painted_in_turn-push}
+use Rattle.pdb_tables.proofs.SegmentLemmas.{drop_is}
+use Rattle.pdb_tables.proofs.TurnLemmas.{painted_in_turn-push}
 use Rattle.pdb_functions.specs.Keys.{key}
 use Rattle.pdb_functions.proofs.TableLemmas.{painted_position}
 use Rattle.pdb_functions.proofs.span_table.segments_of.Goals as goal

@@ -1,9 +1,9 @@
 use Rattle.std.proofs.Common.{◌≡◌, ◌^◌, ◌<◌, drop, length}
 use Rattle.std.specs.Prelude.{None, slice_get, option_and_then}
 use Rattle.pdb_records.specs.declared.addresses.PdbInternalSectionOffset.{PdbInternalSectionOffset}
-use Rattle.pdb_ranges.specs.Segments.{painted_in_turn}
+use Rattle.pdb_tables.specs.Segments.{painted_in_turn}
 use Rattle.pdb_functions.specs.Keys.{key}
-use Rattle.pdb_ranges.specs.Last.{last_over}
+use Rattle.pdb_tables.specs.Last.{last_over}
 use Rattle.pdb_functions.proofs.span_table.segments_of.Given as goal
 
 -- what the segments so far give a section offset, or else the last of what is left over it, is the last of all

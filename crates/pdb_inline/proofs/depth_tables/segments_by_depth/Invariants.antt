@@ -1,5 +1,5 @@
 use Rattle.std.proofs.Common.{◌≡◌, ◌<◌, ℕ, drop, length, None}
-use Rattle.pdb_ranges.specs.Segments.{painted_in_turn}
+use Rattle.pdb_tables.specs.Segments.{painted_in_turn}
 use Rattle.pdb_inline.specs.DepthTables.{segments_at}
 use Rattle.pdb_inline.specs.ListedRanges.{last_position}
 use Rattle.pdb_inline.proofs.depth_tables.segments_by_depth.Given as goal

@@ -1,7 +1,7 @@
 use Rattle.std.proofs.Common.{◌∙◌, sym, map, arith}
 use Rattle.std.proofs.Math.ListN.{drop_of_length-le}
 use Rattle.std.proofs.lemmas.List.{append-nil}
-use Rattle.pdb_ranges.specs.Segments.{value_at}
+use Rattle.pdb_tables.specs.Segments.{value_at}
 use Rattle.pdb_inline.proofs.depth_tables.tables_of.Goals as goal
 
 pub returns : goal.returns

@@ -1,5 +1,5 @@
 use Rattle.std.proofs.Common.{◌≡◌, ◌++◌, ℕ, map, drop, None}
-use Rattle.pdb_ranges.specs.Segments.{value_at, painted_in_turn}
+use Rattle.pdb_tables.specs.Segments.{value_at, painted_in_turn}
 use Rattle.pdb_inline.proofs.depth_tables.tables_of.Given as goal
 
 -- the values of the tables so far, and what is left would give, are those of all

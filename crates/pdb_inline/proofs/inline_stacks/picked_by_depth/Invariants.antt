@@ -1,5 +1,5 @@
 use Rattle.std.proofs.Common.{◌≡◌, ◌<◌, ◌≤◌, ℕ, drop, length, None}
-use Rattle.pdb_ranges.specs.Pick.{pick, later_start}
+use Rattle.pdb_tables.specs.Pick.{pick, later_start}
 use Rattle.pdb_inline.specs.InlineStacks.{lies_over}
 use Rattle.pdb_inline.specs.PickedSlots.{picked_at}
 use Rattle.pdb_inline.proofs.inline_stacks.picked_by_depth.Given as goal

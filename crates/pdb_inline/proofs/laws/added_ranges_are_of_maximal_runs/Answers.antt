@@ -1,4 +1,4 @@
-use Rattle.pdb_ranges.proofs.MissingRunLemmas.{IsRunsFrom-missing_runs, has-missing_runs}
+use Rattle.pdb_tables.proofs.MissingRunLemmas.{IsRunsFrom-missing_runs, has-missing_runs}
 use Rattle.pdb_inline.specs.InlineRows.{row_ranges}
 use Rattle.pdb_inline.specs.InlineRanges.{inner_ranges}
 use Rattle.pdb_inline.proofs.laws.added_ranges_are_of_maximal_runs.Goals as goal

@@ -1,9 +1,9 @@
 use Rattle.std.proofs.Common.{◌≡◌, refl}
 use Rattle.std.proofs.lemmas.Result.{on_ok_weaker}
 use Rattle.pdb_inline.specs.InlineRows.{row_ranges}
-use Rattle.pdb_ranges.specs.Runs.{missing_runs}
+use Rattle.pdb_tables.specs.Runs.{missing_runs}
 use Rattle.pdb_inline.specs.InlineRanges.{first_file}
-use Rattle.pdb_ranges.proofs.MissingRunLemmas.{missing_runs_are}
+use Rattle.pdb_tables.proofs.MissingRunLemmas.{missing_runs_are}
 use Rattle.pdb_inline.proofs.missing_rows.add_missing.Goals as goal
 
 pub returns-clause-added : goal.returns-clause-added

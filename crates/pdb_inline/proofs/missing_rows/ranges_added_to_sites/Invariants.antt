@@ -1,5 +1,5 @@
 use Rattle.std.proofs.Common.{◌≡◌, ◌≤◌, ℕ, length, map, drop, reverse}
-use Rattle.pdb_ranges.specs.RangeSet.{has}
+use Rattle.pdb_tables.specs.RangeSet.{has}
 use Rattle.pdb_inline.specs.CoveredRuns.{is_on_stack, deeper_ranges, added_by_depth}
 use Rattle.pdb_inline.specs.Sites.{site_view}
 use Rattle.pdb_inline.proofs.missing_rows.ranges_added_to_sites.Given as goal

@@ -1,5 +1,5 @@
 use Rattle.std.proofs.Common.{◌≡◌, ◌≤◌, ℕ, ◌||◌, vec_len}
-use Rattle.pdb_ranges.specs.RangeSet.{has}
+use Rattle.pdb_tables.specs.RangeSet.{has}
 use Rattle.pdb_inline.specs.CoveredRuns.{is_on_stack}
 use Rattle.pdb_inline.proofs.missing_rows.take_deeper.Given as goal
 

@@ -1,6 +1,6 @@
 use Rattle.std.proofs.Common.{get_or, Some, None}
 use Rattle.std.proofs.lemmas.List.{append-nil}
-use Rattle.pdb_ranges.proofs.ElementLemmas.{got_at}
+use Rattle.pdb_tables.proofs.ElementLemmas.{got_at}
 use Rattle.pdb_inline.proofs.StackLemmas.{ranges_at_step}
 use Rattle.pdb_inline.proofs.procedure_stacks.ranges_at.Goals.{in-Some+in_ok-push, in_default}
 use Rattle.pdb_inline.proofs.procedure_stacks.ranges_at.Goals as goal

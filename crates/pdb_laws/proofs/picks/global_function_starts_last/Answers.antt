@@ -1,4 +1,4 @@
-use Rattle.pdb_ranges.proofs.PickLemmas.{pick_is_picked}
+use Rattle.pdb_tables.proofs.PickLemmas.{pick_is_picked}
 use Rattle.pdb_functions.specs.Spans.{global_function_covers}
 use Rattle.pdb_laws.proofs.picks.global_function_starts_last.Goals as goal
 

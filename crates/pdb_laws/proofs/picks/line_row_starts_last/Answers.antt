@@ -1,5 +1,5 @@
 use Rattle.std.specs.Prelude.{nat_le}
-use Rattle.pdb_ranges.proofs.PickLemmas.{pick_is_picked}
+use Rattle.pdb_tables.proofs.PickLemmas.{pick_is_picked}
 use Rattle.pdb_laws.proofs.picks.line_row_starts_last.Goals as goal
 
 pub returns : goal.returns

@@ -1,5 +1,5 @@
 use Rattle.std.proofs.Common.{inl, inr}
-use Rattle.std.proofs.lemmas.Result.{err_from_is_err_and}
+use Rattle.serde_json.specs.View.{view}
 use Rattle.pdb_report_lib.proofs.RunLemmas.{text_stops_the_run, module_files_stop_the_run}
 use Rattle.pdb_report_lib.proofs.RunLemmas.{ends_over_text, run_ends_over_value}
 use Rattle.pdb_report_lib.proofs.runs.run.Goals as goal
@@ -9,12 +9,13 @@ returns-in-Err g c =
     let asked = rw c.in-Some.is at c.in-Ok.ensures in
     rw (← asked) (inl (text_stops_the_run _ _ c.deref.result.now c.in-Err.fault c.in-Err.ensures))
 
-pub returns-in_err-files : goal.returns-in_err-files
-returns-in_err-files g c =
+pub returns-in-Err-read_module_files : goal.returns-in-Err-read_module_files
+returns-in-Err-read_module_files g c =
     let asked = rw c.in-Some.is at c.in-Ok.ensures in
-    let p = err_from_is_err_and c.from_residual-in_err-files.result c.from_residual-in_err-files.ensures.1 in
-    rw (← asked, p.1, p.2)
-    (module_files_stop_the_run _ _ _ _ _ c.in_err-files.field-0.0 c.in-Ok-from_slice.ensures c.in_err-files.ensures)
+    let value = view c.in-Ok-from_slice.file.value in
+    rw (← asked)
+    (module_files_stop_the_run _ _ _ _ value c.module_stop.result c.in-Ok-from_slice.ensures
+    (c.module_stop.ensures value c.in-Err-read_module_files.ensures))
 
 pub returns-in-Ok-flush : goal.returns-in-Ok-flush
 returns-in-Ok-flush g c =

@@ -1,13 +1,11 @@
 use Rattle.std.proofs.lemmas.Result.{on_ok_weaker}
 use Rattle.std.proofs.Common.{arith, sym}
-use Rattle.pdb_signatures.proofs.StandsLemmas.{stands_first, stands_before, stands_fewer}
+use Rattle.pdb_signatures.proofs.StandsLemmas.{stands_first, ◌◂◌, stands_fewer}
 use Rattle.pdb_signatures.proofs.functions.function_arguments.Goals as goal
 
 pub returns : goal.returns
 returns c = on_ok_weaker c.first-3.result (λ put w flags.
-    let last = stands_first w _ _ _ c.in_ok-first.ensures in
-    let row = stands_before w _ _ _ _ _ _ last c.in_ok-first-2.ensures in
-    let all = stands_fewer 1 (omega arith) (stands_before w _ _ _ _ _ _ row put) in
+    let all = stands_fewer 1 (omega arith) (stands_first w c.in_ok-first.ensures ◂ c.in_ok-first-2.ensures ◂ put) in
     let wanted = sym c.if-without_arguments.ensures in
     let wanted_here = rw (← flags) at wanted in
     rw wanted_here all)

@@ -1,11 +1,10 @@
 use Rattle.std.proofs.lemmas.Result.{on_ok_weaker}
 use Rattle.std.proofs.Common.{arith}
-use Rattle.pdb_signatures.proofs.StandsLemmas.{stands_first, stands_before, stands_fewer}
+use Rattle.pdb_signatures.proofs.StandsLemmas.{stands_first, ◌◂◌, stands_fewer}
 use Rattle.pdb_signatures.proofs.ids.scope.Goals as goal
 
 pub returns : goal.returns
 returns c = on_ok_weaker c.first-2.result (λ put w.
-    let last = stands_first w _ _ _ c.in_ok-first.ensures in
-    let all = stands_fewer 1 (omega arith) (stands_before w _ _ _ _ _ _ last put) in
+    let all = stands_fewer 1 (omega arith) (stands_first w c.in_ok-first.ensures ◂ put) in
     rw c.in-Some.is all)
     c.first-2.ensures

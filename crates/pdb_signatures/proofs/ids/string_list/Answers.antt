@@ -3,15 +3,13 @@ use Rattle.std.proofs.Common.{arith}
 use Rattle.std.specs.Prelude.{None, codes}
 use Rattle.pdb_documents.specs.Functions.{types_between}
 use Rattle.pdb_documents.specs.Plans.{◌▸◌, written}
-use Rattle.pdb_signatures.proofs.StandsLemmas.{stands_first, stands_before, stands_fewer}
+use Rattle.pdb_signatures.proofs.StandsLemmas.{stands_first, ◌◂◌, stands_fewer}
 use Rattle.pdb_signatures.proofs.TurnLemmas.{advances_stands, alone_advances}
 use Rattle.pdb_signatures.proofs.ids.string_list.Goals as goal
 
 pub returns : goal.returns
 returns c = on_ok_weaker c.first-3.result (λ put w failed.
-    let last = stands_first w _ _ _ c.in_ok-first.ensures in
-    let row = stands_before w _ _ _ _ _ _ last c.in_ok-first-2.ensures in
-    let all = stands_fewer 0 (omega arith) (stands_before w _ _ _ _ _ _ row put) in
+    let all = stands_fewer 0 (omega arith) (stands_first w c.in_ok-first.ensures ◂ c.in_ok-first-2.ensures ◂ put) in
     let advances = advances_stands w 0 _ _ _ all failed in
     alone_advances w None (λ inside. written
     (codes "\"") ▸ types_between (codes "\" \"") inside c.args.substrings.now ▸ written (codes "\""))

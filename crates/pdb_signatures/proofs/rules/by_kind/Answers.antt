@@ -43,6 +43,6 @@ returns-in-Array c = on_ok_weaker c.array.result (λ ok w flags. rw c.in-Array.i
     c.array.ensures
 
 pub returns-in-Other : goal.returns-in-Other
-returns-in-Other c = on_ok_weaker c.first-in-Other.result (λ ok w flags. let all = stands_first w _ _ _ ok in
+returns-in-Other c = on_ok_weaker c.first-in-Other.result (λ ok w flags. let all = stands_first w ok in
     let stands = rw (c.as_str.ensures.value, c.kind.view_is) at all in rw c.in-Other.is stands)
     c.first-in-Other.ensures

@@ -1,6 +1,6 @@
 use Rattle.std.proofs.lemmas.Result.{on_ok_weaker}
 use Rattle.std.proofs.Common.{arith}
-use Rattle.pdb_signatures.proofs.StandsLemmas.{stands_first, stands_before, stands_fewer}
+use Rattle.pdb_signatures.proofs.StandsLemmas.{stands_first, ◌◂◌, stands_fewer}
 use Rattle.pdb_signatures.proofs.OtherKinds.{modified-other}
 use Rattle.pdb_signatures.proofs.rules.modified.Goals as goal
 
@@ -10,8 +10,7 @@ returns-in-Pointer c = on_ok_weaker c.pointer.result (λ ok w. rw c.in-Pointer.i
 
 pub returns-in_ok-first-in_default : goal.returns-in_ok-first-in_default
 returns-in_ok-first-in_default c = on_ok_weaker c.first-in_default-2.result (λ put w.
-    let last = stands_first w _ _ _ c.in_ok-first-in_default.ensures in
-    let all = stands_fewer 0 (omega arith) (stands_before w _ _ _ _ _ _ last put) in
+    let all = stands_fewer 0 (omega arith) (stands_first w c.in_ok-first-in_default.ensures ◂ put) in
     rw (modified-other w c.args.constant _ c.args.type_data.now c.in_default.not-Pointer c.in_default.not-Primitive)
     (rw c.const_word.ensures at all))
     c.first-in_default-2.ensures

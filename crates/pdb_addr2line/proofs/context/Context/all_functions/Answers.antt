@@ -1,7 +1,7 @@
 use Rattle.std.proofs.Common.{◌∙◌, ◌<◌, [], ◌∷◌, ◌++◌, length, get_or, take, map, sym, ap, refl, arith}
 use Rattle.std.proofs.lemmas.List.{take_all}
 use Rattle.pdb_function_info.specs.Function.{function_view}
-use Rattle.pdb_addr2line.specs.Functions.{functions_at, after_functions}
+use Rattle.pdb_addr2line.specs.Functions.{functions_at}
 use Rattle.pdb_addr2line.proofs.FunctionLemmas.{inputs_stay, after_one_more, functions_one_more, cut_short_later}
 use Rattle.pdb_addr2line.proofs.FunctionLemmas.{on_error}
 use Rattle.pdb_addr2line.proofs.GainLemmas.{gains_none, gains_after}
@@ -10,8 +10,7 @@ use Rattle.pdb_addr2line.proofs.context.Context.all_functions.Goals as goal
 pub loop-address-init : goal.loop-address-init
 loop-address-init g c = record {
   functions = ap (map function_view) c.new-functions.ensures.items;
-  state =
-      refl;
+  state = refl;
   gains = gains_none g.P.ModuleProvider.info c.start_addresses.new.self c.start_addresses.new.self refl;
 }
 
@@ -49,21 +48,15 @@ returns-in_err-add_function-clause-early g c =
 
 pub returns-clause-answer : goal.returns-clause-answer
 returns-clause-answer g c =
-    let info = g.P.ModuleProvider.info in
     let whole = take_all c.loop-address.address-index c.deref-address-items.result.now c.loop-address-test.false in
-    let functions = rw c.start_addresses.ensures.unchanged at c.loop-address.invariant.functions in
-    functions
-    ∙ ap (functions_at info c.args.self.now.inputs)
-    (whole ∙ (c.deref-address-items.ensures.value ∙ c.in_ok-addresses.ensures.answer))
+    let all = whole ∙ (c.deref-address-items.ensures.value ∙ c.in_ok-addresses.ensures.answer) in
+    rw (c.start_addresses.ensures.unchanged, all) at c.loop-address.invariant.functions
 
 pub returns-clause-state : goal.returns-clause-state
 returns-clause-state g c =
-    let info = g.P.ModuleProvider.info in
     let whole = take_all c.loop-address.address-index c.deref-address-items.result.now c.loop-address-test.false in
-    let state = rw c.start_addresses.ensures.unchanged at c.loop-address.invariant.state in
-    state
-    ∙ ap (after_functions info c.args.self.now)
-    (whole ∙ (c.deref-address-items.ensures.value ∙ c.in_ok-addresses.ensures.answer))
+    let all = whole ∙ (c.deref-address-items.ensures.value ∙ c.in_ok-addresses.ensures.answer) in
+    rw (c.start_addresses.ensures.unchanged, all) at c.loop-address.invariant.state
 
 pub returns-in_err-add_function-clause-gains : goal.returns-in_err-add_function-clause-gains
 returns-in_err-add_function-clause-gains g c =

@@ -1,5 +1,5 @@
 use Rattle.std.proofs.Common.{◌∙◌, Some, ap, sym}
-use Rattle.pdb_ranges.proofs.ElementLemmas.{got_at}
+use Rattle.pdb_tables.proofs.ElementLemmas.{got_at}
 use Rattle.pdb_frames.proofs.LentNameLemmas.{lent_at}
 use Rattle.pdb_frames.proofs.lent_names.LentNames.name.Goals as goal
 

@@ -1,7 +1,7 @@
 use Rattle.std.proofs.Common.{◌∙◌, sym, ap, reverse, None}
 use Rattle.std.proofs.lemmas.List.{reverse-reverse}
-use Rattle.pdb_ranges.specs.Last.{last_over}
-use Rattle.pdb_ranges.proofs.LastLemmas.{last_over-reverse}
+use Rattle.pdb_tables.specs.Last.{last_over}
+use Rattle.pdb_tables.proofs.LastLemmas.{last_over-reverse}
 use Rattle.pdb_functions.specs.Spans.{contribution_covers}
 use Rattle.pdb_functions.proofs.contribution_table.ContributionTable.new.Goals as goal
 

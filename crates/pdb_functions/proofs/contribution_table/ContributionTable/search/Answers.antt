@@ -1,6 +1,6 @@
 use Rattle.std.proofs.Common.{◌≡◌, ◌*◌, length, arith}
 use Rattle.std.proofs.lemmas.List.{length-reverse}
-use Rattle.pdb_ranges.proofs.DigitLemmas.{digits_mono}
+use Rattle.pdb_tables.proofs.DigitLemmas.{digits_mono}
 use Rattle.pdb_functions.proofs.contribution_table.ContributionTable.search.Goals as goal
 
 pub returns-clause-few : goal.returns-clause-few

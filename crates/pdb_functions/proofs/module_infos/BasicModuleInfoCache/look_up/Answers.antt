@@ -1,6 +1,6 @@
 use Rattle.std.proofs.Common.{◌∙◌, ap, sym, arith}
 use Rattle.pdb_functions.proofs.ModuleInfoLemmas.{infos_at}
-use Rattle.pdb_functions.specs.ModuleInfos.{cached_info_at}
+use Rattle.pdb_tables.specs.Slots.{held}
 use Rattle.pdb_functions.proofs.module_infos.BasicModuleInfoCache.look_up.Goals as goal
 
 pub returns-in-Some : goal.returns-in-Some
@@ -9,4 +9,4 @@ returns-in-Some g c =
     rw (← c.self.view_is) (c.as_ref.ensures.value ∙ infos_at
     (g.P.ModuleProvider.info c.self.inside.provider.now) c.args.modules.now c.args.module_index c.in-Some.entry.now
     c.self.inside.cached.items c.self.invariant (omega arith) cached
-    (sym (c.in-Some.ensures ∙ ap (λ cached. cached_info_at cached c.args.module_index) c.deref.ensures.value)))
+    (sym (c.in-Some.ensures ∙ ap (λ cached. held cached c.args.module_index) c.deref.ensures.value)))

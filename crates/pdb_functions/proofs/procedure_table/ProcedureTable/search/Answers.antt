@@ -1,6 +1,6 @@
 use Rattle.std.proofs.Common.{◌≡◌, ◌*◌, length, arith}
 use Rattle.std.proofs.lemmas.List.{length-map}
-use Rattle.pdb_ranges.proofs.DigitLemmas.{digits_mono}
+use Rattle.pdb_tables.proofs.DigitLemmas.{digits_mono}
 use Rattle.pdb_functions.specs.Procedures.{module_procedure}
 use Rattle.pdb_functions.proofs.procedure_table.ProcedureTable.search.Goals as goal
 

@@ -1,5 +1,5 @@
 use Rattle.std.proofs.Common.{◌≡◌, ◌*◌, length, ap, arith}
-use Rattle.pdb_ranges.proofs.DigitLemmas.{digits_mono}
+use Rattle.pdb_tables.proofs.DigitLemmas.{digits_mono}
 use Rattle.pdb_functions.proofs.section_table.SectionTable.search.Goals as goal
 
 pub returns-in_err-section-clause-few : goal.returns-in_err-section-clause-few

@@ -1,7 +1,7 @@
 use Rattle.std.proofs.lemmas.Result.{on_ok_weaker}
 use Rattle.std.proofs.Common.{arith, refl, sym, ap}
 use Rattle.pdb_documents.specs.PrintInputs.{formatter_inputs}
-use Rattle.pdb_signatures.proofs.StandsLemmas.{stands_first, stands_before, stands_fewer}
+use Rattle.pdb_signatures.proofs.StandsLemmas.{stands_first, ◌◂◌, stands_fewer}
 use Rattle.pdb_signatures.proofs.TurnLemmas.{advances_met}
 use Rattle.pdb_signatures.proofs.ReadLemmas.{adds_met}
 use Rattle.pdb_signatures.proofs.type_formatter.TypeFormatter.base.Goals as goal
@@ -23,8 +23,7 @@ returns-clause-later g c =
 pub returns-clause-advances : goal.returns-clause-advances
 returns-clause-advances g c = rw (← c.self.view_is) (on_ok_weaker c.first-2.result (λ put.
     let w = formatter_inputs g.P.ModuleProvider.info c.self.inside.type_inputs c.args.module_index in
-    let last = stands_first w _ _ _ c.in_ok-first.ensures in
-    let row = stands_fewer 0 (omega arith) (stands_before w _ _ _ _ _ _ last put) in
+    let row = stands_fewer 0 (omega arith) (stands_first w c.in_ok-first.ensures ◂ put) in
     let remembered = rw c.in-Ok.ensures.state.failed at c.in_ok-remember.ensures.failed in
     rw (← c.in-Ok.ensures.answer)
     (advances_met w _ _ c.args.progress.now _ c.self.inside.cache.failed _ c.requires.no_failure remembered row))

@@ -5,9 +5,7 @@ use Rattle.pdb_signatures.proofs.type_formatter.TypeFormatter.element.Goals as g
 
 pub returns-in-Array-clause-advances : goal.returns-in-Array-clause-advances
 returns-in-Array-clause-advances g c = on_ok_weaker c.further_level.result (λ ok.
-    let s = c.args.self.now.type_inputs in
-    let module_index = c.args.module_index in
-    let w = formatter_inputs g.P.ModuleProvider.info s module_index in
+    let w = formatter_inputs g.P.ModuleProvider.info c.args.self.now.type_inputs c.args.module_index in
     rw c.in-Array.is (advances_stands w 0 _ c.args.progress.now _
     (ok w) c.args.self.now.failed))
     c.further_level.ensures

@@ -13,18 +13,14 @@ use Rattle.pdb_signatures.proofs.type_formatter.TypeFormatter.elements.Goals as 
 
 pub returns-then-contains-clause-advances : goal.returns-then-contains-clause-advances
 returns-then-contains-clause-advances g c =
-    let s = c.args.self.now.type_inputs in
-    let module_index = c.args.module_index in
-    let w = formatter_inputs g.P.ModuleProvider.info s module_index in
+    let w = formatter_inputs g.P.ModuleProvider.info c.args.self.now.type_inputs c.args.module_index in
     let among = sym (keys-among c.args.next.0 c.args.elements.keys) ∙ sym c.if-contains.ensures in
     elements_circular w c.args.elements.keys c.args.levels.items c.args.next.0 c.args.progress.now _
     c.args.self.now.failed among c.requires.no_failure c.fail.ensures
 
 pub returns-in-Ok-clause-advances : goal.returns-in-Ok-clause-advances
 returns-in-Ok-clause-advances g c = on_ok_weaker c.element.result (λ ok.
-    let s = c.args.self.now.type_inputs in
-    let module_index = c.args.module_index in
-    let w = formatter_inputs g.P.ModuleProvider.info s module_index in
+    let w = formatter_inputs g.P.ModuleProvider.info c.args.self.now.type_inputs c.args.module_index in
     let absent = sym (keys-among c.args.next.0 c.args.elements.keys) ∙ sym c.if-contains.ensures in
     let read = c.in-Ok.ensures.answer in
     let advances = rw c.in-Ok.ensures.unchanged at ok in
@@ -36,12 +32,9 @@ returns-in-Ok-clause-advances g c = on_ok_weaker c.element.result (λ ok.
     c.element.ensures.advances
 
 pub returns-in-Err-clause-advances : goal.returns-in-Err-clause-advances
-returns-in-Err-clause-advances g c = on_ok_weaker c.refuse.result (λ ok.
-    let s = c.args.self.now.type_inputs in
-    let module_index = c.args.module_index in
-    let w = formatter_inputs g.P.ModuleProvider.info s module_index in
+returns-in-Err-clause-advances g c = on_ok_weaker c.refuse.result (λ refused.
+    let w = formatter_inputs g.P.ModuleProvider.info c.args.self.now.type_inputs c.args.module_index in
     let absent = sym (keys-among c.args.next.0 c.args.elements.keys) ∙ sym c.if-contains.ensures in
-    let refused = ok in
     let read_error = read_error-is (w.read c.args.next.0) c.in-Err.read_error refused.read_error_view
     c.in-Err.ensures.answer refused.known in
     let ran = rw c.in-Err.ensures.unchanged at refused.ran in

@@ -17,9 +17,7 @@ returns-in_ok-open_alone-in-Ok-clause-entered g c =
 
 pub returns-in_ok-refuse-in-Err-clause-entered : goal.returns-in_ok-refuse-in-Err-clause-entered
 returns-in_ok-refuse-in-Err-clause-entered g c = λ next.
-    let s = c.args.self.now.type_inputs in
-    let module_index = c.args.module_index in
-    let w = formatter_inputs g.P.ModuleProvider.info s module_index in
+    let w = formatter_inputs g.P.ModuleProvider.info c.args.self.now.type_inputs c.args.module_index in
     let refused = c.in_ok-refuse-in-Err.ensures.fails in
     let read_error = read_error-is (w.read c.args.index.0) c.in-Err.read_error refused.read_error_view
     c.in-Err.ensures.answer refused.known in

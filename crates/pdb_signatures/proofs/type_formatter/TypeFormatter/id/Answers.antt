@@ -9,20 +9,15 @@ use Rattle.pdb_signatures.proofs.type_formatter.TypeFormatter.id.Goals as goal
 
 pub returns-then-contains-clause-advances : goal.returns-then-contains-clause-advances
 returns-then-contains-clause-advances g c =
-    let s = c.args.self.now.type_inputs in
-    let module_index = c.args.module_index in
-    let w = formatter_inputs g.P.ModuleProvider.info s module_index in
+    let w = formatter_inputs g.P.ModuleProvider.info c.args.self.now.type_inputs c.args.module_index in
     let among = sym (keys-among c.args.index.0 c.args.met.keys) ∙ sym c.if-contains.ensures in
     id_circular w c.args.met.keys c.args.index.0 c.args.progress.now _ c.args.self.now.failed among
     c.requires.no_failure c.fail.ensures
 
 pub returns-in-Err-clause-advances : goal.returns-in-Err-clause-advances
-returns-in-Err-clause-advances g c = on_ok_weaker c.note.result (λ ok.
-    let s = c.args.self.now.type_inputs in
-    let module_index = c.args.module_index in
-    let w = formatter_inputs g.P.ModuleProvider.info s module_index in
+returns-in-Err-clause-advances g c = on_ok_weaker c.note.result (λ noted.
+    let w = formatter_inputs g.P.ModuleProvider.info c.args.self.now.type_inputs c.args.module_index in
     let absent = sym (keys-among c.args.index.0 c.args.met.keys) ∙ sym c.if-contains.ensures in
-    let noted = ok in
     let read_error = read_error-is (w.read_id c.args.index.0) c.in-Err.read_error noted.read_error_view
     c.in-Err.ensures.answer noted.known in
     let ran = rw c.in-Err.ensures.unchanged at noted.ran in
@@ -32,9 +27,7 @@ returns-in-Err-clause-advances g c = on_ok_weaker c.note.result (λ ok.
 
 pub returns-in_ok-insert-in-Ok-clause-advances : goal.returns-in_ok-insert-in-Ok-clause-advances
 returns-in_ok-insert-in-Ok-clause-advances g c = on_ok_weaker c.id_by_kind.result (λ ok.
-    let s = c.args.self.now.type_inputs in
-    let module_index = c.args.module_index in
-    let w = formatter_inputs g.P.ModuleProvider.info s module_index in
+    let w = formatter_inputs g.P.ModuleProvider.info c.args.self.now.type_inputs c.args.module_index in
     let absent = sym (keys-among c.args.index.0 c.args.met.keys) ∙ sym c.if-contains.ensures in
     let read = c.in-Ok.ensures.answer in
     let settled = rw c.in-Ok.ensures.unchanged at ok in

@@ -6,10 +6,8 @@ use Rattle.pdb_signatures.proofs.type_formatter.TypeFormatter.id_by_kind.Goals a
 
 pub returns-in-Other-clause-advances : goal.returns-in-Other-clause-advances
 returns-in-Other-clause-advances g c = on_ok_weaker c.first-in-Other.result (λ ok.
-    let s = c.args.self.now.type_inputs in
-    let module_index = c.args.module_index in
-    let w = formatter_inputs g.P.ModuleProvider.info s module_index in
-    let all = stands_first w _ _ _ ok in
+    let w = formatter_inputs g.P.ModuleProvider.info c.args.self.now.type_inputs c.args.module_index in
+    let all = stands_first w ok in
     let stands = rw (c.as_str.ensures.value, c.kind.view_is) at all in
     rw c.in-Other.is (closing_advances w 0 _ c.args.progress.now _ c.args.self.now.failed _
     (advances_stands w 0 _ c.args.progress.now _ stands c.args.self.now.failed)))

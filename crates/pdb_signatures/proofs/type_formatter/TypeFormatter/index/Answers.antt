@@ -7,18 +7,14 @@ use Rattle.pdb_signatures.proofs.type_formatter.TypeFormatter.index.Goals as goa
 
 pub returns-in-Ok-clause-advances : goal.returns-in-Ok-clause-advances
 returns-in-Ok-clause-advances g c = on_ok_weaker c.index_read.result (λ ok.
-    let s = c.args.self.now.type_inputs in
-    let w = formatter_inputs g.P.ModuleProvider.info s c.args.module_index in
+    let w = formatter_inputs g.P.ModuleProvider.info c.args.self.now.type_inputs c.args.module_index in
     let read = c.in-Ok.ensures.answer in
     rw c.in-Ok.ensures.unchanged (ok w read c.args.self.now.failed))
     c.index_read.ensures
 
 pub returns-in-Err-clause-advances : goal.returns-in-Err-clause-advances
-returns-in-Err-clause-advances g c = on_ok_weaker c.note.result (λ ok.
-    let s = c.args.self.now.type_inputs in
-    let module_index = c.args.module_index in
-    let w = formatter_inputs g.P.ModuleProvider.info s module_index in
-    let noted = ok in
+returns-in-Err-clause-advances g c = on_ok_weaker c.note.result (λ noted.
+    let w = formatter_inputs g.P.ModuleProvider.info c.args.self.now.type_inputs c.args.module_index in
     let read_error = read_error-is (w.read c.args.index.0) c.in-Err.read_error noted.read_error_view
     c.in-Err.ensures.answer noted.known in
     let ran = rw c.in-Err.ensures.unchanged at noted.ran in

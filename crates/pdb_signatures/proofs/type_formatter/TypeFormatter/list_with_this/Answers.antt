@@ -11,22 +11,17 @@ use Rattle.pdb_signatures.proofs.type_formatter.TypeFormatter.list_with_this.Goa
 
 pub returns-in-Ok-clause-advances : goal.returns-in-Ok-clause-advances
 returns-in-Ok-clause-advances g c = on_ok_weaker c.method_list.result (λ ok.
-    let s = c.args.self.now.type_inputs in
-    let module_index = c.args.module_index in
-    let w = formatter_inputs g.P.ModuleProvider.info s module_index in
+    let w = formatter_inputs g.P.ModuleProvider.info c.args.self.now.type_inputs c.args.module_index in
     let stands = advances_stands w 0 _ c.args.progress.now _
     (ok w (sym (rw c.in-Ok.ensures.unchanged at c.flags.ensures))) c.args.self.now.failed in
     rw (c.in-Ok.ensures.answer, c.in-Ok.ensures.unchanged) stands)
     c.method_list.ensures
 
 pub returns-in-Err-clause-advances : goal.returns-in-Err-clause-advances
-returns-in-Err-clause-advances g c = on_ok_weaker c.refuse.result (λ ok.
-    let s = c.args.self.now.type_inputs in
-    let module_index = c.args.module_index in
-    let w = formatter_inputs g.P.ModuleProvider.info s module_index in
+returns-in-Err-clause-advances g c = on_ok_weaker c.refuse.result (λ refused.
+    let w = formatter_inputs g.P.ModuleProvider.info c.args.self.now.type_inputs c.args.module_index in
     let this = this_of w c.args.m.now.class_type c.args.m.now.this_pointer_type in
     let next = method_list w (open_in c.args.progress.now.steps) c.args.form c.args.list.now in
-    let refused = ok in
     let read_error = read_error-is this c.in-Err.read_error
     refused.read_error_view c.in-Err.ensures.answer refused.known in
     let ran = rw c.in-Err.ensures.unchanged at refused.ran in

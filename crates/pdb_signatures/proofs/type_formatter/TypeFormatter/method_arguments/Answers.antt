@@ -10,9 +10,7 @@ use Rattle.pdb_signatures.proofs.type_formatter.TypeFormatter.method_arguments.G
 
 pub returns-in-None-clause-advances : goal.returns-in-None-clause-advances
 returns-in-None-clause-advances g c =
-    let s = c.args.self.now.type_inputs in
-    let module_index = c.args.module_index in
-    let w = formatter_inputs g.P.ModuleProvider.info s module_index in
+    let w = formatter_inputs g.P.ModuleProvider.info c.args.self.now.type_inputs c.args.module_index in
     let next = on_list w c.args.m.now c.args.form in
     let list = c.args.m.now.argument_list.0 in
     let wanted : without_arguments w.flags ≡ false = sym (rw c.flags.ensures at c.if-without_arguments.ensures) in
@@ -23,9 +21,7 @@ returns-in-None-clause-advances g c =
 
 pub returns-in-Some-clause-advances : goal.returns-in-Some-clause-advances
 returns-in-Some-clause-advances g c = on_ok_weaker c.on_list.result (λ ok.
-    let s = c.args.self.now.type_inputs in
-    let module_index = c.args.module_index in
-    let w = formatter_inputs g.P.ModuleProvider.info s module_index in
+    let w = formatter_inputs g.P.ModuleProvider.info c.args.self.now.type_inputs c.args.module_index in
     let next = on_list w c.args.m.now c.args.form in
     let list = c.args.m.now.argument_list.0 in
     let wanted : without_arguments w.flags ≡ false = sym (rw c.flags.ensures at c.if-without_arguments.ensures) in

@@ -8,17 +8,13 @@ use Rattle.pdb_signatures.proofs.type_formatter.TypeFormatter.method_id.Goals as
 
 pub returns-in-None-clause-advances : goal.returns-in-None-clause-advances
 returns-in-None-clause-advances g c =
-    let s = c.args.self.now.type_inputs in
-    let module_index = c.args.module_index in
-    let w = formatter_inputs g.P.ModuleProvider.info s module_index in
+    let w = formatter_inputs g.P.ModuleProvider.info c.args.self.now.type_inputs c.args.module_index in
     let failed = rw c.in-None.is at c.in_ok-enter_alone.ensures.entered in
     failed (method_id w c.args.id.now (c.args.id.now.function_type.0 ∷ []))
 
 pub returns-in-Some-clause-advances : goal.returns-in-Some-clause-advances
 returns-in-Some-clause-advances g c = on_ok_weaker c.method_by_type.result (λ ok.
-    let s = c.args.self.now.type_inputs in
-    let module_index = c.args.module_index in
-    let w = formatter_inputs g.P.ModuleProvider.info s module_index in
+    let w = formatter_inputs g.P.ModuleProvider.info c.args.self.now.type_inputs c.args.module_index in
     let entered = rw c.in-Some.is at c.in_ok-enter_alone.ensures.entered in
     let advances = ok w (sym (rw c.in_ok-enter_alone.ensures.later.type_inputs at c.flags.ensures)) _ in
     alone_entered w c.args.id.now.function_type.0

@@ -11,9 +11,7 @@ use Rattle.pdb_signatures.proofs.type_formatter.TypeFormatter.on_list.Goals as g
 
 pub returns-in_default-clause-advances : goal.returns-in_default-clause-advances
 returns-in_default-clause-advances g c =
-    let s = c.args.self.now.type_inputs in
-    let module_index = c.args.module_index in
-    let w = formatter_inputs g.P.ModuleProvider.info s module_index in
+    let w = formatter_inputs g.P.ModuleProvider.info c.args.self.now.type_inputs c.args.module_index in
     let failed = advances_failed w
     (OfError (Plain ArgumentTypeNotArgumentList)) c.args.progress.now _ c.args.self.now.failed c.requires.no_failure
     c.fail.ensures in

@@ -18,9 +18,7 @@ turns-smaller-in-Ended g c =
 
 pub turns-preserved-in-Ended : goal.turns-preserved-in-Ended
 turns-preserved-in-Ended g c =
-    let s = c.args.self.now.type_inputs in
-    let module_index = c.args.module_index in
-    let w = formatter_inputs g.P.ModuleProvider.info s module_index in
+    let w = formatter_inputs g.P.ModuleProvider.info c.args.self.now.type_inputs c.args.module_index in
     let flags = rw c.turns.invariant.later.type_inputs at c.flags.ensures in
     let taken = rw c.in-Ended.is at c.in_ok-next.ensures in
     let goes = ended-goes w c.flags.result c.turns.progress c.next.new.self c.turns.self.failed (sym flags) taken in
@@ -42,9 +40,7 @@ turns-smaller g c =
 
 pub turns-preserved : goal.turns-preserved
 turns-preserved g c =
-    let s = c.args.self.now.type_inputs in
-    let module_index = c.args.module_index in
-    let w = formatter_inputs g.P.ModuleProvider.info s module_index in
+    let w = formatter_inputs g.P.ModuleProvider.info c.args.self.now.type_inputs c.args.module_index in
     let taken = rw c.in-Print.is at c.in_ok-next.ensures in
     let advances = rw c.turns.invariant.later.type_inputs at c.in_ok-turn-in-Print.ensures.advances in
     let goes = printed-goes w c.in-Print.task c.turns.progress c.next.new.self c.turn.new.progress

@@ -13,10 +13,9 @@ returns-clause-later g c = later-then c.in_ok-signature.ensures.later c.in_ok-pr
 
 pub returns-clause-answer : goal.returns-clause-answer
 returns-clause-answer g c =
-    let s = c.args.self.now.type_inputs in
-    let w = formatter_inputs g.P.ModuleProvider.info s c.args.module_index in
+    let w = formatter_inputs g.P.ModuleProvider.info c.args.self.now.type_inputs c.args.module_index in
     let ends = rw c.in_ok-signature.ensures.later.type_inputs at c.in_ok-print.ensures.ends in
     let runs = c.in_ok-signature.ensures.begins _ ends in
-    let is = document-runs w (formatter-below g.P.ModuleProvider.info s c.args.module_index)
+    let is = document-runs w (formatter-below g.P.ModuleProvider.info c.args.self.now.type_inputs c.args.module_index)
     (signature w c.args.name.now c.args.index.0) c.args.self.now.failed _ runs in
     rw (c.into_printed.ensures.text, c.into_printed.ensures.failure) is

@@ -7,11 +7,9 @@ use Rattle.pdb_signatures.proofs.type_formatter.TypeFormatter.print_id.Goals as 
 
 pub returns-clause-answer : goal.returns-clause-answer
 returns-clause-answer g c =
-    let s = c.args.self.now.type_inputs in
-    let w = formatter_inputs g.P.ModuleProvider.info s c.args.module_index in
-    let plan = id_of_index c.args.index.0 in
+    let w = formatter_inputs g.P.ModuleProvider.info c.args.self.now.type_inputs c.args.module_index in
     let runs = begins_task w _ _ _ c.args.self.now.failed _ c.new-progress.ensures c.in_ok-first.ensures
     c.in_ok-print.ensures.ends in
-    let is = document-runs w (formatter-below g.P.ModuleProvider.info s c.args.module_index) plan
-    c.args.self.now.failed _ (rw c.new.ensures.empty at runs) in
+    let is = document-runs w (formatter-below g.P.ModuleProvider.info c.args.self.now.type_inputs c.args.module_index)
+    (id_of_index c.args.index.0) c.args.self.now.failed _ (rw c.new.ensures.empty at runs) in
     rw (c.into_printed.ensures.text, c.into_printed.ensures.failure) is

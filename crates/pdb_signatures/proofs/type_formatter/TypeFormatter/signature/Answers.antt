@@ -8,11 +8,8 @@ use Rattle.pdb_signatures.proofs.LaterLemmas.{later-adds}
 use Rattle.pdb_signatures.proofs.type_formatter.TypeFormatter.signature.Goals as goal
 
 pub returns-in-Err-clause-begins : goal.returns-in-Err-clause-begins
-returns-in-Err-clause-begins g c = on_ok_weaker c.refuse.result (λ ok.
-    let s = c.args.self.now.type_inputs in
-    let module_index = c.args.module_index in
-    let w = formatter_inputs g.P.ModuleProvider.info s module_index in
-    let refused = ok in
+returns-in-Err-clause-begins g c = on_ok_weaker c.refuse.result (λ refused.
+    let w = formatter_inputs g.P.ModuleProvider.info c.args.self.now.type_inputs c.args.module_index in
     let read_error = read_error-is (w.read c.args.index.0) c.in-Err.read_error refused.read_error_view
     c.in-Err.ensures.answer refused.known in
     let ran = rw c.in-Err.ensures.unchanged at refused.ran in
@@ -23,9 +20,7 @@ returns-in-Err-clause-begins g c = on_ok_weaker c.refuse.result (λ ok.
 
 pub returns-in_ok-open-in-Ok-clause-begins : goal.returns-in_ok-open-in-Ok-clause-begins
 returns-in_ok-open-in-Ok-clause-begins g c = on_ok_weaker c.by_type.result (λ ok.
-    let s = c.args.self.now.type_inputs in
-    let module_index = c.args.module_index in
-    let w = formatter_inputs g.P.ModuleProvider.info s module_index in
+    let w = formatter_inputs g.P.ModuleProvider.info c.args.self.now.type_inputs c.args.module_index in
     let read = c.in-Ok.ensures.answer in
     begins_stands w c.args.name.now c.args.index.0 c.in-Ok.type_data.now c.args.progress.now _ _
     c.args.self.now.failed _ (ne_eqb c.args.index.0 0 c.if-index-eq0.false) read c.requires.beginning _

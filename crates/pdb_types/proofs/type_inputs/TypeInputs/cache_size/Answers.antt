@@ -1,14 +1,20 @@
-use Rattle.pdb_types.proofs.TypeCacheLemmas.{caches_sizes, sizes_more, sizes_same}
+use Rattle.pdb_types.specs.TypeCache.{IsSizeCache, asked_cmp}
+use Rattle.pdb_types.proofs.TypeCacheLemmas.{caches_with, is_cache_same, is_cache_more, asked_cmp-apart}
 use Rattle.pdb_types.proofs.type_inputs.TypeInputs.cache_size.Goals as goal
 
 pub returns-in-Ok-clause-state : goal.returns-in-Ok-clause-state
+unfolding IsSizeCache
 returns-in-Ok-clause-state g c =
-    caches_sizes g.P.ModuleProvider.info c.args.self.now c.args.cache.now c.insert.new.self c.requires.is_cache
-    (sizes_more g.P.ModuleProvider.info c.args.self.now c.args.asked c.args.size c.args.cache.now.sizes
-    c.insert.new.self c.requires.size c.in-Ok.ensures.updates c.requires.is_cache.sizes)
+    let cache = c.args.cache.now in
+    let is_cache = c.requires.is_cache in
+    caches_with _ _ cache cache.named cache.exports c.insert.new.self is_cache is_cache.named is_cache.exports
+    (is_cache_more asked_cmp asked_cmp-apart _ cache.sizes c.insert.new.self c.args.asked c.args.size
+    c.in-Ok.ensures.updates c.requires.size is_cache.sizes)
 
 pub returns-in-Err-clause-state : goal.returns-in-Err-clause-state
+unfolding IsSizeCache
 returns-in-Err-clause-state g c =
-    caches_sizes g.P.ModuleProvider.info c.args.self.now c.args.cache.now c.insert.new.self c.requires.is_cache
-    (sizes_same g.P.ModuleProvider.info c.args.self.now c.args.cache.now.sizes c.insert.new.self c.in-Err.ensures.err
-    c.requires.is_cache.sizes)
+    let cache = c.args.cache.now in
+    let is_cache = c.requires.is_cache in
+    caches_with _ _ cache cache.named cache.exports c.insert.new.self is_cache is_cache.named is_cache.exports
+    (is_cache_same asked_cmp _ cache.sizes c.insert.new.self c.in-Err.ensures.err is_cache.sizes)

@@ -8,7 +8,7 @@ use Rattle.pdb_types.specs.SizeLaws.{Leads}
 use Rattle.pdb_types.proofs.ChainLemmas.{step-below, type_size-at_end}
 use Rattle.pdb_types.proofs.TypeCacheLemmas.{sizes_found}
 use Rattle.pdb_types.proofs.FreeNumbers.{free_lt}
-use Rattle.pdb_types.proofs.PassedLemmas.{type_size-leads, type_size-back, leads_more, with_one}
+use Rattle.pdb_types.proofs.PassedLemmas.{type_size-leads, type_size-back, leads_more, passed_alike, with_one}
 use Rattle.pdb_types.proofs.type_inputs.TypeInputs.chain_size.Goals as goal
 
 pub returns-in-Some-clause-answer : goal.returns-in-Some-clause-answer
@@ -22,15 +22,11 @@ returns-in-Some-clause-answer g c =
     c.chain.index.0 c.chain.invariant.led.0 c.chain.invariant.led.1 ∙ found)
 
 pub returns-in-Some-clause-passed : goal.returns-in-Some-clause-passed
-returns-in-Some-clause-passed g c = λ other there.
-    let inputs = c.args.self.now in
-    let info = g.P.ModuleProvider.info in
-    let found = sizes_found info inputs
+returns-in-Some-clause-passed g c =
+    let found = sizes_found g.P.ModuleProvider.info c.args.self.now
     (record { module_index = c.args.module_index; index = c.chain.index.0 }) c.in-Some.size.now c.chain.cache.sizes
     c.chain.invariant.state.is_cache.sizes (sym c.in-Some.ensures.value) in
-    let led = c.chain.invariant.passed other there in
-    type_size-leads (link_inputs info inputs) inputs.types inputs.pointer_size c.args.module_index other c.chain.index.0
-    (suc led.0) led.1 ∙ found
+    passed_alike _ _ _ _ c.chain.index.0 _ c.chain.passed found c.chain.invariant.passed
 
 pub returns-then-not-branch-clause-answer : goal.returns-then-not-branch-clause-answer
 returns-then-not-branch-clause-answer g c =
@@ -47,16 +43,14 @@ pub returns-then-not-branch-clause-passed : goal.returns-then-not-branch-clause-
 returns-then-not-branch-clause-passed g c =
     let inputs = c.args.self.now in
     let info = g.P.ModuleProvider.info in
-    let link = link_inputs info inputs in
     let here : contains nat_cmp c.chain.passed c.chain.index.0 ≡ true =
     not-false _ (sym c.in_ok-insert.ensures.added ∙ c.if-not-branch.true) in
     let back = c.chain.invariant.passed c.chain.index.0 here in
-    let none = type_size-back link inputs.types inputs.pointer_size c.args.module_index c.chain.index.0 back.0 back.1 in
+    let none = type_size-back (link_inputs info inputs) inputs.types inputs.pointer_size c.args.module_index
+    c.chain.index.0 back.0 back.1 in
     with_one (λ other. size_of info inputs c.args.module_index other ≡ no_size) c.chain.passed c.insert.new.self
     c.chain.index.0 c.in_ok-insert.ensures.updates none
-    (λ other there. let led = c.chain.invariant.passed other there in
-    type_size-leads link inputs.types inputs.pointer_size c.args.module_index other c.chain.index.0 (suc led.0) led.1
-    ∙ none)
+    (passed_alike _ _ _ _ c.chain.index.0 _ c.chain.passed none c.chain.invariant.passed)
 
 pub returns-in-Ended-clause-answer : goal.returns-in-Ended-clause-answer
 returns-in-Ended-clause-answer g c =
@@ -72,15 +66,11 @@ pub returns-in-Ended-clause-passed : goal.returns-in-Ended-clause-passed
 returns-in-Ended-clause-passed g c =
     let inputs = c.args.self.now in
     let info = g.P.ModuleProvider.info in
-    let link = link_inputs info inputs in
-    let ended = type_size-at_end link inputs.types inputs.pointer_size c.args.module_index c.chain.index.0 zero
-    c.in-Ended.size
-    (sym c.in_ok-size.ensures.answer ∙ c.in-Ended.is) in
+    let ended = type_size-at_end (link_inputs info inputs) inputs.types inputs.pointer_size c.args.module_index
+    c.chain.index.0 zero c.in-Ended.size (sym c.in_ok-size.ensures.answer ∙ c.in-Ended.is) in
     with_one (λ other. size_of info inputs c.args.module_index other ≡ c.in-Ended.size) c.chain.passed c.insert.new.self
     c.chain.index.0 c.in_ok-insert.ensures.updates ended
-    (λ other there. let led = c.chain.invariant.passed other there in
-    type_size-leads link inputs.types inputs.pointer_size c.args.module_index other c.chain.index.0 (suc led.0) led.1
-    ∙ ended)
+    (passed_alike _ _ _ _ c.chain.index.0 _ c.chain.passed ended c.chain.invariant.passed)
 
 pub chain-smaller : goal.chain-smaller
 chain-smaller g c =

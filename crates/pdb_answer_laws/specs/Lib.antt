@@ -1,2 +1,0 @@
-pub mod AnswerErrors
-pub mod BrokenLists

@@ -1,0 +1,40 @@
+-- Lists of items, one after the other until the bytes end, and such lists in several subsections.
+use Rattle.std.specs.Prelude.{ℕ, zero, suc, ◌==◌, nat_lt, List, [], ◌∷◌, take, drop, length}
+use Rattle.std.specs.Prelude.{Option, Some, None, Result, Ok, Err, if◌then◌else◌}
+use Rattle.pdb_records.specs.Readings.{Read}
+use Rattle.pdb_records.specs.declared.error.StreamError.{StreamError}
+use Rattle.pdb_msf.specs.Readings.{behind, nothing_read}
+use Rattle.pdb_msf.specs.declared.faults.TheConstants.{CUT}
+
+-- at most so many items until the bytes end, each read with what stands behind it; one that has a fault ends them
+abbrev pub items_up_to : {A : Type 0} → (List ℕ → Result (A × List ℕ) StreamError) → ℕ → List ℕ → Read A
+items_up_to first zero bytes = nothing_read None
+items_up_to {A = A} first (suc count) bytes =
+    if length bytes == 0 then nothing_read None else
+    elim (first bytes) as (λ read. Read A) [
+      | Err fault ↦ nothing_read (Some fault)
+      | Ok read ↦ behind (read.0 ∷ []) (items_up_to first count read.1)
+    ]
+
+-- all items of these bytes: each takes one byte or more, so there are no more of them than bytes
+unfoldable pub all_items : {A : Type 0} → (List ℕ → Result (A × List ℕ) StreamError) → List ℕ → Read A
+all_items first bytes = items_up_to first (length bytes) bytes
+
+-- the entry of this size that stands first, and what stands behind it; one that the bytes end in is cut
+abbrev pub first_entry : {A : Type 0} → (List ℕ → A) → ℕ → List ℕ → Result (A × List ℕ) StreamError
+first_entry entry size bytes =
+    if nat_lt (length bytes) size then Err CUT else Ok (entry (take size bytes), drop size bytes)
+
+-- all entries of one size, each read by its own bytes
+abbrev pub entry_list : {A : Type 0} → (List ℕ → A) → ℕ → List ℕ → Read A
+entry_list entry size bytes = all_items (first_entry entry size) bytes
+
+-- what is read behind a list that ends by this fault: nothing more, where there is one
+abbrev pub unless_broken : {A : Type 0} → Option StreamError → List A → Read A → Read A
+unless_broken None items rest = behind items rest
+unless_broken (Some fault) items rest = record { items = items; fault = Some fault }
+
+-- the items of several lists, one list after the other up to the first fault
+abbrev pub together : {A B : Type 0} → (B → Read A) → List B → Read A
+together items [] = nothing_read None
+together items (list ∷ rest) = unless_broken (items list).fault (items list).items (together items rest)

@@ -1,0 +1,76 @@
+//! Lists of items, one after the other until the bytes end: the loop over them, whatever reads an item.
+
+ghost use Rattle.std.specs.Prelude.{◌≡◌, ◌++◌, ℕ, List, Result, IfOk, OnOk};
+ghost use Rattle.pdb_records.specs.declared.error.StreamError.{StreamError};
+ghost use Rattle.pdb_msf.specs.Faults.{Gives};
+ghost use Rattle.pdb_msf.specs.ItemLists.{all_items};
+ghost use Rattle.pdb_msf.specs.Readings.{whole};
+
+use crate::bytes::Bytes;
+use crate::faults::Fault;
+use pdb_records::{Reading, StreamError};
+use std::alloc::{AllocError, Global};
+
+/// What reads the items of a list, one after the other.
+pub trait ItemReader<'a> {
+    type Item: Drop;
+
+    /// The item that stands first, and what stands behind it.
+    ghost first: { Self → List ℕ → Result (Self.Item × List ℕ) StreamError };
+
+    /// Takes the next item.
+    fn take(&self, rest: &mut Bytes<'a>) -> Result<Self::Item, Fault>
+        ensures { Gives (λ item. (item, rest.new)) result (first self.now rest.old) };
+}
+
+/// Appends the items of these bytes, up to the first fault.
+pub fn push_items<'a, R: ItemReader<'a>>(
+    reader: &R,
+    bytes: &'a [u8],
+    items: &mut Vec<R::Item>,
+) -> Result<Option<StreamError>, AllocError>
+    ensures answer { IfOk result (λ fault. fault ≡ (all_items (R.first reader.now) bytes.now).fault) }
+    ensures state { OnOk result (items.new.items
+        ≡ items.old.items ++ (all_items (R.first reader.now) bytes.now).items) }
+{
+    let mut rest = Bytes::new(bytes);
+    for _ in 0..bytes.len() {
+        if rest.is_empty() {
+            break;
+        }
+        match reader.take(&mut rest) {
+            Ok(item) => items.push(item)?,
+            Err(Fault::Broken(error)) => return Ok(Some(error)),
+            Err(Fault::OutOfMemory) => return Err(AllocError),
+        }
+    }
+    Ok(None)
+}
+
+/// The items of these bytes, up to the first fault.
+pub fn read_items<'a, R: ItemReader<'a>>(
+    alloc: Global,
+    reader: &R,
+    bytes: &'a [u8],
+) -> Result<Reading<R::Item>, AllocError>
+    ensures { IfOk result (λ read. read ≡ all_items (R.first reader.now) bytes.now) }
+{
+    let mut items = Vec::new(alloc);
+    let fault = push_items(reader, bytes, &mut items)?;
+    Ok(Reading { items, fault })
+}
+
+/// The items of these bytes, of which one that has a fault fails them all.
+pub fn read_all_items<'a, R: ItemReader<'a>>(
+    alloc: Global,
+    reader: &R,
+    bytes: &'a [u8],
+) -> Result<Vec<R::Item>, Fault>
+    ensures { Gives (λ read. read.items) result (whole (all_items (R.first reader.now) bytes.now)) }
+{
+    let mut items = Vec::new(alloc);
+    match push_items(reader, bytes, &mut items)? {
+        None => Ok(items),
+        Some(error) => Err(Fault::Broken(error)),
+    }
+}

@@ -1,5 +1,0 @@
-use Rattle.std.proofs.Common.{length}
-use Rattle.pdb_ranges.proofs.painting.+painted_in_turn.Given as goal
-
-abbrev pub decreases-painted_in_turn : goal.decreases-painted_in_turn
-decreases-painted_in_turn g l = length l.segments.now

@@ -1,0 +1,2 @@
+pub mod ModulePaths
+pub mod ModuleFiles

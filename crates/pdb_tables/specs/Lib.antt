@@ -1,0 +1,10 @@
+pub mod RangeSet
+pub mod Runs
+pub mod InOrder
+pub mod Keyed
+pub mod Pick
+pub mod Slots
+pub mod Last
+pub mod Probes
+pub mod Segments
+pub mod Painting

@@ -1,0 +1,103 @@
+//! Sets of 64-bit numbers, held as their runs: adding, union, difference, and whether one holds another.
+
+ghost use Rattle.std.specs.Prelude.{◌≡◌, ℕ, ◌||◌, ◌&&◌, ◌↔◌, not, true, List, [], IfOk, OnOk, OnErr, IsTrue};
+ghost use Rattle.pdb_tables.specs.RangeSet.{is_within, has, IsRunsFrom};
+
+use crate::runs;
+use std::alloc::{AllocError, Global};
+use std::marker::Model;
+
+/// A set of 64-bit numbers, held as its runs.
+///
+/// A run is a range of numbers that are all in the set, with neither the number before it nor the one past it. So the
+/// set takes memory for each run and not for each number, and the ranges 10 to 20 and 20 to 30 lie in it as the one run
+/// `(10, 30)`. The end of a range is not in it, so the number `u64::MAX` is in no set.
+#[derive(Debug, Drop)]
+pub struct RangeSet {
+    runs: Vec<(u64, u64)>,
+}
+
+// Clauses see a set as its runs, the lowest first.
+impl Model for RangeSet {
+    ghost Value = { List (ℕ × ℕ) };
+
+    ghost view = { λ set. set.runs.items };
+
+    ghost invariant = { λ set. IsRunsFrom 0 set.runs.items };
+}
+
+impl RangeSet {
+    /// The set with no number. It takes no memory; what is added later comes from `alloc`.
+    pub fn empty(alloc: Global) -> Self
+        ensures { result ≡ [] }
+    {
+        RangeSet {
+            runs: Vec::new(alloc),
+        }
+    }
+
+    /// The set of the numbers in any of the rows, which may stand in any order, overlap, and be empty.
+    ///
+    /// It sorts a copy of the rows, so it suits rows whose order is not known better than one `add` for each. Answers
+    /// `AllocError` where memory runs out.
+    pub fn of_rows(alloc: Global, rows: &[(u64, u64)]) -> Result<Self, AllocError>
+        ensures { IfOk result (λ set. (x : ℕ) → has set x ≡ has rows.now x) }
+    {
+        let mut rows = Vec::from_slice(alloc, rows)?;
+        rows.sort_unstable();
+        let mut runs = Vec::new(alloc);
+        runs::add_ranges(&mut runs, &rows)?;
+        Ok(RangeSet { runs })
+    }
+
+    /// Adds the numbers from `lo` up to the one before `hi`, and nothing where `hi` is not above `lo`.
+    ///
+    /// A range that begins no lower than the last run does costs constant time on average, and any other range the time
+    /// to copy the runs. Answers `AllocError` where memory runs out, and the set stays.
+    pub fn add(&mut self, lo: u64, hi: u64) -> Result<(), AllocError>
+        ensures state { OnOk result
+            ((x : ℕ) → has self.new x ≡ (has self.old x || is_within lo hi x)) }
+        ensures unchanged_if_refused { OnErr result (self.new ≡ self.old) }
+    {
+        runs::add_range(&mut self.runs, lo, hi)
+    }
+
+    /// Adds the numbers of another set, in one pass over the runs of both. Answers `AllocError` where memory runs out,
+    /// and the set stays.
+    pub fn union(&mut self, other: &RangeSet) -> Result<(), AllocError>
+        ensures state { OnOk result
+            ((x : ℕ) → has self.new x ≡ (has self.old x || has other.now x)) }
+        ensures unchanged_if_refused { OnErr result (self.new ≡ self.old) }
+    {
+        self.runs = runs::union_of(*self.runs.allocator(), &self.runs, &other.runs)?;
+        Ok(())
+    }
+
+    /// Takes the numbers of another set away, in one pass over the runs of both.
+    ///
+    /// A run may come apart, as `(10, 40)` without `(20, 30)` does into `(10, 20)` and `(30, 40)`, so this takes memory
+    /// too. Answers `AllocError` where memory runs out, and the set stays.
+    pub fn minus(&mut self, other: &RangeSet) -> Result<(), AllocError>
+        ensures state { OnOk result
+            ((x : ℕ) → has self.new x ≡ (has self.old x && not (has other.now x))) }
+        ensures unchanged_if_refused { OnErr result (self.new ≡ self.old) }
+    {
+        self.runs = runs::difference_of(*self.runs.allocator(), &self.runs, &other.runs)?;
+        Ok(())
+    }
+
+    /// Whether each number of the other set is in this one too. It takes one pass over the runs of both, and no memory.
+    pub fn is_superset(&self, other: &RangeSet) -> bool
+        ensures { IsTrue result ↔ ((x : ℕ) → has other.now x ≡ true → has self.now x ≡ true) }
+    {
+        runs::covers(&self.runs, &other.runs)
+    }
+
+    /// The runs as pairs of the first number and the one past the last, the lowest first.
+    pub fn runs(&self) -> &[(u64, u64)]
+        ensures answer { result.now ≡ self.now }
+        ensures maximal { IsRunsFrom 0 self.now }
+    {
+        self.runs.as_slice()
+    }
+}

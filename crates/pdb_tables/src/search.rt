@@ -1,0 +1,60 @@
+//! The search in lists whose keys ascend, in which each look at an entry counts.
+
+ghost use Rattle.std.specs.Prelude.{◌≡◌, ◌+◌, ◌<◌, ◌≤◌, None, find, length, not, slice_get, Some};
+ghost use Rattle.pdb_tables.specs.Keyed.{is_above, KeysAscend};
+ghost use Rattle.pdb_tables.specs.Last.{last_over};
+ghost use Rattle.pdb_tables.specs.Probes.{digits, one_more};
+
+use crate::keyed::Keyed;
+use crate::probes::Probes;
+
+/// The entries next to a key.
+#[derive(Clone, Copy, Debug)]
+pub struct Neighbours<T> {
+    /// The last entry whose key is this one or a lower one.
+    pub up_to: Option<T>,
+    /// The first entry whose key is above it.
+    pub above: Option<T>,
+}
+
+// The entry at a place, which counts as one more probe.
+fn look<T: Keyed>(entries: &[T], at: usize, probes: &mut Probes) -> T
+    requires { at < length entries.now }
+    ensures answer { slice_get entries.now at ≡ Some result }
+    ensures one_more { probes.new ≡ one_more probes.old }
+    ensures no_fewer { probes.old ≤ probes.new }
+{
+    probes.tick();
+    entries[at]
+}
+
+/// The entries next to a key in a list whose keys ascend, by a binary search that takes no memory.
+///
+/// Each entry that is looked at is counted in `probes`. They are no more than the length of the list has binary
+/// digits: at most 10 of 1,000 entries, and none of none.
+pub fn neighbours_of<T: Keyed>(entries: &[T], key: T::Key, probes: &mut Probes) -> Neighbours<T>
+    requires { KeysAscend T.Key.cmp T.key_of entries.now }
+    ensures up_to { result.up_to ≡ last_over (λ x. not (is_above T.Key.cmp T.key_of key x)) None entries.now }
+    ensures above { result.above ≡ find (is_above T.Key.cmp T.key_of key) entries.now }
+    ensures no_fewer { probes.old ≤ probes.new }
+    ensures few { probes.new ≤ probes.old + digits (length entries.now) }
+{
+    let mut next_to = Neighbours {
+        up_to: None,
+        above: None,
+    };
+    let mut from = 0;
+    let mut to = entries.len();
+    while from < to {
+        let middle = from + (to - from) / 2;
+        let entry = look(entries, middle, probes);
+        if key < entry.key() {
+            next_to.above = Some(entry);
+            to = middle;
+        } else {
+            next_to.up_to = Some(entry);
+            from = middle + 1;
+        }
+    }
+    next_to
+}

@@ -1,0 +1,24 @@
+//! A segment: a range of numbers that have one value.
+
+use crate::keyed::Keyed;
+
+/// A range of numbers, from `start` up to the one before `end`, that have one value.
+#[derive(Clone, Copy, Debug)]
+pub struct Segment<T> {
+    /// The first number.
+    pub start: u64,
+    /// The number past the last.
+    pub end: u64,
+    /// The value of each of them.
+    pub value: T,
+}
+
+impl<T: Copy> Keyed for Segment<T> {
+    type Key = u64;
+
+    ghost key_of = { λ segment. segment.start };
+
+    fn key(&self) -> u64 {
+        self.start
+    }
+}

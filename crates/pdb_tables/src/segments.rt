@@ -1,0 +1,98 @@
+//! Tables of values of 64-bit numbers, held as segments that a binary search finds.
+
+ghost use Rattle.std.specs.Prelude.{◌≡◌, ℕ, ◌+◌, ◌*◌, ◌≤◌, [], length, None, IfOk, IsOk, OnOk, OnErr};
+ghost use Rattle.pdb_tables.specs.Probes.{digits};
+ghost use Rattle.pdb_tables.specs.Segments.{painted, painted_in_turn, value_at};
+
+use crate::painting;
+use crate::probes::Probes;
+use crate::search::neighbours_of;
+use crate::segment::Segment;
+use std::alloc::{AllocError, Global};
+use std::marker::Model;
+
+/// A table of values of 64-bit numbers, held as segments: ranges of numbers that have one value.
+///
+/// It takes memory for each segment and not for each number. No two segments overlap, and they stand in order, so the
+/// value of a number is found by a binary search. The end of a range is not in it, so `u64::MAX` has no value.
+#[derive(Drop)]
+pub struct Segments<T: Copy> {
+    segments: Vec<Segment<T>>,
+}
+
+// Clauses see a table as the list of its segments, which shows the value of each number.
+impl<T: Copy> Model for Segments<T> {
+    ghost use Rattle.std.specs.Prelude.{List};
+    ghost use Rattle.pdb_tables.specs.declared.segment.Segment.{Segment};
+    ghost use Rattle.pdb_tables.specs.Segments.{IsOrderedFrom};
+
+    ghost Value = { List (Segment T) };
+
+    ghost view = { λ table. table.segments.items };
+
+    ghost invariant = { λ table. IsOrderedFrom 0 table.segments.items };
+}
+
+impl<T: Copy> Segments<T> {
+    /// The table in which no number has a value. It takes no memory; what is painted later comes from `alloc`.
+    pub fn new(alloc: Global) -> Self
+        ensures { result ≡ [] }
+    {
+        Segments {
+            segments: Vec::new(alloc),
+        }
+    }
+
+    /// The table after the segments were painted one after the other, in the order of the list, so that the last one
+    /// over a number gives its value. They may overlap, and be empty.
+    ///
+    /// Its time grows with n log n for n segments, whatever they are. Answers `AllocError` where memory runs out.
+    pub fn of_painted(alloc: Global, segments: &[Segment<T>]) -> Result<Self, AllocError>
+        ensures answer { IfOk result (λ table.
+            (x : ℕ) → value_at table x ≡ painted_in_turn segments.now None x) }
+        ensures few { IfOk result (λ table. length table ≤ 2 * length segments.now) }
+    {
+        let segments = painting::painted_in_turn(alloc, segments)?;
+        Ok(Segments { segments })
+    }
+
+    /// The number of segments.
+    pub fn len(&self) -> usize
+        ensures { result ≡ length self.now }
+    {
+        self.segments.len()
+    }
+
+    /// Gives the numbers from `lo` up to the one before `hi` a value, whatever they had, and leaves all others as they
+    /// were. Nothing changes where `hi` is not above `lo`.
+    ///
+    /// A range that begins where the last segment ends, or later, costs constant time on average, and any other range
+    /// the time to copy the segments. Answers `AllocError` where memory runs out, and the table stays.
+    pub fn paint(&mut self, lo: u64, hi: u64, value: T) -> Result<(), AllocError>
+        ensures state { OnOk result
+            ((x : ℕ) → value_at self.new x ≡ painted lo hi value (value_at self.old x) x) }
+        ensures few { length self.new ≤ length self.old + 2 }
+        ensures empty { hi ≤ lo → IsOk result }
+        ensures unchanged { hi ≤ lo → self.new ≡ self.old }
+        ensures unchanged_if_refused { OnErr result (self.new ≡ self.old) }
+    {
+        painting::paint(&mut self.segments, lo, hi, value)
+    }
+
+    /// The value of `x`, by a binary search that takes no memory.
+    ///
+    /// Each segment that is looked at is counted in `probes`. They are no more than the number of segments has binary
+    /// digits: at most 10 of 1,000 segments, and none of none.
+    pub fn find(&self, x: u64, probes: &mut Probes) -> Option<T>
+        ensures answer { result ≡ value_at self.now x }
+        ensures no_fewer { probes.old ≤ probes.new }
+        ensures few { probes.new ≤ probes.old + digits (length self.now) }
+    {
+        let segment = neighbours_of(&self.segments, x, probes).up_to?;
+        if x < segment.end {
+            Some(segment.value)
+        } else {
+            None
+        }
+    }
+}
