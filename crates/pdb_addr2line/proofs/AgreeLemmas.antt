@@ -8,7 +8,7 @@ use Rattle.pdb_records.specs.Addresses.{rva, rva_of, numbered_section}
 use Rattle.pdb_records.specs.Names.{lossy}
 use Rattle.pdb_records.specs.declared.addresses.AddressRange.{AddressRange}
 use Rattle.pdb_records.specs.declared.addresses.Rva.{Rva}
-use Rattle.pdb_types.specs.TypeInputs.{ProviderInfos}
+use Rattle.pdb_errors.specs.Provided.{ProviderInfos}
 use Rattle.pdb_functions.specs.GlobalFunctions.{GlobalFunction}
 use Rattle.pdb_functions.specs.Lookup.{FoundFunction, found_procedure, found_global, next_global}
 use Rattle.pdb_frames.specs.Frame.{FramesInfo}

@@ -11,11 +11,11 @@ use Rattle.pdb_records.specs.declared.error.StreamError.{StreamError}
 use Rattle.pdb_records.specs.declared.error.Error.TheVariants.{Stream}
 use Rattle.pdb_records.specs.declared.ids.IdIndex.{IdIndex}
 use Rattle.pdb_records.specs.declared.modules.ModuleInfo.{ModuleInfo}
-use Rattle.pdb_types.specs.declared.error.Error.{Error}
-use Rattle.pdb_types.specs.declared.error.Error.TheVariants.{PdbError}
-use Rattle.pdb_types.specs.Outcomes.{and_then, unless}
-use Rattle.pdb_types.specs.Resolution.{streamed}
-use Rattle.pdb_types.specs.TypeInputs.{ProviderInfos, link_inputs}
+use Rattle.pdb_errors.specs.declared.error.Error.{Error}
+use Rattle.pdb_errors.specs.declared.error.Error.TheVariants.{PdbError}
+use Rattle.pdb_errors.specs.Outcomes.{and_then, unless, streamed}
+use Rattle.pdb_types.specs.TypeInputs.{link_inputs}
+use Rattle.pdb_errors.specs.Provided.{ProviderInfos}
 use Rattle.pdb_functions.specs.Lookup.{FoundFunction, found_procedure, found_global}
 use Rattle.pdb_frames.specs.CodeParts.{CodeParts, unsuccessful_code, has_code_failed}
 use Rattle.pdb_frames.specs.declared.code_parts.CodePart.{CodePart}

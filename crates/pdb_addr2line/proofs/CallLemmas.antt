@@ -3,8 +3,8 @@ use Rattle.std.proofs.Common.{◌≡◌, ◌∙◌, ℕ, List, [], ◌∷◌, sy
 use Rattle.std.specs.Prelude.{Option, Some, None, Result, Ok, Err, map, option_map}
 use Rattle.std.specs.Result.{result_ok}
 use Rattle.pdb_types.specs.FailedParts.{Parts}
-use Rattle.pdb_types.specs.TypeInputs.{ProviderInfos}
-use Rattle.pdb_types.specs.declared.error.Error.{Error}
+use Rattle.pdb_errors.specs.Provided.{ProviderInfos}
+use Rattle.pdb_errors.specs.declared.error.Error.{Error}
 use Rattle.pdb_frames.specs.CodeParts.{CodeParts}
 use Rattle.pdb_frames.specs.Frame.{FramesInfo}
 use Rattle.pdb_frames.specs.declared.code_parts.CodePart.{CodePart}

@@ -3,7 +3,7 @@ use Rattle.std.proofs.Common.{◌≡◌, ℕ, Option, Some, None, sym, subst}
 use Rattle.std.specs.Prelude.{IfSome, option_and_then}
 use Rattle.pdb_records.specs.Addresses.{internal_offset}
 use Rattle.pdb_records.specs.declared.addresses.PdbInternalSectionOffset.{PdbInternalSectionOffset}
-use Rattle.pdb_types.specs.TypeInputs.{ProviderInfos}
+use Rattle.pdb_errors.specs.Provided.{ProviderInfos}
 use Rattle.pdb_functions.specs.Lookup.{FoundFunction, function_over}
 use Rattle.pdb_functions.specs.SymbolNames.{GoesBySymbol}
 use Rattle.pdb_functions.proofs.SymbolLemmas.{over_by_symbol}

@@ -4,14 +4,14 @@ use Rattle.std.proofs.lemmas.List.{length-reverse, length-map}
 use Rattle.std.specs.Prelude.{Option, Some, None, Result, Ok, reverse}
 use Rattle.pdb_records.specs.LinePrograms.{Lines}
 use Rattle.pdb_records.specs.declared.modules.Inlinee.{Inlinee}
-use Rattle.pdb_types.specs.Resolution.{streamed}
+use Rattle.pdb_errors.specs.Outcomes.{streamed}
 use Rattle.pdb_records.specs.declared.addresses.PdbInternalSectionOffset.{PdbInternalSectionOffset}
 use Rattle.pdb_records.specs.Addresses.{internal_offset}
 use Rattle.pdb_records.specs.declared.ids.IdIndex.{IdIndex}
 use Rattle.pdb_records.specs.declared.modules.ModuleInfo.{ModuleInfo}
-use Rattle.pdb_types.specs.Outcomes.{unless}
-use Rattle.pdb_types.specs.TypeInputs.{ProviderInfos}
-use Rattle.pdb_types.specs.declared.error.Error.{Error}
+use Rattle.pdb_errors.specs.Outcomes.{unless}
+use Rattle.pdb_errors.specs.Provided.{ProviderInfos}
+use Rattle.pdb_errors.specs.declared.error.Error.{Error}
 use Rattle.pdb_functions.specs.Lookup.{FoundFunction, found_procedure, found_global}
 use Rattle.pdb_inline.specs.InlineRanges.{inline_ranges}
 use Rattle.pdb_inline.specs.InlineStacks.{inline_stack}

@@ -9,9 +9,8 @@ use Rattle.pdb_records.specs.declared.addresses.PdbInternalSectionOffset.{PdbInt
 use Rattle.pdb_records.specs.declared.error.StreamError.{StreamError}
 use Rattle.pdb_records.specs.declared.ids.IdIndex.{IdIndex}
 use Rattle.pdb_records.specs.declared.modules.ModuleInfo.{ModuleInfo}
-use Rattle.pdb_types.specs.Outcomes.{and_then}
-use Rattle.pdb_types.specs.Resolution.{streamed}
-use Rattle.pdb_types.specs.TypeInputs.{ProviderInfos}
+use Rattle.pdb_errors.specs.Outcomes.{and_then, streamed}
+use Rattle.pdb_errors.specs.Provided.{ProviderInfos}
 use Rattle.pdb_functions.specs.Lookup.{found_procedure}
 use Rattle.pdb_functions.specs.Procedures.{ModuleProcedure}
 use Rattle.pdb_inline.specs.InlineRanges.{inline_ranges}

@@ -2,7 +2,8 @@
 use Rattle.std.proofs.Common.{◌≡◌, ◌∙◌, ℕ, List, [], ◌∷◌, ◌++◌, refl}
 use Rattle.std.specs.List.{AllByRecursion}
 use Rattle.pdb_types.specs.FailedParts.{Parts}
-use Rattle.pdb_types.specs.TypeInputs.{TypeInputs, ProviderInfos}
+use Rattle.pdb_types.specs.TypeInputs.{TypeInputs}
+use Rattle.pdb_errors.specs.Provided.{ProviderInfos}
 use Rattle.pdb_types.specs.declared.read_error.Part.{Part}
 use Rattle.pdb_documents.specs.BrokenParts.{IsBroken}
 use Rattle.pdb_documents.specs.PrintInputs.{formatter_inputs}

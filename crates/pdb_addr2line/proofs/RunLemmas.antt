@@ -2,7 +2,7 @@
 use Rattle.std.proofs.Common.{◌≡◌, ◌∙◌, ℕ, ◌+◌, ◌<◌, List, [], ◌∷◌, ◌++◌, length, take, drop, get_or, sym, ap}
 use Rattle.std.proofs.Common.{refl, append_assoc}
 use Rattle.std.proofs.lemmas.List.{take_more, take-append-drop, map-append}
-use Rattle.pdb_types.specs.TypeInputs.{ProviderInfos}
+use Rattle.pdb_errors.specs.Provided.{ProviderInfos}
 use Rattle.pdb_addr2line.specs.Calls.{AnswerView, answer_view, Appends, StopsEarly, answer_to, answers_to, after_call}
 use Rattle.pdb_addr2line.specs.Calls.{after_calls}
 use Rattle.pdb_addr2line.specs.declared.calls.Answer.{Answer}

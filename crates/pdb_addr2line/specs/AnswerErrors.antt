@@ -1,9 +1,9 @@
 -- What an answer may hold in place of frames or of a text.
 use Rattle.std.specs.Prelude.{⊤, Result, Ok, Err}
-use Rattle.pdb_types.specs.declared.error.Error.{Error}
-use Rattle.pdb_types.specs.declared.error.Error.TheVariants.{PdbError, ExtendedModuleInfoUnsuccessful}
-use Rattle.pdb_types.specs.declared.error.Error.TheVariants.{ProcedureLinesUnsuccessful}
-use Rattle.pdb_types.specs.declared.error.Error.TheVariants.{ProcedureInlineRangesUnsuccessful}
+use Rattle.pdb_errors.specs.declared.error.Error.{Error}
+use Rattle.pdb_errors.specs.declared.error.Error.TheVariants.{PdbError, ExtendedModuleInfoUnsuccessful}
+use Rattle.pdb_errors.specs.declared.error.Error.TheVariants.{ProcedureLinesUnsuccessful}
+use Rattle.pdb_errors.specs.declared.error.Error.TheVariants.{ProcedureInlineRangesUnsuccessful}
 use Rattle.pdb_addr2line.specs.Calls.{AnswerView, FramesView, TextView}
 use Rattle.pdb_laws.specs.PrintErrors.{IsPrintError}
 

@@ -3,11 +3,11 @@ use Rattle.std.specs.Prelude.{◌≡◌, ℕ, List, [], ◌∷◌, ◌++◌, Opt
 use Rattle.std.specs.Prelude.{Ok, Err, length, map, option_map, string_bytes, String}
 use Rattle.std.specs.Global.{Global}
 use Rattle.std.specs.Result.{result_ok}
-use Rattle.pdb_types.specs.Errors.{ErrorView, error_view}
+use Rattle.pdb_errors.specs.Errors.{ErrorView, error_view}
 use Rattle.pdb_types.specs.FailedParts.{Parts, with_met}
-use Rattle.pdb_types.specs.TypeInputs.{ProviderInfos}
+use Rattle.pdb_errors.specs.Provided.{ProviderInfos}
 use Rattle.pdb_types.specs.TypeSizes.{size_of}
-use Rattle.pdb_types.specs.declared.error.Error.{Error}
+use Rattle.pdb_errors.specs.declared.error.Error.{Error}
 use Rattle.pdb_frames.specs.Frame.{FramesInfo}
 use Rattle.pdb_documents.specs.Documents.{Failure, failure_error, Run}
 use Rattle.pdb_documents.specs.Printed.{signature_run, id_run}

@@ -6,12 +6,11 @@ use Rattle.pdb_records.specs.declared.error.StreamError.{StreamError}
 use Rattle.pdb_records.specs.declared.addresses.ImageSectionHeader.{ImageSectionHeader}
 use Rattle.pdb_records.specs.declared.debug_information.DebugInformation.{DebugInformation}
 use Rattle.pdb_records.specs.declared.modules.ModuleInfo.{ModuleInfo}
-use Rattle.pdb_types.specs.declared.error.Error.{Error}
-use Rattle.pdb_types.specs.declared.error.Error.TheVariants.{PdbError}
+use Rattle.pdb_errors.specs.declared.error.Error.{Error}
+use Rattle.pdb_errors.specs.declared.error.Error.TheVariants.{PdbError}
 use Rattle.pdb_types.specs.declared.flags.TypeFormatterFlags.{TypeFormatterFlags}
-use Rattle.pdb_types.specs.Resolution.{streamed}
+use Rattle.pdb_errors.specs.Outcomes.{streamed, unless, first_refusal, and_then}
 use Rattle.pdb_types.specs.TypeInputs.{TypeInputs, program_pointer_size}
-use Rattle.pdb_types.specs.Outcomes.{unless, first_refusal, and_then}
 use Rattle.pdb_addr2line.specs.ContextInputs.{ContextInputs, accepted}
 
 -- a stream's fault, where it failed

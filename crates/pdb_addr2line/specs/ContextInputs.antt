@@ -7,11 +7,11 @@ use Rattle.pdb_records.specs.declared.addresses.ImageSectionHeader.{ImageSection
 use Rattle.pdb_records.specs.declared.debug_information.DebugInformation.{DebugInformation}
 use Rattle.pdb_records.specs.declared.strings.StringRef.{StringRef}
 use Rattle.pdb_records.specs.declared.symbols.SymbolTable.{SymbolTable}
-use Rattle.pdb_types.specs.declared.error.Error.{Error}
-use Rattle.pdb_types.specs.declared.error.Error.TheVariants.{PdbError}
+use Rattle.pdb_errors.specs.declared.error.Error.{Error}
+use Rattle.pdb_errors.specs.declared.error.Error.TheVariants.{PdbError}
 use Rattle.pdb_functions.specs.declared.contributions.ModuleSectionContribution.{ModuleSectionContribution}
 use Rattle.pdb_types.specs.FailedParts.{Parts}
-use Rattle.pdb_types.specs.Outcomes.{unless, and_then}
+use Rattle.pdb_errors.specs.Outcomes.{unless, and_then}
 use Rattle.pdb_types.specs.TypeInputs.{TypeInputs}
 use Rattle.pdb_frames.specs.CodeParts.{CodeParts}
 use Rattle.pdb_functions.specs.Contributions.{merged_contributions}

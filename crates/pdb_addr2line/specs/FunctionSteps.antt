@@ -1,9 +1,9 @@
 -- How the functions of a program are answered one by one.
 use Rattle.std.specs.Prelude.{◌≡◌, ℕ, List, [], ◌∷◌, ◌++◌, Option, Some, None, Result, Ok, Err}
 use Rattle.std.specs.Vec.Iter.{into_iter_items}
-use Rattle.pdb_types.specs.declared.error.Error.{Error}
-use Rattle.pdb_types.specs.declared.error.Error.TheVariants.{OutOfMemory}
-use Rattle.pdb_types.specs.TypeInputs.{ProviderInfos}
+use Rattle.pdb_errors.specs.declared.error.Error.{Error}
+use Rattle.pdb_errors.specs.declared.error.Error.TheVariants.{OutOfMemory}
+use Rattle.pdb_errors.specs.Provided.{ProviderInfos}
 use Rattle.pdb_function_info.specs.declared.function.Function.{Function}
 use Rattle.pdb_addr2line.specs.declared.functions.FunctionIter.{FunctionIter}
 use Rattle.pdb_function_info.specs.Function.{FunctionInfo, function_view}

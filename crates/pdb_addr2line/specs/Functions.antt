@@ -8,7 +8,7 @@ use Rattle.pdb_records.specs.Addresses.{rva}
 use Rattle.pdb_records.specs.declared.addresses.AddressRange.{AddressRange}
 use Rattle.pdb_records.specs.declared.addresses.PdbInternalSectionOffset.{PdbInternalSectionOffset}
 use Rattle.pdb_records.specs.declared.debug_information.Module.{Module}
-use Rattle.pdb_types.specs.TypeInputs.{ProviderInfos}
+use Rattle.pdb_errors.specs.Provided.{ProviderInfos}
 use Rattle.pdb_functions.specs.Procedures.{ModuleProcedure, provided_procedures}
 use Rattle.pdb_function_info.specs.Function.{FunctionInfo}
 use Rattle.pdb_addr2line.specs.Lookups.{function_at, failed_after}

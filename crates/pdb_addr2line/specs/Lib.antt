@@ -2,7 +2,7 @@ pub use Rattle.pdb_tables.specs.InOrder
 pub use Rattle.pdb_tables.specs.Pick
 pub use Rattle.pdb_tables.specs.RangeSet
 pub use Rattle.pdb_tables.specs.Runs
-pub use Rattle.pdb_types.specs.Outcomes
+pub use Rattle.pdb_errors.specs.Outcomes
 pub use Rattle.pdb_functions.specs.Sections
 pub use Rattle.pdb_functions.specs.Contributions
 pub use Rattle.pdb_functions.specs.Starts

@@ -5,12 +5,12 @@ use Rattle.pdb_records.specs.Addresses.{internal_offset}
 use Rattle.pdb_records.specs.declared.addresses.PdbInternalSectionOffset.{PdbInternalSectionOffset}
 use Rattle.pdb_records.specs.declared.modules.ModuleInfo.{ModuleInfo}
 use Rattle.pdb_types.specs.FailedParts.{Parts}
-use Rattle.pdb_types.specs.TypeInputs.{ProviderInfos}
+use Rattle.pdb_errors.specs.Provided.{ProviderInfos}
 use Rattle.pdb_functions.specs.declared.contributions.ModuleSectionContribution.{ModuleSectionContribution}
 use Rattle.pdb_functions.specs.Spans.{contribution_covers}
 use Rattle.pdb_functions.specs.Lookup.{FoundFunction, function_over}
 use Rattle.pdb_functions.specs.ModuleInfos.{readable_info}
-use Rattle.pdb_types.specs.declared.error.Error.{Error}
+use Rattle.pdb_errors.specs.declared.error.Error.{Error}
 use Rattle.pdb_frames.specs.CodeParts.{CodeParts, part_to_blame, code_part_error, with_code_part}
 use Rattle.pdb_frames.specs.Frame.{FramesInfo}
 use Rattle.pdb_frames.specs.declared.code_parts.CodePart.{CodePart}

@@ -4,7 +4,7 @@ ghost use Rattle.std.specs.Prelude.{◌≡◌, Some, None, option_map, IfOk, IfS
 ghost use Rattle.std.specs.Option.{option_copied};
 ghost use Rattle.pdb_functions.specs.ModuleInfos.{readable_info};
 ghost use Rattle.pdb_functions.specs.SymbolNames.{GoesBySymbol};
-ghost use Rattle.pdb_types.specs.Outcomes.{Gives};
+ghost use Rattle.pdb_errors.specs.Outcomes.{Gives};
 ghost use Rattle.pdb_functions.specs.Lookup.{found_function};
 ghost use Rattle.pdb_documents.specs.BrokenParts.{AddsBroken};
 ghost use Rattle.pdb_documents.specs.PrintInputs.{formatter_inputs};
@@ -15,11 +15,11 @@ ghost use Rattle.pdb_frames.specs.Origins.{function_module};
 ghost use Rattle.pdb_function_info.specs.Frames.{info_of_frames, failed_by_frames, ButForMemory};
 
 use crate::context::Tables;
+use pdb_errors::{ModuleProvider, Result};
 use pdb_frames::{CodeCache, CodePart, FunctionFrames, function_module};
 use pdb_function_info::{FunctionNames, frames_info};
 use pdb_functions::{BasicModuleInfoCache, FoundFunction};
 use pdb_records::{AddressMap, Module, ModuleInfo};
-use pdb_types::{ModuleProvider, Result};
 use std::alloc::{AllocError, Global};
 
 // What a context read so far, so that it is read once. The names that it printed stand with its formatter.

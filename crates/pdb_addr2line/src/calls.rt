@@ -1,9 +1,9 @@
 //! Questions to a context as values, and the answers to them.
 
+use pdb_errors::Result;
 use pdb_frames::FunctionFrames;
 use pdb_function_info::Function;
 use pdb_records::{IdIndex, TypeIndex};
-use pdb_types::Result;
 
 /// A question to a [`Context`](crate::Context). Module indices are those of its formatter's list.
 #[derive(Clone, Copy)]

@@ -2,12 +2,13 @@
 
 ghost use Rattle.std.specs.Prelude.{◌≡◌, [], Ok, length, IfOk};
 ghost use Rattle.std.specs.Option.{option_copied};
-ghost use Rattle.pdb_types.specs.Outcomes.{Gives};
+ghost use Rattle.pdb_errors.specs.Outcomes.{Gives};
 ghost use Rattle.pdb_functions.specs.Contributions.{merged_contributions};
 ghost use Rattle.pdb_functions.specs.GlobalFunctions.{global_functions as functions_listed};
 ghost use Rattle.pdb_addr2line.specs.ContextInputs.{searched_contributions, accepted, global_functions_of};
 
 use crate::caches::Caches;
+use pdb_errors::{Error, ModuleProvider, Result};
 use pdb_frames::{FailedCodeParts, FileNames};
 use pdb_function_info::FunctionNames;
 use pdb_functions::{
@@ -16,7 +17,6 @@ use pdb_functions::{
 };
 use pdb_records::{AddressMap, DebugInformation, ImageSectionHeader, StringTable, SymbolTable};
 use pdb_signatures::TypeFormatter;
-use pdb_types::{Error, ModuleProvider, Result};
 use std::alloc::Global;
 use std::marker::Model;
 

@@ -6,7 +6,7 @@ ghost use Rattle.pdb_addr2line.specs.FunctionLaws.{Ascend, IsStart};
 ghost use Rattle.pdb_addr2line.specs.Functions.{start_addresses};
 ghost use Rattle.pdb_addr2line.specs.ContextInputs.{ContextInputs};
 
-use pdb_types::ModuleProvider;
+use pdb_errors::ModuleProvider;
 
 // Start addresses ascend, so each stands once.
 #[tactic(auto, using(crate::proofs::StartLemmas::starts_ascend))]

@@ -1,7 +1,7 @@
 //! The functions of a program, one by one or all at once, by where they start.
 
 ghost use Rattle.std.specs.Prelude.{◌≡◌, [], ◌∷◌, ◌++◌, length, map, option_map, IfOk, OnOk, OnErr, MatchResult};
-ghost use Rattle.pdb_types.specs.declared.error.Error.TheVariants.{OutOfMemory};
+ghost use Rattle.pdb_errors.specs.declared.error.Error.TheVariants.{OutOfMemory};
 ghost use Rattle.pdb_function_info.specs.Function.{function_view};
 ghost use Rattle.pdb_addr2line.specs.Functions.{start_addresses, functions_at, functions_of, after_function};
 ghost use Rattle.pdb_addr2line.specs.Functions.{after_functions, IsCutShort, OnlyGainsBroken};
@@ -9,8 +9,8 @@ ghost use Rattle.pdb_addr2line.specs.FunctionSteps.{untried, lender, ContinuesNe
 ghost use Rattle.pdb_addr2line.specs.Lookups.{function_at};
 
 use crate::context::Context;
+use pdb_errors::{ModuleProvider, Result};
 use pdb_function_info::Function;
-use pdb_types::{ModuleProvider, Result};
 use std::vec::IntoIter;
 
 /// The functions of a program one by one, by where they start, as [`Context::functions`] gives them.

@@ -29,6 +29,7 @@ pub use pdb_documents::laws::{
     siblings_may_repeat, text_does_not_depend_on_failed_parts,
     the_document_of_a_signature_is_what_it_unfolds_to, the_document_of_an_id_is_what_it_unfolds_to,
 };
+use pdb_errors::ModuleProvider;
 pub use pdb_functions::laws::{
     contributions_are_refused_for, contributions_in_reading_order_stay,
     first_global_function_of_each_start_is_kept, first_procedure_of_each_start_is_kept,
@@ -57,7 +58,6 @@ pub use pdb_tables::laws::{
     last_painted_gives_the_value, missing_runs_hold_what_is_missing, runs_are_determined,
     runs_of_ranges_hold_their_numbers,
 };
-use pdb_types::ModuleProvider;
 pub use pdb_types::laws::{
     chains_that_end_have_the_size_at_their_end, chains_that_never_end_have_no_size,
     chains_that_repeat_have_no_size,

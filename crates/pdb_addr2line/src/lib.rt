@@ -38,12 +38,10 @@ pub use calls::{Answer, Call};
 pub use context::Context;
 pub use context_data::ContextPdbData;
 pub use functions::FunctionIter;
+pub use pdb_errors::{Error, ModuleProvider, Result};
 pub use pdb_frames::{Frame, FunctionFrames};
 pub use pdb_function_info::Function;
 pub use pdb_functions::ModuleSectionContribution;
 pub use pdb_signatures::TypeFormatter;
 pub use pdb_tables::RangeSet;
-pub use pdb_types::{
-    Error, IdMap, ItemIndex, ItemMap, ModuleProvider, Result, TypeFormatterFlags, TypeMap,
-    TypeSizeCache,
-};
+pub use pdb_types::{IdMap, ItemIndex, ItemMap, TypeFormatterFlags, TypeMap, TypeSizeCache};

@@ -2,8 +2,8 @@
 
 ghost use Rattle.std.specs.Prelude.{◌≡◌, ◌≢◌, Ok, None, find, option_map, IfOk, OnOk, IfErr, MatchResult};
 ghost use Rattle.std.specs.Option.{option_copied};
-ghost use Rattle.pdb_types.specs.Outcomes.{Gives};
-ghost use Rattle.pdb_types.specs.declared.error.Error.TheVariants.{OutOfMemory};
+ghost use Rattle.pdb_errors.specs.Outcomes.{Gives};
+ghost use Rattle.pdb_errors.specs.declared.error.Error.TheVariants.{OutOfMemory};
 ghost use Rattle.pdb_records.specs.Addresses.{internal_offset};
 ghost use Rattle.pdb_functions.specs.Lookup.{found_function, procedures_of_module};
 ghost use Rattle.pdb_functions.specs.Lookup.{function_in_contribution, function_over};
@@ -23,6 +23,7 @@ ghost use Rattle.pdb_addr2line.specs.Lookups.{frames_answered, code_failed_after
 
 use crate::caches::{frames_info_by, part_blamed_by};
 use crate::context::Context;
+use pdb_errors::{Error, ModuleProvider, Result};
 use pdb_frames::{CodePart, FunctionFrames, function_module};
 use pdb_function_info::{Function, function_info};
 use pdb_functions::{
@@ -30,7 +31,6 @@ use pdb_functions::{
     ProcedureSymbolFunction, global_function_in,
 };
 use pdb_records::{ModuleInfo, PdbInternalSectionOffset, Rva};
-use pdb_types::{Error, ModuleProvider, Result};
 
 impl<'a, P: ModuleProvider> Context<'a, P> {
     /// The function whose code an address lies in, with its addresses and its name but no lines.

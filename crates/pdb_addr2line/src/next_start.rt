@@ -1,12 +1,12 @@
 //! The first function that starts at an address or behind it, by a search in the start addresses.
 
 ghost use Rattle.std.specs.Prelude.{◌≡◌, find, nat_le, slice_get, MatchResult};
-ghost use Rattle.pdb_types.specs.declared.error.Error.TheVariants.{OutOfMemory};
+ghost use Rattle.pdb_errors.specs.declared.error.Error.TheVariants.{OutOfMemory};
 ghost use Rattle.pdb_addr2line.specs.FunctionLaws.{Ascend};
 ghost use Rattle.pdb_addr2line.specs.Functions.{start_addresses};
 
 use crate::context::Context;
-use pdb_types::{ModuleProvider, Result};
+use pdb_errors::{ModuleProvider, Result};
 
 // The address at a position.
 fn address_at(addresses: &[u32], position: usize) -> Option<u32>

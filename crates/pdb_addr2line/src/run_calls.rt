@@ -3,7 +3,7 @@
 ghost use Rattle.std.specs.Prelude.{◌≡◌, ◌≢◌, ◌∷◌, [], IfOk, OnOk, IfErr, OnErr, MatchResult};
 ghost use Rattle.pdb_types.specs.FailedParts.{with_met};
 ghost use Rattle.pdb_types.specs.TypeSizes.{size_of};
-ghost use Rattle.pdb_types.specs.declared.error.Error.TheVariants.{OutOfMemory};
+ghost use Rattle.pdb_errors.specs.declared.error.Error.TheVariants.{OutOfMemory};
 ghost use Rattle.pdb_documents.specs.Printed.{signature_run, id_run};
 ghost use Rattle.pdb_addr2line.specs.Calls.{FunctionView, FramesView, FunctionsView, SizeView};
 ghost use Rattle.pdb_addr2line.specs.Calls.{TextView, answer_view, printed, with_failed, after_frames};
@@ -14,8 +14,8 @@ ghost use Rattle.pdb_addr2line.specs.Lookups.{function_at, frames_answered};
 
 use crate::calls::{Answer, Call};
 use crate::context::Context;
+use pdb_errors::{Error, ModuleProvider, Result};
 use pdb_records::{IdIndex, TypeIndex};
-use pdb_types::{Error, ModuleProvider, Result};
 
 // An error that stands in the place of an answer. Answers `OutOfMemory` where memory runs out.
 fn unless_out_of_memory(error: Error) -> Result<Error>

@@ -1,16 +1,16 @@
 //! The addresses at which functions start, by the global functions and the procedures of all modules.
 
 ghost use Rattle.std.specs.Prelude.{◌≡◌, map, OnOk, MatchResult};
-ghost use Rattle.pdb_types.specs.declared.error.Error.TheVariants.{OutOfMemory};
+ghost use Rattle.pdb_errors.specs.declared.error.Error.TheVariants.{OutOfMemory};
 ghost use Rattle.pdb_functions.specs.GlobalFunctions.{global_function};
 ghost use Rattle.pdb_functions.specs.Lookup.{procedures_of_module};
 ghost use Rattle.pdb_functions.specs.Procedures.{module_procedure};
 ghost use Rattle.pdb_addr2line.specs.Functions.{procedures_of_modules, with_start, with_starts, start_addresses};
 
 use crate::context::Context;
+use pdb_errors::{ModuleProvider, Result};
 use pdb_functions::{BasicModuleInfoCache, GlobalFunction, ProcedureSymbolFunction};
 use pdb_records::{AddressMap, Module, PdbInternalSectionOffset};
-use pdb_types::{ModuleProvider, Result};
 use std::alloc::{AllocError, Global};
 use std::collections::BTreeSet;
 

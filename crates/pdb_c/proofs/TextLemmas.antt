@@ -2,10 +2,10 @@
 use Rattle.std.proofs.Common.{◌≡◌, ◌∙◌, ℕ, List, [], ◌∷◌, ◌++◌, take, refl, sym, ap, subst, zero, suc}
 use Rattle.std.specs.Prelude.{◌≢◌, Option, Some, Result, Ok, Err, slice_get}
 use Rattle.pdb_records.specs.Records.{Records}
-use Rattle.pdb_types.specs.declared.error.Error.{Error}
-use Rattle.pdb_types.specs.declared.error.Error.TheVariants.{OutOfMemory}
-use Rattle.pdb_types.specs.Outcomes.{and_then, unless}
-use Rattle.pdb_types.specs.TypeInputs.{ProviderInfos}
+use Rattle.pdb_errors.specs.declared.error.Error.{Error}
+use Rattle.pdb_errors.specs.declared.error.Error.TheVariants.{OutOfMemory}
+use Rattle.pdb_errors.specs.Outcomes.{and_then, unless}
+use Rattle.pdb_errors.specs.Provided.{ProviderInfos}
 use Rattle.pdb_frames.specs.CodeParts.{CodeParts}
 use Rattle.pdb_addr2line.specs.ContextInputs.{ContextInputs, ContextState}
 use Rattle.pdb_addr2line.specs.ContextData.{records_refusal, default_flags, context_of}

@@ -1,7 +1,7 @@
 -- Which processor the program of a PDB file is for.
 use Rattle.std.specs.Prelude.{◌≡◌, ℕ, ℤ, pos, List, Option, Some, None, Result, Ok, Err}
 use Rattle.std.specs.Option.{option_map_or}
-use Rattle.pdb_types.specs.Outcomes.{and_then}
+use Rattle.pdb_errors.specs.Outcomes.{and_then}
 use Rattle.pdb_container.specs.declared.identity.PdbIdentity.{PdbIdentity}
 use Rattle.pdb_container.specs.DebugRecords.{of_file}
 use Rattle.pdb_container.specs.Identity.{identity}

@@ -1,8 +1,8 @@
 -- What an opening reads, the context that it makes, and how it ends.
 use Rattle.std.specs.Prelude.{◌≡◌, ◌≢◌, ℕ, ℤ, pos, List, Option, None, Some, Result, Ok, Err}
 use Rattle.pdb_records.specs.Records.{Records}
-use Rattle.pdb_types.specs.declared.error.Error.{Error}
-use Rattle.pdb_types.specs.Outcomes.{and_then}
+use Rattle.pdb_errors.specs.declared.error.Error.{Error}
+use Rattle.pdb_errors.specs.Outcomes.{and_then}
 use Rattle.pdb_addr2line.specs.ContextInputs.{ContextInputs, ContextState}
 use Rattle.pdb_addr2line.specs.ContextData.{records_refusal, default_flags, context_of}
 use Rattle.pdb_addr2line.specs.Calls.{fresh}

@@ -2,8 +2,8 @@
 use Rattle.std.specs.Prelude.{◌≡◌, ◌≢◌, ℕ, ℤ, nat_le, List, [], ◌∷◌, find, Option, Some, None, Result, Ok, Err}
 use Rattle.std.specs.Prelude.{option_map}
 use Rattle.pdb_records.specs.Records.{Records}
-use Rattle.pdb_types.specs.Outcomes.{and_then}
-use Rattle.pdb_types.specs.TypeInputs.{ProviderInfos}
+use Rattle.pdb_errors.specs.Outcomes.{and_then}
+use Rattle.pdb_errors.specs.Provided.{ProviderInfos}
 use Rattle.pdb_frames.specs.Frame.{FramesInfo}
 use Rattle.pdb_addr2line.specs.ContextInputs.{ContextState}
 use Rattle.pdb_addr2line.specs.ContextData.{info_at}

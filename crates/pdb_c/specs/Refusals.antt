@@ -1,7 +1,7 @@
 -- Why a call writes no text, and the numbers that stand for it.
 use Rattle.std.specs.Prelude.{ℤ, pos, neg_ℤ}
-use Rattle.pdb_types.specs.declared.error.Error.{Error}
-use Rattle.pdb_types.specs.declared.error.Error.TheVariants as error
+use Rattle.pdb_errors.specs.declared.error.Error.{Error}
+use Rattle.pdb_errors.specs.declared.error.Error.TheVariants as error
 use Rattle.pdb_json_values.specs.declared.faults.RecordFault.{RecordFault}
 use Rattle.pdb_json_values.specs.declared.faults.RecordFault.TheVariants as fault
 use Rattle.pdb_json_values.specs.Faults.{Fault, not_json, module_files, shape, out_of_range, module_not_json}

@@ -1,8 +1,8 @@
 -- The text that a call writes, or why there is none.
 use Rattle.std.specs.Prelude.{◌≡◌, ◌≢◌, ℕ, List, [], ◌∷◌, Result, Ok, Err}
 use Rattle.pdb_records.specs.Records.{Records}
-use Rattle.pdb_types.specs.declared.error.Error.{Error}
-use Rattle.pdb_types.specs.Outcomes.{and_then}
+use Rattle.pdb_errors.specs.declared.error.Error.{Error}
+use Rattle.pdb_errors.specs.Outcomes.{and_then}
 use Rattle.pdb_addr2line.specs.ContextInputs.{ContextInputs, ContextState}
 use Rattle.pdb_addr2line.specs.ContextData.{info_at}
 use Rattle.pdb_addr2line.specs.Calls.{fresh}

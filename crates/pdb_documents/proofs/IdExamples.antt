@@ -12,11 +12,11 @@ use Rattle.pdb_records.specs.declared.types.TypeIndex.{TypeIndex}
 use Rattle.pdb_records.specs.declared.types.TypeData.{TypeData}
 use Rattle.pdb_records.specs.declared.types.TypeData.TheVariants.{ArgumentList}
 use Rattle.pdb_records.specs.declared.types.PrimitiveKind.TheVariants.{RChar, I32}
-use Rattle.pdb_types.specs.declared.error.Error.TheVariants.{CircularTypeDefinition, PdbError}
-use Rattle.pdb_types.specs.declared.error.Error.TheVariants.{FunctionIdIsNotProcedureType}
-use Rattle.pdb_types.specs.declared.error.Error.TheVariants.{MemberFunctionIdIsNotMemberFunctionType}
+use Rattle.pdb_errors.specs.declared.error.Error.TheVariants.{CircularTypeDefinition, PdbError}
+use Rattle.pdb_errors.specs.declared.error.Error.TheVariants.{FunctionIdIsNotProcedureType}
+use Rattle.pdb_errors.specs.declared.error.Error.TheVariants.{MemberFunctionIdIsNotMemberFunctionType}
 use Rattle.pdb_types.specs.declared.read_error.Part.TheVariants.{Imports}
-use Rattle.pdb_types.specs.Errors.{Plain}
+use Rattle.pdb_errors.specs.Errors.{Plain}
 use Rattle.pdb_types.specs.FailedParts.{with_part}
 use Rattle.pdb_types.specs.TypeSizes.{type_size}
 use Rattle.pdb_documents.specs.Documents.{Failure, Run, OfError}

@@ -16,12 +16,12 @@ use Rattle.pdb_records.specs.declared.types.TypeData.{TypeData}
 use Rattle.pdb_records.specs.declared.types.TypeData.TheVariants.{Primitive, Class, MemberFunction, Procedure, Pointer}
 use Rattle.pdb_records.specs.declared.types.TypeData.TheVariants.{Array, Union, Enumeration, Enumerate, Modifier}
 use Rattle.pdb_records.specs.declared.types.TypeData.TheVariants.{ArgumentList, Other}
-use Rattle.pdb_types.specs.declared.error.Error.TheVariants.{CircularTypeDefinition, PdbError}
-use Rattle.pdb_types.specs.declared.error.Error.TheVariants.{ModuleImportsUnsuccessful, ArgumentTypeNotArgumentList}
+use Rattle.pdb_errors.specs.declared.error.Error.TheVariants.{CircularTypeDefinition, PdbError}
+use Rattle.pdb_errors.specs.declared.error.Error.TheVariants.{ModuleImportsUnsuccessful, ArgumentTypeNotArgumentList}
 use Rattle.pdb_types.specs.FailedParts.{Parts, with_part}
 use Rattle.pdb_types.specs.TypeSizes.{type_size}
 use Rattle.pdb_types.specs.declared.read_error.Part.TheVariants.{Imports}
-use Rattle.pdb_types.specs.Errors.{ErrorView, Plain}
+use Rattle.pdb_errors.specs.Errors.{ErrorView, Plain}
 use Rattle.pdb_types.specs.TypeInputs.{LinkInputs}
 use Rattle.pdb_documents.specs.Documents.{Run, OfError}
 use Rattle.pdb_documents.specs.PrintInputs.{PrintInputs, print_inputs_of, type_at}

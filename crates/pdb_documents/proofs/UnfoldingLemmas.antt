@@ -9,10 +9,11 @@ use Rattle.pdb_records.specs.declared.types.TypeData.{TypeData}
 use Rattle.pdb_records.specs.declared.ids.IdIndex.{IdIndex}
 use Rattle.pdb_records.specs.declared.ids.IdData.{IdData}
 use Rattle.pdb_types.specs.declared.flags.TypeFormatterFlags.{TypeFormatterFlags}
-use Rattle.pdb_types.specs.declared.error.Error.TheVariants.{CircularTypeDefinition}
-use Rattle.pdb_types.specs.Errors.{Plain}
+use Rattle.pdb_errors.specs.declared.error.Error.TheVariants.{CircularTypeDefinition}
+use Rattle.pdb_errors.specs.Errors.{Plain}
 use Rattle.pdb_types.specs.FailedParts.{Parts}
-use Rattle.pdb_types.specs.TypeInputs.{LinkInputs, TypeInputs, ProviderInfos, link_inputs}
+use Rattle.pdb_types.specs.TypeInputs.{LinkInputs, TypeInputs, link_inputs}
+use Rattle.pdb_errors.specs.Provided.{ProviderInfos}
 use Rattle.pdb_types.proofs.ReadingLemmas.{reading-below}
 use Rattle.pdb_documents.specs.Documents.{Document, OfError, run}
 use Rattle.pdb_documents.specs.Documents as document

@@ -2,9 +2,9 @@
 use Rattle.std.specs.Prelude.{◌≡◌, ◌≢◌, ℕ, Bool, true, false, List, Some, None}
 use Rattle.std.specs.Prelude.{Result, Ok, Err, option_map, String, string_bytes}
 use Rattle.std.specs.Global.{Global}
-use Rattle.pdb_types.specs.declared.error.Error.{Error}
-use Rattle.pdb_types.specs.declared.error.Error.TheVariants.{OutOfMemory, FormatError}
-use Rattle.pdb_types.specs.Errors.{error_view}
+use Rattle.pdb_errors.specs.declared.error.Error.{Error}
+use Rattle.pdb_errors.specs.declared.error.Error.TheVariants.{OutOfMemory, FormatError}
+use Rattle.pdb_errors.specs.Errors.{error_view}
 use Rattle.pdb_types.specs.FailedParts.{Parts}
 use Rattle.pdb_documents.specs.Documents.{Run, failure_error}
 

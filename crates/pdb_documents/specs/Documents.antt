@@ -2,9 +2,9 @@
 use Rattle.std.specs.Prelude.{ℕ, ◌==◌, ◌-◌, ◌||◌, ◌++◌, Bool, false, List, []}
 use Rattle.std.specs.Prelude.{Option, Some, None, length, slice_get, if◌then◌else◌}
 use Rattle.pdb_records.specs.declared.error.Error.TheVariants as records
-use Rattle.pdb_types.specs.declared.error.Error.TheVariants.{PdbError}
+use Rattle.pdb_errors.specs.declared.error.Error.TheVariants.{PdbError}
 use Rattle.pdb_types.specs.declared.read_error.Part.{Part}
-use Rattle.pdb_types.specs.Errors.{ErrorView, Plain}
+use Rattle.pdb_errors.specs.Errors.{ErrorView, Plain}
 use Rattle.pdb_types.specs.FailedParts.{Parts, with_part, part_error}
 use Rattle.pdb_documents.specs.Wording.{missing_text}
 

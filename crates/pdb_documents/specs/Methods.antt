@@ -5,9 +5,9 @@ use Rattle.pdb_records.specs.declared.types.TypeIndex.{TypeIndex}
 use Rattle.pdb_records.specs.declared.types.MemberFunctionType.{MemberFunctionType}
 use Rattle.pdb_records.specs.declared.types.TypeData.{TypeData}
 use Rattle.pdb_records.specs.declared.types.TypeData.TheVariants.{Pointer, Modifier, ArgumentList}
-use Rattle.pdb_types.specs.declared.error.Error.TheVariants.{ArgumentTypeNotArgumentList}
-use Rattle.pdb_types.specs.Errors.{Plain}
-use Rattle.pdb_types.specs.Outcomes.{and_then}
+use Rattle.pdb_errors.specs.declared.error.Error.TheVariants.{ArgumentTypeNotArgumentList}
+use Rattle.pdb_errors.specs.Errors.{Plain}
+use Rattle.pdb_errors.specs.Outcomes.{and_then}
 use Rattle.pdb_types.specs.ReadError.{ReadErrorView}
 use Rattle.pdb_documents.specs.declared.tasks.MethodForm.{MethodForm}
 use Rattle.pdb_documents.specs.declared.tasks.MethodForm.TheVariants.{Signature}

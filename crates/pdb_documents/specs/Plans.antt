@@ -4,9 +4,9 @@ use Rattle.std.specs.List.{list_any}
 use Rattle.pdb_records.specs.declared.error.Error.TheVariants.{UnimplementedTypeKind}
 use Rattle.pdb_records.specs.declared.types.MemberFunctionType.{MemberFunctionType}
 use Rattle.pdb_records.specs.declared.types.TypeData.{TypeData}
-use Rattle.pdb_types.specs.declared.error.Error.TheVariants.{PdbError, CircularTypeDefinition}
+use Rattle.pdb_errors.specs.declared.error.Error.TheVariants.{PdbError, CircularTypeDefinition}
 use Rattle.pdb_types.specs.declared.read_error.Part.{Part}
-use Rattle.pdb_types.specs.Errors.{ErrorView, Plain}
+use Rattle.pdb_errors.specs.Errors.{ErrorView, Plain}
 use Rattle.pdb_types.specs.ReadError.{ReadErrorView, Missing, Unimplemented, Refused, Broken}
 use Rattle.pdb_documents.specs.Documents.{Document, TypeNotFound, OfError}
 use Rattle.pdb_documents.specs.Documents as document

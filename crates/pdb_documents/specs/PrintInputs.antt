@@ -8,9 +8,10 @@ use Rattle.pdb_records.specs.declared.ids.IdIndex.{IdIndex}
 use Rattle.pdb_records.specs.declared.ids.IdData.{IdData}
 use Rattle.pdb_types.specs.declared.flags.TypeFormatterFlags.{TypeFormatterFlags}
 use Rattle.pdb_types.specs.declared.type_sizes.TypeSize.{TypeSize}
-use Rattle.pdb_types.specs.Outcomes.{and_then}
+use Rattle.pdb_errors.specs.Outcomes.{and_then}
 use Rattle.pdb_types.specs.Reading.{reading}
-use Rattle.pdb_types.specs.TypeInputs.{TypeInputs, ProviderInfos, LinkInputs, link_inputs}
+use Rattle.pdb_types.specs.TypeInputs.{TypeInputs, LinkInputs, link_inputs}
+use Rattle.pdb_errors.specs.Provided.{ProviderInfos}
 use Rattle.pdb_types.specs.TypeSizes.{read_type, type_size}
 use Rattle.pdb_types.specs.ReadError.{ReadErrorView}
 

@@ -1,7 +1,8 @@
 -- What printing does, as a function of the print inputs.
 use Rattle.std.specs.Prelude.{◌≡◌, Option, Some, None, ℕ, zero, suc, ◌+◌, ◌*◌, ◌^◌, List, []}
 use Rattle.pdb_types.specs.FailedParts.{Parts}
-use Rattle.pdb_types.specs.TypeInputs.{TypeInputs, ProviderInfos}
+use Rattle.pdb_types.specs.TypeInputs.{TypeInputs}
+use Rattle.pdb_errors.specs.Provided.{ProviderInfos}
 use Rattle.pdb_documents.specs.Documents.{Failure, TypeNotFound, OfError, Document, Run, run}
 use Rattle.pdb_documents.specs.Documents as document
 use Rattle.pdb_documents.specs.PrintInputs.{PrintInputs, formatter_inputs}

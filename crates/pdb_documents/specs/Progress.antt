@@ -5,10 +5,10 @@ use Rattle.std.specs.String.Boundary.{IsSplitPoint}
 use Rattle.std.specs.BTreeSet.{BTreeSet, contains}
 use Rattle.std.specs.Ordering.{nat_cmp}
 use Rattle.pdb_records.specs.declared.error.Error.TheVariants as records
-use Rattle.pdb_types.specs.declared.error.Error.{Error}
-use Rattle.pdb_types.specs.declared.error.Error.TheVariants.{PdbError, CircularTypeDefinition}
+use Rattle.pdb_errors.specs.declared.error.Error.{Error}
+use Rattle.pdb_errors.specs.declared.error.Error.TheVariants.{PdbError, CircularTypeDefinition}
 use Rattle.pdb_types.specs.declared.flags.TypeFormatterFlags.{TypeFormatterFlags}
-use Rattle.pdb_types.specs.Errors.{Plain, error_view}
+use Rattle.pdb_errors.specs.Errors.{Plain, error_view}
 use Rattle.pdb_types.specs.FailedParts.{Parts}
 use Rattle.pdb_documents.specs.declared.failures.Failure as code
 use Rattle.pdb_documents.specs.declared.failures.Failure.TheVariants as code_failure

@@ -4,9 +4,9 @@ use Rattle.std.specs.List.{list_any}
 use Rattle.std.specs.Ordering.{nat_cmp}
 use Rattle.std.specs.BTreeSet.{BTreeSet, contains}
 use Rattle.pdb_records.specs.declared.types.TypeIndex.{TypeIndex}
-use Rattle.pdb_types.specs.declared.error.Error.{Error}
-use Rattle.pdb_types.specs.declared.error.Error.TheVariants.{CircularTypeDefinition}
-use Rattle.pdb_types.specs.declared.error.Error.TheVariants as error
+use Rattle.pdb_errors.specs.declared.error.Error.{Error}
+use Rattle.pdb_errors.specs.declared.error.Error.TheVariants.{CircularTypeDefinition}
+use Rattle.pdb_errors.specs.declared.error.Error.TheVariants as error
 use Rattle.pdb_documents.specs.declared.seen.SeenError.{SeenError}
 use Rattle.pdb_documents.specs.declared.seen.SeenError.TheVariants.{Already, OutOfMemory}
 

@@ -1,14 +1,14 @@
 //! What a call that prints answers: the printed text, or the error before which it ends.
 
 ghost use Rattle.std.specs.Prelude.{◌≡◌, ◌≢◌, false, string_bytes};
-ghost use Rattle.pdb_types.specs.declared.error.Error.TheVariants.{OutOfMemory};
+ghost use Rattle.pdb_errors.specs.declared.error.Error.TheVariants.{OutOfMemory};
 ghost use Rattle.pdb_types.specs.FailedParts.{Parts};
 ghost use Rattle.pdb_documents.specs.Answers.{is_format_error, ran_out_of_memory, AnswersText, AnswersWritten};
 ghost use Rattle.pdb_documents.specs.Documents.{Run};
 ghost use Rattle.pdb_documents.specs.Progress.{failure_in};
 
 use crate::failures::Failure;
-use pdb_types::{Error, Result};
+use pdb_errors::{Error, Result};
 use std::fmt;
 
 /// What printing came to: the text, and why it failed where it did.

@@ -2,7 +2,7 @@
 
 ghost use Rattle.std.specs.Prelude.{◌≡◌};
 
-use pdb_types::Error;
+use pdb_errors::Error;
 
 /// Why printing fails.
 #[derive(Drop)]

@@ -4,8 +4,8 @@ ghost use Rattle.std.specs.Prelude.{◌≡◌, ℕ, Bool, false, not, ◌&&◌, 
 ghost use Rattle.std.specs.Prelude.{[], ◌∷◌, ◌++◌, OnOk, OnErr, IfOk, IfErr};
 ghost use Rattle.pdb_documents.specs.Seen.{has, base, IsRefusal};
 
+use pdb_errors::Error;
 use pdb_records::TypeIndex;
-use pdb_types::Error;
 use std::alloc::{AllocFailed, Global};
 use std::collections::BTreeSet;
 use std::fmt;
@@ -41,7 +41,7 @@ impl From<AllocFailed<TypeIndex>> for SeenError {
 }
 
 impl From<AlreadySeenError> for Error {
-    ghost use Rattle.pdb_types.specs.declared.error.Error.TheVariants.{CircularTypeDefinition};
+    ghost use Rattle.pdb_errors.specs.declared.error.Error.TheVariants.{CircularTypeDefinition};
 
     ghost from_gives = { λ seen r. r ≡ CircularTypeDefinition seen.0.0 };
 

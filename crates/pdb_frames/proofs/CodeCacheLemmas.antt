@@ -10,9 +10,9 @@ use Rattle.pdb_records.specs.LinePrograms.{Lines}
 use Rattle.pdb_records.specs.Readings.{Read}
 use Rattle.pdb_records.specs.declared.lines.LineInfo.{LineInfo}
 use Rattle.pdb_records.specs.declared.modules.ModuleInfo.{ModuleInfo}
-use Rattle.pdb_types.proofs.TypeCacheLemmas.{is_cache_of_nothing, is_cache_same, is_cache_more}
-use Rattle.pdb_types.specs.Outcomes.{Gives}
-use Rattle.pdb_types.specs.declared.error.Error.{Error}
+use Rattle.pdb_tables.proofs.CacheLemmas.{is_cache_of_nothing, is_cache_same, is_cache_more}
+use Rattle.pdb_errors.specs.Outcomes.{Gives}
+use Rattle.pdb_errors.specs.declared.error.Error.{Error}
 use Rattle.pdb_inline.specs.declared.inline_ranges.InlineRange.{InlineRange}
 use Rattle.pdb_frames.specs.CodeCaches.{ModuleRecords, IsExtendedInfoCache, function_cmp, HasProgram, IsEntryCache}
 use Rattle.pdb_frames.specs.CodeCaches.{IsLineCache, procedure_cmp, procedure_ranges, IsRangeCache}

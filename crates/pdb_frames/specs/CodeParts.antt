@@ -6,12 +6,12 @@ use Rattle.std.specs.Ordering.{nat_cmp, ordering_then}
 use Rattle.pdb_records.specs.LinePrograms.{Lines}
 use Rattle.pdb_records.specs.declared.addresses.PdbInternalSectionOffset.{PdbInternalSectionOffset}
 use Rattle.pdb_records.specs.declared.modules.ModuleInfo.{ModuleInfo}
-use Rattle.pdb_types.specs.Outcomes.{and_then}
-use Rattle.pdb_types.specs.PartSet.{has_part, add_part, error_of_part}
-use Rattle.pdb_types.specs.declared.error.Error.{Error}
-use Rattle.pdb_types.specs.declared.error.Error.TheVariants.{ExtendedModuleInfoUnsuccessful}
-use Rattle.pdb_types.specs.declared.error.Error.TheVariants.{ProcedureLinesUnsuccessful}
-use Rattle.pdb_types.specs.declared.error.Error.TheVariants.{ProcedureInlineRangesUnsuccessful}
+use Rattle.pdb_errors.specs.Outcomes.{and_then}
+use Rattle.pdb_errors.specs.PartSet.{has_part, add_part, error_of_part}
+use Rattle.pdb_errors.specs.declared.error.Error.{Error}
+use Rattle.pdb_errors.specs.declared.error.Error.TheVariants.{ExtendedModuleInfoUnsuccessful}
+use Rattle.pdb_errors.specs.declared.error.Error.TheVariants.{ProcedureLinesUnsuccessful}
+use Rattle.pdb_errors.specs.declared.error.Error.TheVariants.{ProcedureInlineRangesUnsuccessful}
 use Rattle.pdb_functions.specs.Lookup.{FoundFunction}
 use Rattle.pdb_functions.specs.Starts.{section_offset_cmp}
 use Rattle.pdb_frames.specs.ExtendedInfo.{extended_info}

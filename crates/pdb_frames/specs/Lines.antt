@@ -11,9 +11,9 @@ use Rattle.pdb_records.specs.declared.error.Error.TheVariants.{Stream}
 use Rattle.pdb_records.specs.declared.lines.FileIndex.{FileIndex}
 use Rattle.pdb_records.specs.declared.lines.LineInfo.{LineInfo}
 use Rattle.pdb_records.specs.declared.strings.StringRef.{StringRef}
-use Rattle.pdb_types.specs.declared.error.Error.{Error}
-use Rattle.pdb_types.specs.declared.error.Error.TheVariants.{PdbError}
-use Rattle.pdb_types.specs.Outcomes.{unless, and_then}
+use Rattle.pdb_errors.specs.declared.error.Error.{Error}
+use Rattle.pdb_errors.specs.declared.error.Error.TheVariants.{PdbError}
+use Rattle.pdb_errors.specs.Outcomes.{unless, and_then}
 use Rattle.pdb_tables.specs.Pick.{pick}
 
 -- the entries of a list that was read to its end; refused for the fault where one stands behind them

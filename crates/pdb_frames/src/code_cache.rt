@@ -1,7 +1,7 @@
 //! The cache of modules' code: where code at an offset of a function comes from, and what is to blame.
 
 ghost use Rattle.std.specs.Prelude.{◌≡◌, Some, Ok, IfOk};
-ghost use Rattle.pdb_types.specs.Outcomes.{Gives, and_then};
+ghost use Rattle.pdb_errors.specs.Outcomes.{Gives, and_then};
 ghost use Rattle.pdb_functions.specs.Lookup.{found_function};
 ghost use Rattle.pdb_frames.specs.ExtendedInfo.{extended_info};
 ghost use Rattle.pdb_frames.specs.Lines.{function_row};
@@ -15,10 +15,10 @@ use crate::extended_infos::ExtendedInfos;
 use crate::function_lines::FunctionLines;
 use crate::origins::{Origin, function_module, function_start};
 use crate::procedure_ranges::ProcedureRanges;
+use pdb_errors::{Error, Result};
 use pdb_functions::FoundFunction;
 use pdb_inline::InlineRange;
 use pdb_records::{LineInfo, LineProgram, ModuleInfo, PdbInternalSectionOffset};
-use pdb_types::{Error, Result};
 use std::alloc::{AllocError, Global};
 
 /// What was found of modules' code so far. It grows, and is asked before the records are read again.
@@ -60,7 +60,7 @@ impl<'a> CodeCache<'a> {
     ///
     /// # Errors
     ///
-    /// [`Error::PdbError`](pdb_types::Error::PdbError) for what is known of the module's code, then for the
+    /// [`Error::PdbError`](pdb_errors::Error::PdbError) for what is known of the module's code, then for the
     /// function's line rows, and then for its inline ranges.
     #[tactic(auto, using(crate::proofs::OriginLemmas::origin_by_stack))]
     pub fn origin(

@@ -2,8 +2,8 @@
 
 ghost use Rattle.pdb_frames.specs.CodeParts.{unsuccessful_code};
 
+use pdb_errors::{BrokenPart, Error, PartSet};
 use pdb_records::PdbInternalSectionOffset;
-use pdb_types::{BrokenPart, Error, PartSet};
 
 /// A part of the records of code that may be broken by itself: by module index, and by the
 /// start of its function where it is a function's.

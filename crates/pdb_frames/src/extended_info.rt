@@ -2,11 +2,11 @@
 
 ghost use Rattle.std.specs.Prelude.{◌≡◌, IfOk, OnOk};
 ghost use Rattle.std.specs.BTreeSet.{insert_key};
-ghost use Rattle.pdb_types.specs.Outcomes.{Gives};
+ghost use Rattle.pdb_errors.specs.Outcomes.{Gives};
 ghost use Rattle.pdb_frames.specs.ExtendedInfo.{extended_info_view, id_cmp, inlinee_ids, extended_info};
 
+use pdb_errors::{Error, Result};
 use pdb_records::{IdIndex, Inlinee, LineProgram, ModuleInfo};
-use pdb_types::{Error, Result};
 use std::alloc::{AllocError, Global};
 use std::collections::BTreeSet;
 

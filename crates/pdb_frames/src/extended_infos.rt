@@ -1,18 +1,17 @@
 //! The cache of modules' extended infos by module index, and the inline ranges that they lead to.
 
 ghost use Rattle.std.specs.Prelude.{◌≡◌, [], Some, Ok, IfOk};
-ghost use Rattle.pdb_types.specs.Outcomes.{Gives, and_then};
-ghost use Rattle.pdb_types.specs.Resolution.{streamed};
+ghost use Rattle.pdb_errors.specs.Outcomes.{Gives, and_then, streamed};
 ghost use Rattle.pdb_inline.specs.InlineRanges.{procedure_inline_ranges};
 ghost use Rattle.pdb_frames.specs.ExtendedInfo.{extended_info};
 ghost use Rattle.pdb_frames.specs.CodeCaches.{ModuleRecords, IsExtendedInfoCache, procedure_ranges};
 
 use crate::extended_info::{ExtendedModuleInfo, compute_extended_module_info};
 use crate::inline_ranges::compute_procedure_inline_ranges;
+use pdb_errors::{Error, Result};
 use pdb_functions::ProcedureSymbolFunction;
 use pdb_inline::InlineRange;
 use pdb_records::{LineProgram, ModuleInfo};
-use pdb_types::{Error, Result};
 use std::alloc::Global;
 use std::collections::BTreeMap;
 

@@ -1,14 +1,14 @@
 //! The cache of functions' line rows: the line row over an offset in a function.
 
-ghost use Rattle.pdb_types.specs.Outcomes.{Gives};
+ghost use Rattle.pdb_errors.specs.Outcomes.{Gives};
 ghost use Rattle.pdb_frames.specs.Lines.{function_row};
 ghost use Rattle.pdb_frames.specs.CodeCaches.{ModuleRecords, HasProgram, IsEntryCache, IsLineCache};
 
 use crate::code_keys::{FunctionKey, function_key};
 use crate::function_rows::FunctionRows;
 use crate::line_entries::ProgramEntries;
+use pdb_errors::{Error, Result};
 use pdb_records::{LineInfo, LineProgram, PdbInternalSectionOffset};
-use pdb_types::{Error, Result};
 use std::alloc::Global;
 use std::collections::BTreeMap;
 

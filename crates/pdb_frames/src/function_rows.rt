@@ -9,9 +9,9 @@ ghost use Rattle.pdb_records.specs.declared.addresses.PdbInternalSectionOffset.{
 ghost use Rattle.pdb_frames.specs.FunctionRows.{OffsetsAscend, row_in};
 ghost use Rattle.pdb_frames.specs.Lines.{row_over, function_row};
 
+use pdb_errors::{Error, Result};
 use pdb_records::{LineInfo, Reading, StreamError};
 use pdb_tables::{Keyed, Probes, first_of_each_key, neighbours_of};
-use pdb_types::{Error, Result};
 use std::alloc::{AllocError, Global};
 use std::marker::Model;
 

@@ -1,12 +1,12 @@
 //! The inline ranges of a procedure that was found, by its symbols in the records of its module.
 
-ghost use Rattle.pdb_types.specs.Outcomes.{Gives};
+ghost use Rattle.pdb_errors.specs.Outcomes.{Gives};
 ghost use Rattle.pdb_inline.specs.InlineRanges.{procedure_inline_ranges};
 
+use pdb_errors::Result;
 use pdb_functions::ProcedureSymbolFunction;
 use pdb_inline::{InlineRange, inline_ranges_of_procedure};
 use pdb_records::{IdIndex, ModuleInfo};
-use pdb_types::Result;
 use std::alloc::Global;
 use std::collections::BTreeSet;
 
@@ -19,7 +19,7 @@ use std::collections::BTreeSet;
 ///
 /// # Errors
 ///
-/// [`Error::PdbError`](pdb_types::Error::PdbError) where the procedure's symbols go on to the end of the
+/// [`Error::PdbError`](pdb_errors::Error::PdbError) where the procedure's symbols go on to the end of the
 /// list, and that has a fault.
 pub fn compute_procedure_inline_ranges(
     alloc: Global,

@@ -1,15 +1,15 @@
 //! The cache of procedures' inline ranges, each as the stacks over its offsets.
 
 ghost use Rattle.std.specs.Prelude.{◌≡◌, Some};
-ghost use Rattle.pdb_types.specs.Outcomes.{Gives};
+ghost use Rattle.pdb_errors.specs.Outcomes.{Gives};
 ghost use Rattle.pdb_frames.specs.CodeCaches.{ModuleRecords, IsExtendedInfoCache, IsRangeCache, procedure_stack};
 
 use crate::code_keys::{ProcedureKey, procedure_key};
 use crate::extended_infos::ExtendedInfos;
+use pdb_errors::{Error, Result};
 use pdb_functions::ProcedureSymbolFunction;
 use pdb_inline::{InlineRange, ProcedureStacks};
 use pdb_records::ModuleInfo;
-use pdb_types::{Error, Result};
 use std::alloc::Global;
 use std::collections::BTreeMap;
 

@@ -4,7 +4,7 @@ use Rattle.std.specs.Prelude.{◌++◌, None, Result, Ok, Err, OnOk, OnErr, opti
 use Rattle.std.proofs.lemmas.List.Elements.{All-nil, All-same, All-push, All-weaker}
 use Rattle.pdb_records.specs.Names.{lossy}
 use Rattle.pdb_types.specs.FailedParts.{Parts, with_met}
-use Rattle.pdb_types.specs.TypeInputs.{ProviderInfos}
+use Rattle.pdb_errors.specs.Provided.{ProviderInfos}
 use Rattle.pdb_types.specs.declared.read_error.Part.{Part}
 use Rattle.pdb_functions.specs.Lookup.{procedures_of_module}
 use Rattle.pdb_functions.specs.SymbolNames.{name_by_symbol}

@@ -7,8 +7,9 @@ use Rattle.pdb_records.specs.declared.addresses.AddressRange.{AddressRange}
 use Rattle.pdb_records.specs.declared.addresses.Rva.{Rva}
 use Rattle.pdb_records.specs.declared.modules.ModuleInfo.{ModuleInfo}
 use Rattle.pdb_types.specs.FailedParts.{Parts}
-use Rattle.pdb_types.specs.TypeInputs.{TypeInputs, ProviderInfos}
-use Rattle.pdb_types.specs.declared.error.Error.{Error}
+use Rattle.pdb_types.specs.TypeInputs.{TypeInputs}
+use Rattle.pdb_errors.specs.Provided.{ProviderInfos}
+use Rattle.pdb_errors.specs.declared.error.Error.{Error}
 use Rattle.pdb_functions.specs.GlobalFunctions.{GlobalFunction}
 use Rattle.pdb_functions.specs.Lookup.{FoundFunction}
 use Rattle.pdb_function_info.specs.Function.{sum_in_32_bits}

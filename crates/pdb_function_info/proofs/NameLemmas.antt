@@ -1,7 +1,7 @@
 -- From a signature that was printed after parts of the records had failed to the one where none had.
 use Rattle.std.proofs.Common.{◌≡◌, ◌∙◌, ℕ, List, [], sym, ap, refl}
 use Rattle.std.specs.Prelude.{Option, Some, None, option_map}
-use Rattle.pdb_types.specs.Errors.{ErrorView}
+use Rattle.pdb_errors.specs.Errors.{ErrorView}
 use Rattle.pdb_types.specs.FailedParts.{Parts}
 use Rattle.pdb_documents.specs.Documents.{Failure, failure_error, Document, run}
 use Rattle.pdb_documents.specs.Printed.{AlikeFault}

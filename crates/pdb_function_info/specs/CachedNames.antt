@@ -3,7 +3,8 @@ use Rattle.std.specs.Prelude.{◌≡◌, ℕ, List, [], Option, Some, option_map
 use Rattle.std.specs.List.{All, IsAmong}
 use Rattle.pdb_records.specs.Names.{lossy}
 use Rattle.pdb_types.specs.FailedParts.{Parts}
-use Rattle.pdb_types.specs.TypeInputs.{TypeInputs, ProviderInfos}
+use Rattle.pdb_types.specs.TypeInputs.{TypeInputs}
+use Rattle.pdb_errors.specs.Provided.{ProviderInfos}
 use Rattle.pdb_functions.specs.Lookup.{procedures_of_module}
 use Rattle.pdb_functions.specs.SymbolNames.{name_by_symbol}
 use Rattle.pdb_documents.specs.BrokenParts.{Settled}

@@ -7,7 +7,8 @@ use Rattle.pdb_records.specs.Names.{lossy}
 use Rattle.pdb_records.specs.declared.addresses.PdbInternalSectionOffset.{PdbInternalSectionOffset}
 use Rattle.pdb_records.specs.declared.ids.IdIndex.{IdIndex}
 use Rattle.pdb_types.specs.FailedParts.{Parts}
-use Rattle.pdb_types.specs.TypeInputs.{TypeInputs, ProviderInfos}
+use Rattle.pdb_types.specs.TypeInputs.{TypeInputs}
+use Rattle.pdb_errors.specs.Provided.{ProviderInfos}
 use Rattle.pdb_functions.specs.GlobalFunctions.{GlobalFunction}
 use Rattle.pdb_functions.specs.Procedures.{ModuleProcedure}
 use Rattle.pdb_functions.specs.Lookup.{FoundFunction, found_procedure, found_global, global_at}

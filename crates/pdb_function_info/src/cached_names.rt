@@ -2,7 +2,7 @@
 
 ghost use Rattle.std.specs.Prelude.{◌≡◌, Some, List, ℕ, option_map, string_bytes, OnOk, MatchResult};
 ghost use Rattle.pdb_records.specs.Names.{lossy};
-ghost use Rattle.pdb_types.specs.declared.error.Error.TheVariants.{OutOfMemory};
+ghost use Rattle.pdb_errors.specs.declared.error.Error.TheVariants.{OutOfMemory};
 ghost use Rattle.pdb_functions.specs.Lookup.{procedures_of_module};
 ghost use Rattle.pdb_functions.specs.SymbolNames.{name_by_symbol};
 ghost use Rattle.pdb_documents.specs.BrokenParts.{AddsBroken};
@@ -16,11 +16,11 @@ use crate::cached_signatures::CachedSignatures;
 use crate::cached_texts::CachedTexts;
 use crate::name_keys::{IdKey, SignatureKey, id_key, signature_key};
 use crate::printed_names::{name_of_id, signature_of};
+use pdb_errors::{ModuleProvider, Result};
 use pdb_frames::copy_of_name;
 use pdb_functions::ProcedureSymbolFunction;
 use pdb_records::IdIndex;
 use pdb_signatures::TypeFormatter;
-use pdb_types::{ModuleProvider, Result};
 use std::alloc::{AllocError, Global};
 
 // Caches the signature of a procedure.

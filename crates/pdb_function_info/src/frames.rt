@@ -3,8 +3,8 @@
 ghost use Rattle.std.specs.Prelude.{◌≡◌, [], ◌∷◌, ◌++◌, None, option_map, option_and_then};
 ghost use Rattle.std.specs.Prelude.{string_bytes, Some, IfOk, IfSome, OnOk, MatchResult};
 ghost use Rattle.std.specs.Option.{option_copied};
-ghost use Rattle.pdb_types.specs.Outcomes.{Gives};
-ghost use Rattle.pdb_types.specs.declared.error.Error.TheVariants.{OutOfMemory};
+ghost use Rattle.pdb_errors.specs.Outcomes.{Gives};
+ghost use Rattle.pdb_errors.specs.declared.error.Error.TheVariants.{OutOfMemory};
 ghost use Rattle.pdb_records.specs.Addresses.{rva};
 ghost use Rattle.pdb_functions.specs.Lookup.{found_function};
 ghost use Rattle.pdb_functions.specs.SymbolNames.{GoesBySymbol};
@@ -20,13 +20,13 @@ ghost use Rattle.pdb_frames.specs.CodeCaches.{ModuleRecords};
 ghost use Rattle.pdb_frames.specs.Origins.{origin_view, function_module, function_start};
 
 use crate::function_names::FunctionNames;
+use pdb_errors::{ModuleProvider, Result};
 use pdb_frames::{
     CodeCache, FileNames, Frame, FunctionFrames, Origin, function_module, function_start,
 };
 use pdb_functions::{FoundFunction, GlobalFunctionTable};
 use pdb_inline::InlineRange;
 use pdb_records::{AddressMap, LineInfo, LineProgram, ModuleInfo};
-use pdb_types::{ModuleProvider, Result};
 use std::alloc::{AllocError, Global};
 
 // The frame of a function itself, by its name and the line row over the code.

@@ -4,7 +4,7 @@ ghost use Rattle.std.specs.Prelude.{◌≡◌, Some, option_map, string_bytes, I
 ghost use Rattle.std.specs.Option.{option_copied, option_map_or};
 ghost use Rattle.pdb_records.specs.Addresses.{rva};
 ghost use Rattle.pdb_records.specs.Names.{lossy};
-ghost use Rattle.pdb_types.specs.declared.error.Error.TheVariants.{OutOfMemory};
+ghost use Rattle.pdb_errors.specs.declared.error.Error.TheVariants.{OutOfMemory};
 ghost use Rattle.pdb_functions.specs.GlobalFunctions.{global_function};
 ghost use Rattle.pdb_functions.specs.Procedures.{module_procedure};
 ghost use Rattle.pdb_functions.specs.Lookup.{found_function, procedures_of_module};
@@ -15,10 +15,10 @@ ghost use Rattle.pdb_function_info.specs.Function.{info_of_procedure, info_of, f
 
 use crate::function_names::FunctionNames;
 use crate::names::text_of_name;
+use pdb_errors::{ModuleProvider, Result};
 use pdb_frames::copy_of_name;
 use pdb_functions::{FoundFunction, GlobalFunction, GlobalFunctionTable, ProcedureSymbolFunction};
 use pdb_records::AddressMap;
-use pdb_types::{ModuleProvider, Result};
 use std::alloc::{AllocError, Global};
 
 /// A function's addresses and its name.

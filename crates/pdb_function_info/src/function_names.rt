@@ -4,7 +4,7 @@ ghost use Rattle.std.specs.Prelude.{◌≡◌, Some, option_map, string_bytes, O
 ghost use Rattle.pdb_records.specs.Names.{lossy};
 ghost use Rattle.pdb_types.specs.FailedParts.{with_met};
 ghost use Rattle.pdb_types.specs.TypeSizes.{size_of};
-ghost use Rattle.pdb_types.specs.declared.error.Error.TheVariants.{OutOfMemory};
+ghost use Rattle.pdb_errors.specs.declared.error.Error.TheVariants.{OutOfMemory};
 ghost use Rattle.pdb_functions.specs.Lookup.{found_function, procedures_of_module};
 ghost use Rattle.pdb_functions.specs.Procedures.{module_procedure};
 ghost use Rattle.pdb_functions.specs.SymbolNames.{name_by_symbol, GoesBySymbol};
@@ -21,10 +21,10 @@ use crate::cached_signatures::CachedSignatures;
 use crate::cached_texts::CachedTexts;
 use crate::name_keys::IdKey;
 use crate::names::{decorated_name_instead, text_of, text_of_name};
+use pdb_errors::{ModuleProvider, Result};
 use pdb_functions::{FoundFunction, GlobalFunctionTable, ProcedureSymbolFunction};
 use pdb_records::{IdIndex, Module, TypeIndex};
 use pdb_signatures::TypeFormatter;
-use pdb_types::{ModuleProvider, Result};
 use std::alloc::Global;
 use std::marker::Model;
 

@@ -9,10 +9,10 @@ use Rattle.pdb_records.specs.declared.debug_information.SectionContribution.{Sec
 use Rattle.pdb_records.specs.declared.debug_information.DebugInformation.{DebugInformation}
 use Rattle.pdb_records.specs.declared.error.Error.TheVariants.{Stream}
 use Rattle.pdb_records.specs.declared.error.StreamError.{StreamError}
-use Rattle.pdb_types.specs.declared.error.Error.{Error}
-use Rattle.pdb_types.specs.declared.error.Error.TheVariants.{PdbError, SectionContributionEndTooLarge}
-use Rattle.pdb_types.specs.declared.error.Error.TheVariants.{OverlappingSectionContributions}
-use Rattle.pdb_types.specs.Outcomes.{unless}
+use Rattle.pdb_errors.specs.declared.error.Error.{Error}
+use Rattle.pdb_errors.specs.declared.error.Error.TheVariants.{PdbError, SectionContributionEndTooLarge}
+use Rattle.pdb_errors.specs.declared.error.Error.TheVariants.{OverlappingSectionContributions}
+use Rattle.pdb_errors.specs.Outcomes.{unless}
 use Rattle.pdb_functions.specs.declared.contributions.ModuleSectionContribution.{ModuleSectionContribution}
 use Rattle.pdb_tables.specs.InOrder.{in_order}
 use Rattle.pdb_functions.specs.Contributions.{is_counted, claimed, claims, is_same_module, refused_ends}

@@ -2,9 +2,9 @@
 use Rattle.std.proofs.Common.{◌≡◌, ◌∙◌, ◌<◌, ◌≤◌, ℕ, Bool, true, false, cond, List, [], ◌∷◌, ◌++◌, Option}
 use Rattle.std.proofs.Common.{Some, None, refl, sym, ap, inl, inr, arith}
 use Rattle.std.specs.Prelude.{◌⊎◌, ⊤, nat_lt, max}
-use Rattle.pdb_types.specs.declared.error.Error.{Error}
+use Rattle.pdb_errors.specs.declared.error.Error.{Error}
 use Rattle.pdb_functions.specs.declared.contributions.ModuleSectionContribution.{ModuleSectionContribution}
-use Rattle.pdb_types.specs.Outcomes.{first_refusal}
+use Rattle.pdb_errors.specs.Outcomes.{first_refusal}
 use Rattle.pdb_functions.specs.Contributions.{claims, is_same_module, refused_end, refused_ends}
 use Rattle.pdb_functions.specs.Contributions.{intervals_with, intervals_of}
 use Rattle.pdb_functions.specs.ReadingOrder.{interval_after, reading_intervals, refused_order, refusal_after}

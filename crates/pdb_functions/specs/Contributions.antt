@@ -8,12 +8,12 @@ use Rattle.pdb_records.specs.declared.addresses.ImageSectionHeader.{ImageSection
 use Rattle.pdb_records.specs.declared.addresses.PdbInternalSectionOffset.{PdbInternalSectionOffset}
 use Rattle.pdb_records.specs.declared.debug_information.SectionContribution.{SectionContribution}
 use Rattle.pdb_records.specs.declared.debug_information.DebugInformation.{DebugInformation}
-use Rattle.pdb_types.specs.declared.error.Error.{Error}
-use Rattle.pdb_types.specs.declared.error.Error.TheVariants.{PdbError, SectionContributionEndTooLarge}
-use Rattle.pdb_types.specs.declared.error.Error.TheVariants.{OverlappingSectionContributions}
+use Rattle.pdb_errors.specs.declared.error.Error.{Error}
+use Rattle.pdb_errors.specs.declared.error.Error.TheVariants.{PdbError, SectionContributionEndTooLarge}
+use Rattle.pdb_errors.specs.declared.error.Error.TheVariants.{OverlappingSectionContributions}
 use Rattle.pdb_functions.specs.declared.contributions.ModuleSectionContribution.{ModuleSectionContribution}
 use Rattle.pdb_tables.specs.InOrder.{in_order}
-use Rattle.pdb_types.specs.Outcomes.{first_refusal, unless}
+use Rattle.pdb_errors.specs.Outcomes.{first_refusal, unless}
 use Rattle.pdb_functions.specs.Sections.{is_executable}
 
 -- a contribution counts where it isn't empty and its section holds code

@@ -13,7 +13,7 @@ use Rattle.pdb_functions.specs.declared.lookup.FoundFunction as code
 use Rattle.pdb_functions.specs.declared.lookup.FoundFunction.TheVariants as variant
 use Rattle.pdb_functions.specs.GlobalFunctions.{global_function}
 use Rattle.pdb_functions.specs.Procedures.{module_procedure}
-use Rattle.pdb_types.specs.TypeInputs.{ProviderInfos}
+use Rattle.pdb_errors.specs.Provided.{ProviderInfos}
 
 -- the procedures of the module at a module index
 abbrev pub procedures_of_module : ProviderInfos → List Module → ℕ → List ModuleProcedure

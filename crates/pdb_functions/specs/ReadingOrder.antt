@@ -7,11 +7,11 @@ use Rattle.pdb_records.specs.declared.error.Error.TheVariants.{Stream}
 use Rattle.pdb_records.specs.declared.addresses.ImageSectionHeader.{ImageSectionHeader}
 use Rattle.pdb_records.specs.declared.debug_information.SectionContribution.{SectionContribution}
 use Rattle.pdb_records.specs.declared.debug_information.DebugInformation.{DebugInformation}
-use Rattle.pdb_types.specs.declared.error.Error.{Error}
-use Rattle.pdb_types.specs.declared.error.Error.TheVariants.{PdbError, UnorderedSectionContributions}
+use Rattle.pdb_errors.specs.declared.error.Error.{Error}
+use Rattle.pdb_errors.specs.declared.error.Error.TheVariants.{PdbError, UnorderedSectionContributions}
 use Rattle.pdb_functions.specs.declared.contributions.ModuleSectionContribution.{ModuleSectionContribution}
 use Rattle.pdb_tables.specs.InOrder.{in_order}
-use Rattle.pdb_types.specs.Outcomes.{first_refusal, unless}
+use Rattle.pdb_errors.specs.Outcomes.{first_refusal, unless}
 use Rattle.pdb_functions.specs.Contributions.{claims, is_same_module, refused_end, overlap_after, contribution_before}
 
 -- the interval that a claim stands in, behind what came before: the first start stays, and the end is the claim's

@@ -1,7 +1,7 @@
 -- The names of procedures by their symbols.
 use Rattle.std.specs.Prelude.{◌≡◌, ⊤, ℕ, List, Option, Some, find, option_map, ◌==◌}
 use Rattle.pdb_records.specs.declared.debug_information.Module.{Module}
-use Rattle.pdb_types.specs.TypeInputs.{ProviderInfos}
+use Rattle.pdb_errors.specs.Provided.{ProviderInfos}
 use Rattle.pdb_functions.specs.Lookup.{procedures_of_module, FoundFunction, found_procedure, found_global}
 use Rattle.pdb_functions.specs.Procedures.{ModuleProcedure}
 

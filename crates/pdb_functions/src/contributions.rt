@@ -1,19 +1,19 @@
 //! Section contributions: which count, and how those of one module are merged, or refused where they overlap.
 
 ghost use Rattle.std.specs.Prelude.{◌≡◌, ◌≢◌, None, Some, IfOk, OnOk, MatchResult};
-ghost use Rattle.pdb_types.specs.declared.error.Error.TheVariants.{OutOfMemory};
+ghost use Rattle.pdb_errors.specs.declared.error.Error.TheVariants.{OutOfMemory};
 ghost use Rattle.pdb_tables.specs.InOrder.{in_order};
-ghost use Rattle.pdb_types.specs.Outcomes.{Gives, Refuses};
+ghost use Rattle.pdb_errors.specs.Outcomes.{Gives, Refuses};
 ghost use Rattle.pdb_functions.specs.Contributions.{is_counted, claimed, claims, is_same_module};
 ghost use Rattle.pdb_functions.specs.Contributions.{refused_end, refused_ends, contribution_before};
 ghost use Rattle.pdb_functions.specs.Contributions.{intervals_of, overlap_after};
 ghost use Rattle.pdb_functions.specs.Contributions.{merged_contributions, contribution_starts};
 
 use crate::sections::is_executable_section;
+use pdb_errors::{Error, Result};
 use pdb_records::{
     DebugInformation, ImageSectionHeader, PdbInternalSectionOffset, SectionContribution,
 };
-use pdb_types::{Error, Result};
 use std::alloc::{AllocError, Global};
 
 /// Bytes of a section that came from one module.

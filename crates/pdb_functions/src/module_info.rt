@@ -2,15 +2,15 @@
 
 ghost use Rattle.std.specs.Prelude.{◌≡◌, ◌≢◌, None, Some, map, option_map, IfOk, MatchResult};
 ghost use Rattle.pdb_records.specs.declared.error.Error.TheVariants.{Stream};
-ghost use Rattle.pdb_types.specs.declared.error.Error.TheVariants.{PdbError, OutOfMemory};
+ghost use Rattle.pdb_errors.specs.declared.error.Error.TheVariants.{PdbError, OutOfMemory};
 ghost use Rattle.pdb_tables.specs.Pick.{pick};
 ghost use Rattle.pdb_functions.specs.Procedures.{module_procedure, info_procedures};
 ghost use Rattle.pdb_functions.specs.Spans.{procedure_covers};
 
 use crate::procedure_table::ProcedureTable;
 use crate::procedures::{ProcedureSymbolFunction, compute_procedures};
+use pdb_errors::{Error, Result};
 use pdb_records::{ModuleInfo, PdbInternalSectionOffset};
-use pdb_types::{Error, Result};
 use std::alloc::Global;
 use std::marker::Model;
 

@@ -5,7 +5,7 @@ ghost use Rattle.std.specs.Borrow.{sem};
 ghost use Rattle.std.specs.Io.BufRead.{Rests};
 ghost use Rattle.std.specs.Option.{option_copied, option_map_or};
 ghost use Rattle.pdb_tables.specs.Slots.{held};
-ghost use Rattle.pdb_types.specs.TypeInputs.{ProviderInfos};
+ghost use Rattle.pdb_errors.specs.Provided.{ProviderInfos};
 ghost use Rattle.pdb_functions.specs.Lookup.{procedures_of_module};
 ghost use Rattle.pdb_functions.specs.Procedures.{info_procedures};
 ghost use Rattle.pdb_functions.specs.ModuleInfos.{readable_info, IsModuleInfoCache, IsCachedInfo};
@@ -13,9 +13,9 @@ ghost use mir.Syntax.{named};
 
 use crate::module_info::BasicModuleInfo;
 use crate::named_info::NamedInfo;
+use pdb_errors::{Error, ModuleProvider};
 use pdb_records::{Module, RawString};
 use pdb_tables::make_slot;
-use pdb_types::{Error, ModuleProvider};
 use std::alloc::{AllocError, Global};
 use std::marker::Model;
 

@@ -5,7 +5,7 @@ ghost use Rattle.std.specs.Borrow.{Bor};
 ghost use Rattle.pdb_records.specs.declared.error.Error.TheVariants.{Stream};
 ghost use Rattle.pdb_records.specs.declared.symbols.Symbol.{Symbol};
 ghost use Rattle.pdb_records.specs.declared.symbols.SymbolData.{SymbolData};
-ghost use Rattle.pdb_types.specs.declared.error.Error.TheVariants.{PdbError, OutOfMemory};
+ghost use Rattle.pdb_errors.specs.declared.error.Error.TheVariants.{PdbError, OutOfMemory};
 ghost use Rattle.pdb_functions.specs.Procedures.{module_procedure, unless_empty, procedure_data};
 ghost use Rattle.pdb_functions.specs.Procedures.{procedure_at, procedures_from, symbol_procedures};
 ghost use Rattle.pdb_functions.specs.Starts.{StartsAscend};

@@ -6,8 +6,8 @@ use Rattle.pdb_records.specs.declared.error.Error.TheVariants.{Stream}
 use Rattle.pdb_records.specs.declared.error.StreamError.{StreamError}
 use Rattle.pdb_records.specs.declared.ids.IdIndex.{IdIndex}
 use Rattle.pdb_records.specs.declared.symbols.Symbol.{Symbol}
-use Rattle.pdb_types.specs.declared.error.Error.TheVariants.{PdbError}
-use Rattle.pdb_types.specs.Outcomes.{unless}
+use Rattle.pdb_errors.specs.declared.error.Error.TheVariants.{PdbError}
+use Rattle.pdb_errors.specs.Outcomes.{unless}
 use Rattle.pdb_inline.specs.Sites.{Site, SiteAtDepth, Walk, at_depth, walk, unless_met}
 use Rattle.pdb_inline.specs.declared.inline_ranges.InlineRange.{InlineRange}
 use Rattle.pdb_inline.specs.InlineRanges.{own_ranges, inline_ranges}

@@ -8,7 +8,7 @@ use Rattle.pdb_records.specs.declared.lines.FileIndex.{FileIndex}
 use Rattle.pdb_records.specs.declared.modules.ModuleInfo.{ModuleInfo}
 use Rattle.pdb_records.specs.declared.symbols.InlineRow.{InlineRow}
 use Rattle.pdb_records.specs.declared.symbols.InlineSiteSymbol.{InlineSiteSymbol}
-use Rattle.pdb_types.specs.declared.error.Error.{Error}
+use Rattle.pdb_errors.specs.declared.error.Error.{Error}
 use Rattle.pdb_inline.specs.declared.inline_ranges.InlineRange.{InlineRange}
 use Rattle.pdb_tables.specs.InOrder.{in_order}
 use Rattle.pdb_inline.specs.InlineRows.{counted_rows, row_end, row_ranges}

@@ -9,10 +9,10 @@ use Rattle.pdb_records.specs.declared.symbols.SymbolData.{SymbolData}
 use Rattle.pdb_records.specs.declared.symbols.SymbolData.TheVariants.{Public, Procedure, SeparatedCode}
 use Rattle.pdb_records.specs.declared.symbols.SymbolData.TheVariants.{Thunk, InlineSite, Other}
 use Rattle.pdb_records.specs.declared.symbols.InlineSiteSymbol.{InlineSiteSymbol}
-use Rattle.pdb_types.specs.declared.error.Error.{Error}
-use Rattle.pdb_types.specs.declared.error.Error.TheVariants.{PdbError}
+use Rattle.pdb_errors.specs.declared.error.Error.{Error}
+use Rattle.pdb_errors.specs.declared.error.Error.TheVariants.{PdbError}
 use Rattle.pdb_inline.specs.declared.sites.Site as code
-use Rattle.pdb_types.specs.Outcomes.{unless}
+use Rattle.pdb_errors.specs.Outcomes.{unless}
 
 -- what a symbol holds, where that is a site
 abbrev pub site_data : Option SymbolData → Option InlineSiteSymbol

@@ -2,7 +2,7 @@
 
 ghost use Rattle.std.specs.Prelude.{◌≡◌, ◌++◌, map, IfOk, OnOk, OnErr};
 ghost use Rattle.std.specs.List.{flat_map};
-ghost use Rattle.pdb_types.specs.Outcomes.{Gives};
+ghost use Rattle.pdb_errors.specs.Outcomes.{Gives};
 ghost use Rattle.pdb_inline.specs.CoveredRuns.{read_by_depth, ranges_by_depth};
 ghost use Rattle.pdb_inline.specs.InlineRanges.{own_range, own_ranges, procedure_inline_ranges};
 ghost use Rattle.pdb_inline.specs.Sites.{site_view};
@@ -10,9 +10,9 @@ ghost use Rattle.pdb_inline.specs.Sites.{site_view};
 use crate::inline_rows::{counted_rows, row_end};
 use crate::missing_rows::ranges_added_to_sites;
 use crate::sites::{Site, procedure_sites};
+use pdb_errors::Result;
 use pdb_records::{FileIndex, IdIndex, InlineRow, ModuleInfo, SymbolIndex};
 use pdb_tables::{Keyed, sort_by_key};
-use pdb_types::Result;
 use std::alloc::{AllocError, Global};
 use std::collections::BTreeSet;
 
@@ -120,7 +120,7 @@ fn ranges_of_sites(
 ///
 /// # Errors
 ///
-/// [`Error::PdbError`](pdb_types::Error::PdbError) where the procedure's symbols go on to the end of the
+/// [`Error::PdbError`](pdb_errors::Error::PdbError) where the procedure's symbols go on to the end of the
 /// list, and that has a fault.
 pub fn inline_ranges_of_procedure(
     alloc: Global,

@@ -3,12 +3,12 @@
 ghost use Rattle.std.specs.Prelude.{◌≡◌, ◌+◌, ◌-◌, ◌^◌, ◌++◌, drop, length, min, nat_lt, map};
 ghost use Rattle.std.specs.Prelude.{reverse, option_map, option_to_list, Option, Some, None, OnOk};
 ghost use Rattle.std.specs.Option.{option_copied};
-ghost use Rattle.pdb_types.specs.Outcomes.{Gives};
+ghost use Rattle.pdb_errors.specs.Outcomes.{Gives};
 ghost use Rattle.pdb_inline.specs.Sites.{site_of, nested_end, innermost_end, through_after, open_after};
 ghost use Rattle.pdb_inline.specs.Sites.{opened_at, walk, unless_met, at_depth, site_view, open_site};
 
+use pdb_errors::{Error, Result};
 use pdb_records::{InlineSiteSymbol, StreamError, Symbol, SymbolData, SymbolIndex, is_site_kind};
-use pdb_types::{Error, Result};
 use std::alloc::{AllocError, Global};
 
 // A place in a procedure where a call was replaced by the callee's body.

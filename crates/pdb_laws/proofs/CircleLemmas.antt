@@ -1,7 +1,7 @@
 -- Printing is refused as circular exactly where it meets a circle.
 use Rattle.std.proofs.Common.{◌≡◌, ℕ, List, Option, Some, None, refl, subst, ◌∙◌}
-use Rattle.pdb_types.specs.declared.error.Error.TheVariants.{CircularTypeDefinition}
-use Rattle.pdb_types.specs.Errors.{ErrorView, Plain}
+use Rattle.pdb_errors.specs.declared.error.Error.TheVariants.{CircularTypeDefinition}
+use Rattle.pdb_errors.specs.Errors.{ErrorView, Plain}
 use Rattle.pdb_types.specs.FailedParts.{Parts}
 use Rattle.pdb_documents.specs.Documents.{Document, Failure, TypeNotFound, OfError, Run, then_by, buffered_by}
 use Rattle.pdb_documents.specs.Documents.{caught_by, run}

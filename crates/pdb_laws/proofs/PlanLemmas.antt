@@ -13,15 +13,15 @@ use Rattle.pdb_records.specs.declared.types.TypeData.{TypeData}
 use Rattle.pdb_records.specs.declared.types.TypeData.TheVariants.{Primitive, Class, MemberFunction, Procedure, Pointer}
 use Rattle.pdb_records.specs.declared.types.TypeData.TheVariants.{Array, Union, Enumeration, Enumerate, Modifier}
 use Rattle.pdb_records.specs.declared.types.TypeData.TheVariants.{ArgumentList, Other}
-use Rattle.pdb_types.specs.declared.error.Error.TheVariants.{PdbError, ArgumentTypeNotArgumentList}
-use Rattle.pdb_types.specs.declared.error.Error.TheVariants.{MemberFunctionIdIsNotMemberFunctionType}
-use Rattle.pdb_types.specs.declared.error.Error.TheVariants.{FunctionIdIsNotProcedureType}
+use Rattle.pdb_errors.specs.declared.error.Error.TheVariants.{PdbError, ArgumentTypeNotArgumentList}
+use Rattle.pdb_errors.specs.declared.error.Error.TheVariants.{MemberFunctionIdIsNotMemberFunctionType}
+use Rattle.pdb_errors.specs.declared.error.Error.TheVariants.{FunctionIdIsNotProcedureType}
 use Rattle.pdb_records.specs.declared.error.Error.TheVariants.{UnimplementedTypeKind}
 use Rattle.pdb_types.specs.declared.read_error.Part.{Part}
 use Rattle.pdb_types.specs.declared.read_error.Part.TheVariants.{Imports, Exports}
-use Rattle.pdb_types.specs.Errors.{ErrorView, Plain}
+use Rattle.pdb_errors.specs.Errors.{ErrorView, Plain}
 use Rattle.pdb_types.specs.FailedParts.{Parts, has_failed, unsuccessful, part_error}
-use Rattle.pdb_types.specs.Outcomes.{and_then}
+use Rattle.pdb_errors.specs.Outcomes.{and_then}
 use Rattle.pdb_types.specs.ReadError.{ReadErrorView, Missing, Unimplemented, Refused, Broken}
 use Rattle.pdb_documents.specs.declared.attributes.Attribute.{Attribute}
 use Rattle.pdb_documents.specs.declared.attributes.Predecessor.TheVariants.{Opening}

@@ -16,22 +16,22 @@ use Rattle.pdb_records.specs.declared.types.TypeIndex.{TypeIndex}
 use Rattle.pdb_records.specs.declared.types.TypeData.{TypeData}
 use Rattle.pdb_records.specs.declared.ids.IdIndex.{IdIndex}
 use Rattle.pdb_records.specs.declared.ids.IdData.{IdData}
-use Rattle.pdb_types.specs.declared.error.Error.{Error}
+use Rattle.pdb_errors.specs.declared.error.Error.{Error}
 use Rattle.pdb_types.specs.declared.flags.TypeFormatterFlags.{TypeFormatterFlags}
 use Rattle.pdb_types.specs.declared.read_error.Part.{Part}
 use Rattle.pdb_types.specs.declared.read_error.Part.TheVariants.{Imports, Exports}
-use Rattle.pdb_types.specs.declared.error.Error.TheVariants.{PdbError, CantResolveCrossModuleRefWithoutStringTable}
-use Rattle.pdb_types.specs.declared.error.Error.TheVariants.{OutOfRangeModuleIndex, ModuleInfoNotFound}
-use Rattle.pdb_types.specs.declared.error.Error.TheVariants.{LocalIndexNotInExports, ModuleImportsUnsuccessful}
-use Rattle.pdb_types.specs.declared.error.Error.TheVariants.{ModuleExportsUnsuccessful}
-use Rattle.pdb_types.specs.Errors.{ErrorView, Plain, NoModuleNamed}
+use Rattle.pdb_errors.specs.declared.error.Error.TheVariants.{PdbError, CantResolveCrossModuleRefWithoutStringTable}
+use Rattle.pdb_errors.specs.declared.error.Error.TheVariants.{OutOfRangeModuleIndex, ModuleInfoNotFound}
+use Rattle.pdb_errors.specs.declared.error.Error.TheVariants.{LocalIndexNotInExports, ModuleImportsUnsuccessful}
+use Rattle.pdb_errors.specs.declared.error.Error.TheVariants.{ModuleExportsUnsuccessful}
+use Rattle.pdb_errors.specs.Errors.{ErrorView, Plain, NoModuleNamed}
 use Rattle.pdb_records.specs.Names.{lossy}
 use Rattle.std.specs.Str.{str_to_ascii_lowercase}
 use Rattle.pdb_types.specs.ModuleNames.{last_position_from, is_named}
 use Rattle.pdb_types.specs.Items.{first_item}
-use Rattle.pdb_types.specs.Outcomes.{and_then}
+use Rattle.pdb_errors.specs.Outcomes.{and_then, streamed}
 use Rattle.pdb_types.specs.Reading.{said, entry, reading}
-use Rattle.pdb_types.specs.Resolution.{streamed, provided_info, info_of, module_info, imports, exports, unbroken}
+use Rattle.pdb_types.specs.Resolution.{provided_info, info_of, module_info, imports, exports, unbroken}
 use Rattle.pdb_types.specs.Resolution.{answered, texts, found_text, found_module, module_named, module_under}
 use Rattle.pdb_types.specs.Resolution.{found_export, export_of, import_target, across, resolved}
 use Rattle.pdb_types.specs.TypeInputs.{LinkInputs}

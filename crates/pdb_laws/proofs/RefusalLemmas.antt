@@ -1,7 +1,7 @@
 -- Printing is refused for nothing but some errors.
 use Rattle.std.proofs.Common.{◌≡◌, ◌∙◌, ℕ, Option, Some, None, refl, subst}
-use Rattle.pdb_types.specs.declared.error.Error.TheVariants.{CircularTypeDefinition}
-use Rattle.pdb_types.specs.Errors.{ErrorView, Plain}
+use Rattle.pdb_errors.specs.declared.error.Error.TheVariants.{CircularTypeDefinition}
+use Rattle.pdb_errors.specs.Errors.{ErrorView, Plain}
 use Rattle.pdb_types.specs.FailedParts.{Parts}
 use Rattle.pdb_documents.specs.Documents.{Document, Failure, failure_error, TypeNotFound, OfError, run}
 use Rattle.pdb_documents.specs.Documents as document

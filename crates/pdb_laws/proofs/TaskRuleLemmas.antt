@@ -5,7 +5,7 @@ use Rattle.std.specs.Prelude.{◌⊎◌}
 use Rattle.std.specs.BTreeSet.{insert_key}
 use Rattle.std.specs.Ordering.{nat_cmp}
 use Rattle.pdb_records.specs.declared.types.TypeData.{TypeData}
-use Rattle.pdb_types.specs.Errors.{ErrorView}
+use Rattle.pdb_errors.specs.Errors.{ErrorView}
 use Rattle.pdb_types.specs.ReadError.{ReadErrorView}
 use Rattle.pdb_documents.specs.Flags.{without_arguments}
 use Rattle.pdb_documents.specs.Ids.{id_by_kind}

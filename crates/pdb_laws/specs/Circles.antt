@@ -1,8 +1,8 @@
 -- Where printing meets a circle: an index that opens inside itself, or that repeats in a chain.
 use Rattle.std.specs.Prelude.{◌≡◌, ℕ, true, false, List, Some, None, Ok}
 use Rattle.pdb_records.specs.declared.types.TypeData.{TypeData}
-use Rattle.pdb_types.specs.declared.error.Error.TheVariants.{CircularTypeDefinition}
-use Rattle.pdb_types.specs.Errors.{Plain}
+use Rattle.pdb_errors.specs.declared.error.Error.TheVariants.{CircularTypeDefinition}
+use Rattle.pdb_errors.specs.Errors.{Plain}
 use Rattle.pdb_types.specs.FailedParts.{Parts}
 use Rattle.pdb_documents.specs.Documents.{Document, OfError, run}
 use Rattle.pdb_documents.specs.Flags.{without_arguments}

@@ -1,13 +1,13 @@
 -- What printing a type, a signature or an id can be refused for.
 use Rattle.std.specs.Prelude.{⊤}
-use Rattle.pdb_types.specs.declared.error.Error.TheVariants.{PdbError, ArgumentTypeNotArgumentList}
-use Rattle.pdb_types.specs.declared.error.Error.TheVariants.{FunctionIdIsNotProcedureType}
-use Rattle.pdb_types.specs.declared.error.Error.TheVariants.{MemberFunctionIdIsNotMemberFunctionType}
-use Rattle.pdb_types.specs.declared.error.Error.TheVariants.{CantResolveCrossModuleRefWithoutStringTable}
-use Rattle.pdb_types.specs.declared.error.Error.TheVariants.{ModuleImportsUnsuccessful, ModuleExportsUnsuccessful}
-use Rattle.pdb_types.specs.declared.error.Error.TheVariants.{LocalIndexNotInExports, OutOfRangeModuleIndex}
-use Rattle.pdb_types.specs.declared.error.Error.TheVariants.{ModuleInfoNotFound, CircularTypeDefinition}
-use Rattle.pdb_types.specs.Errors.{ErrorView, Plain, NoModuleNamed}
+use Rattle.pdb_errors.specs.declared.error.Error.TheVariants.{PdbError, ArgumentTypeNotArgumentList}
+use Rattle.pdb_errors.specs.declared.error.Error.TheVariants.{FunctionIdIsNotProcedureType}
+use Rattle.pdb_errors.specs.declared.error.Error.TheVariants.{MemberFunctionIdIsNotMemberFunctionType}
+use Rattle.pdb_errors.specs.declared.error.Error.TheVariants.{CantResolveCrossModuleRefWithoutStringTable}
+use Rattle.pdb_errors.specs.declared.error.Error.TheVariants.{ModuleImportsUnsuccessful, ModuleExportsUnsuccessful}
+use Rattle.pdb_errors.specs.declared.error.Error.TheVariants.{LocalIndexNotInExports, OutOfRangeModuleIndex}
+use Rattle.pdb_errors.specs.declared.error.Error.TheVariants.{ModuleInfoNotFound, CircularTypeDefinition}
+use Rattle.pdb_errors.specs.Errors.{ErrorView, Plain, NoModuleNamed}
 
 -- an error of the records, of an index that leads to another module, of the type of a function or of its list of
 -- arguments, or of an index that repeats

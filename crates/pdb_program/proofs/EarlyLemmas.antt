@@ -2,8 +2,8 @@
 use Rattle.std.proofs.Common.{◌≡◌, ◌∙◌, List, [], ◌∷◌, Ok, Err, Result, refl, sym, ap}
 use Rattle.std.proofs.lemmas.List.{append-nil}
 use Rattle.pdb_records.specs.Records.{Records}
-use Rattle.pdb_types.specs.Outcomes.{and_then}
-use Rattle.pdb_types.specs.declared.error.Error.{Error}
+use Rattle.pdb_errors.specs.Outcomes.{and_then}
+use Rattle.pdb_errors.specs.declared.error.Error.{Error}
 use Rattle.pdb_addr2line.specs.declared.calls.Answer.{Answer}
 use Rattle.pdb_addr2line.specs.declared.calls.Call.{Call}
 use Rattle.pdb_addr2line.specs.Calls.{StopsEarly, answers_to, fresh}

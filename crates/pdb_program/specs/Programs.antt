@@ -3,9 +3,9 @@ use Rattle.std.specs.Prelude.{◌≡◌, ◌≢◌, ℕ, List, [], ◌++◌, Opt
 use Rattle.pdb_records.specs.Records.{Records}
 use Rattle.pdb_msf.specs.declared.container_fault.ContainerFault.{ContainerFault}
 use Rattle.pdb_msf.specs.declared.container_fault.ContainerFault.TheVariants as file
-use Rattle.pdb_types.specs.declared.error.Error.{Error}
-use Rattle.pdb_types.specs.declared.error.Error.TheVariants.{OutOfMemory}
-use Rattle.pdb_types.specs.Outcomes.{and_then}
+use Rattle.pdb_errors.specs.declared.error.Error.{Error}
+use Rattle.pdb_errors.specs.declared.error.Error.TheVariants.{OutOfMemory}
+use Rattle.pdb_errors.specs.Outcomes.{and_then}
 use Rattle.pdb_addr2line.specs.declared.calls.Answer.{Answer}
 use Rattle.pdb_addr2line.specs.declared.calls.Call.{Call}
 use Rattle.pdb_addr2line.specs.Calls.{AnswerView, Appends, answers_to, fresh}

@@ -5,8 +5,8 @@ use Rattle.std.specs.Prelude.{Option, Some, None, Result, Ok, Err, IfErr}
 use Rattle.std.specs.Result.{IsErrAnd}
 use Rattle.std.proofs.lemmas.Option.{slice_get-get_or}
 use Rattle.std.proofs.lemmas.List.{take_more}
-use Rattle.pdb_types.specs.declared.error.Error.{Error}
-use Rattle.pdb_types.specs.Outcomes.{and_then}
+use Rattle.pdb_errors.specs.declared.error.Error.{Error}
+use Rattle.pdb_errors.specs.Outcomes.{and_then}
 use Rattle.pdb_frames.specs.CodeParts.{CodeParts}
 use Rattle.pdb_frames.specs.declared.code_parts.CodePart.{CodePart}
 use Rattle.pdb_addr2line.specs.Lookups.{answered_refusal, failed_by_refusal}

@@ -1,9 +1,9 @@
 -- A report over the records of a file.
 use Rattle.std.specs.Prelude.{◌≡◌, ◌≢◌, ◌⊎◌, ℕ, List, [], Result, Ok, Err}
 use Rattle.pdb_records.specs.Records.{Records}
-use Rattle.pdb_types.specs.declared.error.Error.{Error}
-use Rattle.pdb_types.specs.declared.error.Error.TheVariants.{OutOfMemory}
-use Rattle.pdb_types.specs.Outcomes.{unless}
+use Rattle.pdb_errors.specs.declared.error.Error.{Error}
+use Rattle.pdb_errors.specs.declared.error.Error.TheVariants.{OutOfMemory}
+use Rattle.pdb_errors.specs.Outcomes.{unless}
 use Rattle.pdb_addr2line.specs.ContextInputs.{ContextInputs}
 use Rattle.pdb_addr2line.specs.ContextData.{records_refusal, info_at, default_flags, context_of}
 use Rattle.pdb_report_lib.specs.declared.reports.Command.{Command}

@@ -1,10 +1,10 @@
 -- What a report writes, and why it ends early.
 use Rattle.std.specs.Prelude.{◌≡◌, ◌≢◌, ◌≤◌, ℕ, true, List, [], ◌∷◌, ◌++◌}
 use Rattle.std.specs.Prelude.{Some, Result, Ok, Err, length, take, map, slice_get}
-use Rattle.pdb_types.specs.declared.error.Error.{Error}
-use Rattle.pdb_types.specs.declared.error.Error.TheVariants.{OutOfMemory}
-use Rattle.pdb_types.specs.Outcomes.{and_then}
-use Rattle.pdb_types.specs.TypeInputs.{ProviderInfos}
+use Rattle.pdb_errors.specs.declared.error.Error.{Error}
+use Rattle.pdb_errors.specs.declared.error.Error.TheVariants.{OutOfMemory}
+use Rattle.pdb_errors.specs.Outcomes.{and_then}
+use Rattle.pdb_errors.specs.Provided.{ProviderInfos}
 use Rattle.pdb_function_info.specs.Function.{FunctionInfo}
 use Rattle.pdb_addr2line.specs.declared.calls.Call.{Call}
 use Rattle.pdb_addr2line.specs.declared.calls.Call.TheVariants.{FindFunction, FindFrames, Functions}

@@ -1,7 +1,7 @@
 -- How a run of the program ends.
 use Rattle.std.specs.Prelude.{◌≡◌, ◌⊎◌, true, List, ℕ, Option, Some, None, Result, Ok, Err, string_bytes}
 use Rattle.std.specs.Io.KnownBytes.{Keeps}
-use Rattle.pdb_types.specs.declared.error.Error.TheVariants.{OutOfMemory}
+use Rattle.pdb_errors.specs.declared.error.Error.TheVariants.{OutOfMemory}
 use Rattle.pdb_json_values.specs.declared.faults.RecordFault.{RecordFault}
 use Rattle.pdb_json_values.specs.Faults.{IsFaultOf}
 use Rattle.serde_json.specs.Data.{Data}

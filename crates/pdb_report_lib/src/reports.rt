@@ -1,10 +1,10 @@
 //! Writes a report: looks up each address, and writes its text whole before the next is looked up.
 
 ghost use Rattle.std.specs.Prelude.{◌≡◌, [], ◌∷◌, map, option_map, Ok, OnOk, OnErr, IfErr, MatchResult};
-ghost use Rattle.pdb_types.specs.declared.error.Error.TheVariants.{OutOfMemory};
+ghost use Rattle.pdb_errors.specs.declared.error.Error.TheVariants.{OutOfMemory};
 ghost use Rattle.pdb_report_lib.specs.declared.reports.ReportFault.TheVariants.{Lookup, Write};
 ghost use Rattle.pdb_addr2line.specs.declared.calls.Call.TheVariants.{FindFrames};
-ghost use Rattle.pdb_types.specs.Outcomes.{Gives};
+ghost use Rattle.pdb_errors.specs.Outcomes.{Gives};
 ghost use Rattle.pdb_function_info.specs.Function.{function_view};
 ghost use Rattle.pdb_addr2line.specs.Calls.{after_frames, after_calls};
 ghost use Rattle.pdb_addr2line.specs.Lookups.{function_at, frames_answered};

@@ -1,6 +1,6 @@
 -- Formatters later on.
 use Rattle.std.proofs.Common.{◌≡◌, ℕ, ap, ◌∙◌}
-use Rattle.pdb_types.specs.TypeInputs.{ProviderInfos}
+use Rattle.pdb_errors.specs.Provided.{ProviderInfos}
 use Rattle.pdb_documents.specs.BrokenParts.{AddsBroken}
 use Rattle.pdb_documents.specs.PrintInputs.{formatter_inputs}
 use Rattle.pdb_signatures.specs.Formatters.{Formatter, IsLater}

@@ -11,10 +11,10 @@ use Rattle.pdb_records.specs.declared.types.TypeData.{TypeData}
 use Rattle.pdb_records.specs.declared.types.TypeData.TheVariants.{Primitive, MemberFunction, Procedure, Pointer}
 use Rattle.pdb_records.specs.declared.types.TypeData.TheVariants.{Modifier}
 use Rattle.pdb_records.specs.declared.types.TypeData.TheVariants.{ArgumentList}
-use Rattle.pdb_types.specs.declared.error.Error.TheVariants.{ArgumentTypeNotArgumentList}
-use Rattle.pdb_types.specs.declared.error.Error.TheVariants.{MemberFunctionIdIsNotMemberFunctionType}
-use Rattle.pdb_types.specs.declared.error.Error.TheVariants.{FunctionIdIsNotProcedureType}
-use Rattle.pdb_types.specs.Errors.{Plain}
+use Rattle.pdb_errors.specs.declared.error.Error.TheVariants.{ArgumentTypeNotArgumentList}
+use Rattle.pdb_errors.specs.declared.error.Error.TheVariants.{MemberFunctionIdIsNotMemberFunctionType}
+use Rattle.pdb_errors.specs.declared.error.Error.TheVariants.{FunctionIdIsNotProcedureType}
+use Rattle.pdb_errors.specs.Errors.{Plain}
 use Rattle.pdb_records.specs.declared.ids.MemberFunctionId.{MemberFunctionId}
 use Rattle.pdb_records.specs.declared.ids.FunctionId.{FunctionId}
 use Rattle.pdb_documents.specs.Ids.{method_id, function_id}

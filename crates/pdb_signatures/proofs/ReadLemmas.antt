@@ -7,13 +7,13 @@ use Rattle.pdb_records.specs.declared.types.TypeData.TheVariants.{Pointer}
 use Rattle.pdb_records.specs.declared.ids.IdData.{IdData}
 use Rattle.pdb_documents.specs.declared.this.This.{This}
 use Rattle.pdb_documents.specs.Methods.{plain_this, this_by_target, this_by_type, this_of}
-use Rattle.pdb_types.specs.declared.error.Error.{Error}
+use Rattle.pdb_errors.specs.declared.error.Error.{Error}
 use Rattle.pdb_types.specs.declared.read_error.Part.{Part}
 use Rattle.pdb_types.specs.declared.read_error.ReadError.{ReadError}
 use Rattle.pdb_types.specs.declared.read_error.ReadError.TheVariants as code
-use Rattle.pdb_types.specs.Errors.{error_view}
+use Rattle.pdb_errors.specs.Errors.{error_view}
 use Rattle.pdb_types.specs.FailedParts.{Parts, with_part, with_met}
-use Rattle.pdb_types.specs.Outcomes.{and_then}
+use Rattle.pdb_errors.specs.Outcomes.{and_then}
 use Rattle.pdb_types.specs.ReadError.{ReadErrorView, Broken, Matches}
 use Rattle.pdb_signatures.specs.ReadErrorViews.{IsViewOf}
 use Rattle.pdb_documents.specs.BrokenParts.{IsBroken, AddsBroken}

@@ -4,9 +4,9 @@ use Rattle.std.proofs.Common.{arith}
 use Rattle.std.specs.Prelude.{Option, Some, None, Result, Ok, Err}
 use Rattle.std.proofs.lemmas.List.{append-nil}
 use Rattle.pdb_records.specs.declared.types.TypeData.{TypeData}
-use Rattle.pdb_types.specs.declared.error.Error.TheVariants.{CircularTypeDefinition}
+use Rattle.pdb_errors.specs.declared.error.Error.TheVariants.{CircularTypeDefinition}
 use Rattle.pdb_types.specs.declared.read_error.Part.{Part}
-use Rattle.pdb_types.specs.Errors.{Plain}
+use Rattle.pdb_errors.specs.Errors.{Plain}
 use Rattle.pdb_types.specs.FailedParts.{Parts, with_met}
 use Rattle.pdb_types.specs.ReadError.{ReadErrorView}
 use Rattle.pdb_documents.specs.declared.tasks.Pending.TheVariants.{Close, EndCatch}

@@ -1,7 +1,8 @@
 -- A formatter of types: its type inputs, what it remembers, and how printing leaves it.
 use Rattle.std.specs.Prelude.{◌≡◌, ℕ}
 use Rattle.pdb_types.specs.FailedParts.{Parts}
-use Rattle.pdb_types.specs.TypeInputs.{TypeInputs, ProviderInfos}
+use Rattle.pdb_types.specs.TypeInputs.{TypeInputs}
+use Rattle.pdb_errors.specs.Provided.{ProviderInfos}
 use Rattle.pdb_documents.specs.BrokenParts.{AddsBroken}
 use Rattle.pdb_documents.specs.PrintInputs.{formatter_inputs}
 

@@ -2,7 +2,7 @@
 use Rattle.std.specs.Prelude.{◌≡◌}
 use Rattle.pdb_types.specs.declared.read_error.ReadError.{ReadError}
 use Rattle.pdb_types.specs.declared.read_error.ReadError.TheVariants as code
-use Rattle.pdb_types.specs.Errors.{error_view}
+use Rattle.pdb_errors.specs.Errors.{error_view}
 use Rattle.pdb_types.specs.ReadError.{ReadErrorView, Missing, Unimplemented, Refused, Broken}
 
 -- this is the view of why something can't be read, a read error; out of memory has none

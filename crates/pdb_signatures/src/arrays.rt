@@ -15,8 +15,8 @@ use pdb_documents::failures::Failure;
 use pdb_documents::progress::Progress;
 use pdb_documents::tasks::Task;
 use pdb_documents::wording::Wording;
+use pdb_errors::{Error, ModuleProvider};
 use pdb_records::{ArrayType, TypeData, TypeIndex};
-use pdb_types::{Error, ModuleProvider};
 use std::alloc::AllocError;
 use std::collections::BTreeSet;
 

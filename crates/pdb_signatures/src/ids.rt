@@ -19,11 +19,12 @@ use pdb_documents::failures::Failure;
 use pdb_documents::progress::Progress;
 use pdb_documents::tasks::{MethodForm, Task};
 use pdb_documents::wording::{Wording, static_word};
+use pdb_errors::{Error, ModuleProvider};
 use pdb_records::{
     FunctionId, IdData, IdIndex, MemberFunctionId, MemberFunctionType, ProcedureType, TypeData,
     TypeIndex,
 };
-use pdb_types::{Error, ModuleProvider, TypeFormatterFlags};
+use pdb_types::TypeFormatterFlags;
 use std::alloc::AllocError;
 use std::collections::BTreeSet;
 

@@ -16,8 +16,6 @@ mod turns;
 mod type_formatter;
 
 pub use pdb_documents::{laws, seen};
-pub use pdb_types::{
-    Error, IdMap, ItemIndex, ItemMap, ModuleProvider, Result, TypeFormatterFlags, TypeMap,
-    TypeSizeCache,
-};
+pub use pdb_errors::{Error, ModuleProvider, Result};
+pub use pdb_types::{IdMap, ItemIndex, ItemMap, TypeFormatterFlags, TypeMap, TypeSizeCache};
 pub use type_formatter::TypeFormatter;

@@ -16,8 +16,9 @@ use pdb_documents::progress::Progress;
 use pdb_documents::tasks::{MethodForm, Task};
 use pdb_documents::this::{PLAIN_THIS, This, this_by_target};
 use pdb_documents::wording::{Wording, comma};
+use pdb_errors::{Error, ModuleProvider};
 use pdb_records::{MemberFunctionType, TypeData, TypeIndex};
-use pdb_types::{Error, ModuleProvider, ReadError, TypeFormatterFlags};
+use pdb_types::{ReadError, TypeFormatterFlags};
 use std::alloc::AllocError;
 
 // What stands behind a method's arguments: `const` too, in the signature of a constant method.

@@ -2,7 +2,7 @@
 
 ghost use Rattle.std.specs.Prelude.{◌≡◌, None, IfOk, OnOk};
 ghost use Rattle.std.specs.Option.{option_copied};
-ghost use Rattle.pdb_types.specs.declared.error.Error.{Error};
+ghost use Rattle.pdb_errors.specs.declared.error.Error.{Error};
 ghost use Rattle.pdb_types.specs.declared.read_error.Part.{Part};
 ghost use Rattle.pdb_types.specs.declared.read_error.ReadError.TheVariants.{Broken};
 ghost use Rattle.pdb_types.specs.ReadError.{Matches};
@@ -15,8 +15,9 @@ use crate::type_formatter::TypeFormatter;
 use pdb_documents::failures::Failure;
 use pdb_documents::progress::Progress;
 use pdb_documents::wording::Wording;
+use pdb_errors::{Error, ModuleProvider};
 use pdb_records::{IdData, IdIndex, TypeData, TypeIndex};
-use pdb_types::{Error, ModuleProvider, ReadError, TypeFormatterFlags};
+use pdb_types::{ReadError, TypeFormatterFlags};
 use std::alloc::AllocError;
 
 // What printing reads, and what is printed where it can't be read.

@@ -15,8 +15,9 @@ use pdb_documents::answers::Printed;
 use pdb_documents::progress::Progress;
 use pdb_documents::tasks::{MethodForm, Task};
 use pdb_documents::wording::{Wording, function_name, static_word};
+use pdb_errors::ModuleProvider;
 use pdb_records::{MemberFunctionType, ProcedureType, TypeData, TypeIndex};
-use pdb_types::{ModuleProvider, TypeFormatterFlags};
+use pdb_types::TypeFormatterFlags;
 use std::alloc::AllocError;
 
 // The signature of a method with this name.

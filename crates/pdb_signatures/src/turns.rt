@@ -16,8 +16,9 @@ use crate::type_formatter::TypeFormatter;
 use pdb_documents::attributes::Attribute;
 use pdb_documents::progress::{Next, Progress};
 use pdb_documents::tasks::Task;
+use pdb_errors::ModuleProvider;
 use pdb_records::{ModifierType, TypeData, TypeIndex};
-use pdb_types::{ModuleProvider, TypeFormatterFlags};
+use pdb_types::TypeFormatterFlags;
 use std::alloc::AllocError;
 
 // The type of an index that was read: it is printed while the index is open.

@@ -2,9 +2,9 @@
 
 ghost use Rattle.std.specs.Prelude.{◌≡◌, [], IfOk, OnOk, OnErr, MatchResult};
 ghost use Rattle.std.specs.Option.{option_copied};
-ghost use Rattle.pdb_types.specs.declared.error.Error.TheVariants.{OutOfMemory};
+ghost use Rattle.pdb_errors.specs.declared.error.Error.TheVariants.{OutOfMemory};
 ghost use Rattle.pdb_types.specs.FailedParts.{with_met};
-ghost use Rattle.pdb_types.specs.Outcomes.{Gives};
+ghost use Rattle.pdb_errors.specs.Outcomes.{Gives};
 ghost use Rattle.pdb_types.specs.TypeInputs.{program_pointer_size};
 ghost use Rattle.pdb_types.specs.TypeSizes.{size_of};
 ghost use Rattle.pdb_documents.specs.Answers.{AnswersText, AnswersWritten};
@@ -13,10 +13,11 @@ ghost use Rattle.pdb_documents.specs.Printed.{signature_run, id_run};
 ghost use Rattle.pdb_documents.specs.PrintInputs.{formatter_inputs};
 
 use pdb_documents::answers::{printed_text, write_printed};
+use pdb_errors::{ModuleProvider, Result};
 use pdb_records::{
     DebugInformation, IdIndex, IdInformation, Module, StringTable, TypeIndex, TypeInformation,
 };
-use pdb_types::{ModuleProvider, Result, TypeCache, TypeFormatterFlags, TypeInputs};
+use pdb_types::{TypeCache, TypeFormatterFlags, TypeInputs};
 use std::alloc::Global;
 use std::fmt;
 use std::marker::Model;

@@ -21,3 +21,4 @@ pub mod ElementLemmas
 pub mod PositionLemmas
 pub mod KeyedLemmas
 pub mod SlotLemmas
+pub mod CacheLemmas

@@ -16,7 +16,7 @@ use Rattle.pdb_records.specs.declared.types.TypeData.{TypeData}
 use Rattle.pdb_types.specs.declared.type_sizes.TypeSize.{TypeSize}
 use Rattle.pdb_types.specs.declared.type_sizes.Step.{Step}
 use Rattle.pdb_types.specs.declared.type_sizes.Step.TheVariants.{Ended, Next}
-use Rattle.pdb_types.specs.Outcomes.{and_then}
+use Rattle.pdb_errors.specs.Outcomes.{and_then}
 use Rattle.pdb_types.specs.ReadError.{ReadErrorView, Missing}
 use Rattle.pdb_types.specs.Items.{first_item}
 use Rattle.pdb_types.specs.Reading.{said, entry}

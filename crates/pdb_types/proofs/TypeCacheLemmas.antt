@@ -1,48 +1,21 @@
--- Maps that have only what fits, and the type cache.
-use Rattle.std.proofs.Common.{◌≡◌, ◌∙◌, ℕ, List, [], cond, refl, sym, ap, subst}
+-- The type cache has only what fits.
+use Rattle.std.proofs.Common.{◌≡◌, ◌∙◌, ℕ, List, [], refl, ap}
 use Rattle.std.specs.Prelude.{Some, None, Ok}
-use Rattle.std.specs.declared.cmp.Ordering.{Ordering}
 use Rattle.std.specs.declared.cmp.Ordering.TheVariants.{Equal}
-use Rattle.std.specs.Ordering.{nat_cmp, ordering_then, is_eq}
+use Rattle.std.specs.Ordering.{nat_cmp, ordering_then}
 use Rattle.std.specs.FinMap.{IsAntisymmetric, nat_cmp-IsAntisymmetric}
-use Rattle.std.specs.Map.{lookup}
 use Rattle.std.specs.BTreeMap.{BTreeMap, get, Updates}
 use Rattle.pdb_records.specs.declared.strings.StringRef.{StringRef}
+use Rattle.pdb_tables.proofs.CacheLemmas.{is_cache_of_nothing, is_cache_more}
 use Rattle.pdb_types.specs.declared.type_cache.TypeCache.{TypeCache}
 use Rattle.pdb_types.specs.declared.type_cache.Asked.{Asked}
 use Rattle.pdb_types.specs.declared.type_sizes.TypeSize.{TypeSize}
-use Rattle.pdb_types.specs.Outcomes.{and_then}
+use Rattle.pdb_errors.specs.Outcomes.{and_then}
 use Rattle.pdb_types.specs.Resolution.{texts, module_under}
-use Rattle.pdb_types.specs.TypeInputs.{TypeInputs, ProviderInfos, LinkInputs, link_inputs}
+use Rattle.pdb_types.specs.TypeInputs.{TypeInputs, LinkInputs, link_inputs}
+use Rattle.pdb_errors.specs.Provided.{ProviderInfos}
 use Rattle.pdb_types.specs.TypeSizes.{size_of}
 use Rattle.pdb_types.specs.TypeCache.{IsNameCache, IsExportCache, IsSizeCache, asked_cmp, IsCacheOf, IsCacheAfter}
-
--- what a map has under each key fits the key
-abbrev pub HoldsOfEach : {K X : Type 0} → (K → K → Ordering) → (K → X → Type 0) → BTreeMap K X → Type 0
-HoldsOfEach {K} {X} cmp P m = (k : K) (x : X) → get cmp m k ≡ Some x → P k x
-
--- in an empty map all fits
-pub is_cache_of_nothing : {K X : Type 0} (cmp : K → K → Ordering) (P : K → X → Type 0) (m : BTreeMap K X)
-    → m.entries ≡ [] → HoldsOfEach cmp P m
-is_cache_of_nothing cmp P m empty k x got =
-    let none : get cmp m k ≡ None = ap (λ es. lookup (λ q. is_eq (cmp k q)) es) empty in cc
-
--- a map with the same entries fits as well
-pub is_cache_same : {K X : Type 0} (cmp : K → K → Ordering) (P : K → X → Type 0) (m n : BTreeMap K X)
-    → n.entries ≡ m.entries → HoldsOfEach cmp P m → HoldsOfEach cmp P n
-is_cache_same cmp P m n same is_cache k x got =
-    is_cache k x (sym (ap (λ es. lookup (λ q. is_eq (cmp k q)) es) same) ∙ got)
-
--- a map that takes up what fits goes on to fit
-pub is_cache_more : {K X : Type 0} (cmp : K → K → Ordering) → IsAntisymmetric cmp
-    → (P : K → X → Type 0) (m n : BTreeMap K X) (k : K) (x : X) → Updates cmp m n k (Some x) → P k x
-    → HoldsOfEach cmp P m → HoldsOfEach cmp P n
-is_cache_more {K} {X} cmp apart P m n k x updates here is_cache q y got =
-    (elim (cmp k q) as (λ o. cmp k q ≡ o → cond (is_eq o) (Some x) (get cmp m q) ≡ Some y → P q y) [
-      | Equal ↦ λ tied e. let same : k ≡ q = apart k q tied in let value : x ≡ y = cc in
-          subst (λ (z : K). P z y) same (subst (λ (z : X). P k z) value here)
-      | _ ↦ λ _ e. is_cache q y e
-    ]) refl (sym (updates.0 q) ∙ got)
 
 -- the question of a module index and an index
 abbrev question : ℕ → ℕ → Asked

@@ -3,12 +3,12 @@ use Rattle.std.specs.Prelude.{Bool, List, Option}
 use Rattle.std.specs.declared.cmp.Ordering.{Ordering}
 use Rattle.std.specs.declared.cmp.Ordering.TheVariants.{Less, Greater}
 use Rattle.std.specs.Ordering.{nat_cmp}
-use Rattle.pdb_types.specs.declared.error.Error.{Error}
-use Rattle.pdb_types.specs.declared.error.Error.TheVariants.{ModuleImportsUnsuccessful, ModuleExportsUnsuccessful}
+use Rattle.pdb_errors.specs.declared.error.Error.{Error}
+use Rattle.pdb_errors.specs.declared.error.Error.TheVariants.{ModuleImportsUnsuccessful, ModuleExportsUnsuccessful}
 use Rattle.pdb_types.specs.declared.read_error.Part.{Part}
 use Rattle.pdb_types.specs.declared.read_error.Part.TheVariants.{Imports, Exports}
-use Rattle.pdb_types.specs.Errors.{ErrorView, Plain}
-use Rattle.pdb_types.specs.PartSet.{has_part, add_part, add_met, error_of_part}
+use Rattle.pdb_errors.specs.Errors.{ErrorView, Plain}
+use Rattle.pdb_errors.specs.PartSet.{has_part, add_part, add_met, error_of_part}
 
 -- the order of parts: imports before exports, each by module index
 abbrev pub part_cmp : Part → Part → Ordering

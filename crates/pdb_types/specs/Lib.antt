@@ -1,10 +1,6 @@
 pub use Rattle.pdb_records.specs.Readings
 pub use Rattle.pdb_records.specs.Records
-pub mod Provided
-pub mod Errors
-pub mod Outcomes
 pub mod ReadError
-pub mod PartSet
 pub mod FailedParts
 pub mod Ascending
 pub mod CachedEntries

@@ -2,11 +2,11 @@
 use Rattle.std.specs.Prelude.{◌≡◌, ℕ, Result, Ok, Err}
 use Rattle.pdb_records.specs.declared.error.Error as records
 use Rattle.pdb_records.specs.declared.error.Error.TheVariants.{TypeNotFound, UnimplementedTypeKind}
-use Rattle.pdb_types.specs.declared.error.Error.TheVariants.{PdbError}
+use Rattle.pdb_errors.specs.declared.error.Error.TheVariants.{PdbError}
 use Rattle.pdb_types.specs.declared.read_error.Part.{Part}
 use Rattle.pdb_types.specs.declared.read_error.ReadError.{ReadError}
 use Rattle.pdb_types.specs.declared.read_error.ReadError.TheVariants as code
-use Rattle.pdb_types.specs.Errors.{ErrorView, Plain, error_view}
+use Rattle.pdb_errors.specs.Errors.{ErrorView, Plain, error_view}
 
 -- the view of a read error: nothing has this number, its kind isn't known, there is no answer, or a part of the
 -- records is broken. Out of memory is none of these

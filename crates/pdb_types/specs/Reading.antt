@@ -4,7 +4,7 @@ use Rattle.pdb_records.specs.Readings.{Read}
 use Rattle.pdb_records.specs.declared.error.StreamError.{StreamError}
 use Rattle.pdb_records.specs.declared.types.Item.{Item}
 use Rattle.pdb_types.specs.Items.{absence, first_item}
-use Rattle.pdb_types.specs.Outcomes.{and_then}
+use Rattle.pdb_errors.specs.Outcomes.{and_then}
 use Rattle.pdb_types.specs.Resolution.{answered, resolved}
 use Rattle.pdb_types.specs.TypeInputs.{LinkInputs}
 use Rattle.pdb_types.specs.ReadError.{ReadErrorView, Missing, read_error_view_by}

@@ -11,22 +11,17 @@ use Rattle.pdb_records.specs.declared.error.Error.TheVariants.{Stream, StringNot
 use Rattle.pdb_records.specs.declared.strings.StringRef.{StringRef}
 use Rattle.pdb_records.specs.declared.debug_information.Module.{Module}
 use Rattle.pdb_records.specs.declared.modules.ModuleInfo.{ModuleInfo}
-use Rattle.pdb_types.specs.declared.error.Error.{Error}
-use Rattle.pdb_types.specs.declared.error.Error.TheVariants.{PdbError, OutOfRangeModuleIndex, ModuleInfoNotFound}
-use Rattle.pdb_types.specs.declared.error.Error.TheVariants.{CantResolveCrossModuleRefWithoutStringTable}
-use Rattle.pdb_types.specs.declared.error.Error.TheVariants.{LocalIndexNotInExports}
+use Rattle.pdb_errors.specs.declared.error.Error.{Error}
+use Rattle.pdb_errors.specs.declared.error.Error.TheVariants.{PdbError, OutOfRangeModuleIndex, ModuleInfoNotFound}
+use Rattle.pdb_errors.specs.declared.error.Error.TheVariants.{CantResolveCrossModuleRefWithoutStringTable}
+use Rattle.pdb_errors.specs.declared.error.Error.TheVariants.{LocalIndexNotInExports}
 use Rattle.pdb_types.specs.declared.read_error.Part.{Part}
 use Rattle.pdb_types.specs.declared.read_error.Part.TheVariants.{Imports, Exports}
-use Rattle.pdb_types.specs.Errors.{Plain, NoModuleNamed}
+use Rattle.pdb_errors.specs.Errors.{Plain, NoModuleNamed}
 use Rattle.pdb_types.specs.ModuleNames.{is_named, last_position_from}
-use Rattle.pdb_types.specs.Outcomes.{and_then}
+use Rattle.pdb_errors.specs.Outcomes.{and_then, streamed}
 use Rattle.pdb_types.specs.TypeInputs.{LinkInputs}
 use Rattle.pdb_types.specs.ReadError.{ReadErrorView, Refused, Broken, read_error_view_by}
-
--- a stream's content, or its fault as an error
-abbrev pub streamed : {A : Type 0} → Result A StreamError → Result A Error
-streamed (Ok content) = Ok content
-streamed (Err fault) = Err (PdbError (Stream fault))
 
 -- the records that a provider has of the module at a module index
 abbrev pub provided_info : ℕ → Result (Option ModuleInfo) StreamError → Result ModuleInfo Error

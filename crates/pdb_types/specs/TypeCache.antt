@@ -7,9 +7,10 @@ use Rattle.pdb_types.specs.declared.type_cache.TypeCache.{TypeCache}
 use Rattle.pdb_types.specs.declared.type_cache.Asked.{Asked}
 use Rattle.pdb_types.specs.declared.type_sizes.TypeSize.{TypeSize}
 use Rattle.pdb_types.specs.ForwardReferences.{Tabulates}
-use Rattle.pdb_types.specs.Outcomes.{and_then}
+use Rattle.pdb_errors.specs.Outcomes.{and_then}
 use Rattle.pdb_types.specs.Resolution.{texts, module_under, exports}
-use Rattle.pdb_types.specs.TypeInputs.{TypeInputs, ProviderInfos, LinkInputs, link_inputs}
+use Rattle.pdb_types.specs.TypeInputs.{TypeInputs, LinkInputs, link_inputs}
+use Rattle.pdb_errors.specs.Provided.{ProviderInfos}
 use Rattle.pdb_types.specs.TypeSizes.{size_of}
 
 -- the cached module indices are those of the names under their references

@@ -11,15 +11,11 @@ use Rattle.pdb_records.specs.declared.ids.IdIndex.{IdIndex}
 use Rattle.pdb_records.specs.declared.ids.IdData.{IdData}
 use Rattle.pdb_records.specs.declared.debug_information.MachineType.{MachineType}
 use Rattle.pdb_records.specs.declared.debug_information.Module.{Module}
-use Rattle.pdb_records.specs.declared.modules.ModuleInfo.{ModuleInfo}
-use Rattle.pdb_types.specs.declared.error.Error.{Error}
-use Rattle.pdb_types.specs.declared.error.Error.TheVariants.{PdbError}
+use Rattle.pdb_errors.specs.declared.error.Error.{Error}
+use Rattle.pdb_errors.specs.declared.error.Error.TheVariants.{PdbError}
+use Rattle.pdb_errors.specs.Provided.{ProviderInfos}
 use Rattle.pdb_types.specs.declared.flags.TypeFormatterFlags.{TypeFormatterFlags}
 use Rattle.pdb_types.specs.Sizes.{pointer_size}
-
--- what is known of each module: what a provider answers for a module index and a module there
-abbrev pub ProviderInfos : Type 0
-ProviderInfos = ℕ → Module → Result (Option ModuleInfo) StreamError
 
 -- the type inputs: a provider of modules' records, the list of modules, the texts that they share,
 -- the size of a pointer, the types and the ids, and how signatures are printed

@@ -2,9 +2,8 @@
 
 ghost use Rattle.pdb_types.specs.FailedParts.{unsuccessful_part};
 
-use crate::error::Error;
-use crate::part_set::{BrokenPart, PartSet};
 use crate::read_error::Part;
+use pdb_errors::{BrokenPart, Error, PartSet};
 
 /// The parts of the records that were met broken.
 pub type FailedParts = PartSet<Part>;

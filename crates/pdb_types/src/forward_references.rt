@@ -2,12 +2,12 @@
 
 ghost use Rattle.std.specs.Prelude.{◌≡◌, MatchResult};
 ghost use Rattle.std.specs.Str.{bytes_eq};
-ghost use Rattle.pdb_types.specs.declared.error.Error.TheVariants.{OutOfMemory};
+ghost use Rattle.pdb_errors.specs.declared.error.Error.TheVariants.{OutOfMemory};
 ghost use Rattle.pdb_types.specs.ForwardReferences.{definition_size, size_behind};
 
 use crate::aggregates::item_aggregate;
-use crate::error::Result;
 use crate::items::TypeMap;
+use pdb_errors::Result;
 use pdb_records::{Item, RawString, TypeData, TypeIndex};
 
 // Whether two names have the same bytes.

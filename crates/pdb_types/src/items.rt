@@ -3,11 +3,11 @@
 ghost use Rattle.std.specs.Prelude.{◌≡◌, ℕ, IfOk};
 ghost use Rattle.std.specs.Option.{option_copied};
 ghost use Rattle.pdb_types.specs.Items.{absence, first_item, index_number, item_of};
-ghost use Rattle.pdb_types.specs.Outcomes.{Gives};
+ghost use Rattle.pdb_errors.specs.Outcomes.{Gives};
 
 use crate::ascending::{Numbered, find_in_beginning};
 use crate::cached_entries::read_on;
-use crate::error::{Error, Result};
+use pdb_errors::{Error, Result};
 use pdb_records::{
     IdData, IdIndex, Item, ItemInformation, Reading, StreamError, TypeData, TypeIndex,
 };

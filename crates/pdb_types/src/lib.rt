@@ -1,14 +1,12 @@
 //! Types and ids by their index, in one module or across modules, and the sizes of types.
 //!
 //! [`TypeInputs`] is what answers about types are computed from, and is only read. [`TypeCache`] is what was
-//! found so far, and grows. They are for the crates above, whose types hold the two together. Here too are
-//! the errors of the crates above, and the provider who hands in a module's records.
+//! found so far, and grows. They are for the crates above, whose types hold the two together.
 #![tactic(auto)]
 
 mod aggregates;
 mod ascending;
 mod cached_entries;
-mod error;
 mod exports;
 mod failed_parts;
 mod flags;
@@ -18,8 +16,6 @@ mod items;
 pub mod laws;
 mod module_list;
 mod numbered_table;
-mod part_set;
-mod provider;
 mod read_error;
 mod reading;
 mod resolution;
@@ -29,13 +25,10 @@ mod type_cache;
 mod type_inputs;
 mod type_sizes;
 
-pub use error::{Error, Result};
 pub use failed_parts::FailedParts;
 pub use flags::TypeFormatterFlags;
 pub use forward_references::TypeSizeCache;
 pub use items::{IdMap, ItemIndex, ItemMap, TypeMap};
-pub use part_set::{BrokenPart, PartSet};
-pub use provider::ModuleProvider;
 pub use read_error::{Part, ReadError};
 pub use type_cache::TypeCache;
 pub use type_inputs::TypeInputs;

@@ -2,7 +2,7 @@
 
 ghost use Rattle.std.specs.Prelude.{◌≡◌};
 
-use crate::error::Error;
+use pdb_errors::Error;
 use std::alloc::AllocError;
 
 /// A part of the records that may be broken by itself, by module index.

@@ -6,12 +6,11 @@ ghost use Rattle.pdb_types.specs.TypeInputs.{link_inputs};
 ghost use Rattle.pdb_types.specs.Reading.{entry, reading};
 ghost use Rattle.pdb_types.specs.TypeCache.{IsCacheOf, IsCacheAfter};
 
-use crate::error::Result;
 use crate::items::{ItemIndex, ItemMap, absence};
-use crate::provider::ModuleProvider;
 use crate::read_error::ReadError;
 use crate::type_cache::TypeCache;
 use crate::type_inputs::TypeInputs;
+use pdb_errors::{ModuleProvider, Result};
 use pdb_records::{IdData, IdIndex, TypeData, TypeIndex};
 
 // What the first entry with this index says.

@@ -1,21 +1,21 @@
 //! Indices that lead to other modules: imports, names of modules and exports, followed to the index there.
 
 ghost use Rattle.std.specs.Prelude.{◌≡◌, Some};
-ghost use Rattle.pdb_types.specs.Outcomes.{lent};
+ghost use Rattle.pdb_errors.specs.Outcomes.{lent};
 ghost use Rattle.pdb_types.specs.ReadError.{Matches};
 ghost use Rattle.pdb_types.specs.TypeInputs.{link_inputs};
-ghost use Rattle.pdb_types.specs.Resolution.{streamed, module_info, imports, exports, module_named, module_under};
+ghost use Rattle.pdb_types.specs.Resolution.{module_info, imports, exports, module_named, module_under};
+ghost use Rattle.pdb_errors.specs.Outcomes.{streamed};
 ghost use Rattle.pdb_types.specs.Resolution.{found_export, export_of, import_target, across, resolved};
 ghost use Rattle.pdb_types.specs.TypeCache.{IsCacheOf, IsCacheAfter};
 
-use crate::error::{Error, Result};
 use crate::exports::ExportTable;
 use crate::module_list::lower_case;
-use crate::provider::ModuleProvider;
 use crate::read_error::{Part, ReadError};
 use crate::texts::Texts;
 use crate::type_cache::TypeCache;
 use crate::type_inputs::TypeInputs;
+use pdb_errors::{Error, ModuleProvider, Result};
 use pdb_records::{
     CrossModuleExports, CrossModuleImports, ModuleInfo, RawString, StreamError, StringRef,
 };

@@ -1,21 +1,20 @@
 //! The type inputs: what answers about types are computed from, and is only read.
 
 ghost use Rattle.std.specs.Prelude.{◌≡◌, [], IfOk, OnOk, OnErr};
-ghost use Rattle.pdb_types.specs.Errors.{error_view};
+ghost use Rattle.pdb_errors.specs.Errors.{error_view};
 ghost use Rattle.pdb_types.specs.FailedParts.{with_part, with_met, part_error};
 ghost use Rattle.std.specs.Option.{option_copied};
-ghost use Rattle.pdb_types.specs.Outcomes.{Gives};
+ghost use Rattle.pdb_errors.specs.Outcomes.{Gives};
 ghost use Rattle.pdb_types.specs.TypeInputs.{program_pointer_size};
 ghost use Rattle.pdb_types.specs.TypeCache.{IsCacheOf};
 
-use crate::error::{Error, Result};
 use crate::flags::TypeFormatterFlags;
 use crate::module_list::ModuleList;
-use crate::provider::ModuleProvider;
 use crate::read_error::Part;
 use crate::sizes::pointer_size;
 use crate::texts::Texts;
 use crate::type_cache::TypeCache;
+use pdb_errors::{Error, ModuleProvider, Result};
 use pdb_records::{
     DebugInformation, IdInformation, MachineType, Module, StreamError, StringTable, TypeInformation,
 };

@@ -4,7 +4,7 @@ ghost use Rattle.std.specs.Prelude.{◌≡◌, [], ℕ, true, Ok, IfOk, IfErr, M
 ghost use Rattle.std.specs.List.{AllByRecursion};
 ghost use Rattle.std.specs.BTreeSet.{contains};
 ghost use Rattle.std.specs.Ordering.{nat_cmp};
-ghost use Rattle.pdb_types.specs.declared.error.Error.TheVariants.{OutOfMemory};
+ghost use Rattle.pdb_errors.specs.declared.error.Error.TheVariants.{OutOfMemory};
 ghost use Rattle.pdb_types.specs.ForwardReferences.{forward_size};
 ghost use Rattle.pdb_types.specs.Reading.{entry};
 ghost use Rattle.pdb_types.specs.TypeInputs.{link_inputs};
@@ -12,13 +12,12 @@ ghost use Rattle.pdb_types.specs.TypeSizes.{end_size, step, size_of};
 ghost use Rattle.pdb_types.specs.TypeCache.{IsCacheOf, IsCacheAfter};
 
 use crate::aggregates::aggregate_of;
-use crate::error::{Error, Result};
 use crate::forward_sizes::{forward_sizes, size_at};
-use crate::provider::ModuleProvider;
 use crate::read_error::{Part, ReadError};
 use crate::sizes::{own_size, underneath};
 use crate::type_cache::{Asked, TypeCache};
 use crate::type_inputs::TypeInputs;
+use pdb_errors::{Error, ModuleProvider, Result};
 use pdb_records::{TypeData, TypeIndex};
 use std::collections::BTreeSet;
 

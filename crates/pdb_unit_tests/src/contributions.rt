@@ -1,6 +1,7 @@
 //! Checks of merged contributions, their table, and global functions.
 
 use crate::checks::Checks;
+use pdb_errors::{Error, Result};
 use pdb_functions::{
     ContributionTable, GlobalFunctionTable, ModuleSectionContribution, compute_global_functions,
     compute_section_contributions,
@@ -9,7 +10,6 @@ use pdb_records::{
     DebugInformation, ImageSectionHeader, MachineType, PdbInternalSectionOffset, PublicSymbol,
     RawString, Reading, S_PUB32, SectionContribution, StreamError, Symbol, SymbolData,
 };
-use pdb_types::{Error, Result};
 use std::alloc::{AllocError, Global};
 
 /// A contribution: its section, its offset, its size and its module.

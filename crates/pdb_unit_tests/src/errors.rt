@@ -1,7 +1,7 @@
 //! Checks of the texts of errors.
 
 use crate::checks::Checks;
-use pdb_types::Error;
+use pdb_errors::Error;
 use std::alloc::Global;
 use std::fmt;
 

@@ -1,8 +1,9 @@
 //! Checks of sets of failed parts.
 
 use crate::checks::Checks;
+use pdb_errors::Error;
 use pdb_records::StreamError;
-use pdb_types::{Error, FailedParts, Part};
+use pdb_types::{FailedParts, Part};
 use std::alloc::{AllocError, Global};
 
 /// A fault of a stream.

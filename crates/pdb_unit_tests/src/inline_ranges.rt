@@ -3,11 +3,11 @@
 use crate::checks::Checks;
 use crate::modules::{is_fault, module_of};
 use crate::symbols::{Content, Row, Shown, symbols_of};
+use pdb_errors::Result;
 use pdb_inline::{InlineRange, inline_ranges_of_procedure};
 use pdb_records::{
     FileIndex, IdIndex, ModuleInfo, S_GPROC32, S_INLINESITE, S_THUNK32, StreamError, SymbolIndex,
 };
-use pdb_types::Result;
 use std::alloc::{AllocError, Global};
 use std::collections::BTreeSet;
 

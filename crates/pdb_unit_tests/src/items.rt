@@ -1,11 +1,12 @@
 //! Checks of types by their index, and of sizes of forward references.
 
 use crate::checks::Checks;
+use pdb_errors::Result;
 use pdb_records::{
     ClassKind, ClassType, IdData, IdIndex, IdInformation, Item, ItemInformation, RawString,
     Reading, StreamError, StringId, TypeData, TypeIndex, TypeInformation,
 };
-use pdb_types::{ItemIndex, ItemMap, Result, TypeSizeCache};
+use pdb_types::{ItemIndex, ItemMap, TypeSizeCache};
 use std::alloc::{AllocError, Global};
 
 /// The classes of the types: the index, the name and the size of each, with 0 for a forward reference.

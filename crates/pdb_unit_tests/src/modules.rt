@@ -1,7 +1,7 @@
 //! Modules to check with: with symbols, and nothing else.
 
+use pdb_errors::Error;
 use pdb_records::{ModuleInfo, Reading, StreamError, Symbol};
-use pdb_types::Error;
 use std::alloc::Global;
 
 /// A module with these symbols, this fault behind them, and nothing else.

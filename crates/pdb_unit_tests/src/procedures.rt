@@ -2,6 +2,7 @@
 
 use crate::checks::Checks;
 use crate::modules::{is_fault, module_of};
+use pdb_errors::Error;
 use pdb_functions::{
     BasicModuleInfo, FoundFunction, GlobalFunction, ModuleSectionContribution,
     ProcedureSymbolFunction, global_function_in,
@@ -11,7 +12,6 @@ use pdb_records::{
     S_SEPCODE, S_THUNK32, SeparatedCodeSymbol, StreamError, Symbol, SymbolData, SymbolIndex,
     ThunkSymbol, TypeIndex,
 };
-use pdb_types::Error;
 use std::alloc::{AllocError, Global};
 
 /// A procedure: its offset, its length, its name, the positions of its symbol and its end, and its type.

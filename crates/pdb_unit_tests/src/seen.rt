@@ -3,8 +3,8 @@
 use crate::checks::Checks;
 use crate::errors::says;
 use pdb_documents::seen::{Seen, SeenError};
+use pdb_errors::Error;
 use pdb_records::TypeIndex;
-use pdb_types::Error;
 use std::alloc::Global;
 use std::collections::BTreeSet;
 

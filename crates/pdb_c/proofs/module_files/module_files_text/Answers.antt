@@ -1,5 +1,5 @@
 use Rattle.std.proofs.Common.{◌∙◌, Ok, ap, map, string_bytes, sym}
-use Rattle.pdb_types.specs.Outcomes.{and_then}
+use Rattle.pdb_errors.specs.Outcomes.{and_then}
 use Rattle.pdb_c.specs.ModuleFiles.{names_text}
 use Rattle.pdb_c.specs.Refusals.{refusal_of, refusal_of_fault}
 use Rattle.pdb_c.specs.Texts.{with_refusal}

@@ -1,7 +1,7 @@
 use Rattle.std.proofs.lemmas.Result.{on_ok_weaker}
 use Rattle.std.proofs.Common.{arith}
-use Rattle.pdb_types.specs.declared.error.Error.TheVariants.{FunctionIdIsNotProcedureType}
-use Rattle.pdb_types.specs.Errors.{Plain}
+use Rattle.pdb_errors.specs.declared.error.Error.TheVariants.{FunctionIdIsNotProcedureType}
+use Rattle.pdb_errors.specs.Errors.{Plain}
 use Rattle.pdb_documents.specs.Documents.{OfError}
 use Rattle.pdb_documents.specs.Plans.{failing}
 use Rattle.pdb_documents.specs.Progress.{open_in}

@@ -1,6 +1,6 @@
 use Rattle.std.proofs.Common.{◌≡◌, ◌∙◌, refl, rules}
-use Rattle.pdb_types.specs.PartSet.{add_part, error_of_part}
-use Rattle.pdb_types.specs.declared.error.Error.{Error}
+use Rattle.pdb_errors.specs.PartSet.{add_part, error_of_part}
+use Rattle.pdb_errors.specs.declared.error.Error.{Error}
 use Rattle.pdb_frames.specs.CodeParts.{CodeParts, unsuccessful_code, with_code_part, code_part_error}
 use Rattle.pdb_frames.specs.contracts.code_parts.CodePartOrd.TheImpl as order
 use Rattle.pdb_frames.specs.declared.code_parts.CodePart.{CodePart}

@@ -1,5 +1,5 @@
 use Rattle.std.proofs.Common.{refl, ◌∙◌}
-use Rattle.pdb_types.specs.Errors.{error_view}
+use Rattle.pdb_errors.specs.Errors.{error_view}
 use Rattle.pdb_types.specs.ReadError.{Missing, Unimplemented, Refused, Broken}
 use Rattle.pdb_documents.specs.Documents.{TypeNotFound, OfError}
 use Rattle.pdb_signatures.proofs.TurnLemmas.{failed_run}

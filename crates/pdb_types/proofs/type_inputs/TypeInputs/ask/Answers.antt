@@ -1,11 +1,11 @@
 use Rattle.std.proofs.Common.{◌≡◌, ◌∙◌, refl, rules, Bool, true, false}
 use Rattle.std.specs.Prelude.{cond}
 use Rattle.std.proofs.lemmas.Result.{IfOk-weaker}
-use Rattle.pdb_types.specs.Errors.{ErrorView, error_view}
+use Rattle.pdb_errors.specs.Errors.{ErrorView, error_view}
 use Rattle.pdb_types.specs.FailedParts.{Parts, unsuccessful_part, unsuccessful, part_error}
-use Rattle.pdb_types.specs.PartSet.{has_part, error_of_part}
+use Rattle.pdb_errors.specs.PartSet.{has_part, error_of_part}
 use Rattle.pdb_types.specs.contracts.read_error.PartOrd.TheImpl as order
-use Rattle.pdb_types.specs.declared.error.Error.{Error}
+use Rattle.pdb_errors.specs.declared.error.Error.{Error}
 use Rattle.pdb_types.specs.declared.read_error.Part.{Part}
 use Rattle.pdb_types.specs.declared.read_error.Part.TheVariants.{Imports, Exports}
 use Rattle.pdb_types.proofs.type_inputs.TypeInputs.ask.Goals as goal

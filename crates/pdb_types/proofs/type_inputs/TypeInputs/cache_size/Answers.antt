@@ -1,5 +1,6 @@
 use Rattle.pdb_types.specs.TypeCache.{IsSizeCache, asked_cmp}
-use Rattle.pdb_types.proofs.TypeCacheLemmas.{caches_with, is_cache_same, is_cache_more, asked_cmp-apart}
+use Rattle.pdb_tables.proofs.CacheLemmas.{is_cache_same, is_cache_more}
+use Rattle.pdb_types.proofs.TypeCacheLemmas.{caches_with, asked_cmp-apart}
 use Rattle.pdb_types.proofs.type_inputs.TypeInputs.cache_size.Goals as goal
 
 pub returns-in-Ok-clause-state : goal.returns-in-Ok-clause-state

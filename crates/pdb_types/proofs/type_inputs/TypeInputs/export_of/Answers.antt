@@ -2,7 +2,8 @@ use Rattle.std.proofs.Common.{◌∙◌, sym, ap, Ok}
 use Rattle.std.specs.Ordering.{nat_cmp}
 use Rattle.std.specs.FinMap.{nat_cmp-IsAntisymmetric}
 use Rattle.pdb_types.specs.TypeCache.{IsExportCache}
-use Rattle.pdb_types.proofs.TypeCacheLemmas.{caches_with, is_cache_same, is_cache_more}
+use Rattle.pdb_tables.proofs.CacheLemmas.{is_cache_same, is_cache_more}
+use Rattle.pdb_types.proofs.TypeCacheLemmas.{caches_with}
 use Rattle.pdb_types.proofs.type_inputs.TypeInputs.export_of.Goals as goal
 
 pub returns-in-Some-clause-answer : goal.returns-in-Some-clause-answer

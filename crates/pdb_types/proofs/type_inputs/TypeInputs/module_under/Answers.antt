@@ -2,9 +2,10 @@ use Rattle.std.proofs.Common.{◌∙◌, sym, ap}
 use Rattle.std.specs.Ordering.{nat_cmp}
 use Rattle.pdb_types.specs.TypeCache.{IsNameCache}
 use Rattle.pdb_types.specs.TypeInputs.{link_inputs}
-use Rattle.pdb_types.specs.Outcomes.{and_then}
+use Rattle.pdb_errors.specs.Outcomes.{and_then}
 use Rattle.pdb_types.specs.Resolution.{found_text, module_named}
-use Rattle.pdb_types.proofs.TypeCacheLemmas.{caches_with, is_cache_same, names_more, names_found}
+use Rattle.pdb_tables.proofs.CacheLemmas.{is_cache_same}
+use Rattle.pdb_types.proofs.TypeCacheLemmas.{caches_with, names_more, names_found}
 use Rattle.pdb_types.proofs.type_inputs.TypeInputs.module_under.Goals as goal
 
 pub returns-in-Some-clause-answer : goal.returns-in-Some-clause-answer

@@ -1,8 +1,10 @@
 -- What a call answers, beside the answer of its definition.
 use Rattle.std.specs.Prelude.{◌≡◌, ◌≢◌, Option, Some, None, Result, Ok, Err}
 use Rattle.std.specs.Borrow.{Bor}
-use Rattle.pdb_types.specs.declared.error.Error.{Error}
-use Rattle.pdb_types.specs.declared.error.Error.TheVariants.{OutOfMemory}
+use Rattle.pdb_records.specs.declared.error.StreamError.{StreamError}
+use Rattle.pdb_records.specs.declared.error.Error.TheVariants.{Stream}
+use Rattle.pdb_errors.specs.declared.error.Error.{Error}
+use Rattle.pdb_errors.specs.declared.error.Error.TheVariants.{PdbError, OutOfMemory}
 
 -- an answer is the definition's, and so is an error, except where memory runs out
 abbrev pub Gives : {A B : Type 0} → (A → B) → Result A Error → Result B Error → Type 0
@@ -33,3 +35,8 @@ unless (Some error) answer = Err error
 abbrev pub Refuses : {A : Type 0} → Result A Error → Option Error → Type 0
 Refuses (Ok passed) refusal = refusal ≡ None
 Refuses (Err error) refusal = refusal ≡ Some error
+
+-- a stream's content, or its fault as an error
+abbrev pub streamed : {A : Type 0} → Result A StreamError → Result A Error
+streamed (Ok content) = Ok content
+streamed (Err fault) = Err (PdbError (Stream fault))

@@ -1,11 +1,16 @@
 -- What a provider of modules answers.
-use Rattle.std.specs.Prelude.{Option, Result, Ok, Err}
+use Rattle.std.specs.Prelude.{ℕ, Option, Result, Ok, Err}
 use Rattle.std.specs.Option.{option_copied}
 use Rattle.std.specs.Borrow.{Bor}
 use Rattle.pdb_records.specs.declared.error.StreamError.{StreamError}
+use Rattle.pdb_records.specs.declared.debug_information.Module.{Module}
 use Rattle.pdb_records.specs.declared.modules.ModuleInfo.{ModuleInfo}
 
 -- the records that an answer lends
 abbrev pub provided : Result (Option (Bor ModuleInfo)) StreamError → Result (Option ModuleInfo) StreamError
 provided (Ok info) = Ok (option_copied info)
 provided (Err fault) = Err fault
+
+-- what is known of each module: what a provider answers for a module index and a module there
+abbrev pub ProviderInfos : Type 0
+ProviderInfos = ℕ → Module → Result (Option ModuleInfo) StreamError

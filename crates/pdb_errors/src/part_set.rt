@@ -1,7 +1,7 @@
 //! Sets of parts of the records that were met broken, and which error such a part answers.
 
 ghost use Rattle.std.specs.Prelude.{◌≡◌, [], IfOk, OnOk, OnErr};
-ghost use Rattle.pdb_types.specs.PartSet.{has_part, add_part, add_met, error_of_part};
+ghost use Rattle.pdb_errors.specs.PartSet.{has_part, add_part, add_met, error_of_part};
 
 use crate::error::Error;
 use std::alloc::{AllocError, Global};
@@ -10,7 +10,7 @@ use std::marker::Model;
 
 /// A part of the records that may be broken by itself.
 pub trait BrokenPart: Copy + Ord + Drop {
-    ghost use Rattle.pdb_types.specs.declared.error.Error.{Error};
+    ghost use Rattle.pdb_errors.specs.declared.error.Error.{Error};
 
     /// The error of a part that failed before.
     ghost unsuccessful_of: { Self → Error };

@@ -2,7 +2,7 @@
 
 ghost use Rattle.std.specs.Prelude.{◌≡◌};
 ghost use Rattle.pdb_records.specs.declared.error.Error.TheVariants.{Stream};
-ghost use Rattle.pdb_types.specs.declared.error.Error.TheVariants.{FormatError, PdbError, OutOfMemory};
+ghost use Rattle.pdb_errors.specs.declared.error.Error.TheVariants.{FormatError, PdbError, OutOfMemory};
 
 use pdb_records::StreamError;
 use std::alloc::{AllocError, AllocFailed};

@@ -1,7 +1,7 @@
 -- What contracts see of an error: its view.
 use Rattle.std.specs.Prelude.{ℕ, List, string_bytes}
-use Rattle.pdb_types.specs.declared.error.Error.{Error}
-use Rattle.pdb_types.specs.declared.error.Error.TheVariants as error
+use Rattle.pdb_errors.specs.declared.error.Error.{Error}
+use Rattle.pdb_errors.specs.declared.error.Error.TheVariants as error
 
 -- the view of an error: a name by its bytes, whatever room the text has for more
 pub data ErrorView : Type 0 where

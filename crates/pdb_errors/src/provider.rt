@@ -4,7 +4,7 @@ ghost use Rattle.std.specs.Prelude.{◌≡◌, ℕ, Option, Result};
 ghost use Rattle.pdb_records.specs.declared.error.StreamError.{StreamError};
 ghost use Rattle.pdb_records.specs.declared.debug_information.Module.{Module};
 ghost use Rattle.pdb_records.specs.declared.modules.ModuleInfo.{ModuleInfo};
-ghost use Rattle.pdb_types.specs.Provided.{provided};
+ghost use Rattle.pdb_errors.specs.Provided.{provided};
 
 use pdb_records::{Module, ModuleInfo, StreamError};
 

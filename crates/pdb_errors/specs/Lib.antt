@@ -1,0 +1,4 @@
+pub mod Provided
+pub mod Errors
+pub mod Outcomes
+pub mod PartSet
