@@ -10,14 +10,14 @@ use Rattle.pdb_records.specs.declared.addresses.AddressRange.{AddressRange}
 use Rattle.pdb_records.specs.declared.addresses.Rva.{Rva}
 use Rattle.pdb_errors.specs.Provided.{ProviderInfos}
 use Rattle.pdb_functions.specs.GlobalFunctions.{GlobalFunction}
-use Rattle.pdb_functions.specs.Lookup.{FoundFunction, found_procedure, found_global, next_global}
+use Rattle.pdb_functions.specs.FoundFunctions.{FoundFunction, found_procedure, found_global, next_global}
 use Rattle.pdb_frames.specs.Frame.{FramesInfo}
-use Rattle.pdb_frames.specs.Origins.{function_start}
+use Rattle.pdb_functions.specs.FoundFunctions.{function_start}
 use Rattle.pdb_addr2line.specs.FrameLaws.{Agree}
 use Rattle.pdb_function_info.specs.Frames.{function_size}
 use Rattle.pdb_function_info.specs.Function.{FunctionInfo, info_of, global_end, sum_in_32_bits}
 use Rattle.pdb_addr2line.specs.Lookups.{found_at, function_at, frames_at}
-use Rattle.pdb_function_info.specs.Names.{function_name}
+use Rattle.pdb_function_info.specs.NameTexts.{function_name}
 use Rattle.pdb_addr2line.specs.ContextInputs.{ContextInputs, global_functions_of}
 use Rattle.pdb_addr2line.proofs.FrameLawLemmas.{map-some, and_then-some, frames_info_somewhere, ended_in_name}
 

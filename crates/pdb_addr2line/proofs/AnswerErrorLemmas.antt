@@ -16,7 +16,7 @@ use Rattle.pdb_errors.specs.declared.error.Error.TheVariants.{PdbError}
 use Rattle.pdb_errors.specs.Outcomes.{and_then, unless, streamed}
 use Rattle.pdb_types.specs.TypeInputs.{link_inputs}
 use Rattle.pdb_errors.specs.Provided.{ProviderInfos}
-use Rattle.pdb_functions.specs.Lookup.{FoundFunction, found_procedure, found_global}
+use Rattle.pdb_functions.specs.FoundFunctions.{FoundFunction, found_procedure, found_global}
 use Rattle.pdb_frames.specs.CodeParts.{CodeParts, unsuccessful_code, has_code_failed}
 use Rattle.pdb_frames.specs.declared.code_parts.CodePart.{CodePart}
 use Rattle.pdb_frames.specs.declared.code_parts.CodePart.TheVariants as part
@@ -24,7 +24,8 @@ use Rattle.pdb_frames.specs.ExtendedInfo.{extended_info}
 use Rattle.pdb_records.specs.Addresses.{rva, internal_offset}
 use Rattle.pdb_records.specs.Lines.{lines_at}
 use Rattle.pdb_frames.specs.Lines.{read_whole, function_rows, function_row}
-use Rattle.pdb_frames.specs.Origins.{origin, function_ranges, function_start, function_module}
+use Rattle.pdb_frames.specs.Origins.{origin, function_ranges}
+use Rattle.pdb_functions.specs.FoundFunctions.{function_start, function_module}
 use Rattle.pdb_documents.specs.Documents.{Failure, failure_error, Run}
 use Rattle.pdb_documents.specs.Ids.{id_of_index}
 use Rattle.pdb_documents.specs.Printed.{signature_run, id_run}
@@ -33,7 +34,7 @@ use Rattle.pdb_documents.specs.PrintInputs.{formatter_inputs}
 use Rattle.pdb_documents.proofs.DocumentLemmas.{document-unfolds}
 use Rattle.pdb_documents.proofs.UnfoldingLemmas.{print_inputs-below}
 use Rattle.pdb_function_info.specs.Frames.{function_frames}
-use Rattle.pdb_function_info.specs.Names.{function_name, id_name}
+use Rattle.pdb_function_info.specs.NameTexts.{function_name, id_name}
 use Rattle.pdb_addr2line.specs.Calls.{TextView, answer_to, answers_to, after_call, printed, text_unless}
 use Rattle.pdb_addr2line.specs.declared.calls.Call.{Call}
 use Rattle.pdb_addr2line.specs.declared.calls.Call.TheVariants.{FindFunction, FindFrames, Functions, FunctionCount}

@@ -20,7 +20,7 @@ use Rattle.pdb_addr2line.specs.declared.calls.Call.TheVariants.{FindFrames, Func
 use Rattle.pdb_addr2line.specs.declared.calls.Call.TheVariants.{FormatFunction, FormatId}
 use Rattle.pdb_addr2line.specs.Functions.{start_addresses}
 use Rattle.pdb_addr2line.specs.Lookups.{frames_at, frames_answered, blamed_at, answered_refusal}
-use Rattle.pdb_function_info.specs.Names.{faultless}
+use Rattle.pdb_function_info.specs.NameTexts.{faultless}
 use Rattle.pdb_addr2line.specs.ContextInputs.{ContextState}
 use Rattle.pdb_function_info.proofs.NameLemmas.{same-text}
 use Rattle.pdb_addr2line.proofs.FunctionLemmas.{inputs_stay}

@@ -4,7 +4,7 @@ use Rattle.std.specs.Prelude.{IfSome, option_and_then}
 use Rattle.pdb_records.specs.Addresses.{internal_offset}
 use Rattle.pdb_records.specs.declared.addresses.PdbInternalSectionOffset.{PdbInternalSectionOffset}
 use Rattle.pdb_errors.specs.Provided.{ProviderInfos}
-use Rattle.pdb_functions.specs.Lookup.{FoundFunction, function_over}
+use Rattle.pdb_functions.specs.FoundFunctions.{FoundFunction, function_over}
 use Rattle.pdb_functions.specs.SymbolNames.{GoesBySymbol}
 use Rattle.pdb_functions.proofs.SymbolLemmas.{over_by_symbol}
 use Rattle.pdb_addr2line.specs.Lookups.{found_at}

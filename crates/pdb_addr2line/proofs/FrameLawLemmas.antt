@@ -11,15 +11,15 @@ use Rattle.pdb_errors.specs.Outcomes.{and_then}
 use Rattle.pdb_errors.specs.Provided.{ProviderInfos}
 use Rattle.pdb_errors.specs.declared.error.Error.{Error}
 use Rattle.pdb_functions.specs.GlobalFunctions.{GlobalFunction}
-use Rattle.pdb_functions.specs.Lookup.{FoundFunction}
+use Rattle.pdb_functions.specs.FoundFunctions.{FoundFunction, function_module, function_start}
 use Rattle.pdb_frames.specs.Frame.{FrameInfo, FramesInfo}
-use Rattle.pdb_frames.specs.Origins.{function_module, function_start, origin}
+use Rattle.pdb_frames.specs.Origins.{origin}
 use Rattle.pdb_addr2line.specs.FrameLaws.{EndIn}
 use Rattle.pdb_function_info.specs.Frames.{Strings, own_frame, inlined_frames, function_frames}
 use Rattle.pdb_function_info.specs.Frames.{function_size}
 use Rattle.pdb_function_info.specs.Function.{sum_in_32_bits}
 use Rattle.pdb_addr2line.specs.Lookups.{found_at, frames_of, frames_at, records_of}
-use Rattle.pdb_function_info.specs.Names.{function_name, id_name}
+use Rattle.pdb_function_info.specs.NameTexts.{function_name, id_name}
 use Rattle.pdb_addr2line.specs.ContextInputs.{ContextInputs, global_functions_of}
 
 -- where what follows an answer succeeds, the answer did

@@ -12,7 +12,7 @@ use Rattle.pdb_records.specs.declared.modules.ModuleInfo.{ModuleInfo}
 use Rattle.pdb_errors.specs.Outcomes.{unless}
 use Rattle.pdb_errors.specs.Provided.{ProviderInfos}
 use Rattle.pdb_errors.specs.declared.error.Error.{Error}
-use Rattle.pdb_functions.specs.Lookup.{FoundFunction, found_procedure, found_global}
+use Rattle.pdb_functions.specs.FoundFunctions.{FoundFunction, found_procedure, found_global}
 use Rattle.pdb_inline.specs.InlineRanges.{inline_ranges}
 use Rattle.pdb_inline.specs.InlineStacks.{inline_stack}
 use Rattle.pdb_inline.specs.Sites.{walk}
@@ -22,11 +22,12 @@ use Rattle.pdb_inline.proofs.NestingLemmas.{procedure_nested}
 use Rattle.pdb_frames.specs.ExtendedInfo.{ExtendedInfo, inlinee_ids, extended_info}
 use Rattle.pdb_frames.specs.Frame.{FrameInfo, FramesInfo}
 use Rattle.pdb_frames.specs.Lines.{function_row, read_whole}
-use Rattle.pdb_frames.specs.Origins.{Origin, function_module, function_start, function_ranges, origin}
+use Rattle.pdb_frames.specs.Origins.{Origin, function_ranges, origin}
+use Rattle.pdb_functions.specs.FoundFunctions.{function_module, function_start}
 use Rattle.pdb_addr2line.specs.FrameLaws.{levels_over}
 use Rattle.pdb_function_info.specs.Frames.{Strings, own_frame, inlined_frames, function_frames}
 use Rattle.pdb_addr2line.specs.Lookups.{found_at, frames_at, records_of}
-use Rattle.pdb_function_info.specs.Names.{function_name, id_name}
+use Rattle.pdb_function_info.specs.NameTexts.{function_name, id_name}
 use Rattle.pdb_addr2line.specs.ContextInputs.{ContextInputs, global_functions_of}
 use Rattle.pdb_addr2line.proofs.FrameLawLemmas.{and_then-ok, frames_info_at}
 

@@ -11,7 +11,7 @@ use Rattle.pdb_records.specs.declared.ids.IdIndex.{IdIndex}
 use Rattle.pdb_records.specs.declared.modules.ModuleInfo.{ModuleInfo}
 use Rattle.pdb_errors.specs.Outcomes.{and_then, streamed}
 use Rattle.pdb_errors.specs.Provided.{ProviderInfos}
-use Rattle.pdb_functions.specs.Lookup.{found_procedure}
+use Rattle.pdb_functions.specs.FoundFunctions.{found_procedure}
 use Rattle.pdb_functions.specs.Procedures.{ModuleProcedure}
 use Rattle.pdb_inline.specs.InlineRanges.{inline_ranges}
 use Rattle.pdb_inline.specs.InlineStacks.{inline_stack, IsSoleOver}
@@ -26,7 +26,7 @@ use Rattle.pdb_frames.specs.Origins.{Origin, origin}
 use Rattle.pdb_addr2line.specs.FrameLaws.{sites_of, AreNestedFrames}
 use Rattle.pdb_function_info.specs.Frames.{Strings, own_frame, inlined_frame, function_frames}
 use Rattle.pdb_addr2line.specs.Lookups.{found_at, frames_at, records_of}
-use Rattle.pdb_function_info.specs.Names.{function_name, id_name}
+use Rattle.pdb_function_info.specs.NameTexts.{function_name, id_name}
 use Rattle.pdb_addr2line.specs.ContextInputs.{ContextInputs, global_functions_of}
 use Rattle.pdb_addr2line.proofs.FrameLawLemmas.{map-some, and_then-ok, frames_info_at}
 use Rattle.pdb_addr2line.proofs.FrameLevelLemmas.{origin_parts, unless-ok, known_inlinees, known_with}

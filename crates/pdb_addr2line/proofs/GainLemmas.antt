@@ -9,7 +9,7 @@ use Rattle.pdb_documents.specs.BrokenParts.{IsBroken}
 use Rattle.pdb_documents.specs.PrintInputs.{formatter_inputs}
 use Rattle.pdb_documents.proofs.MetLemmas.{with_parts-append}
 use Rattle.pdb_addr2line.specs.Functions.{OnlyGainsBroken}
-use Rattle.pdb_function_info.specs.Names.{GainsBroken, GainsBrokenParts, IsBrokenForSome}
+use Rattle.pdb_function_info.specs.NameTexts.{GainsBroken, GainsBrokenParts, IsBrokenForSome}
 use Rattle.pdb_addr2line.specs.ContextInputs.{ContextState}
 
 -- what holds of all of two lists holds of all of both together

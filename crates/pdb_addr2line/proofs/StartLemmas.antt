@@ -17,7 +17,7 @@ use Rattle.pdb_records.specs.declared.addresses.PdbInternalSectionOffset.{PdbInt
 use Rattle.pdb_records.specs.declared.debug_information.Module.{Module}
 use Rattle.pdb_errors.specs.Provided.{ProviderInfos}
 use Rattle.pdb_functions.specs.GlobalFunctions.{GlobalFunction}
-use Rattle.pdb_functions.specs.Lookup.{procedures_of_module}
+use Rattle.pdb_functions.specs.FoundFunctions.{procedures_of_module}
 use Rattle.pdb_functions.specs.Procedures.{ModuleProcedure, provided_procedures}
 use Rattle.pdb_addr2line.specs.FunctionLaws.{Ascend, IsProcedureStart, IsStart}
 use Rattle.pdb_addr2line.specs.Functions.{procedures_of_modules, start_section_offsets, with_start, with_starts}

@@ -12,7 +12,7 @@ use Rattle.pdb_errors.specs.Provided.{ProviderInfos}
 use Rattle.pdb_functions.specs.Procedures.{ModuleProcedure, provided_procedures}
 use Rattle.pdb_function_info.specs.Function.{FunctionInfo}
 use Rattle.pdb_addr2line.specs.Lookups.{function_at, failed_after}
-use Rattle.pdb_function_info.specs.Names.{GainsBrokenParts}
+use Rattle.pdb_function_info.specs.NameTexts.{GainsBrokenParts}
 use Rattle.pdb_addr2line.specs.ContextInputs.{ContextInputs, ContextState, global_functions_of}
 
 -- the procedures of modules whose module indices are counted from here on, module by module

@@ -9,7 +9,7 @@ pub use Rattle.pdb_functions.specs.Starts
 pub use Rattle.pdb_functions.specs.GlobalFunctions
 pub use Rattle.pdb_functions.specs.Procedures
 pub use Rattle.pdb_functions.specs.Spans
-pub use Rattle.pdb_functions.specs.Lookup
+pub use Rattle.pdb_functions.specs.FoundFunctions
 pub use Rattle.pdb_inline.specs.Sites
 pub use Rattle.pdb_inline.specs.InlineRows
 pub use Rattle.pdb_inline.specs.InlineRanges
@@ -20,7 +20,7 @@ pub use Rattle.pdb_frames.specs.ExtendedInfo
 pub use Rattle.pdb_frames.specs.Origins
 pub use Rattle.pdb_frames.specs.Frame
 pub mod ContextInputs
-pub use Rattle.pdb_function_info.specs.Names
+pub use Rattle.pdb_function_info.specs.NameTexts
 pub use Rattle.pdb_function_info.specs.CachedNames
 pub use Rattle.pdb_function_info.specs.Function
 pub mod Lookups

@@ -8,14 +8,13 @@ use Rattle.pdb_types.specs.FailedParts.{Parts}
 use Rattle.pdb_errors.specs.Provided.{ProviderInfos}
 use Rattle.pdb_functions.specs.declared.contributions.ModuleSectionContribution.{ModuleSectionContribution}
 use Rattle.pdb_functions.specs.Spans.{contribution_covers}
-use Rattle.pdb_functions.specs.Lookup.{FoundFunction, function_over}
+use Rattle.pdb_functions.specs.FoundFunctions.{FoundFunction, function_over, function_module}
 use Rattle.pdb_functions.specs.ModuleInfos.{readable_info}
 use Rattle.pdb_errors.specs.declared.error.Error.{Error}
 use Rattle.pdb_frames.specs.CodeParts.{CodeParts, part_to_blame, code_part_error, with_code_part}
 use Rattle.pdb_frames.specs.Frame.{FramesInfo}
 use Rattle.pdb_frames.specs.declared.code_parts.CodePart.{CodePart}
 use Rattle.pdb_function_info.specs.Frames.{info_of_frames, failed_by_frames}
-use Rattle.pdb_frames.specs.Origins.{function_module}
 use Rattle.pdb_function_info.specs.Function.{FunctionInfo, info_of, failed_after_info}
 use Rattle.pdb_addr2line.specs.ContextInputs.{ContextInputs, ContextState, contributions_of, global_functions_of}
 

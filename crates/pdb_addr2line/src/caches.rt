@@ -5,18 +5,17 @@ ghost use Rattle.std.specs.Option.{option_copied};
 ghost use Rattle.pdb_functions.specs.ModuleInfos.{readable_info};
 ghost use Rattle.pdb_functions.specs.SymbolNames.{GoesBySymbol};
 ghost use Rattle.pdb_errors.specs.Outcomes.{Gives};
-ghost use Rattle.pdb_functions.specs.Lookup.{found_function};
+ghost use Rattle.pdb_functions.specs.FoundFunctions.{found_function, function_module};
 ghost use Rattle.pdb_documents.specs.BrokenParts.{AddsBroken};
 ghost use Rattle.pdb_documents.specs.PrintInputs.{formatter_inputs};
 ghost use Rattle.pdb_frames.specs.CodeCache.{IsCodeCache};
 ghost use Rattle.pdb_frames.specs.CodeCaches.{ModuleRecords};
 ghost use Rattle.pdb_frames.specs.CodeParts.{part_to_blame};
-ghost use Rattle.pdb_frames.specs.Origins.{function_module};
 ghost use Rattle.pdb_function_info.specs.Frames.{info_of_frames, failed_by_frames, ButForMemory};
 
 use crate::context::Tables;
 use pdb_errors::{ModuleProvider, Result};
-use pdb_frames::{CodeCache, CodePart, FunctionFrames, function_module};
+use pdb_frames::{CodeCache, CodePart, FunctionFrames};
 use pdb_function_info::{FunctionNames, frames_info};
 use pdb_functions::{BasicModuleInfoCache, FoundFunction};
 use pdb_records::{AddressMap, Module, ModuleInfo};
@@ -109,7 +108,7 @@ pub(crate) fn part_blamed_by<'a, P: ModuleProvider>(
     ensures infos { caches.new.infos.provider ≡ caches.old.infos.provider }
     ensures starts { caches.new.starts ≡ caches.old.starts }
 {
-    let module_index = function_module(function);
+    let module_index = function.module_index();
     let Some(info) = caches.infos.get_basic_module_info(modules, module_index)? else {
         return Ok(None);
     };

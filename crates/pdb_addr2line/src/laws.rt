@@ -6,7 +6,7 @@ ghost use Rattle.std.specs.Prelude.{◌≡◌, ℕ, ◌+◌, List, length, map, 
 ghost use Rattle.pdb_records.specs.Addresses.{internal_offset};
 ghost use Rattle.pdb_records.specs.declared.addresses.PdbInternalSectionOffset.{PdbInternalSectionOffset};
 ghost use Rattle.pdb_records.specs.declared.modules.ModuleInfo.{ModuleInfo};
-ghost use Rattle.pdb_functions.specs.Lookup.{FoundFunction, found_procedure};
+ghost use Rattle.pdb_functions.specs.FoundFunctions.{FoundFunction, found_procedure};
 ghost use Rattle.pdb_functions.specs.Procedures.{ModuleProcedure};
 ghost use Rattle.pdb_inline.specs.InlineStacks.{IsSoleOver};
 ghost use Rattle.pdb_frames.specs.ExtendedInfo.{inlinee_ids};
@@ -16,28 +16,28 @@ ghost use Rattle.pdb_addr2line.specs.declared.calls.Call.{Call};
 ghost use Rattle.pdb_addr2line.specs.FrameLaws.{levels_over, sites_of, EndIn, Agree, AreNestedFrames};
 ghost use Rattle.pdb_function_info.specs.Function.{FunctionInfo};
 ghost use Rattle.pdb_addr2line.specs.Lookups.{found_at, function_at, records_of, frames_at};
-ghost use Rattle.pdb_function_info.specs.Names.{function_name, id_name};
+ghost use Rattle.pdb_function_info.specs.NameTexts.{function_name, id_name};
 ghost use Rattle.pdb_addr2line.specs.ContextInputs.{ContextInputs, ContextState, global_functions_of};
 
 pub use crate::answer_laws::{
     answers_hold_errors_of_the_records, own_row_beside_an_added_range_is_outside,
 };
 pub use crate::function_laws::{start_addresses_are_all_starts, start_addresses_ascend};
-pub use pdb_documents::laws::{
+pub use pdb_documents::signature_laws::{
     a_scope_that_repeats_is_circular, an_index_inside_itself_is_circular,
     every_id_has_one_unfolding, every_signature_has_one_unfolding, every_type_has_one_unfolding,
     siblings_may_repeat, text_does_not_depend_on_failed_parts,
     the_document_of_a_signature_is_what_it_unfolds_to, the_document_of_an_id_is_what_it_unfolds_to,
 };
 use pdb_errors::ModuleProvider;
-pub use pdb_functions::laws::{
+pub use pdb_functions::lookup_laws::{
     contributions_are_refused_for, contributions_in_reading_order_stay,
     first_global_function_of_each_start_is_kept, first_procedure_of_each_start_is_kept,
     merged_contributions_are_apart, merged_contributions_hold_all,
     merged_contributions_hold_no_other_module, order_of_contributions_agrees_with_equality,
     pick_covers_with_greatest_start,
 };
-pub use pdb_inline::laws::{
+pub use pdb_inline::inline_range_laws::{
     added_ranges_are_of_maximal_runs, ranges_cover_deeper_sites, ranges_lie_in_ranges_above,
     stacks_have_all_levels, stacks_lie_directly_inside, well_nested_sites_are_inside_by_position,
 };
@@ -51,14 +51,14 @@ pub use pdb_laws::picks::{
     global_function_starts_last, inlined_bodies_start_last, line_row_starts_last,
 };
 pub use pdb_laws::refusals::{ids_are_refused_for, signatures_are_refused_for};
-pub use pdb_records::laws::{
+pub use pdb_records::order_laws::{
     hash_of_indices_agrees_with_equality, order_of_indices_agrees_with_equality,
 };
-pub use pdb_tables::laws::{
+pub use pdb_tables::table_laws::{
     last_painted_gives_the_value, missing_runs_hold_what_is_missing, runs_are_determined,
     runs_of_ranges_hold_their_numbers,
 };
-pub use pdb_types::laws::{
+pub use pdb_types::size_laws::{
     chains_that_end_have_the_size_at_their_end, chains_that_never_end_have_no_size,
     chains_that_repeat_have_no_size,
 };

@@ -5,14 +5,14 @@ ghost use Rattle.std.specs.Option.{option_copied};
 ghost use Rattle.pdb_errors.specs.Outcomes.{Gives};
 ghost use Rattle.pdb_errors.specs.declared.error.Error.TheVariants.{OutOfMemory};
 ghost use Rattle.pdb_records.specs.Addresses.{internal_offset};
-ghost use Rattle.pdb_functions.specs.Lookup.{found_function, procedures_of_module};
-ghost use Rattle.pdb_functions.specs.Lookup.{function_in_contribution, function_over};
+ghost use Rattle.pdb_functions.specs.FoundFunctions.{found_function, procedures_of_module};
+ghost use Rattle.pdb_functions.specs.FoundFunctions.{function_in_contribution, function_over};
 ghost use Rattle.pdb_functions.specs.ModuleInfos.{readable_info};
 ghost use Rattle.pdb_functions.specs.Procedures.{module_procedure};
 ghost use Rattle.pdb_functions.specs.Spans.{contribution_covers, procedure_covers};
 ghost use Rattle.pdb_functions.specs.SymbolNames.{GoesBySymbol};
 ghost use Rattle.pdb_tables.specs.Pick.{pick};
-ghost use Rattle.pdb_function_info.specs.Names.{GainsBroken};
+ghost use Rattle.pdb_function_info.specs.NameTexts.{GainsBroken};
 ghost use Rattle.pdb_function_info.specs.Function.{function_view, info_of, failed_after_info};
 ghost use Rattle.pdb_addr2line.specs.ContextInputs.{contributions_of, global_functions_of};
 ghost use Rattle.pdb_function_info.specs.Frames.{ButForMemory};
@@ -24,7 +24,7 @@ ghost use Rattle.pdb_addr2line.specs.Lookups.{frames_answered, code_failed_after
 use crate::caches::{frames_info_by, part_blamed_by};
 use crate::context::Context;
 use pdb_errors::{Error, ModuleProvider, Result};
-use pdb_frames::{CodePart, FunctionFrames, function_module};
+use pdb_frames::{CodePart, FunctionFrames};
 use pdb_function_info::{Function, function_info};
 use pdb_functions::{
     ContributionTable, FoundFunction, GlobalFunctionTable, ModuleSectionContribution,
@@ -118,7 +118,7 @@ impl<'a, P: ModuleProvider> Context<'a, P> {
         ensures unchanged { IfErr result (λ e. e ≡ OutOfMemory → self.new.code_failed ≡ self.old.code_failed) }
         ensures broken { GainsBroken P.info self.old.inputs.type_inputs self.old.failed self.new.failed }
     {
-        let module_info = self.readable_info(function_module(found))?;
+        let module_info = self.readable_info(found.module_index())?;
         match self.frames_info(found, module_info, offset) {
             Ok(frames) => Ok(frames),
             Err(error) => {

@@ -3,7 +3,7 @@
 ghost use Rattle.std.specs.Prelude.{◌≡◌, map, OnOk, MatchResult};
 ghost use Rattle.pdb_errors.specs.declared.error.Error.TheVariants.{OutOfMemory};
 ghost use Rattle.pdb_functions.specs.GlobalFunctions.{global_function};
-ghost use Rattle.pdb_functions.specs.Lookup.{procedures_of_module};
+ghost use Rattle.pdb_functions.specs.FoundFunctions.{procedures_of_module};
 ghost use Rattle.pdb_functions.specs.Procedures.{module_procedure};
 ghost use Rattle.pdb_addr2line.specs.Functions.{procedures_of_modules, with_start, with_starts, start_addresses};
 

@@ -14,7 +14,7 @@ use Rattle.pdb_c.specs.declared.found_frames.Question.TheVariants as question
 use Rattle.pdb_c.specs.FoundFrames.{Shown, shown_text, shown_view}
 use Rattle.pdb_c.specs.FrameAnswers.{shown_result}
 use Rattle.pdb_c.specs.Texts.{Agrees}
-use Rattle.pdb_c.specs.Answers.{gathered}
+use Rattle.pdb_c.specs.Buffers.{gathered}
 use Rattle.pdb_c.specs.Questions.{report_asked, answer_of_handle, text_of_handle, IsLeftBy, IsLeftByReport}
 use Rattle.pdb_c.specs.Questions.{LeavesHandle, LeavesReported, AnswersHandle, AnswersHeld}
 

@@ -1,6 +1,6 @@
 pub mod Refusals
 pub mod Texts
-pub mod Answers
+pub mod Buffers
 pub mod Handles
 pub mod Machines
 pub mod ModuleFiles

@@ -20,7 +20,7 @@ use Rattle.pdb_c.specs.declared.found_frames.Question.{Question}
 use Rattle.pdb_c.specs.declared.found_frames.Question.TheVariants as question
 use Rattle.pdb_c.specs.FoundFrames.{Shown, shown, shown_text, shown_view, frames_of_function, start_alone}
 use Rattle.pdb_c.specs.Refusals.{refusal_of_report}
-use Rattle.pdb_c.specs.Answers.{Answers}
+use Rattle.pdb_c.specs.Buffers.{Answers}
 use Rattle.pdb_c.specs.Texts.{Agrees, with_refusal, text_of_context}
 
 -- what records hold of their modules

@@ -1,10 +1,10 @@
 //! The calls for C over the bytes of a records file.
 
 ghost use Rattle.pdb_report_lib.specs.declared.reports.Command.TheVariants.{Names, Frames};
-ghost use Rattle.pdb_c.specs.Answers.{Ends};
+ghost use Rattle.pdb_c.specs.Buffers.{Ends};
 ghost use Rattle.pdb_c.specs.Texts.{asked_text};
 
-use crate::answers::answer;
+use crate::buffers::answer;
 use crate::texts::asked_text;
 use pdb_report_lib::Command;
 use std::alloc::Global;

@@ -5,7 +5,7 @@ ghost use Rattle.pdb_report_lib.specs.declared.reports.Command.TheVariants.{Name
 ghost use Rattle.pdb_c.specs.Openings.{context_to_open, Opens};
 ghost use Rattle.pdb_c.specs.Questions.{EndsWithText};
 
-use crate::answers::answer;
+use crate::buffers::answer;
 use crate::handle::Handle;
 use crate::openings::text_of_handle;
 use crate::records_calls::open_with_contents;

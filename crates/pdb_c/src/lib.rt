@@ -4,7 +4,7 @@
 //! declares the calls, sees that no pointer is null, and names the numbers that they answer.
 #![tactic(auto)]
 
-mod answers;
+mod buffers;
 mod calls;
 mod contexts;
 mod found_frames;
@@ -13,7 +13,7 @@ mod frame_calls;
 mod frame_rows;
 mod handle;
 mod handle_calls;
-mod laws;
+mod handle_laws;
 mod machine_calls;
 mod module_files;
 mod openings;
@@ -35,7 +35,7 @@ pub use handle_calls::{
     limberlime_close_unchecked, limberlime_frames_of_unchecked, limberlime_names_of_unchecked,
     limberlime_open_unchecked,
 };
-pub use laws::a_handle_is_answered_as_its_bytes_are;
+pub use handle_laws::a_handle_is_answered_as_its_bytes_are;
 pub use machine_calls::limberlime_machine_unchecked;
 pub use pdb_calls::{limberlime_debug_id_unchecked, limberlime_open_pdb_unchecked};
 pub use records_calls::{limberlime_module_files_unchecked, limberlime_open_records_unchecked};

@@ -1,8 +1,8 @@
 //! The calls for C over the bytes of a PDB file.
-ghost use Rattle.pdb_c.specs.Answers.{AnswersSome};
+ghost use Rattle.pdb_c.specs.Buffers.{AnswersSome};
 ghost use Rattle.pdb_c.specs.Openings.{LeavesFile};
 
-use crate::answers::answer;
+use crate::buffers::answer;
 use crate::handle::Handle;
 use crate::pdb_openings::{debug_id_text, open_pdb};
 use std::alloc::Global;

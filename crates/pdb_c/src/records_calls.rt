@@ -1,9 +1,9 @@
 //! The calls for C over a records file with its module files.
-ghost use Rattle.pdb_c.specs.Answers.{Ends};
+ghost use Rattle.pdb_c.specs.Buffers.{Ends};
 ghost use Rattle.pdb_c.specs.ModuleFiles.{cut_after, module_files_text};
 ghost use Rattle.pdb_c.specs.Openings.{context_to_open, LeavesOpened, Opens};
 
-use crate::answers::answer;
+use crate::buffers::answer;
 use crate::handle::Handle;
 use crate::module_files::{cut_after, module_files_text};
 use crate::openings::open_records;

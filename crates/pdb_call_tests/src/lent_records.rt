@@ -1,6 +1,6 @@
 //! Contexts over records that are lent, and how these are left.
 
-use crate::answers::text_of_error;
+use crate::call_answers::text_of_error;
 use pdb_addr2line::ContextPdbData;
 use pdb_addr2line::pdb::PDB;
 use pdb_export::write_records;

@@ -1,6 +1,6 @@
 //! Lists of calls, and what is wanted of them.
 
-use crate::answers::{text_of_answer, text_of_clone};
+use crate::call_answers::{text_of_answer, text_of_clone};
 use crate::texts::{around, hexadecimal, module_index};
 use pdb_addr2line::pdb::{IdIndex, TypeIndex};
 use pdb_addr2line::{Answer, Call, Context, ContextPdbData};

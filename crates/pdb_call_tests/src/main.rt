@@ -29,7 +29,7 @@
 //! `parts.txt` has a line `NAME | PART` for each part of a context that no list of calls shows, over a records file.
 #![tactic(auto)]
 
-mod answers;
+mod call_answers;
 mod calls;
 mod lent_records;
 mod lists;

@@ -6,7 +6,7 @@ use Rattle.pdb_errors.specs.Errors.{error_view}
 use Rattle.pdb_types.specs.FailedParts.{Parts}
 use Rattle.pdb_documents.specs.declared.failures.Failure as code
 use Rattle.pdb_documents.specs.declared.failures.Failure.TheVariants as code_failure
-use Rattle.pdb_documents.specs.Answers.{FailsWith}
+use Rattle.pdb_documents.specs.PrintedTexts.{FailsWith}
 use Rattle.pdb_documents.specs.Documents.{Run, failure_error}
 use Rattle.pdb_documents.specs.Progress.{failure_of, error_of}
 

@@ -15,5 +15,5 @@ pub mod Signatures
 pub mod Progress
 pub mod Printed
 pub mod BrokenParts
-pub mod Answers
+pub mod PrintedTexts
 pub mod Seen

@@ -1,16 +1,16 @@
 //! What types, functions and ids are printed as: definitions, laws, pieces of text, and steps of printing.
 //!
 //! A document says what is to be printed. The specs define the document of each type, signature and id, and
-//! [`laws`] says what follows. The functions write the pieces of text that documents are made of, and
+//! [`signature_laws`] says what follows. The functions write the pieces of text that documents are made of, and
 //! [`progress`] holds what is still to be done, so that no depth of a document is a depth of calls.
 #![tactic(auto)]
 
-pub mod answers;
+pub mod printed_texts;
 pub mod attributes;
 mod dimensions;
 pub mod failures;
 pub mod flags;
-pub mod laws;
+pub mod signature_laws;
 mod namespaces;
 mod primitives;
 pub mod progress;

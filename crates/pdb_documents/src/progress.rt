@@ -11,7 +11,7 @@ ghost use Rattle.pdb_documents.specs.Progress.{released_by, Stage, beginning, wi
 ghost use Rattle.pdb_documents.specs.Progress.{failure_of, failure_in, MayBeCut, Opens, OpensAlone, Takes};
 ghost use Rattle.pdb_documents.specs.Wording.{wording_text, missing_text};
 
-use crate::answers::Printed;
+use crate::printed_texts::Printed;
 use crate::attributes::{Attribute, Predecessor, write_attributes};
 use crate::failures::Failure;
 use crate::tasks::{Pending, Task};

@@ -11,7 +11,7 @@ mod items;
 mod lines;
 mod members;
 mod modules;
-mod names;
+mod json_names;
 mod numbers;
 mod records_file;
 mod sections;

@@ -6,14 +6,14 @@ use Rattle.pdb_records.specs.declared.lines.LineInfo.{LineInfo}
 use Rattle.pdb_records.specs.declared.modules.ModuleInfo.{ModuleInfo}
 use Rattle.pdb_errors.specs.Outcomes.{and_then}
 use Rattle.pdb_errors.specs.declared.error.Error.{Error}
-use Rattle.pdb_functions.specs.Lookup.{FoundFunction, found_procedure, found_global}
+use Rattle.pdb_functions.specs.FoundFunctions.{FoundFunction, found_procedure, found_global, function_start}
 use Rattle.pdb_inline.specs.InlineRanges.{procedure_inline_ranges}
 use Rattle.pdb_inline.specs.InlineStacks.{inline_stack}
 use Rattle.pdb_inline.specs.declared.inline_ranges.InlineRange.{InlineRange}
 use Rattle.pdb_frames.specs.CodeCaches.{function_stack}
 use Rattle.pdb_frames.specs.ExtendedInfo.{ExtendedInfo, extended_info}
 use Rattle.pdb_frames.specs.Lines.{function_row}
-use Rattle.pdb_frames.specs.Origins.{Origin, function_start, origin}
+use Rattle.pdb_frames.specs.Origins.{Origin, origin}
 
 -- where code comes from, by its line program, row and stack
 abbrev origin_of : Lines → Option LineInfo → List InlineRange → Origin

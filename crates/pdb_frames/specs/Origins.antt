@@ -1,13 +1,12 @@
 -- Where the code at an offset of a function comes from.
 use Rattle.std.specs.Prelude.{ℕ, List, [], Option, Result, Ok}
 use Rattle.pdb_records.specs.LinePrograms.{Lines}
-use Rattle.pdb_records.specs.declared.addresses.PdbInternalSectionOffset.{PdbInternalSectionOffset}
 use Rattle.pdb_records.specs.declared.ids.IdIndex.{IdIndex}
 use Rattle.pdb_records.specs.declared.lines.LineInfo.{LineInfo}
 use Rattle.pdb_records.specs.declared.modules.ModuleInfo.{ModuleInfo}
 use Rattle.pdb_errors.specs.Outcomes.{and_then}
 use Rattle.pdb_errors.specs.declared.error.Error.{Error}
-use Rattle.pdb_functions.specs.Lookup.{FoundFunction, found_procedure, found_global}
+use Rattle.pdb_functions.specs.FoundFunctions.{FoundFunction, found_procedure, found_global, function_start}
 use Rattle.pdb_inline.specs.InlineRanges.{procedure_inline_ranges}
 use Rattle.pdb_inline.specs.InlineStacks.{inline_stack}
 use Rattle.pdb_inline.specs.declared.inline_ranges.InlineRange.{InlineRange}
@@ -25,16 +24,6 @@ pub record Origin : Type 0 where
 -- the same, as the code holds it
 abbrev pub origin_view : code.Origin → Origin
 origin_view o = record { line_program = o.line_program.now; row = o.row; stack = o.stack.items }
-
--- the module index of the module that a function was found in
-abbrev pub function_module : FoundFunction → ℕ
-function_module (found_procedure m p) = m
-function_module (found_global m f) = m
-
--- where a function starts
-abbrev pub function_start : FoundFunction → PdbInternalSectionOffset
-function_start (found_procedure m p) = p.offset
-function_start (found_global m f) = f.start
 
 -- the ranges of a function's code that came from inlined bodies, of which those of these ids count: a global function
 -- has no sites, and so no ranges

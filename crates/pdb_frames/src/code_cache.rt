@@ -2,18 +2,18 @@
 
 ghost use Rattle.std.specs.Prelude.{◌≡◌, Some, Ok, IfOk};
 ghost use Rattle.pdb_errors.specs.Outcomes.{Gives, and_then};
-ghost use Rattle.pdb_functions.specs.Lookup.{found_function};
+ghost use Rattle.pdb_functions.specs.FoundFunctions.{found_function, function_module};
 ghost use Rattle.pdb_frames.specs.ExtendedInfo.{extended_info};
 ghost use Rattle.pdb_frames.specs.Lines.{function_row};
 ghost use Rattle.pdb_frames.specs.CodeCaches.{ModuleRecords, HasProgram, function_stack};
 ghost use Rattle.pdb_frames.specs.CodeCache.{IsCodeCache};
 ghost use Rattle.pdb_frames.specs.CodeParts.{blame_after_info, part_to_blame};
-ghost use Rattle.pdb_frames.specs.Origins.{origin_view, function_module, origin};
+ghost use Rattle.pdb_frames.specs.Origins.{origin_view, origin};
 
 use crate::code_parts::CodePart;
 use crate::extended_infos::ExtendedInfos;
 use crate::function_lines::FunctionLines;
-use crate::origins::{Origin, function_module, function_start};
+use crate::origins::Origin;
 use crate::procedure_ranges::ProcedureRanges;
 use pdb_errors::{Error, Result};
 use pdb_functions::FoundFunction;
@@ -75,9 +75,9 @@ impl<'a> CodeCache<'a> {
         ensures answer { Gives origin_view result (origin module_info.now (found_function function.entry) offset) }
         ensures is_cache { IsCodeCache records self.new }
     {
-        let module_index = function_module(function);
+        let module_index = function.module_index();
         let line_program = self.line_program(module_index, module_info)?;
-        let row = self.row(module_index, line_program, function_start(function), offset)?;
+        let row = self.row(module_index, line_program, function.start(), offset)?;
         let stack = self.stack(module_info, function, offset)?;
         Ok(Origin {
             line_program,
@@ -102,8 +102,8 @@ impl<'a> CodeCache<'a> {
         ensures answer { IfOk result (λ part. part ≡ part_to_blame module_info.now (found_function function.entry)) }
         ensures is_cache { IsCodeCache records self.new }
     {
-        let module_index = function_module(function);
-        let start = function_start(function);
+        let module_index = function.module_index();
+        let start = function.start();
         match self.line_program(module_index, module_info) {
             Ok(line_program) => self.blame_after_info(module_index, line_program, start),
             Err(Error::OutOfMemory) => Err(AllocError),

@@ -26,4 +26,4 @@ pub use extended_info::{ExtendedModuleInfo, compute_extended_module_info};
 pub use file_names::FileNames;
 pub use frame::{Frame, FunctionFrames, copy_of_name};
 pub use inline_ranges::compute_procedure_inline_ranges;
-pub use origins::{Origin, function_module, function_start};
+pub use origins::Origin;

@@ -6,7 +6,7 @@ use Rattle.pdb_records.specs.Names.{lossy}
 use Rattle.pdb_types.specs.FailedParts.{Parts, with_met}
 use Rattle.pdb_errors.specs.Provided.{ProviderInfos}
 use Rattle.pdb_types.specs.declared.read_error.Part.{Part}
-use Rattle.pdb_functions.specs.Lookup.{procedures_of_module}
+use Rattle.pdb_functions.specs.FoundFunctions.{procedures_of_module}
 use Rattle.pdb_functions.specs.SymbolNames.{name_by_symbol}
 use Rattle.pdb_documents.specs.BrokenParts.{AddsBroken, with_parts, Settled}
 use Rattle.pdb_documents.specs.Documents.{Document, run}
@@ -18,7 +18,7 @@ use Rattle.pdb_documents.specs.PrintInputs.{PrintInputs, formatter_inputs}
 use Rattle.pdb_documents.proofs.MetLemmas.{settled-printed, settled-more}
 use Rattle.pdb_function_info.specs.CachedNames.{IsPrinted, signature_printing, IsCachedSignature, IsSignatureCache}
 use Rattle.pdb_function_info.specs.CachedNames.{IsCachedId, IsIdCache, HasText}
-use Rattle.pdb_function_info.specs.Names.{text_of_run}
+use Rattle.pdb_function_info.specs.NameTexts.{text_of_run}
 use Rattle.pdb_function_info.specs.declared.cached_texts.CachedText.{CachedText}
 use Rattle.pdb_function_info.specs.declared.name_keys.IdKey.{IdKey}
 use Rattle.pdb_function_info.specs.declared.name_keys.SignatureKey.{SignatureKey}

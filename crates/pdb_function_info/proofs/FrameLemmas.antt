@@ -11,13 +11,12 @@ use Rattle.pdb_types.specs.TypeInputs.{TypeInputs}
 use Rattle.pdb_errors.specs.Provided.{ProviderInfos}
 use Rattle.pdb_errors.specs.declared.error.Error.{Error}
 use Rattle.pdb_functions.specs.GlobalFunctions.{GlobalFunction}
-use Rattle.pdb_functions.specs.Lookup.{FoundFunction}
+use Rattle.pdb_functions.specs.FoundFunctions.{FoundFunction, function_module, function_start}
 use Rattle.pdb_function_info.specs.Function.{sum_in_32_bits}
 use Rattle.pdb_function_info.specs.declared.frames.FunctionAddresses.{FunctionAddresses}
 use Rattle.pdb_function_info.specs.Frames.{Strings, function_frames, function_size, info_of_frames, failed_by_ids}
 use Rattle.pdb_function_info.specs.Frames.{bodies_over, failed_by_frames}
-use Rattle.pdb_function_info.specs.Names.{function_name, failed_by_function_name, id_name, failed_by_id}
-use Rattle.pdb_frames.specs.Origins.{function_module, function_start}
+use Rattle.pdb_function_info.specs.NameTexts.{function_name, failed_by_function_name, id_name, failed_by_id}
 
 -- what follows from a start, where there is one
 with_start : {S C B : Type 0} (convert : S → C) (here : C) (start : Option S) (next : S → B) (none answer : B)

@@ -6,7 +6,7 @@ use Rattle.pdb_types.specs.FailedParts.{Parts}
 use Rattle.pdb_documents.specs.Documents.{Failure, failure_error, Document, run}
 use Rattle.pdb_documents.specs.Printed.{AlikeFault}
 use Rattle.pdb_documents.proofs.AlikeLemmas.{alike-runs}
-use Rattle.pdb_function_info.specs.Names.{faultless, text_of_run}
+use Rattle.pdb_function_info.specs.NameTexts.{faultless, text_of_run}
 
 -- faults that are alike leave the same text
 alike-faultless : (f g : Option Failure) (text : List ℕ) → AlikeFault f g → faultless f text ≡ faultless g text

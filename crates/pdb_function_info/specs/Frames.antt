@@ -16,13 +16,14 @@ use Rattle.pdb_errors.specs.Provided.{ProviderInfos}
 use Rattle.pdb_errors.specs.declared.error.Error.{Error}
 use Rattle.pdb_errors.specs.declared.error.Error.TheVariants.{OutOfMemory}
 use Rattle.pdb_functions.specs.GlobalFunctions.{GlobalFunction}
-use Rattle.pdb_functions.specs.Lookup.{FoundFunction, found_procedure, found_global, next_global}
+use Rattle.pdb_functions.specs.FoundFunctions.{FoundFunction, found_procedure, found_global, next_global}
 use Rattle.pdb_inline.specs.declared.inline_ranges.InlineRange.{InlineRange}
 use Rattle.pdb_frames.specs.Frame.{FrameInfo, FramesInfo}
 use Rattle.pdb_function_info.specs.Function.{sum_in_32_bits}
 use Rattle.pdb_frames.specs.Lines.{file_name}
-use Rattle.pdb_function_info.specs.Names.{function_name, failed_by_function_name, id_name, failed_by_id}
-use Rattle.pdb_frames.specs.Origins.{Origin, function_module, function_start, origin}
+use Rattle.pdb_function_info.specs.NameTexts.{function_name, failed_by_function_name, id_name, failed_by_id}
+use Rattle.pdb_frames.specs.Origins.{Origin, origin}
+use Rattle.pdb_functions.specs.FoundFunctions.{function_module, function_start}
 
 -- the string table of a program, where it has one
 abbrev pub Strings : Type 0

@@ -11,8 +11,8 @@ use Rattle.pdb_errors.specs.Provided.{ProviderInfos}
 use Rattle.pdb_function_info.specs.declared.function.Function.{Function}
 use Rattle.pdb_functions.specs.GlobalFunctions.{GlobalFunction}
 use Rattle.pdb_functions.specs.Procedures.{ModuleProcedure}
-use Rattle.pdb_functions.specs.Lookup.{FoundFunction, found_procedure, found_global, next_global}
-use Rattle.pdb_function_info.specs.Names.{procedure_name, failed_by_name}
+use Rattle.pdb_functions.specs.FoundFunctions.{FoundFunction, found_procedure, found_global, next_global}
+use Rattle.pdb_function_info.specs.NameTexts.{procedure_name, failed_by_name}
 
 -- a function's addresses and its name, as far as they are known
 pub record FunctionInfo : Type 0 where

@@ -1,4 +1,4 @@
-pub mod Names
+pub mod NameTexts
 pub mod CachedNames
 pub mod Function
 pub mod Frames

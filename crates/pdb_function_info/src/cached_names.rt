@@ -3,14 +3,14 @@
 ghost use Rattle.std.specs.Prelude.{◌≡◌, Some, List, ℕ, option_map, string_bytes, OnOk, MatchResult};
 ghost use Rattle.pdb_records.specs.Names.{lossy};
 ghost use Rattle.pdb_errors.specs.declared.error.Error.TheVariants.{OutOfMemory};
-ghost use Rattle.pdb_functions.specs.Lookup.{procedures_of_module};
+ghost use Rattle.pdb_functions.specs.FoundFunctions.{procedures_of_module};
 ghost use Rattle.pdb_functions.specs.SymbolNames.{name_by_symbol};
 ghost use Rattle.pdb_documents.specs.BrokenParts.{AddsBroken};
 ghost use Rattle.pdb_signatures.specs.Formatters.{Formatter};
 ghost use Rattle.pdb_documents.specs.Printed.{signature_run, id_run};
 ghost use Rattle.pdb_documents.specs.PrintInputs.{formatter_inputs};
 ghost use Rattle.pdb_function_info.specs.CachedNames.{IsPrinted, signature_printing, IsSignatureCache, IsIdCache};
-ghost use Rattle.pdb_function_info.specs.Names.{signature_text, id_name, failed_by_id};
+ghost use Rattle.pdb_function_info.specs.NameTexts.{signature_text, id_name, failed_by_id};
 
 use crate::cached_signatures::CachedSignatures;
 use crate::cached_texts::CachedTexts;

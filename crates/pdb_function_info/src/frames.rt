@@ -6,7 +6,7 @@ ghost use Rattle.std.specs.Option.{option_copied};
 ghost use Rattle.pdb_errors.specs.Outcomes.{Gives};
 ghost use Rattle.pdb_errors.specs.declared.error.Error.TheVariants.{OutOfMemory};
 ghost use Rattle.pdb_records.specs.Addresses.{rva};
-ghost use Rattle.pdb_functions.specs.Lookup.{found_function};
+ghost use Rattle.pdb_functions.specs.FoundFunctions.{found_function};
 ghost use Rattle.pdb_functions.specs.SymbolNames.{GoesBySymbol};
 ghost use Rattle.pdb_documents.specs.BrokenParts.{AddsBroken};
 ghost use Rattle.pdb_documents.specs.PrintInputs.{formatter_inputs};
@@ -14,16 +14,14 @@ ghost use Rattle.pdb_function_info.specs.Frames.{own_frame, inlined_frame, inlin
 ghost use Rattle.pdb_function_info.specs.Frames.{function_frames, function_size, info_of_frames};
 ghost use Rattle.pdb_function_info.specs.Frames.{failed_by_ids, bodies_over, failed_by_frames, ButForMemory};
 ghost use Rattle.pdb_function_info.specs.Function.{sum_in_32_bits};
-ghost use Rattle.pdb_function_info.specs.Names.{id_name, failed_by_id};
+ghost use Rattle.pdb_function_info.specs.NameTexts.{id_name, failed_by_id};
 ghost use Rattle.pdb_frames.specs.CodeCache.{IsCodeCache};
 ghost use Rattle.pdb_frames.specs.CodeCaches.{ModuleRecords};
-ghost use Rattle.pdb_frames.specs.Origins.{origin_view, function_module, function_start};
+ghost use Rattle.pdb_frames.specs.Origins.{origin_view};
 
 use crate::function_names::FunctionNames;
 use pdb_errors::{ModuleProvider, Result};
-use pdb_frames::{
-    CodeCache, FileNames, Frame, FunctionFrames, Origin, function_module, function_start,
-};
+use pdb_frames::{CodeCache, FileNames, Frame, FunctionFrames, Origin};
 use pdb_functions::{FoundFunction, GlobalFunctionTable};
 use pdb_inline::InlineRange;
 use pdb_records::{AddressMap, LineInfo, LineProgram, ModuleInfo};
@@ -189,7 +187,7 @@ fn frames_of_function<'a, P: ModuleProvider>(
         return Ok(frames);
     };
     let origin = code.origin(info, function, offset)?;
-    let module_index = function_module(function);
+    let module_index = function.module_index();
     frames_of_origin(alloc, files, names, module_index, name, &origin)
 }
 
@@ -230,7 +228,7 @@ fn addresses_of(
         (λ start. record { start_rva = start.0; end_rva = option_and_then (sum_in_32_bits start.0) size })
         (rva address_map.now (function_start found)) }
 {
-    let start = function_start(function).to_rva(address_map)?;
+    let start = function.start().to_rva(address_map)?;
     let end_rva = match function_size(functions, function) {
         Some(size) => start.0.checked_add(size),
         None => None,

@@ -7,14 +7,14 @@ ghost use Rattle.pdb_records.specs.Names.{lossy};
 ghost use Rattle.pdb_errors.specs.declared.error.Error.TheVariants.{OutOfMemory};
 ghost use Rattle.pdb_functions.specs.GlobalFunctions.{global_function};
 ghost use Rattle.pdb_functions.specs.Procedures.{module_procedure};
-ghost use Rattle.pdb_functions.specs.Lookup.{found_function, procedures_of_module};
+ghost use Rattle.pdb_functions.specs.FoundFunctions.{found_function, procedures_of_module};
 ghost use Rattle.pdb_functions.specs.SymbolNames.{name_by_symbol, GoesBySymbol};
-ghost use Rattle.pdb_function_info.specs.Names.{procedure_name, failed_by_name, GainsBroken};
+ghost use Rattle.pdb_function_info.specs.NameTexts.{procedure_name, failed_by_name, GainsBroken};
 ghost use Rattle.pdb_function_info.specs.Function.{function_view, global_end, info_of_global};
 ghost use Rattle.pdb_function_info.specs.Function.{info_of_procedure, info_of, failed_after_info};
 
 use crate::function_names::FunctionNames;
-use crate::names::text_of_name;
+use crate::name_texts::text_of_name;
 use pdb_errors::{ModuleProvider, Result};
 use pdb_frames::copy_of_name;
 use pdb_functions::{FoundFunction, GlobalFunction, GlobalFunctionTable, ProcedureSymbolFunction};

@@ -12,7 +12,7 @@ mod function;
 mod function_names;
 mod hints;
 mod name_keys;
-mod names;
+mod name_texts;
 mod positions;
 mod printed_names;
 

@@ -5,7 +5,7 @@ ghost use Rattle.pdb_errors.specs.declared.error.Error.TheVariants.{OutOfMemory}
 ghost use Rattle.pdb_documents.specs.BrokenParts.{AddsBroken};
 ghost use Rattle.pdb_documents.specs.Printed.{signature_run};
 ghost use Rattle.pdb_documents.specs.PrintInputs.{formatter_inputs};
-ghost use Rattle.pdb_function_info.specs.Names.{signature_text, id_name, failed_by_id};
+ghost use Rattle.pdb_function_info.specs.NameTexts.{signature_text, id_name, failed_by_id};
 
 use pdb_errors::{Error, ModuleProvider, Result};
 use pdb_records::{IdIndex, TypeIndex};

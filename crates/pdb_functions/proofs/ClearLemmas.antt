@@ -13,7 +13,7 @@ use Rattle.pdb_tables.specs.InOrder.{put, in_order}
 use Rattle.pdb_functions.specs.Contributions.{is_same_module, contribution_before, intervals_with}
 use Rattle.pdb_functions.specs.Contributions.{intervals_of}
 use Rattle.pdb_functions.specs.ReadingOrder.{AreOnly}
-use Rattle.pdb_functions.specs.Laws.{IsFilled, LiesBefore, AreApart}
+use Rattle.pdb_functions.specs.LookupLaws.{IsFilled, LiesBefore, AreApart}
 use Rattle.pdb_tables.proofs.NumberLemmas.{cases_lt}
 use Rattle.pdb_functions.proofs.ContributionLemmas.{contributions_rank}
 use Rattle.pdb_functions.proofs.OrderLemmas.{all_weaker, all_taken, all_of_order}

@@ -8,7 +8,7 @@ use Rattle.pdb_errors.specs.declared.error.Error.{Error}
 use Rattle.pdb_functions.specs.declared.contributions.ModuleSectionContribution.{ModuleSectionContribution}
 use Rattle.pdb_errors.specs.Outcomes.{first_refusal}
 use Rattle.pdb_functions.specs.Contributions.{contribution_cmp, contribution_before}
-use Rattle.pdb_functions.specs.Laws.{IsFilled, LiesBefore}
+use Rattle.pdb_functions.specs.LookupLaws.{IsFilled, LiesBefore}
 
 -- contributions have one order
 pub contribution_cmp_total : IsTotalOrder contribution_cmp

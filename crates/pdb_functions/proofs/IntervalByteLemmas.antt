@@ -10,8 +10,8 @@ use Rattle.pdb_errors.specs.declared.error.Error.TheVariants.{OverlappingSection
 use Rattle.pdb_functions.specs.declared.contributions.ModuleSectionContribution.{ModuleSectionContribution}
 use Rattle.pdb_functions.specs.Contributions.{is_same_module, intervals_with, intervals_of}
 use Rattle.pdb_functions.specs.Contributions.{overlap_after}
-use Rattle.pdb_functions.specs.Laws.{IsFilled, LiesBefore, AreApart, lies_in, LiesInOneOf}
-use Rattle.pdb_functions.specs.Laws.{IsApartFrom, NeighboursDiffer, HasByteOf, IsOverlap}
+use Rattle.pdb_functions.specs.LookupLaws.{IsFilled, LiesBefore, AreApart, lies_in, LiesInOneOf}
+use Rattle.pdb_functions.specs.LookupLaws.{IsApartFrom, NeighboursDiffer, HasByteOf, IsOverlap}
 use Rattle.pdb_tables.proofs.NumberLemmas.{cases_lt, cases_le, le-leb, eqb_same}
 use Rattle.pdb_functions.proofs.OrderLemmas.{all_weaker}
 use Rattle.pdb_functions.proofs.IntervalLemmas.{or_second, same_fields, StartsNoLater, StartsRise, all_of_intervals}

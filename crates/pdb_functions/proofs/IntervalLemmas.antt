@@ -12,8 +12,8 @@ use Rattle.std.proofs.Math.Nat.{le-max_left, max-eq_left, max-eq_right}
 use Rattle.pdb_functions.specs.declared.contributions.ModuleSectionContribution.{ModuleSectionContribution}
 use Rattle.pdb_functions.specs.Contributions.{is_same_module, contribution_before, intervals_with, intervals_of}
 use Rattle.pdb_functions.specs.Contributions.{refused_overlap, overlap_after}
-use Rattle.pdb_functions.specs.Laws.{IsFilled, LiesBefore, AreApart, lies_in, LiesInOneOf, BeginsWithOneOf}
-use Rattle.pdb_functions.specs.Laws.{EndsWithOneOf}
+use Rattle.pdb_functions.specs.LookupLaws.{IsFilled, LiesBefore, AreApart, lies_in, LiesInOneOf, BeginsWithOneOf}
+use Rattle.pdb_functions.specs.LookupLaws.{EndsWithOneOf}
 use Rattle.pdb_tables.proofs.NumberLemmas.{cases_lt, cases_le, le-leb, eqb_same}
 use Rattle.pdb_tables.proofs.SortLemmas.{Rises}
 use Rattle.pdb_functions.proofs.OrderLemmas.{all_weaker}

@@ -18,8 +18,8 @@ use Rattle.pdb_tables.specs.InOrder.{in_order}
 use Rattle.pdb_functions.specs.Contributions.{is_counted, claimed, claims, is_same_module, refused_ends}
 use Rattle.pdb_functions.specs.Contributions.{reading_refusal, contribution_before, ordered_claims, intervals_of}
 use Rattle.pdb_functions.specs.Contributions.{overlap_after, merged_contributions}
-use Rattle.pdb_functions.specs.Laws.{IsFilled, AreApart, LiesInOneOf, BeginsWithOneOf, EndsWithOneOf}
-use Rattle.pdb_functions.specs.Laws.{IsApartFrom, NeighboursDiffer, IsOverlap}
+use Rattle.pdb_functions.specs.LookupLaws.{IsFilled, AreApart, LiesInOneOf, BeginsWithOneOf, EndsWithOneOf}
+use Rattle.pdb_functions.specs.LookupLaws.{IsApartFrom, NeighboursDiffer, IsOverlap}
 use Rattle.pdb_tables.proofs.NumberLemmas.{cases_lt}
 use Rattle.pdb_tables.proofs.SortLemmas.{rises_in_order}
 use Rattle.pdb_functions.proofs.ContributionLemmas.{contributions_rank}

@@ -9,7 +9,7 @@ use Rattle.pdb_records.specs.declared.addresses.PdbInternalSectionOffset.{PdbInt
 use Rattle.pdb_tables.specs.Pick.{pick}
 use Rattle.pdb_functions.specs.GlobalFunctions.{GlobalFunction}
 use Rattle.pdb_tables.specs.Last.{last_over}
-use Rattle.pdb_functions.specs.Lookup.{global_at, next_global, where_passes}
+use Rattle.pdb_functions.specs.FoundFunctions.{global_at, next_global, where_passes}
 use Rattle.pdb_functions.specs.Spans.{global_function_covers}
 use Rattle.pdb_functions.specs.Starts.{is_before, StartsAscend}
 use Rattle.pdb_tables.proofs.LastLemmas.{pick-last}

@@ -8,7 +8,7 @@ use Rattle.pdb_records.specs.declared.modules.ModuleInfo.{ModuleInfo}
 use Rattle.pdb_records.specs.declared.symbols.Symbol.{Symbol}
 use Rattle.pdb_functions.specs.Procedures.{ModuleProcedure, procedure_at, last_counted, procedures_from}
 use Rattle.pdb_functions.specs.Procedures.{info_procedures}
-use Rattle.pdb_functions.specs.Laws.{last_procedure}
+use Rattle.pdb_functions.specs.LookupLaws.{last_procedure}
 
 -- where a list has a procedure, its last one counts whatever came before
 last_there : (a b : Option ModuleProcedure) (p : ModuleProcedure) (ps : List ModuleProcedure)

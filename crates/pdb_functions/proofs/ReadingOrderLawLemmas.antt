@@ -16,7 +16,7 @@ use Rattle.pdb_functions.specs.Contributions.{intervals_of, overlap_after, merge
 use Rattle.pdb_functions.specs.ReadingOrder.{AreOnly, StartsNeverFall, reading_intervals, refusal_after}
 use Rattle.pdb_functions.specs.ReadingOrder.{joining_refusal}
 use Rattle.pdb_functions.specs.ReadingOrder.{merged_in_reading_order}
-use Rattle.pdb_functions.specs.Laws.{IsFilled, LiesBefore}
+use Rattle.pdb_functions.specs.LookupLaws.{IsFilled, LiesBefore}
 use Rattle.pdb_tables.proofs.SortLemmas.{Rises, rises_in_order}
 use Rattle.pdb_functions.proofs.ContributionLemmas.{contributions_rank, both_accepted}
 use Rattle.pdb_functions.proofs.OrderLemmas.{all_weaker, all_in_order}

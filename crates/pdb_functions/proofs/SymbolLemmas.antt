@@ -22,8 +22,8 @@ use Rattle.pdb_tables.proofs.SortLemmas.{all_put}
 use Rattle.pdb_functions.specs.declared.contributions.ModuleSectionContribution.{ModuleSectionContribution}
 use Rattle.pdb_functions.specs.GlobalFunctions.{GlobalFunction}
 use Rattle.pdb_errors.specs.Provided.{ProviderInfos}
-use Rattle.pdb_functions.specs.Lookup.{procedures_of_module, found_global}
-use Rattle.pdb_functions.specs.Lookup.{found_or_global, function_in_contribution, function_over}
+use Rattle.pdb_functions.specs.FoundFunctions.{procedures_of_module, found_global}
+use Rattle.pdb_functions.specs.FoundFunctions.{found_or_global, function_in_contribution, function_over}
 use Rattle.pdb_functions.specs.Procedures.{ModuleProcedure, unless_empty, procedure_data, procedure_at, last_counted}
 use Rattle.pdb_functions.specs.Procedures.{procedures_from, symbol_procedures, info_procedures, provided_procedures}
 use Rattle.pdb_functions.specs.Spans.{contribution_covers, procedure_covers, global_function_covers}

@@ -7,7 +7,7 @@ pub mod Procedures
 pub mod Spans
 pub mod Keys
 pub mod SectionTables
-pub mod Lookup
+pub mod FoundFunctions
 pub mod ModuleInfos
 pub mod SymbolNames
-pub mod Laws
+pub mod LookupLaws

@@ -2,7 +2,7 @@
 use Rattle.std.specs.Prelude.{◌≡◌, ⊤, ℕ, List, Option, Some, find, option_map, ◌==◌}
 use Rattle.pdb_records.specs.declared.debug_information.Module.{Module}
 use Rattle.pdb_errors.specs.Provided.{ProviderInfos}
-use Rattle.pdb_functions.specs.Lookup.{procedures_of_module, FoundFunction, found_procedure, found_global}
+use Rattle.pdb_functions.specs.FoundFunctions.{procedures_of_module, FoundFunction, found_procedure, found_global}
 use Rattle.pdb_functions.specs.Procedures.{ModuleProcedure}
 
 -- the name of the procedure that the symbol at a position shows

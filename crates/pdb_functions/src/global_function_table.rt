@@ -6,7 +6,7 @@ ghost use Rattle.pdb_tables.specs.Pick.{pick};
 ghost use Rattle.pdb_tables.specs.Probes.{digits};
 ghost use Rattle.pdb_functions.specs.GlobalFunctions.{global_function};
 ghost use Rattle.pdb_tables.specs.Last.{last_over};
-ghost use Rattle.pdb_functions.specs.Lookup.{next_global, global_at, where_passes};
+ghost use Rattle.pdb_functions.specs.FoundFunctions.{next_global, global_at, where_passes};
 ghost use Rattle.pdb_functions.specs.Spans.{global_function_covers};
 ghost use Rattle.pdb_functions.specs.Starts.{is_before, StartsAscend};
 

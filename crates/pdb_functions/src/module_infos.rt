@@ -6,7 +6,7 @@ ghost use Rattle.std.specs.Io.BufRead.{Rests};
 ghost use Rattle.std.specs.Option.{option_copied, option_map_or};
 ghost use Rattle.pdb_tables.specs.Slots.{held};
 ghost use Rattle.pdb_errors.specs.Provided.{ProviderInfos};
-ghost use Rattle.pdb_functions.specs.Lookup.{procedures_of_module};
+ghost use Rattle.pdb_functions.specs.FoundFunctions.{procedures_of_module};
 ghost use Rattle.pdb_functions.specs.Procedures.{info_procedures};
 ghost use Rattle.pdb_functions.specs.ModuleInfos.{readable_info, IsModuleInfoCache, IsCachedInfo};
 ghost use mir.Syntax.{named};

@@ -9,7 +9,7 @@ mod depth_tables;
 mod inline_ranges;
 mod inline_rows;
 mod inline_stacks;
-pub mod laws;
+pub mod inline_range_laws;
 mod listed_ranges;
 mod missing_rows;
 mod procedure_stacks;

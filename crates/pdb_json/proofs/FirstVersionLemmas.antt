@@ -5,7 +5,7 @@ use Rattle.serde_json.specs.Data.{Data, Items, no_items, item}
 use Rattle.serde_json.specs.Find.{as_array}
 use Rattle.pdb_json_values.specs.Faults.{Fault, ◌>>=◌}
 use Rattle.pdb_json_values.specs.Values.{text_of, object_of}
-use Rattle.pdb_json_records.specs.Names.{name_of}
+use Rattle.pdb_json_records.specs.NameValues.{name_of}
 use Rattle.pdb_json_records.specs.Members.{member_of, all_from, list_of, optional_of, stream_of}
 use Rattle.pdb_json_records.specs.Modules.{info_of}
 use Rattle.pdb_json.specs.ModuleFiles.{stands_for_file, module_file_names_in_version}

@@ -4,11 +4,11 @@
 //! which module files a file names; a [`RecordsFile`] does both and reads its text once. What texts mean is a
 //! definition, `records_of_files` in `specs/RecordsFile.antt`: the records, or the first fault with its path. What
 //! the file is made of is read by `pdb_json_records`, and values and faults are those of `pdb_json_values`. What
-//! follows from the definitions is in [`laws`].
+//! follows from the definitions is in [`records_file_laws`].
 #![tactic(auto)]
 
 mod json;
-pub mod laws;
+pub mod records_file_laws;
 mod module_infos;
 mod named_files;
 mod records_file;

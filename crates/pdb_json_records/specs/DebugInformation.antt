@@ -9,7 +9,7 @@ use Rattle.pdb_records.specs.declared.debug_information.SectionContribution.{Sec
 use Rattle.pdb_json_values.specs.Faults.{Fault, ◌>>=◌}
 use Rattle.pdb_json_values.specs.Values.{object_of, text_of}
 use Rattle.pdb_json_values.specs.Numbers.{u32_of}
-use Rattle.pdb_json_records.specs.Names.{name_of, variant_named}
+use Rattle.pdb_json_records.specs.NameValues.{name_of, variant_named}
 use Rattle.pdb_json_records.specs.Members.{member_of, reading_of, stream_of}
 use Rattle.pdb_json_records.specs.Sections.{section_offset_of}
 

@@ -5,7 +5,7 @@ pub use Rattle.pdb_records.specs.LinePrograms
 pub use Rattle.pdb_records.specs.Arrays
 pub use Rattle.pdb_records.specs.Imports
 pub use Rattle.pdb_json_values.specs.Faults
-pub mod Names
+pub mod NameValues
 pub mod Members
 pub mod Sections
 pub mod Symbols

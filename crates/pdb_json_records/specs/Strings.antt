@@ -5,7 +5,7 @@ use Rattle.pdb_records.specs.declared.strings.StringRef.{StringRef}
 use Rattle.pdb_json_values.specs.Faults.{Fault, ◌>>=◌}
 use Rattle.pdb_json_values.specs.Values.{object_of}
 use Rattle.pdb_json_values.specs.Numbers.{u32_of}
-use Rattle.pdb_json_records.specs.Names.{name_of}
+use Rattle.pdb_json_records.specs.NameValues.{name_of}
 use Rattle.pdb_json_records.specs.Members.{member_of}
 
 -- the key of a text

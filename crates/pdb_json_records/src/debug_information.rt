@@ -4,7 +4,7 @@ ghost use Rattle.pdb_json_records.specs.DebugInformation.{machine_of, module_of,
 ghost use Rattle.pdb_json_records.specs.DebugInformation.{debug_information_of};
 
 use crate::members::{FromJson, member};
-use crate::names::named;
+use crate::name_values::named;
 use crate::sections::section_offset;
 use pdb_json_values::{Reader, RecordFault, object, text};
 use pdb_records::{DebugInformation, MachineType, Module, SectionContribution};

@@ -6,7 +6,7 @@ ghost use Rattle.pdb_json_records.specs.Ids.{member_function_id_of, function_id_
 ghost use Rattle.pdb_json_records.specs.Ids.{id_named, id_of};
 
 use crate::members::{Elements, FromJson, member};
-use crate::names::{kind, unknown_kind};
+use crate::name_values::{kind, unknown_kind};
 use crate::types::kind_name;
 use pdb_json_values::{Reader, RecordFault, object};
 use pdb_records::{

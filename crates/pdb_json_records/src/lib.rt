@@ -14,7 +14,7 @@ mod items;
 mod lines;
 mod members;
 mod modules;
-mod names;
+mod name_values;
 mod numbers;
 mod sections;
 mod strings;
@@ -23,4 +23,4 @@ mod types;
 
 pub use all_records::shared_records;
 pub use members::{FromJson, element, member};
-pub use names::Text;
+pub use name_values::Text;

@@ -7,7 +7,7 @@ ghost use Rattle.pdb_json_records.specs.Symbols.{procedure_of, separated_code_of
 ghost use Rattle.pdb_json_records.specs.Symbols.{data_named, data_of, symbol_of, symbol_table_of};
 
 use crate::members::{FromJson, member};
-use crate::names::{kind, unknown_kind};
+use crate::name_values::{kind, unknown_kind};
 use crate::sections::section_offset;
 use pdb_json_values::{Reader, RecordFault, object};
 use pdb_records::{

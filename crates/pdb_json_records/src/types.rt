@@ -2,14 +2,14 @@
 
 ghost use Rattle.serde_json.specs.View.{view};
 ghost use Rattle.pdb_json_values.specs.Faults.{Agrees};
-ghost use Rattle.pdb_json_records.specs.Names.{variant_of};
+ghost use Rattle.pdb_json_records.specs.NameValues.{variant_of};
 ghost use Rattle.pdb_json_records.specs.Types.{primitive_kinds, class_kinds, pointer_modes, primitive_of, class_of};
 ghost use Rattle.pdb_json_records.specs.Types.{member_function_of, procedure_type_of, pointer_of, dimensions_of};
 ghost use Rattle.pdb_json_records.specs.Types.{union_of, enumeration_of, number_named, number_of, enumerate_of};
 ghost use Rattle.pdb_json_records.specs.Types.{modifier_of, arguments_of, kind_name_of, type_named, type_of};
 
 use crate::members::{Elements, FromJson, member};
-use crate::names::{Text, kind, unknown_kind, variant};
+use crate::name_values::{Text, kind, unknown_kind, variant};
 use pdb_json_values::{Reader, RecordFault, object};
 use pdb_records::{
     ArgumentList, ArrayType, ClassKind, ClassType, EnumerateType, EnumerationType,

@@ -1,6 +1,6 @@
 //! Records files with a change made to their text, and the fault that is wanted.
 
-use crate::answers::is_wanted;
+use crate::reading_texts::is_wanted;
 use pdb_json::read_records;
 use std::alloc::{AllocError, Global};
 

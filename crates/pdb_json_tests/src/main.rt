@@ -21,7 +21,7 @@
 //! there are and how many differ.
 #![tactic(auto)]
 
-mod answers;
+mod reading_texts;
 mod changes;
 mod members;
 mod module_files;

@@ -1,6 +1,6 @@
 //! Files of which a member has another value, or is absent.
 
-use crate::answers::is_wanted;
+use crate::reading_texts::is_wanted;
 use crate::changes::{around, joined};
 use crate::tally::Tally;
 use pdb_json::read_records;

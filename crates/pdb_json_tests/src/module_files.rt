@@ -1,6 +1,6 @@
 //! Files with module files, and the names of these.
 
-use crate::answers::{is_refused_as, is_wanted};
+use crate::reading_texts::{is_refused_as, is_wanted};
 use crate::changes::{around, changed, joined, parts};
 use pdb_json::{RecordFault, RecordsFile, module_files, read_records_with};
 use pdb_records::PDB;

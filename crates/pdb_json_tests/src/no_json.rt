@@ -1,6 +1,6 @@
 //! Texts that are no JSON, and want of memory.
 
-use crate::answers::{is_refused_as, is_wanted};
+use crate::reading_texts::{is_refused_as, is_wanted};
 use crate::tally::Tally;
 use pdb_json::{RecordFault, read_records};
 use std::alloc::Global;

@@ -4,7 +4,7 @@ use Rattle.pdb_records.specs.declared.lines.LineInfo.{LineInfo}
 use Rattle.pdb_records.specs.declared.modules.ModuleInfo.{ModuleInfo}
 use Rattle.pdb_errors.specs.declared.error.Error.{Error}
 use Rattle.pdb_errors.specs.Outcomes.{and_then}
-use Rattle.pdb_functions.specs.Lookup.{FoundFunction}
+use Rattle.pdb_functions.specs.FoundFunctions.{FoundFunction, function_module, function_start}
 use Rattle.pdb_inline.specs.declared.inline_ranges.InlineRange.{InlineRange}
 use Rattle.pdb_inline.specs.InlineStacks.{inline_stack}
 use Rattle.pdb_frames.specs.declared.code_parts.CodePart.{CodePart}
@@ -12,7 +12,7 @@ use Rattle.pdb_frames.specs.declared.code_parts.CodePart.TheVariants as part
 use Rattle.pdb_frames.specs.CodeParts.{is_refused, blame_after_info, part_to_blame}
 use Rattle.pdb_frames.specs.ExtendedInfo.{ExtendedInfo, extended_info}
 use Rattle.pdb_frames.specs.Lines.{function_rows, row_over}
-use Rattle.pdb_frames.specs.Origins.{Origin, origin, function_module, function_start, function_ranges}
+use Rattle.pdb_frames.specs.Origins.{Origin, origin, function_ranges}
 use Rattle.pdb_laws.specs.Blame.{error_of, own_error}
 
 -- the part that is to blame has the error

@@ -3,12 +3,12 @@ use Rattle.std.specs.Prelude.{Option, Some, None, Result, Ok, Err}
 use Rattle.pdb_records.specs.declared.modules.ModuleInfo.{ModuleInfo}
 use Rattle.pdb_errors.specs.declared.error.Error.{Error}
 use Rattle.pdb_errors.specs.Outcomes.{and_then}
-use Rattle.pdb_functions.specs.Lookup.{FoundFunction}
+use Rattle.pdb_functions.specs.FoundFunctions.{FoundFunction, function_start}
 use Rattle.pdb_frames.specs.declared.code_parts.CodePart.{CodePart}
 use Rattle.pdb_frames.specs.declared.code_parts.CodePart.TheVariants as part
 use Rattle.pdb_frames.specs.ExtendedInfo.{extended_info}
 use Rattle.pdb_frames.specs.Lines.{function_rows}
-use Rattle.pdb_frames.specs.Origins.{function_start, function_ranges}
+use Rattle.pdb_frames.specs.Origins.{function_ranges}
 
 -- the error in place of an answer
 abbrev pub error_of : {A : Type 0} → Result A Error → Option Error

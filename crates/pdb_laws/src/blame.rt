@@ -3,7 +3,7 @@
 ghost use Rattle.std.specs.Prelude.{◌≡◌, ℕ, Ok, Err, Some, None};
 ghost use Rattle.pdb_records.specs.declared.modules.ModuleInfo.{ModuleInfo};
 ghost use Rattle.pdb_errors.specs.declared.error.Error.{Error};
-ghost use Rattle.pdb_functions.specs.Lookup.{FoundFunction};
+ghost use Rattle.pdb_functions.specs.FoundFunctions.{FoundFunction};
 ghost use Rattle.pdb_frames.specs.declared.code_parts.CodePart.{CodePart};
 ghost use Rattle.pdb_frames.specs.CodeParts.{part_to_blame};
 ghost use Rattle.pdb_frames.specs.Origins.{Origin, origin};

@@ -8,6 +8,6 @@ pub mod Arrays
 pub mod Imports
 pub mod References
 pub mod SymbolKinds
-pub mod Laws
+pub mod OrderLaws
 pub mod Sections
 pub mod Records

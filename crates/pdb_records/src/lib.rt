@@ -11,7 +11,7 @@ mod addresses;
 mod debug_information;
 mod error;
 mod ids;
-pub mod laws;
+pub mod order_laws;
 mod lines;
 mod modules;
 mod pdb;

@@ -9,7 +9,7 @@ use Rattle.pdb_errors.specs.declared.error.Error.{Error}
 use Rattle.pdb_errors.specs.declared.error.Error.TheVariants.{OutOfMemory}
 use Rattle.pdb_errors.specs.Outcomes.{Gives}
 use Rattle.pdb_function_info.specs.Frames.{ButForMemory}
-use Rattle.pdb_function_info.specs.Names.{GainsBroken}
+use Rattle.pdb_function_info.specs.NameTexts.{GainsBroken}
 use Rattle.pdb_frames.specs.CodeParts.{CodeParts}
 use Rattle.pdb_types.specs.FailedParts.{Parts}
 use Rattle.pdb_addr2line.specs.declared.calls.Call.TheVariants.{FindFunction, FindFrames}

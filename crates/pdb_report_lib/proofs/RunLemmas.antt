@@ -12,8 +12,8 @@ use Rattle.pdb_report_lib.specs.declared.stops.Stop.TheVariants.{Refused, Usage,
 use Rattle.pdb_report_lib.specs.declared.stops.Stop.TheVariants.{CannotWrite}
 use Rattle.pdb_report_lib.specs.declared.stops.Stop.TheVariants as stop
 use Rattle.pdb_report_lib.specs.Arguments.{Asked}
-use Rattle.pdb_report_lib.specs.Runs.{AreModuleReadStops, EndsOverSomeFile, StopsWithoutModules}
-use Rattle.pdb_report_lib.specs.Runs.{StopsAsked, EndsRun}
+use Rattle.pdb_report_lib.specs.ReportRuns.{AreModuleReadStops, EndsOverSomeFile, StopsWithoutModules}
+use Rattle.pdb_report_lib.specs.ReportRuns.{StopsAsked, EndsRun}
 use Rattle.pdb_report_lib.specs.Sinks.{SinkState}
 use Rattle.pdb_report_lib.specs.Stops.{Ends, EndsOverFile}
 

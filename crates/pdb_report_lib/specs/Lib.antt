@@ -5,5 +5,5 @@ pub mod Reports
 pub mod Arguments
 pub mod FileReports
 pub mod Stops
-pub mod Runs
+pub mod ReportRuns
 pub mod AnswerTexts

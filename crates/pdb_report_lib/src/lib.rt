@@ -3,11 +3,11 @@
 
 mod arguments;
 mod file_reports;
-pub mod laws;
+pub mod report_laws;
 mod printed_frames;
 mod printed_lines;
 mod reports;
-mod runs;
+mod report_runs;
 mod sinks;
 mod stops;
 
@@ -15,6 +15,6 @@ pub use arguments::{Request, parse, parse_address};
 pub use file_reports::{report_file, report_read};
 pub use pdb_records_files::ran_out_of_memory;
 pub use reports::{Command, ReportFault, report};
-pub use runs::run;
+pub use report_runs::run;
 pub use sinks::{Out, Sink, SinkFault};
 pub use stops::Stop;

@@ -14,7 +14,7 @@ ghost use Rattle.pdb_signatures.specs.PendingPlans.{Advances, AdvancesClosing, S
 
 use crate::functions::{is_left_out, unless_left_out};
 use crate::type_formatter::TypeFormatter;
-use pdb_documents::answers::Printed;
+use pdb_documents::printed_texts::Printed;
 use pdb_documents::failures::Failure;
 use pdb_documents::progress::Progress;
 use pdb_documents::tasks::{MethodForm, Task};

@@ -15,7 +15,7 @@ mod signatures;
 mod turns;
 mod type_formatter;
 
-pub use pdb_documents::{laws, seen};
+pub use pdb_documents::{seen, signature_laws};
 pub use pdb_errors::{Error, ModuleProvider, Result};
 pub use pdb_types::{IdMap, ItemIndex, ItemMap, TypeFormatterFlags, TypeMap, TypeSizeCache};
 pub use type_formatter::TypeFormatter;

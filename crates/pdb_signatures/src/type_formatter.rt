@@ -7,12 +7,12 @@ ghost use Rattle.pdb_types.specs.FailedParts.{with_met};
 ghost use Rattle.pdb_errors.specs.Outcomes.{Gives};
 ghost use Rattle.pdb_types.specs.TypeInputs.{program_pointer_size};
 ghost use Rattle.pdb_types.specs.TypeSizes.{size_of};
-ghost use Rattle.pdb_documents.specs.Answers.{AnswersText, AnswersWritten};
+ghost use Rattle.pdb_documents.specs.PrintedTexts.{AnswersText, AnswersWritten};
 ghost use Rattle.pdb_documents.specs.BrokenParts.{AddsBroken};
 ghost use Rattle.pdb_documents.specs.Printed.{signature_run, id_run};
 ghost use Rattle.pdb_documents.specs.PrintInputs.{formatter_inputs};
 
-use pdb_documents::answers::{printed_text, write_printed};
+use pdb_documents::printed_texts::{printed_text, write_printed};
 use pdb_errors::{ModuleProvider, Result};
 use pdb_records::{
     DebugInformation, IdIndex, IdInformation, Module, StringTable, TypeIndex, TypeInformation,

@@ -6,7 +6,7 @@
 //! modules can be files of a folder.
 #![tactic(auto)]
 
-mod answers;
+mod request_answers;
 mod frame_texts;
 mod harmless_names;
 mod json_text;
@@ -14,7 +14,7 @@ mod request_reader;
 mod requests;
 mod wanted_modules;
 
-pub use answers::{error_line, write_answer};
+pub use request_answers::{error_line, write_answer};
 pub use frame_texts::{FoundFunction, FrameTexts, Place};
 pub use harmless_names::is_harmless_name;
 pub use json_text::write_quoted;

@@ -1,7 +1,7 @@
 //! Answers over a file: the file is read, what is broken is taken out, and a context over it answers words or lines.
 
 use crate::addresses::Origin;
-use crate::answers::{write_answer, write_no_answer, write_no_data};
+use crate::answer_texts::{write_answer, write_no_answer, write_no_data};
 use crate::base_hints::BaseHint;
 use crate::input_files::{InputFile, SourceFile, find_file, open_source, read_input_file};
 use crate::line_queue::LineQueue;

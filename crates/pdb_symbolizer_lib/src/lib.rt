@@ -7,7 +7,7 @@
 #![tactic(auto)]
 
 mod addresses;
-mod answers;
+mod answer_texts;
 mod arguments;
 mod base_hints;
 mod command_line;
@@ -27,7 +27,7 @@ mod programs;
 mod repairs;
 mod requests;
 mod response_files;
-mod runs;
+mod symbolizer_runs;
 mod status_line;
 mod stops;
 mod symbol_files;
@@ -37,6 +37,6 @@ mod symbolication;
 mod symbolized_modules;
 mod unknown_files;
 
-pub use runs::run_words;
+pub use symbolizer_runs::run_words;
 pub use status_line::StatusLine;
 pub use stops::Stop;

@@ -2,7 +2,7 @@
 //!
 //! Those that follow one another and name the same file are answered by one context.
 
-use crate::answers::{write_answer, write_no_answer};
+use crate::answer_texts::{write_answer, write_no_answer};
 use crate::base_hints::BaseHint;
 use crate::file_answers::{
     FileContext, Questions, hint_for, open_repaired, request_text, write_out,

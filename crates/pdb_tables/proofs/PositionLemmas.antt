@@ -5,7 +5,7 @@ use Rattle.std.specs.Prelude.{⊤, find, option_map}
 use Rattle.std.specs.List.{AllByRecursion, position_or_len, slice_get}
 use Rattle.std.proofs.lemmas.Bool.{cases_lt}
 use Rattle.std.proofs.lemmas.List.Sums.{fails_before_first}
-use Rattle.pdb_tables.specs.Last.{last_over}
+use Rattle.pdb_tables.specs.Last.{ahead_of, last_over}
 
 -- from the first that passes the test on, all do
 abbrev pub GoesOn : {T : Type 0} → (T → Bool) → List T → Type 0
@@ -53,11 +53,6 @@ last_of_none : {T : Type 0} (p : T → Bool) (before : Option T) (xs : List T) �
     → last_over (λ y. not (p y)) before xs ≡ before
 last_of_none p before [] all = refl
 last_of_none p before (x ∷ xs) all = rw all.0 (last_of_none p before xs all.1)
-
--- the element ahead of a position, or else what was there before
-abbrev pub ahead_of : {T : Type 0} → Option T → List T → ℕ → Option T
-ahead_of before xs zero = before
-ahead_of before xs (suc k) = slice_get xs k
 
 -- the last that fails stands ahead of the first that passes
 pub last_ahead : {T : Type 0} (p : T → Bool) (before : Option T) (xs : List T) → GoesOn p xs

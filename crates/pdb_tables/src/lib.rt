@@ -11,7 +11,6 @@
 
 mod first_values;
 mod keyed;
-pub mod laws;
 mod painting;
 mod probes;
 mod range_set;
@@ -20,6 +19,7 @@ mod search;
 mod segment;
 mod segments;
 mod slots;
+pub mod table_laws;
 
 pub use first_values::insert_first;
 pub use keyed::{Keyed, first_of_each_key, sort_by_key};

@@ -2,7 +2,7 @@
 
 ghost use Rattle.std.specs.Prelude.{◌≡◌, ◌+◌, ◌<◌, ◌≤◌, None, find, length, not, slice_get, Some};
 ghost use Rattle.pdb_tables.specs.Keyed.{is_above, KeysAscend};
-ghost use Rattle.pdb_tables.specs.Last.{last_over};
+ghost use Rattle.pdb_tables.specs.Last.{ahead_of, last_over};
 ghost use Rattle.pdb_tables.specs.Probes.{digits, one_more};
 
 use crate::keyed::Keyed;
@@ -18,14 +18,31 @@ pub struct Neighbours<T> {
 }
 
 // The entry at a place, which counts as one more probe.
-fn look<T: Keyed>(entries: &[T], at: usize, probes: &mut Probes) -> T
+fn look<'e, T: Keyed>(entries: &'e [T], at: usize, probes: &mut Probes) -> &'e T
     requires { at < length entries.now }
-    ensures answer { slice_get entries.now at ≡ Some result }
+    ensures answer { slice_get entries.now at ≡ Some result.now }
     ensures one_more { probes.new ≡ one_more probes.old }
     ensures no_fewer { probes.old ≤ probes.new }
 {
     probes.tick();
-    entries[at]
+    &entries[at]
+}
+
+// The last entry ahead of a place. The search looked at it, so it isn't counted again.
+fn entry_ahead_of<T: Copy>(entries: &[T], place: usize) -> Option<T>
+    ensures { result ≡ ahead_of None entries.now place }
+{
+    match place {
+        0 => None,
+        _ => entries.get(place - 1).copied(),
+    }
+}
+
+// The entry at a place, which the search looked at where there is one, so it isn't counted again.
+fn entry_at<T: Copy>(entries: &[T], place: usize) -> Option<T>
+    ensures { result ≡ slice_get entries.now place }
+{
+    entries.get(place).copied()
 }
 
 /// The entries next to a key in a list whose keys ascend, by a binary search that takes no memory.
@@ -39,22 +56,18 @@ pub fn neighbours_of<T: Keyed>(entries: &[T], key: T::Key, probes: &mut Probes) 
     ensures no_fewer { probes.old ≤ probes.new }
     ensures few { probes.new ≤ probes.old + digits (length entries.now) }
 {
-    let mut next_to = Neighbours {
-        up_to: None,
-        above: None,
-    };
     let mut from = 0;
     let mut to = entries.len();
     while from < to {
         let middle = from + (to - from) / 2;
-        let entry = look(entries, middle, probes);
-        if key < entry.key() {
-            next_to.above = Some(entry);
+        if key < look(entries, middle, probes).key() {
             to = middle;
         } else {
-            next_to.up_to = Some(entry);
             from = middle + 1;
         }
     }
-    next_to
+    Neighbours {
+        up_to: entry_ahead_of(entries, from),
+        above: entry_at(entries, from),
+    }
 }

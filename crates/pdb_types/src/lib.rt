@@ -13,7 +13,7 @@ mod flags;
 mod forward_references;
 mod forward_sizes;
 mod items;
-pub mod laws;
+pub mod size_laws;
 mod module_list;
 mod numbered_table;
 mod read_error;

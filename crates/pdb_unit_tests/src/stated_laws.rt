@@ -1,8 +1,8 @@
 //! The laws of the crates below, each called once.
 
-use pdb_functions::laws as functions;
-use pdb_inline::laws as inline;
-use pdb_tables::laws as ranges;
+use pdb_functions::lookup_laws as functions;
+use pdb_inline::inline_range_laws as inline;
+use pdb_tables::table_laws as ranges;
 
 /// States each law once.
 pub(crate) fn are_stated() {

@@ -1,6 +1,6 @@
 use Rattle.std.proofs.Common.{rules}
 use Rattle.pdb_report_lib.specs.declared.reports.Command.TheVariants.{Frames}
-use Rattle.pdb_c.specs.Answers.{gathered}
+use Rattle.pdb_c.specs.Buffers.{gathered}
 use Rattle.pdb_c.specs.Questions.{text_of_handle}
 use Rattle.pdb_c.proofs.FrameLemmas.{gathered_agrees, gathered_alike, texts_alike}
 use Rattle.pdb_c.proofs.handle_calls.limberlime_frames_of_unchecked.Goals as goal

@@ -1,7 +1,7 @@
 use Rattle.std.proofs.Common.{◌∙◌, sym}
 use Rattle.std.specs.Option.{option_copied}
 use Rattle.std.proofs.lemmas.Result.{err_from_is_err_and}
-use Rattle.pdb_functions.specs.Lookup.{found_function}
+use Rattle.pdb_functions.specs.FoundFunctions.{found_function}
 use Rattle.pdb_signatures.proofs.LoopLemmas.{adds-then}
 use Rattle.pdb_function_info.proofs.FrameLemmas.{frames_refused, all_named}
 use Rattle.pdb_function_info.proofs.frames.frames_info.Goals as goal

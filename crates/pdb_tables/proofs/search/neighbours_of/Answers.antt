@@ -1,4 +1,4 @@
--- Each look halves the window, and what was found next to it stands next to the key in the end.
+-- Each look halves the window, and what stands next to it stands next to the key in the end.
 use Rattle.std.proofs.Common.{◌≡◌, ◌∙◌, ◌+◌, ◌-◌, ◌/◌, suc, true, false, None, length, sym, ap, arith}
 use Rattle.std.specs.Prelude.{slice_get}
 use Rattle.std.specs.List.{position_or_len}
@@ -9,7 +9,8 @@ use Rattle.std.proofs.lemmas.Option.{get_or_from_slice_get, slice_get_past}
 use Rattle.pdb_tables.specs.Keyed.{is_above}
 use Rattle.pdb_tables.proofs.DigitLemmas.{digits_half}
 use Rattle.pdb_tables.proofs.KeyedLemmas.{ascend_goes_on}
-use Rattle.pdb_tables.proofs.PositionLemmas.{ahead_of, last_ahead, position_past, position_up_to, position_within}
+use Rattle.pdb_tables.specs.Last.{ahead_of}
+use Rattle.pdb_tables.proofs.PositionLemmas.{last_ahead, position_past, position_up_to, position_within}
 use Rattle.pdb_tables.proofs.search.neighbours_of.Goals as goal
 
 pub loop-from-init : goal.loop-from-init
@@ -19,8 +20,6 @@ loop-from-init g c =
       from_on = omega arith;
       up_to = position_within (is_above g.T.Key.Ord.cmp g.T.Keyed.key_of c.args.key) entries;
       to_end = omega arith;
-      last = cc;
-      first = sym (slice_get_past entries (length entries) (omega arith));
       no_fewer = omega arith;
       few = rw sub-zero (omega arith);
     }
@@ -32,18 +31,16 @@ loop-from-preserved-then-lt g c =
     let size = c.loop-from.to - c.loop-from.from in
     let middle = c.loop-from.from + size / 2 in
     let fewer = digits_half (middle - c.loop-from.from) size (omega arith) (omega arith) in
-    let entry = get_or_from_slice_get entries middle c.look-entry.result c.look-entry.result c.look-entry.ensures.answer in
-    let lower : above c.look-entry.result ≡ true =
+    let entry = get_or_from_slice_get entries middle c.look.result.now c.look.result.now c.look.ensures.answer in
+    let lower : above c.look.result.now ≡ true =
     sym (c.lt.ensures ∙ ap (is_some_and is_lt) (g.met.T.Key.Ord.matches_partial_cmp _ _)
     ∙ ap (λ k. is_lt (g.T.Key.Ord.cmp c.args.key k)) c.key.ensures) ∙ c.if-lt.true in
     record {
       from_on = c.loop-from.invariant.from_on;
-      up_to = position_up_to above entries middle c.look-entry.result (ap above entry ∙ lower);
+      up_to = position_up_to above entries middle c.look.result.now (ap above entry ∙ lower);
       to_end = omega arith;
-      last = c.loop-from.invariant.last;
-      first = sym c.look-entry.ensures.answer;
-      no_fewer = omega (arith, c.look-entry.ensures.no_fewer);
-      few = omega (arith, fewer, c.look-entry.ensures.one_more);
+      no_fewer = omega (arith, c.look.ensures.no_fewer);
+      few = omega (arith, fewer, c.look.ensures.one_more);
     }
 
 pub loop-from-preserved : goal.loop-from-preserved
@@ -53,31 +50,29 @@ loop-from-preserved g c =
     let size = c.loop-from.to - c.loop-from.from in
     let middle = c.loop-from.from + size / 2 in
     let fewer = digits_half (c.loop-from.to - (middle + 1)) size (omega arith) (omega arith) in
-    let entry = get_or_from_slice_get entries middle c.look-entry.result c.look-entry.result c.look-entry.ensures.answer in
-    let not_lower : above c.look-entry.result ≡ false =
+    let entry = get_or_from_slice_get entries middle c.look.result.now c.look.result.now c.look.ensures.answer in
+    let not_lower : above c.look.result.now ≡ false =
     sym (c.lt.ensures ∙ ap (is_some_and is_lt) (g.met.T.Key.Ord.matches_partial_cmp _ _)
     ∙ ap (λ k. is_lt (g.T.Key.Ord.cmp c.args.key k)) c.key.ensures) ∙ c.if-lt.false in
     let on = ascend_goes_on g.met.T.Key.Ord.total g.T.Keyed.key_of c.args.key entries c.requires in
     let past =
-    position_past above entries middle c.look-entry.result on (omega arith) (ap above entry ∙ not_lower) in
-    let next : middle + 1 ≡ suc middle = omega arith in
+    position_past above entries middle c.look.result.now on (omega arith) (ap above entry ∙ not_lower) in
     record {
       from_on = omega (arith, past);
       up_to = c.loop-from.invariant.up_to;
       to_end = c.loop-from.invariant.to_end;
-      last = sym (ap (ahead_of None entries) next ∙ c.look-entry.ensures.answer);
-      first = c.loop-from.invariant.first;
-      no_fewer = omega (arith, c.look-entry.ensures.no_fewer);
-      few = omega (arith, fewer, c.look-entry.ensures.one_more);
+      no_fewer = omega (arith, c.look.ensures.no_fewer);
+      few = omega (arith, fewer, c.look.ensures.one_more);
     }
 
+-- the window has closed at the first entry above the key
 pub returns-clause-up_to : goal.returns-clause-up_to
 returns-clause-up_to g c =
     let entries = c.args.entries.now in
     let above = is_above g.T.Key.Ord.cmp g.T.Keyed.key_of c.args.key in
     let at : c.loop-from.from ≡ position_or_len above entries =
     omega (arith, c.loop-from.invariant.from_on, c.loop-from.invariant.up_to) in
-    c.loop-from.invariant.last ∙ ap (ahead_of None entries) at
+    c.entry_ahead_of.ensures ∙ ap (ahead_of None entries) at
     ∙ sym (last_ahead above None entries
     (ascend_goes_on g.met.T.Key.Ord.total g.T.Keyed.key_of c.args.key entries c.requires))
 
@@ -85,6 +80,6 @@ pub returns-clause-above : goal.returns-clause-above
 returns-clause-above g c =
     let entries = c.args.entries.now in
     let above = is_above g.T.Key.Ord.cmp g.T.Keyed.key_of c.args.key in
-    let at : c.loop-from.to ≡ position_or_len above entries =
+    let at : c.loop-from.from ≡ position_or_len above entries =
     omega (arith, c.loop-from.invariant.from_on, c.loop-from.invariant.up_to) in
-    c.loop-from.invariant.first ∙ ap (slice_get entries) at ∙ sym (find_at above entries)
+    c.entry_at.ensures ∙ ap (slice_get entries) at ∙ sym (find_at above entries)

@@ -1,12 +1,11 @@
-use Rattle.std.proofs.Common.{◌≡◌, ◌+◌, ◌-◌, ◌≤◌, None, length, slice_get}
+use Rattle.std.proofs.Common.{◌+◌, ◌-◌, ◌≤◌, length}
 use Rattle.std.specs.List.{position_or_len}
 use Rattle.pdb_tables.specs.Keyed.{is_above}
 use Rattle.pdb_tables.specs.Probes.{digits}
-use Rattle.pdb_tables.proofs.PositionLemmas.{ahead_of}
 use Rattle.pdb_tables.proofs.search.neighbours_of.Given as goal
 
--- the first entry above the key lies in the window or right behind it, what was found stands next to the window, and
--- the probes so far and the digits of its size are no more than those of the list
+-- the first entry above the key lies in the window or right behind it, and the probes so far and the digits of its
+-- size are no more than those of the list
 abbrev pub invariant-loop-from : goal.invariant-loop-from
 invariant-loop-from g l =
     let above = is_above g.T.Key.Ord.cmp g.T.Keyed.key_of l.key in
@@ -14,8 +13,6 @@ invariant-loop-from g l =
       from_on : l.from ≤ position_or_len above l.entries;
       up_to : position_or_len above l.entries ≤ l.to;
       to_end : l.to ≤ length l.entries;
-      last : l.next_to.up_to ≡ ahead_of None l.entries l.from;
-      first : l.next_to.above ≡ slice_get l.entries l.to;
       no_fewer : l.initial.probes ≤ l.probes;
       few : l.probes + digits (l.to - l.from) ≤ l.initial.probes + digits (length l.entries);
     }

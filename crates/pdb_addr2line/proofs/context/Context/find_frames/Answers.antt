@@ -1,4 +1,4 @@
-use Rattle.pdb_functions.specs.Lookup.{found_function}
+use Rattle.pdb_functions.specs.FoundFunctions.{found_function}
 use Rattle.pdb_addr2line.proofs.FoundLemmas.{over_goes_by_symbol}
 use Rattle.pdb_addr2line.proofs.context.Context.find_frames.Goals as goal
 

@@ -1,6 +1,6 @@
 use Rattle.std.proofs.Common.{◌∙◌, ap}
 use Rattle.std.specs.Prelude.{◌==◌}
-use Rattle.pdb_functions.specs.Lookup.{where_passes}
+use Rattle.pdb_functions.specs.FoundFunctions.{where_passes}
 use Rattle.pdb_functions.proofs.NeighbourLemmas.{next_from_first}
 use Rattle.pdb_functions.proofs.global_function_table.GlobalFunctionTable.next_function.Goals as goal
 

@@ -1,0 +1,32 @@
+//! Writes a text into the caller's buffer, or answers the number of the refusal.
+
+ghost use Rattle.std.specs.Prelude.{Ok};
+ghost use Rattle.pdb_c.specs.Buffers.{Answers, gathered};
+
+use crate::refusals::Refusal;
+
+// Writes a text to the start of the caller's buffer where it fits there, says its length, and answers it.
+fn write_text(text: &[u8], buffer: &mut [u8], wanted: &mut usize) -> i64
+    ensures { Answers (Ok text.now) buffer.old buffer.new wanted.new result }
+{
+    let length = text.len();
+    *wanted = length;
+    if length > buffer.len() {
+        return Refusal::BufferTooSmall.code();
+    }
+    buffer[..length].copy_from_slice(text);
+    length as i64
+}
+
+// Writes what a call found to the caller's buffer, and answers the text's length, or the refusal's number.
+pub(crate) fn answer(found: Result<Vec<u8>, Refusal>, buffer: &mut [u8], wanted: &mut usize) -> i64
+    ensures { Answers (gathered found) buffer.old buffer.new wanted.new result }
+{
+    match found {
+        Ok(text) => write_text(&text, buffer, wanted),
+        Err(refusal) => {
+            *wanted = 0;
+            refusal.code()
+        }
+    }
+}

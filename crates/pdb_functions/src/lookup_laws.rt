@@ -1,0 +1,139 @@
+//! What follows from the definitions that the contracts of this crate cite: laws in words of their own.
+//!
+//! Each function here does nothing. Its contract is a law, for all records, and the check proves it.
+
+ghost use Rattle.std.specs.Prelude.{◌≡◌, ◌^◌, List, [], ◌∷◌, ◌++◌, Ok, Err, Option, Some, None, find, nat_le};
+ghost use Rattle.std.specs.Prelude.{length, option_to_list};
+ghost use Rattle.std.specs.List.{AllByRecursion};
+ghost use Rattle.pdb_records.specs.declared.addresses.ImageSectionHeader.{ImageSectionHeader};
+ghost use Rattle.pdb_records.specs.declared.addresses.PdbInternalSectionOffset.{PdbInternalSectionOffset};
+ghost use Rattle.pdb_records.specs.declared.debug_information.DebugInformation.{DebugInformation};
+ghost use Rattle.pdb_records.specs.declared.error.Error.TheVariants.{Stream};
+ghost use Rattle.pdb_records.specs.declared.error.StreamError.{StreamError};
+ghost use Rattle.pdb_records.specs.declared.modules.ModuleInfo.{ModuleInfo};
+ghost use Rattle.pdb_records.specs.declared.symbols.Symbol.{Symbol};
+ghost use Rattle.pdb_records.specs.OrderLaws.{OrderAgrees};
+ghost use Rattle.pdb_errors.specs.declared.error.Error.{Error};
+ghost use Rattle.pdb_errors.specs.declared.error.Error.TheVariants.{PdbError, SectionContributionEndTooLarge};
+ghost use Rattle.pdb_functions.specs.declared.contributions.ModuleSectionContribution.{ModuleSectionContribution};
+ghost use Rattle.pdb_functions.specs.Contributions.{claims, merged_contributions};
+ghost use Rattle.pdb_functions.specs.GlobalFunctions.{listed_functions, global_functions};
+ghost use Rattle.pdb_functions.specs.Procedures.{ModuleProcedure, procedure_at, procedures_from};
+ghost use Rattle.pdb_functions.specs.Procedures.{symbol_procedures, info_procedures};
+ghost use Rattle.pdb_functions.specs.FoundFunctions.{global_at};
+ghost use Rattle.pdb_tables.specs.Pick.{pick, IsPicked};
+ghost use Rattle.pdb_functions.specs.Spans.{procedure_covers};
+ghost use Rattle.pdb_functions.specs.ReadingOrder.{reading_intervals, merged_in_reading_order, AreOnly};
+ghost use Rattle.pdb_functions.specs.ReadingOrder.{StartsNeverFall};
+ghost use Rattle.pdb_functions.specs.LookupLaws.{AreApart, LiesInOneOf, BeginsWithOneOf, EndsWithOneOf};
+ghost use Rattle.pdb_functions.specs.LookupLaws.{IsApartFrom, NeighboursDiffer, IsOverlap};
+ghost use Rattle.pdb_functions.specs.LookupLaws.{procedure_starting_at, last_procedure};
+ghost use Rattle.pdb_functions.specs.Starts.{StartsAscend};
+
+use crate::contributions::ModuleSectionContribution;
+
+/// Two merged contributions are equal exactly where neither stands before the other.
+pub fn order_of_contributions_agrees_with_equality()
+    ensures { OrderAgrees ⟦<ModuleSectionContribution as Ord>⟧.cmp ⟦<ModuleSectionContribution as PartialEq>⟧.eq }
+{}
+
+/// Merged contributions each have a byte, stand by section and start, and share no byte.
+pub fn merged_contributions_are_apart()
+    ensures { (sections : List ImageSectionHeader) (debug : DebugInformation) (table : List ModuleSectionContribution)
+        → merged_contributions sections debug ≡ Ok table → AreApart table }
+{}
+
+/// Each contribution that counts lies in a merged one of its module and section; and each merged one
+/// begins where one of those begins, and ends where one of those ends.
+pub fn merged_contributions_hold_all()
+    ensures all { (sections : List ImageSectionHeader) (debug : DebugInformation)
+        (table : List ModuleSectionContribution) → merged_contributions sections debug ≡ Ok table
+        → AllByRecursion (LiesInOneOf table) (claims sections debug.section_contributions.items) }
+    ensures begin { (sections : List ImageSectionHeader) (debug : DebugInformation)
+        (table : List ModuleSectionContribution) → merged_contributions sections debug ≡ Ok table
+        → AllByRecursion (BeginsWithOneOf (claims sections debug.section_contributions.items)) table }
+    ensures end { (sections : List ImageSectionHeader) (debug : DebugInformation)
+        (table : List ModuleSectionContribution) → merged_contributions sections debug ≡ Ok table
+        → AllByRecursion (EndsWithOneOf (claims sections debug.section_contributions.items)) table }
+{}
+
+/// No byte of a merged contribution belongs to a contribution of another module, gaps included; and
+/// between two merged ones of one module and section there stands one of another.
+pub fn merged_contributions_hold_no_other_module()
+    ensures apart { (sections : List ImageSectionHeader) (debug : DebugInformation)
+        (table : List ModuleSectionContribution) → merged_contributions sections debug ≡ Ok table
+        → AllByRecursion (λ interval.
+        AllByRecursion (IsApartFrom interval) (claims sections debug.section_contributions.items)) table }
+    ensures differ { (sections : List ImageSectionHeader) (debug : DebugInformation)
+        (table : List ModuleSectionContribution) → merged_contributions sections debug ≡ Ok table
+        → NeighboursDiffer table }
+{}
+
+/// Which refusal comes first: that of the first end past 32 bits in reading order, then that of the
+/// fault behind the contributions. Where neither is there, contributions are refused only for a byte
+/// that two modules claim.
+pub fn contributions_are_refused_for()
+    ensures end { (sections : List ImageSectionHeader) (debug : DebugInformation) (claim : ModuleSectionContribution)
+        → find (λ c. nat_le (2 ^ 32) c.end_offset) (claims sections debug.section_contributions.items) ≡ Some claim
+        → merged_contributions sections debug
+        ≡ Err (SectionContributionEndTooLarge claim.module_index claim.section_index) }
+    ensures fault { (sections : List ImageSectionHeader) (debug : DebugInformation) (fault : StreamError)
+        → find (λ c. nat_le (2 ^ 32) c.end_offset) (claims sections debug.section_contributions.items) ≡ None
+        → debug.section_contributions.fault ≡ Some fault
+        → merged_contributions sections debug ≡ Err (PdbError (Stream fault)) }
+    ensures overlap { (sections : List ImageSectionHeader) (debug : DebugInformation) (error : Error)
+        → find (λ c. nat_le (2 ^ 32) c.end_offset) (claims sections debug.section_contributions.items) ≡ None
+        → debug.section_contributions.fault ≡ None → merged_contributions sections debug ≡ Err error
+        → IsOverlap (claims sections debug.section_contributions.items) error }
+{}
+
+/// Contributions that can be joined in reading order leave their intervals unchanged: where no module comes back
+/// in a section, and in each of its intervals neither starts nor ends fall, joining neighbours in reading
+/// order gives just the merged ones.
+///
+/// Of a module that comes back nothing is said: contributions 0..0x10 of a module, then one of another
+/// section, then 0x30..0x40 of that module are two intervals in reading order, and one merged contribution.
+pub fn contributions_in_reading_order_stay()
+    ensures { (sections : List ImageSectionHeader) (debug : DebugInformation) (table : List ModuleSectionContribution)
+        → merged_in_reading_order sections debug ≡ Ok table
+        → AreOnly (reading_intervals None (claims sections debug.section_contributions.items))
+        → StartsNeverFall (claims sections debug.section_contributions.items)
+        → merged_contributions sections debug ≡ Ok table }
+{}
+
+/// Global functions stand by section and start, each start once. At each start the first that is shown
+/// stays. Public symbols are shown before all starts with no name, so that is the first public symbol
+/// of the start where there is one.
+pub fn first_global_function_of_each_start_is_kept()
+    ensures ascend { (sections : List ImageSectionHeader) (symbols : List Symbol) (debug : DebugInformation)
+        → StartsAscend (λ f. f.start) (global_functions sections symbols debug) }
+    ensures first { (sections : List ImageSectionHeader) (symbols : List Symbol) (debug : DebugInformation)
+        (section_offset : PdbInternalSectionOffset)
+        → global_at section_offset (global_functions sections symbols debug)
+        ≡ global_at section_offset (listed_functions sections symbols debug) }
+{}
+
+/// Procedures of a module stand by section and start, each start once. At each start the first that
+/// symbols show, in reading order, stays. A symbol looks at the last procedure that those before it
+/// show, whose name and type code apart from its body takes, whether or not that one stays. A fault
+/// behind the symbols leaves none.
+pub fn first_procedure_of_each_start_is_kept()
+    ensures ascend { (symbols : List Symbol) → StartsAscend (λ p. p.offset) (symbol_procedures symbols) }
+    ensures first { (symbols : List Symbol) (section_offset : PdbInternalSectionOffset)
+        → procedure_starting_at section_offset (symbol_procedures symbols)
+        ≡ procedure_starting_at section_offset (procedures_from 0 None symbols) }
+    ensures behind { (symbols : List Symbol) (symbol : Symbol)
+        → procedures_from 0 None (symbols ++ symbol ∷ [])
+        ≡ procedures_from 0 None symbols ++ option_to_list
+        (procedure_at (length symbols) (last_procedure (procedures_from 0 None symbols)) symbol) }
+    ensures fault { (info : ModuleInfo) (fault : StreamError)
+        → info.symbols.fault ≡ Some fault → info_procedures info ≡ [] }
+{}
+
+/// The procedure that is picked for a section offset covers it. No other over it has a greater start, and
+/// of those with an equal start it is the first. None is picked only where none covers the section offset.
+pub fn pick_covers_with_greatest_start()
+    ensures { (section_offset : PdbInternalSectionOffset) (procedures : List ModuleProcedure)
+        → IsPicked (procedure_covers section_offset) (λ p. p.offset.offset) procedures
+        (pick (procedure_covers section_offset) (λ p. p.offset.offset) procedures) }
+{}

@@ -1,9 +1,0 @@
-use Rattle.pdb_inline.specs.Sites.{walk}
-use Rattle.pdb_inline.proofs.NestingLemmas.{procedure_nested}
-use Rattle.pdb_inline.proofs.CoverLemmas.{has_range_over_nested}
-use Rattle.pdb_inline.proofs.laws.ranges_cover_deeper_sites.Goals as goal
-
-pub returns : goal.returns
-returns c = λ inlinees symbols fault position end depth x.
-    has_range_over_nested inlinees (walk symbols fault position end).sites depth x
-    (procedure_nested symbols fault position end)

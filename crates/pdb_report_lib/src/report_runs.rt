@@ -1,0 +1,76 @@
+//! `run`, which does what a command line asks for: it reads the files and writes the report.
+
+ghost use Rattle.std.specs.Prelude.{IfErr, map, string_bytes};
+ghost use Rattle.serde_json.specs.Data.{Data};
+ghost use Rattle.pdb_records_files.specs.ModuleFiles.{AreModuleFileFaults};
+ghost use Rattle.pdb_report_lib.specs.Arguments.{asked};
+ghost use Rattle.pdb_report_lib.specs.ReportRuns.{EndsRun, IsReadStop, AreModuleReadStops};
+
+use crate::arguments::parse;
+use crate::file_reports::report_file;
+use crate::sinks::{Out, Sink};
+use crate::stops::Stop;
+use pdb_addr2line::Error;
+use pdb_json::RecordsFile;
+use pdb_records_files::{ModuleFileFault, ran_out_of_memory, read_module_files};
+use std::rt::Files;
+use std::{fs, io};
+
+/// Does what the words of a command line ask for: reads the records file and then the module files that it names,
+/// and writes the report. What the writer holds back is handed on at the end.
+///
+/// # Errors
+///
+/// Each [`Stop`]. Out of memory is [`Stop::Refused`], but over a records file [`Stop::Records`].
+pub fn run<'w, R: Files + AllocGlobal, W: io::Write>(
+    rt: &R,
+    words: &'w [String],
+    out: &mut Out<W>,
+) -> Result<(), Stop<'w>>
+    ensures { EndsRun (asked (map string_bytes words.now))
+        (⟦<Out<W> as Sink>⟧.state out.old) (⟦<Out<W> as Sink>⟧.state out.new) result }
+{
+    let Ok(request) = parse(rt.alloc(), words) else {
+        return Err(Stop::Refused(Error::OutOfMemory));
+    };
+    let Some(request) = request else {
+        return Err(Stop::Usage);
+    };
+    let bytes = read_file(rt, request.path)?;
+    let file = match RecordsFile::from_slice(rt.alloc(), &bytes) {
+        Ok(file) => file,
+        Err(fault) => return Err(Stop::Records(request.path, fault)),
+    };
+    drop(bytes);
+    let files = match read_module_files(rt, request.path, &file) {
+        Ok(files) => files,
+        Err(fault) => return Err(module_stop(request.path, fault)),
+    };
+    let ended = report_file(rt.alloc(), &request, file, &files, out);
+    match out.flush() {
+        Ok(()) => ended,
+        Err(_) => Err(Stop::CannotWrite),
+    }
+}
+
+// The bytes of the file at a path.
+fn read_file<'w, R: Files + AllocGlobal>(rt: &R, path: &'w str) -> Result<Vec<u8>, Stop<'w>>
+    ensures { IfErr result (IsReadStop path.now) }
+{
+    match fs::read(rt, path) {
+        Ok(bytes) => Ok(bytes),
+        Err(error) if ran_out_of_memory(&error) => Err(Stop::Refused(Error::OutOfMemory)),
+        Err(_) => Err(Stop::CannotRead(path)),
+    }
+}
+
+// Why a run ends over a records file whose module files can't be read.
+fn module_stop(path: &str, fault: ModuleFileFault) -> Stop<'_>
+    ensures { (value : Data) → AreModuleFileFaults path.now value fault → AreModuleReadStops path.now value result }
+{
+    match fault {
+        ModuleFileFault::OutOfMemory => Stop::Refused(Error::OutOfMemory),
+        ModuleFileFault::CannotRead(path) => Stop::CannotReadModule(path),
+        ModuleFileFault::Records(fault) => Stop::Records(path, fault),
+    }
+}
