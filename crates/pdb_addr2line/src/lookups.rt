@@ -150,13 +150,10 @@ impl<'a, P: ModuleProvider> Context<'a, P> {
             ≡ record self.old { code_failed = with_blamed self.old.code_failed blamed }) }
         ensures refused { IfErr result (λ e. (e ≡ OutOfMemory) × (self.new ≡ self.old)) }
     {
-        match (error, blamed) {
-            (Error::OutOfMemory, _) => Err(Error::OutOfMemory),
-            (error, Some(part)) => {
-                let error = self.code_failed.ask(part, error)?;
-                Ok(error)
-            }
-            (error, None) => Ok(error),
+        let error = error.unless_out_of_memory()?;
+        match blamed {
+            Some(part) => Ok(self.code_failed.ask(part, error)?),
+            None => Ok(error),
         }
     }
 

@@ -1,6 +1,6 @@
 //! Answers a list of calls, one after the other.
 
-ghost use Rattle.std.specs.Prelude.{◌≡◌, ◌≢◌, ◌∷◌, [], IfOk, OnOk, IfErr, OnErr, MatchResult};
+ghost use Rattle.std.specs.Prelude.{◌≡◌, ◌∷◌, [], IfOk, OnOk, IfErr, OnErr};
 ghost use Rattle.pdb_types.specs.FailedParts.{with_met};
 ghost use Rattle.pdb_types.specs.TypeSizes.{size_of};
 ghost use Rattle.pdb_errors.specs.declared.error.Error.TheVariants.{OutOfMemory};
@@ -14,20 +14,8 @@ ghost use Rattle.pdb_addr2line.specs.Lookups.{function_at, frames_answered};
 
 use crate::calls::{Answer, Call};
 use crate::context::Context;
-use pdb_errors::{Error, ModuleProvider, Result};
+use pdb_errors::{ModuleProvider, Result};
 use pdb_records::{IdIndex, TypeIndex};
-
-// An error that stands in the place of an answer. Answers `OutOfMemory` where memory runs out.
-fn unless_out_of_memory(error: Error) -> Result<Error>
-    ensures { MatchResult result
-        (λ answered. (answered ≡ error) × (error ≢ OutOfMemory))
-        (λ e. (e ≡ OutOfMemory) × (error ≡ OutOfMemory)) }
-{
-    match error {
-        Error::OutOfMemory => Err(Error::OutOfMemory),
-        other => Ok(other),
-    }
-}
 
 impl<'a, P: ModuleProvider> Context<'a, P> {
     /// Answers calls, one after the other, and appends an answer for each.
@@ -113,7 +101,7 @@ impl<'a, P: ModuleProvider> Context<'a, P> {
     {
         match self.find_frames(address) {
             Ok(frames) => Ok(Answer::Frames(Ok(frames))),
-            Err(error) => Ok(Answer::Frames(Err(unless_out_of_memory(error)?))),
+            Err(error) => Ok(Answer::Frames(Err(error.unless_out_of_memory()?))),
         }
     }
 
@@ -160,7 +148,7 @@ impl<'a, P: ModuleProvider> Context<'a, P> {
     {
         match self.names.format_function(name, module_index, index) {
             Ok(text) => Ok(Answer::Text(Ok(text))),
-            Err(error) => Ok(Answer::Text(Err(unless_out_of_memory(error)?))),
+            Err(error) => Ok(Answer::Text(Err(error.unless_out_of_memory()?))),
         }
     }
 
@@ -177,7 +165,7 @@ impl<'a, P: ModuleProvider> Context<'a, P> {
     {
         match self.names.format_id(module_index, index) {
             Ok(text) => Ok(Answer::Text(Ok(text))),
-            Err(error) => Ok(Answer::Text(Err(unless_out_of_memory(error)?))),
+            Err(error) => Ok(Answer::Text(Err(error.unless_out_of_memory()?))),
         }
     }
 }

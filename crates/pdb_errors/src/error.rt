@@ -1,6 +1,6 @@
 //! Why a call has no answer: the errors of this crate and of those above it.
 
-ghost use Rattle.std.specs.Prelude.{◌≡◌};
+ghost use Rattle.std.specs.Prelude.{◌≡◌, ◌≢◌, MatchResult};
 ghost use Rattle.pdb_records.specs.declared.error.Error.TheVariants.{Stream};
 ghost use Rattle.pdb_errors.specs.declared.error.Error.TheVariants.{FormatError, PdbError, OutOfMemory};
 
@@ -74,6 +74,21 @@ pub enum Error {
     /// A contribution's end lies past 32 bits.
     #[error("The end of a section contribution of module {0} in section {1} does not fit 32 bits")]
     SectionContributionEndTooLarge(usize, u16),
+}
+
+impl Error {
+    /// The error, where it says something of the records. That memory ran out is no answer, and is told as
+    /// `AllocError`: the same call may succeed later.
+    pub fn unless_out_of_memory(self) -> Result<Error, AllocError>
+        ensures { MatchResult result
+            (λ error. (error ≡ self) × (self ≢ OutOfMemory))
+            (λ _. self ≡ OutOfMemory) }
+    {
+        match self {
+            Error::OutOfMemory => Err(AllocError),
+            error => Ok(error),
+        }
+    }
 }
 
 impl From<StreamError> for Error {

@@ -1,5 +1,4 @@
-//! What calls are refused with, which parts of the records were met broken, and the provider who hands in the
-//! records of modules.
+//! What calls are refused with, sets of parts of the records that were met broken, and the provider of modules.
 #![tactic(auto)]
 
 mod error;

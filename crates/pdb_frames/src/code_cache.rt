@@ -15,7 +15,7 @@ use crate::extended_infos::ExtendedInfos;
 use crate::function_lines::FunctionLines;
 use crate::origins::Origin;
 use crate::procedure_ranges::ProcedureRanges;
-use pdb_errors::{Error, Result};
+use pdb_errors::Result;
 use pdb_functions::FoundFunction;
 use pdb_inline::InlineRange;
 use pdb_records::{LineInfo, LineProgram, ModuleInfo, PdbInternalSectionOffset};
@@ -106,8 +106,10 @@ impl<'a> CodeCache<'a> {
         let start = function.start();
         match self.line_program(module_index, module_info) {
             Ok(line_program) => self.blame_after_info(module_index, line_program, start),
-            Err(Error::OutOfMemory) => Err(AllocError),
-            Err(_) => Ok(CodePart::ExtendedInfo(module_index)),
+            Err(error) => {
+                error.unless_out_of_memory()?;
+                Ok(CodePart::ExtendedInfo(module_index))
+            }
         }
     }
 
@@ -127,8 +129,10 @@ impl<'a> CodeCache<'a> {
     {
         match self.row(module_index, line_program, start, 0) {
             Ok(_) => Ok(CodePart::InlineRanges(module_index, start)),
-            Err(Error::OutOfMemory) => Err(AllocError),
-            Err(_) => Ok(CodePart::Lines(module_index, start)),
+            Err(error) => {
+                error.unless_out_of_memory()?;
+                Ok(CodePart::Lines(module_index, start))
+            }
         }
     }
 

@@ -8,6 +8,7 @@
 mod code_cache;
 mod code_keys;
 mod code_parts;
+mod copies;
 mod extended_info;
 mod extended_infos;
 mod file_names;
@@ -22,8 +23,9 @@ mod procedure_ranges;
 
 pub use code_cache::CodeCache;
 pub use code_parts::{CodePart, FailedCodeParts};
+pub use copies::copy_of_name;
 pub use extended_info::{ExtendedModuleInfo, compute_extended_module_info};
 pub use file_names::FileNames;
-pub use frame::{Frame, FunctionFrames, copy_of_name};
+pub use frame::{Frame, FunctionFrames};
 pub use inline_ranges::compute_procedure_inline_ranges;
 pub use origins::Origin;

@@ -17,10 +17,8 @@ fn no_text_for(error: Error) -> Result<Option<String>>
         (λ text. (text ≡ None) × (error ≢ OutOfMemory))
         (λ e. e ≡ OutOfMemory) }
 {
-    match error {
-        Error::OutOfMemory => Err(Error::OutOfMemory),
-        _ => Ok(None),
-    }
+    error.unless_out_of_memory()?;
+    Ok(None)
 }
 
 // The signature of a function, if it can be printed. Answers `OutOfMemory` where memory runs out.

@@ -6,10 +6,10 @@
 
 mod contribution_table;
 mod contributions;
+mod found_functions;
 mod global_function_table;
 mod global_functions;
 pub mod lookup_laws;
-mod found_functions;
 mod module_info;
 mod module_infos;
 mod named_info;
@@ -21,9 +21,9 @@ mod span_table;
 
 pub use contribution_table::ContributionTable;
 pub use contributions::{ModuleSectionContribution, compute_section_contributions};
+pub use found_functions::{FoundFunction, global_function_in};
 pub use global_function_table::GlobalFunctionTable;
 pub use global_functions::{GlobalFunction, compute_global_functions};
-pub use found_functions::{FoundFunction, global_function_in};
 pub use module_info::BasicModuleInfo;
 pub use module_infos::BasicModuleInfoCache;
 pub use procedures::ProcedureSymbolFunction;

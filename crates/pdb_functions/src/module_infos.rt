@@ -13,7 +13,7 @@ ghost use mir.Syntax.{named};
 
 use crate::module_info::BasicModuleInfo;
 use crate::named_info::NamedInfo;
-use pdb_errors::{Error, ModuleProvider};
+use pdb_errors::ModuleProvider;
 use pdb_records::{Module, RawString};
 use pdb_tables::make_slot;
 use std::alloc::{AllocError, Global};
@@ -66,8 +66,10 @@ fn read_info<'a, P: ModuleProvider>(
     match provider.get_module_info(module_index, module) {
         Ok(Some(info)) => match BasicModuleInfo::try_from_module_info(alloc, info) {
             Ok(info) => Ok(Some(info)),
-            Err(Error::OutOfMemory) => Err(AllocError),
-            Err(_) => Ok(None),
+            Err(error) => {
+                error.unless_out_of_memory()?;
+                Ok(None)
+            }
         },
         _ => Ok(None),
     }

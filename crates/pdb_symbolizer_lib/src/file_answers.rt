@@ -370,8 +370,8 @@ pub fn readable_frames<'a, R: Eprint>(
 ) -> Result<Option<FunctionFrames<'a>>, Error> {
     match context.find_frames(address) {
         Ok(found) => Ok(found),
-        Err(Error::OutOfMemory) => Err(Error::OutOfMemory),
         Err(error) => {
+            let error = error.unless_out_of_memory()?;
             let _ = eprintln!(rt; "pdb_symbolizer: 0x{given:x}: {error}");
             Ok(None)
         }

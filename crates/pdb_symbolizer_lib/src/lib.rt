@@ -27,7 +27,6 @@ mod programs;
 mod repairs;
 mod requests;
 mod response_files;
-mod symbolizer_runs;
 mod status_line;
 mod stops;
 mod symbol_files;
@@ -35,8 +34,9 @@ mod symbol_names;
 mod symbol_stores;
 mod symbolication;
 mod symbolized_modules;
+mod symbolizer_runs;
 mod unknown_files;
 
-pub use symbolizer_runs::run_words;
 pub use status_line::StatusLine;
 pub use stops::Stop;
+pub use symbolizer_runs::run_words;
