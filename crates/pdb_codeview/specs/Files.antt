@@ -5,11 +5,10 @@ use Rattle.pdb_records.specs.declared.error.StreamError.{StreamError}
 use Rattle.std.specs.List.{position_from}
 use Rattle.pdb_records.specs.Readings.{Read}
 use Rattle.pdb_records.specs.declared.lines.FileIndex.{FileIndex}
-use Rattle.pdb_msf.specs.Bytes.{padding}
 use Rattle.pdb_msf.specs.NumberLists.{number}
 use Rattle.pdb_msf.specs.declared.faults.TheConstants.{CUT}
 use Rattle.pdb_codeview.specs.declared.files.FileEntry.{FileEntry}
-use Rattle.pdb_msf.specs.ItemLists.{all_items, together}
+use Rattle.pdb_msf.specs.ItemLists.{all_items, first_padded, together}
 
 -- the position of the first file whose entry starts there in its subsection
 abbrev pub file_position : ℕ → List FileEntry → Option ℕ
@@ -35,21 +34,16 @@ file_entry whole bytes = record {
 abbrev pub entry_size : List ℕ → ℕ
 entry_size bytes = 6 + slice_index bytes 4
 
--- what stands behind an entry and the bytes that fill it up to a multiple of four
-abbrev pub behind_entry : List ℕ → List ℕ
-behind_entry bytes =
-    let rest = drop (entry_size bytes) bytes in drop (padding (length bytes - length rest)) rest
-
 -- the entry that stands next in a subsection of so many bytes, and what stands behind it; one that they end in is cut
 abbrev pub first_entry : ℕ → List ℕ → Result (FileEntry × List ℕ) StreamError
 first_entry whole bytes =
     if nat_lt (length bytes) 6 then Err CUT else
     if nat_lt (length bytes) (entry_size bytes) then Err CUT else
-    Ok (file_entry whole bytes, behind_entry bytes)
+    Ok (file_entry whole bytes, drop (entry_size bytes) bytes)
 
--- all entries of a subsection of files (DEBUG_S_FILECHKSMS)
+-- all entries of a subsection of files (DEBUG_S_FILECHKSMS), each filled up to a multiple of four bytes
 abbrev pub file_entries : List ℕ → Read FileEntry
-file_entries bytes = all_items (first_entry (length bytes)) bytes
+file_entries bytes = all_items (first_padded (first_entry (length bytes))) bytes
 
 -- the entries of several subsections, one after the other up to the first fault
 abbrev pub all_entries : List (List ℕ) → Read FileEntry

@@ -37,9 +37,7 @@ impl<'a> ItemReader<'a> for Imports {
     fn take(&self, rest: &mut Bytes<'a>) -> Result<ImportedModule, Fault> {
         let module = StringRef(rest.u32()?);
         let count = rest.u32()? as usize;
-        let mut numbers = Bytes::new(rest.rest());
-        let locals = take_numbers(self.alloc, &mut numbers, count)?;
-        rest.take(4 * count)?;
+        let locals = take_numbers(self.alloc, rest, count)?;
         Ok(ImportedModule { module, locals })
     }
 }

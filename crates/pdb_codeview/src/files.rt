@@ -6,7 +6,7 @@ ghost use Rattle.std.specs.Ordering.{nat_cmp};
 ghost use Rattle.pdb_codeview.specs.Files.{all_entries, file_index, file_position, named_file};
 
 use pdb_msf::faults::Fault;
-use pdb_msf::{Bytes, ItemReader, offset_of, push_items, u32_at};
+use pdb_msf::{Bytes, ItemReader, PaddedItems, offset_of, push_items, u32_at};
 use pdb_records::{FileIndex, FileInfo, StreamError, StringRef};
 use pdb_tables::insert_first;
 use std::alloc::{AllocError, Global};
@@ -101,13 +101,8 @@ fn push_all_entries(
         ≡ entries.old.items ++ (all_entries (map (λ s. s.now) subsections.now)).items) }
 {
     for subsection in subsections {
-        let fault = push_items(
-            &FileEntries {
-                whole: subsection.len(),
-            },
-            subsection,
-            entries,
-        )?;
+        let whole = subsection.len();
+        let fault = push_items(&PaddedItems(FileEntries { whole }), subsection, entries)?;
         if fault.is_some() {
             return Ok(fault);
         }
@@ -115,7 +110,7 @@ fn push_all_entries(
     Ok(None)
 }
 
-/// The entries of a subsection of so many bytes.
+/// The entries of a subsection of so many bytes, without what fills them up.
 #[derive(Drop)]
 struct FileEntries {
     whole: usize,
@@ -129,12 +124,10 @@ impl<'a> ItemReader<'a> for FileEntries {
     ghost first = { λ list. first_entry list.whole };
 
     fn take(&self, rest: &mut Bytes<'a>) -> Result<FileEntry, Fault> {
-        let left = rest.len();
-        let start = offset_of(self.whole, left);
+        let start = offset_of(self.whole, rest.len());
         let front = rest.take(FRONT)?;
         let name = StringRef(u32_at(front, 0));
         rest.take(usize::from(front[4]))?;
-        rest.align(left);
         Ok(FileEntry {
             start,
             info: FileInfo { name },

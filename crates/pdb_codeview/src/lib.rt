@@ -15,6 +15,7 @@ mod line_rows;
 mod lines;
 mod places;
 mod procedure_spans;
+mod symbol_layout;
 mod symbol_records;
 mod symbols;
 

@@ -3,10 +3,10 @@
 ghost use Rattle.std.specs.Prelude.{◌≡◌, ◌≤◌, length, IfErr, IfOk, IfSome, option_map};
 ghost use Rattle.std.specs.List.Sorted.{IsNonDecreasingBy};
 ghost use Rattle.pdb_codeview.specs.SymbolRecords.{is_filler, name_behind, name_in, position_at};
-ghost use Rattle.pdb_codeview.specs.SymbolRecords.{record_at, symbol_records};
+ghost use Rattle.pdb_codeview.specs.SymbolRecords.{symbol_records};
 
 use pdb_msf::faults::{BAD_LENGTH, Fault};
-use pdb_msf::{Bytes, ItemReader, push_items, u16_at};
+use pdb_msf::{Bytes, ItemReader, push_items};
 use pdb_records::{Reading, SymbolIndex};
 use std::alloc::Global;
 use std::marker::Model;
@@ -113,22 +113,14 @@ impl<'a> ItemReader<'a> for SymbolRecords {
     fn take(&self, rest: &mut Bytes<'a>) -> Result<SymbolRecord<'a>, Fault> {
         let start = self.end.saturating_sub(rest.len());
         let length = rest.u16()?;
-        let behind = rest.take(usize::from(length))?;
-        if length < 2 {
-            return Err(Fault::Broken(BAD_LENGTH));
+        let mut record = Bytes::new(rest.take(usize::from(length))?);
+        match record.u16() {
+            Ok(raw_kind) => Ok(SymbolRecord {
+                start,
+                raw_kind,
+                content: record.rest(),
+            }),
+            Err(_) => Err(Fault::Broken(BAD_LENGTH)),
         }
-        Ok(record_at(start, behind))
-    }
-}
-
-// The record that starts at a place, by what stands behind its length.
-fn record_at(start: usize, behind: &[u8]) -> SymbolRecord<'_>
-    requires { 2 ≤ length behind.now }
-    ensures { result ≡ record_at start behind.now }
-{
-    SymbolRecord {
-        start,
-        raw_kind: u16_at(behind, 0),
-        content: &behind[2..],
     }
 }

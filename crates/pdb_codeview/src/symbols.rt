@@ -8,6 +8,14 @@ ghost use Rattle.pdb_codeview.specs.Symbols.{code_start, inline_site, module_con
 ghost use Rattle.pdb_codeview.specs.Symbols.{separated_code, symbols_from, thunk, trampoline};
 
 use crate::inline_sites::{CodeRecords, site_rows};
+use crate::symbol_layout::{
+    ANNOTATIONS, COUNTED_ANNOTATIONS, END, INLINEE, JUMP_LENGTH, JUMP_OFFSET, JUMP_SECTION,
+    JUMP_SIZE, JUMP_TARGET_OFFSET, JUMP_TARGET_SECTION, PROCEDURE_LENGTH, PROCEDURE_NAME,
+    PROCEDURE_OFFSET, PROCEDURE_SECTION, PROCEDURE_TYPE, PUBLIC_NAME, PUBLIC_OFFSET,
+    PUBLIC_SECTION, SEPARATED_LENGTH, SEPARATED_OFFSET, SEPARATED_PARENT_OFFSET,
+    SEPARATED_PARENT_SECTION, SEPARATED_SECTION, SEPARATED_SIZE, THUNK_LENGTH, THUNK_NAME,
+    THUNK_OFFSET, THUNK_SECTION,
+};
 use crate::symbol_records::{SymbolRecord, position_at, split_symbol_records};
 use pdb_msf::faults::Fault;
 use pdb_msf::{copy_name, u16_at, u32_at};
@@ -143,8 +151,8 @@ fn module_content(
         S_THUNK32 | S_THUNK32_ST => thunk(alloc, symbols, symbol),
         S_SEPCODE => Ok(separated_code(symbols, symbol)),
         S_TRAMPOLINE => Ok(trampoline(symbol)),
-        S_INLINESITE => inline_site(alloc, symbols, symbol, code, 12, start),
-        S_INLINESITE2 => inline_site(alloc, symbols, symbol, code, 16, start),
+        S_INLINESITE => inline_site(alloc, symbols, symbol, code, ANNOTATIONS, start),
+        S_INLINESITE2 => inline_site(alloc, symbols, symbol, code, COUNTED_ANNOTATIONS, start),
         _ => global_content(alloc, symbol),
     }
 }
@@ -165,11 +173,11 @@ fn public_symbol(alloc: Global, symbol: &SymbolRecord<'_>) -> Result<Option<Symb
     ensures answer { IfOk result (λ content. content ≡ public_symbol symbol.now) }
     ensures memory { IfErr result (λ fault. fault ≡ Fault.OutOfMemory) }
 {
-    let Some(name) = symbol.name_behind(10) else {
+    let Some(name) = symbol.name_behind(PUBLIC_NAME) else {
         return Ok(None);
     };
     Ok(Some(SymbolData::Public(PublicSymbol {
-        offset: section_offset(symbol.content, 4, 8),
+        offset: section_offset(symbol.content, PUBLIC_OFFSET, PUBLIC_SECTION),
         name: copy_name(alloc, name)?,
     })))
 }
@@ -183,15 +191,15 @@ fn procedure(
     ensures answer { IfOk result (λ content. content ≡ procedure symbols.now symbol.now) }
     ensures memory { IfErr result (λ fault. fault ≡ Fault.OutOfMemory) }
 {
-    let Some(name) = symbol.name_behind(35) else {
+    let Some(name) = symbol.name_behind(PROCEDURE_NAME) else {
         return Ok(None);
     };
     Ok(Some(SymbolData::Procedure(ProcedureSymbol {
-        offset: section_offset(symbol.content, 28, 32),
-        len: u32_at(symbol.content, 12),
+        offset: section_offset(symbol.content, PROCEDURE_OFFSET, PROCEDURE_SECTION),
+        len: u32_at(symbol.content, PROCEDURE_LENGTH),
         name: copy_name(alloc, name)?,
-        end: position_at(symbols, u32_at(symbol.content, 4)),
-        type_index: TypeIndex(u32_at(symbol.content, 24)),
+        end: position_at(symbols, u32_at(symbol.content, END)),
+        type_index: TypeIndex(u32_at(symbol.content, PROCEDURE_TYPE)),
     })))
 }
 
@@ -204,14 +212,14 @@ fn thunk(
     ensures answer { IfOk result (λ content. content ≡ thunk symbols.now symbol.now) }
     ensures memory { IfErr result (λ fault. fault ≡ Fault.OutOfMemory) }
 {
-    let Some(name) = symbol.name_behind(21) else {
+    let Some(name) = symbol.name_behind(THUNK_NAME) else {
         return Ok(None);
     };
     Ok(Some(SymbolData::Thunk(ThunkSymbol {
-        offset: section_offset(symbol.content, 12, 16),
-        len: u16_at(symbol.content, 18),
+        offset: section_offset(symbol.content, THUNK_OFFSET, THUNK_SECTION),
+        len: u16_at(symbol.content, THUNK_LENGTH),
         name: copy_name(alloc, name)?,
-        end: position_at(symbols, u32_at(symbol.content, 4)),
+        end: position_at(symbols, u32_at(symbol.content, END)),
     })))
 }
 
@@ -220,14 +228,14 @@ fn separated_code(symbols: &[SymbolRecord<'_>], symbol: &SymbolRecord<'_>) -> Op
     ensures { result ≡ separated_code symbols.now symbol.now }
 {
     let content = symbol.content;
-    if content.len() < 28 {
+    if content.len() < SEPARATED_SIZE {
         return None;
     }
     Some(SymbolData::SeparatedCode(SeparatedCodeSymbol {
-        offset: section_offset(content, 16, 24),
-        len: u32_at(content, 8),
-        parent_offset: section_offset(content, 20, 26),
-        end: position_at(symbols, u32_at(content, 4)),
+        offset: section_offset(content, SEPARATED_OFFSET, SEPARATED_SECTION),
+        len: u32_at(content, SEPARATED_LENGTH),
+        parent_offset: section_offset(content, SEPARATED_PARENT_OFFSET, SEPARATED_PARENT_SECTION),
+        end: position_at(symbols, u32_at(content, END)),
     }))
 }
 
@@ -236,13 +244,13 @@ fn trampoline(symbol: &SymbolRecord<'_>) -> Option<SymbolData>
     ensures { result ≡ trampoline symbol.now }
 {
     let content = symbol.content;
-    if content.len() < 16 {
+    if content.len() < JUMP_SIZE {
         return None;
     }
     Some(SymbolData::SeparatedCode(SeparatedCodeSymbol {
-        offset: section_offset(content, 4, 12),
-        len: u32::from(u16_at(content, 2)),
-        parent_offset: section_offset(content, 8, 14),
+        offset: section_offset(content, JUMP_OFFSET, JUMP_SECTION),
+        len: u32::from(u16_at(content, JUMP_LENGTH)),
+        parent_offset: section_offset(content, JUMP_TARGET_OFFSET, JUMP_TARGET_SECTION),
         end: SymbolIndex(0),
     }))
 }
@@ -267,11 +275,11 @@ fn inline_site(
     if content.len() < size {
         return Ok(None);
     }
-    let inlinee = IdIndex(u32_at(content, 8));
+    let inlinee = IdIndex(u32_at(content, INLINEE));
     let rows = site_rows(alloc, code, inlinee, start, &content[size..])?;
     Ok(Some(SymbolData::InlineSite(InlineSiteSymbol {
         inlinee,
-        end: position_at(symbols, u32_at(content, 4)),
+        end: position_at(symbols, u32_at(content, END)),
         rows,
     })))
 }

@@ -1,5 +1,5 @@
 -- A module's stream: its symbols, and the subsections of lines, files, inlinees, imports and exports.
-use Rattle.std.specs.Prelude.{ℕ, ◌-◌, ◌==◌, nat_lt, List, [], ◌∷◌, take, drop, filter, find, length, map}
+use Rattle.std.specs.Prelude.{ℕ, ◌==◌, nat_lt, List, [], ◌∷◌, take, drop, filter, find, length, map}
 use Rattle.std.specs.Prelude.{Option, Some, None, option_map, Result, Ok, Err, if◌then◌else◌}
 use Rattle.std.specs.Option.{option_or}
 use Rattle.pdb_records.specs.Imports.{Imported}
@@ -10,9 +10,8 @@ use Rattle.pdb_records.specs.declared.modules.Inlinee.{Inlinee}
 use Rattle.pdb_records.specs.declared.modules.ModuleInfo.{ModuleInfo}
 use Rattle.pdb_records.specs.declared.symbols.Symbol.{Symbol}
 use Rattle.pdb_msf.specs.declared.faults.TheConstants.{CUT, UNKNOWN_VERSION}
-use Rattle.pdb_msf.specs.Bytes.{padding}
 use Rattle.pdb_msf.specs.Faults.{◌>>=◌}
-use Rattle.pdb_msf.specs.ItemLists.{all_items}
+use Rattle.pdb_msf.specs.ItemLists.{all_items, first_padded}
 use Rattle.pdb_msf.specs.NumberLists.{number}
 use Rattle.pdb_msf.specs.Readings.{ending, nothing_read}
 use Rattle.pdb_codeview.specs.declared.files.FileEntry.{FileEntry}
@@ -33,15 +32,11 @@ pub record SubsectionBytes : Type 0 where
   pub kind : ℕ
   pub content : List ℕ
 
--- what stands behind a content of so many bytes and those that fill it up to a multiple of four
-abbrev pub behind_content : ℕ → List ℕ → List ℕ
-behind_content size bytes = let rest = drop size bytes in drop (padding (length bytes - length rest)) rest
-
 -- the subsection of this kind whose content of so many bytes stands first, and what stands behind it
 abbrev pub subsection_of : ℕ → ℕ → List ℕ → Result (SubsectionBytes × List ℕ) StreamError
 subsection_of kind size bytes =
     if nat_lt (length bytes) size then Err CUT else
-    Ok (record { kind = kind; content = take size bytes }, behind_content size bytes)
+    Ok (record { kind = kind; content = take size bytes }, drop size bytes)
 
 -- the subsection that stands next, and what stands behind it: its kind in four bytes, the size of its content in four,
 -- and the content
@@ -51,9 +46,9 @@ first_subsection bytes =
     if nat_lt (length (drop 4 bytes)) 4 then Err CUT else
     subsection_of (number bytes) (number (drop 4 bytes)) (drop 4 (drop 4 bytes))
 
--- the subsections of a substream (C13), one after the other
+-- the subsections of a substream (C13), one after the other, each filled up to a multiple of four bytes
 abbrev pub subsections : SubstreamBytes → Read SubsectionBytes
-subsections substream = ending substream.fault (all_items first_subsection substream.bytes)
+subsections substream = ending substream.fault (all_items (first_padded first_subsection) substream.bytes)
 
 -- the contents of all subsections of this kind
 abbrev pub all_of_kind : ℕ → List SubsectionBytes → List (List ℕ)

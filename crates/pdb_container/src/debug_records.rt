@@ -13,7 +13,7 @@ ghost use Rattle.pdb_records.specs.Sections.{listed};
 use pdb_codeview::read_global_symbols;
 use pdb_dbi::{
     DebugHeader, ModuleStream, map_addresses, optional_stream, read_contributions, read_header,
-    read_modules, read_sections,
+    read_modules, read_sections, stream_number,
 };
 use pdb_msf::faults::{Fault, NO_STREAM, REARRANGED, part_or_fault};
 use pdb_msf::{Container, StreamBytes};
@@ -22,9 +22,6 @@ use std::alloc::Global;
 
 /// The number of the stream of debug information.
 pub const DEBUG: u32 = 3;
-
-/// The number that stands for no stream.
-pub const NO_NUMBER: u16 = 0xffff;
 
 /// Where the streams are named that not every file has: two for addresses that were rearranged, and the
 /// headers of the sections.
@@ -229,9 +226,9 @@ fn global_symbols(
 ) -> Result<SymbolTable, Fault>
     ensures { Gives (λ table. table.symbols) result (symbols_in container.now number) }
 {
-    if number == NO_NUMBER {
+    let Some(number) = stream_number(number) else {
         return Err(Fault::Broken(NO_STREAM));
-    }
+    };
     let stream = container.stream(alloc, u32::from(number))?;
     read_global_symbols(alloc, stream.as_slice())
 }

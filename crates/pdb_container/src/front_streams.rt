@@ -1,10 +1,10 @@
 //! The streams of a file that is read range by range, as far as they are read before any of its modules.
 
-use crate::debug_records::{DEBUG, NO_NUMBER, SECTIONS, debug_stream};
+use crate::debug_records::{DEBUG, SECTIONS, debug_stream};
 use crate::front::{IDS, TYPES};
 use crate::info::{INFO, InfoStream};
 use crate::records::NAMES;
-use pdb_dbi::{optional_stream, read_header};
+use pdb_dbi::{optional_stream, read_header, stream_number};
 use pdb_msf::faults::{Fault, NO_STREAM, part_or_fault};
 use pdb_msf::{Container, Excerpt, Source, SourceFault, StreamBytes, StreamMap};
 use pdb_records::StreamError;
@@ -97,8 +97,8 @@ fn named_streams(alloc: Global, container: &Container<'_>) -> Result<Vec<u32>, F
     let Ok(header) = read_header(stream.as_slice()) else {
         return Ok(numbers);
     };
-    if header.global_symbols != NO_NUMBER {
-        numbers.push(u32::from(header.global_symbols))?;
+    if let Some(number) = stream_number(header.global_symbols) {
+        numbers.push(u32::from(number))?;
     }
     if let Some(number) = optional_stream(header.optional_streams.bytes, SECTIONS) {
         numbers.push(u32::from(number))?;

@@ -6,14 +6,11 @@ ghost use Rattle.pdb_container.specs.ModulePlaces.{left_behind, module_of, place
 ghost use Rattle.pdb_container.specs.Modules.{module_in};
 
 use crate::modules::read_module;
-use pdb_dbi::ModuleStream;
+use pdb_dbi::{ModuleStream, stream_number};
 use pdb_msf::Container;
 use pdb_msf::faults::{Fault, TOO_LONG, part_or_fault};
 use pdb_records::{ModuleInfo, StreamError};
 use std::alloc::{AllocError, Global};
-
-/// The number that stands for no stream.
-const NO_NUMBER: u16 = 0xffff;
 
 /// What is known of a module, or why it can't be read.
 pub type ModuleInfoResult = Result<Option<ModuleInfo>, StreamError>;
@@ -45,10 +42,10 @@ fn place_within(container: &Container<'_>, place: ModuleStream, left: &mut usize
     ensures answer { result ≡ place_within container.now left.old place }
     ensures state { left.new ≡ left_behind container.now left.old place }
 {
-    if place.stream == NO_NUMBER {
+    let Some(number) = stream_number(place.stream) else {
         return Ok(None);
-    }
-    let size = container.stream_size(u32::from(place.stream)).unwrap_or(0) as usize;
+    };
+    let size = container.stream_size(u32::from(number)).unwrap_or(0) as usize;
     if *left < size {
         return Err(TOO_LONG);
     }

@@ -13,7 +13,7 @@ use pdb_codeview::{
 };
 use pdb_dbi::{ModuleStream, Substream, take_substream};
 use pdb_msf::faults::{Fault, UNKNOWN_VERSION, part_or_fault};
-use pdb_msf::{Bytes, ItemReader, nothing_read, read_items};
+use pdb_msf::{Bytes, ItemReader, PaddedItems, nothing_read, read_items};
 use pdb_records::{
     CrossModuleExports, CrossModuleImports, LineProgram, ModuleInfo, Reading, StreamError, Symbol,
 };
@@ -22,6 +22,9 @@ use std::marker::Model;
 
 /// The form of symbols that is known, as the number in front of them.
 const SYMBOLS_FORM: u32 = 4;
+
+/// The bytes of that number.
+const SYMBOLS_FRONT: u32 = 4;
 
 const LINES: u32 = 0xf2;
 
@@ -94,12 +97,13 @@ fn read_subsections<'a>(
 ) -> Result<Reading<Subsection<'a>>, AllocError>
     ensures { IfOk result (λ read. read ≡ subsections substream.now) }
 {
-    let mut list = read_items(alloc, &Subsections, substream.bytes)?;
+    let mut list = read_items(alloc, &PaddedItems(Subsections), substream.bytes)?;
     list.fault = list.fault.or(substream.fault);
     Ok(list)
 }
 
-/// Subsections, one after the other.
+/// Subsections, without what fills them up.
+#[derive(Drop)]
 struct Subsections;
 
 impl<'a> ItemReader<'a> for Subsections {
@@ -112,9 +116,7 @@ impl<'a> ItemReader<'a> for Subsections {
     fn take(&self, rest: &mut Bytes<'a>) -> Result<Subsection<'a>, Fault> {
         let kind = rest.u32()?;
         let length = rest.u32()?;
-        let left = rest.len();
         let content = rest.take(length as usize)?;
-        rest.align(left);
         Ok(Subsection { kind, content })
     }
 }
@@ -191,7 +193,7 @@ fn module_symbols(
     }
     match rest.u32() {
         Ok(SYMBOLS_FORM) => {
-            let mut symbols = read_symbols(alloc, rest.rest(), 4, code)?;
+            let mut symbols = read_symbols(alloc, rest.rest(), SYMBOLS_FRONT, code)?;
             symbols.fault = symbols.fault.or(substream.fault);
             Ok(symbols)
         }

@@ -184,63 +184,18 @@ impl Reach {
         step: Step,
     ) -> Result<(), AllocError> {
         match step {
-            Step::Type(position) => self.follow_type(alloc, lists, position),
-            Step::Size(position) => self.follow_size(alloc, lists, position),
-            Step::Id(position) => self.follow_id(alloc, lists, position),
-        }
-    }
-
-    fn follow_type(
-        &mut self,
-        alloc: Global,
-        lists: &TypeLists<'_>,
-        position: usize,
-    ) -> Result<(), AllocError> {
-        let item = type_of(alloc, &lists.types, position)?;
-        match &item {
-            Some(
-                Item {
-                    content: Ok(data),
-                    ..
-                },
-            ) => self.add_types_of(lists, data),
-            _ => Ok(()),
-        }
-    }
-
-    fn follow_size(
-        &mut self,
-        alloc: Global,
-        lists: &TypeLists<'_>,
-        position: usize,
-    ) -> Result<(), AllocError> {
-        let item = type_of(alloc, &lists.types, position)?;
-        match &item {
-            Some(
-                Item {
-                    content: Ok(data),
-                    ..
-                },
-            ) => self.add_size_of(alloc, lists, data),
-            _ => Ok(()),
-        }
-    }
-
-    fn follow_id(
-        &mut self,
-        alloc: Global,
-        lists: &TypeLists<'_>,
-        position: usize,
-    ) -> Result<(), AllocError> {
-        let item = id_of(alloc, &lists.ids, position)?;
-        match &item {
-            Some(
-                Item {
-                    content: Ok(data),
-                    ..
-                },
-            ) => self.add_types_of_id(lists, data),
-            _ => Ok(()),
+            Step::Type(position) => match content_of(&type_of(alloc, &lists.types, position)?) {
+                Some(data) => self.add_types_of(lists, data),
+                None => Ok(()),
+            },
+            Step::Size(position) => match content_of(&type_of(alloc, &lists.types, position)?) {
+                Some(data) => self.add_size_of(alloc, lists, data),
+                None => Ok(()),
+            },
+            Step::Id(position) => match content_of(&id_of(alloc, &lists.ids, position)?) {
+                Some(data) => self.add_types_of_id(lists, data),
+                None => Ok(()),
+            },
         }
     }
 
@@ -338,6 +293,19 @@ impl Reach {
     }
 }
 
+// What a record holds, where it is there and can be read.
+fn content_of<I, D>(item: &Option<Item<I, D>>) -> Option<&D> {
+    match item {
+        Some(
+            Item {
+                content: Ok(data),
+                ..
+            },
+        ) => Some(data),
+        _ => None,
+    }
+}
+
 // The name by which a class or a union is found: the unique one, where it has one.
 fn name_of<'n>(name: &'n RawString, unique_name: &'n Option<RawString>) -> &'n RawString {
     match unique_name {
@@ -348,12 +316,9 @@ fn name_of<'n>(name: &'n RawString, unique_name: &'n Option<RawString>) -> &'n R
 
 // Whether a type is a class or a union of one of these names.
 fn has_name(item: Option<Item<TypeIndex, TypeData>>, names: &BTreeSet<Vec<u8>>) -> bool {
-    let Some(item) = item else {
-        return false;
-    };
-    match &item.content {
-        Ok(TypeData::Class(class)) => names.contains(&name_of(&class.name, &class.unique_name).0),
-        Ok(TypeData::Union(union)) => names.contains(&name_of(&union.name, &union.unique_name).0),
+    match content_of(&item) {
+        Some(TypeData::Class(class)) => names.contains(&name_of(&class.name, &class.unique_name).0),
+        Some(TypeData::Union(union)) => names.contains(&name_of(&union.name, &union.unique_name).0),
         _ => false,
     }
 }

@@ -212,12 +212,7 @@ impl<'a> PdbReader<'a> {
 
     // Those of these positions whose modules were not read, ascending, each once.
     fn unread_of(&self, alloc: Global, wanted: &[usize]) -> Result<Vec<usize>, AllocError> {
-        let mut positions = Vec::new(alloc);
-        for &position in wanted {
-            if !self.has_read(position) {
-                positions.push(position)?;
-            }
-        }
+        let mut positions = self.unread_beside(alloc, wanted, &[])?;
         positions.sort_unstable();
         positions.dedup();
         Ok(positions)

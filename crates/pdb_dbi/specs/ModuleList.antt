@@ -1,11 +1,11 @@
 -- The list of modules.
-use Rattle.std.specs.Prelude.{ℕ, ◌-◌, List, take, drop, length, map, Result, Ok}
+use Rattle.std.specs.Prelude.{ℕ, List, take, drop, map, Result, Ok}
 use Rattle.pdb_records.specs.Readings.{Read}
 use Rattle.pdb_records.specs.declared.debug_information.Module.{Module}
 use Rattle.pdb_records.specs.declared.error.StreamError.{StreamError}
-use Rattle.pdb_msf.specs.Bytes.{first_text, padding}
+use Rattle.pdb_msf.specs.Bytes.{first_text}
 use Rattle.pdb_msf.specs.Faults.{◌>>=◌}
-use Rattle.pdb_msf.specs.ItemLists.{all_items}
+use Rattle.pdb_msf.specs.ItemLists.{all_items, first_padded}
 use Rattle.pdb_msf.specs.NumberLists.{number, two_byte_number}
 use Rattle.pdb_msf.specs.Readings.{ending}
 use Rattle.pdb_dbi.specs.declared.module_list.ModuleStream.{ModuleStream}
@@ -26,19 +26,16 @@ module_stream bytes = record {
 }
 
 -- the module that stands first, and what stands behind it: behind 64 bytes stand its name (ModuleName) and that of its
--- object file (ObjFileName), which each end in a zero, and what fills all up to a multiple of four bytes
+-- object file (ObjFileName), which each end in a zero
 abbrev pub first_module : List ℕ → Result (ListedModule × List ℕ) StreamError
 first_module bytes = do
   name ← first_text (drop 64 bytes)
   object_file ← first_text name.1
-  Ok (
-    record { name = name.0; stream = module_stream (take 64 bytes) },
-    drop (padding (length bytes - length object_file.1)) object_file.1,
-  )
+  Ok (record { name = name.0; stream = module_stream (take 64 bytes) }, object_file.1)
 
--- all modules of these bytes
+-- all modules of these bytes, each filled up to a multiple of four bytes
 abbrev pub module_list : List ℕ → Read ListedModule
-module_list bytes = all_items first_module bytes
+module_list bytes = all_items (first_padded first_module) bytes
 
 -- the modules of a substream, by their names
 abbrev pub modules : SubstreamBytes → Read Module

@@ -13,6 +13,6 @@ mod substreams;
 pub use contributions::read_contributions;
 pub use header::{DebugHeader, read_header};
 pub use module_list::{ModuleStream, read_modules};
-pub use optional_streams::optional_stream;
+pub use optional_streams::{optional_stream, stream_number};
 pub use sections::{map_addresses, read_sections};
 pub use substreams::{Substream, take_substream};

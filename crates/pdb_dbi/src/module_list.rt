@@ -5,7 +5,7 @@ ghost use Rattle.pdb_dbi.specs.ModuleList.{module_list, module_stream, module_st
 
 use crate::substreams::Substream;
 use pdb_msf::faults::Fault;
-use pdb_msf::{Bytes, ItemReader, copy_name, push_items, u16_at, u32_at};
+use pdb_msf::{Bytes, ItemReader, PaddedItems, copy_name, push_items, u16_at, u32_at};
 use pdb_records::{Module, Reading};
 use std::alloc::Global;
 use std::marker::Model;
@@ -70,7 +70,7 @@ fn read_list(
     ensures memory { IfErr result (λ fault. fault ≡ Fault.OutOfMemory) }
 {
     let mut listed = Vec::new(alloc);
-    let fault = push_items(&ModuleEntries, bytes, &mut listed)?;
+    let fault = push_items(&PaddedItems(ModuleEntries), bytes, &mut listed)?;
     let mut items = Vec::with_capacity(alloc, listed.len())?;
     for entry in &listed {
         let name = copy_name(alloc, entry.name)?;
@@ -80,7 +80,8 @@ fn read_list(
     Ok(Reading { items, fault })
 }
 
-/// The modules of the list.
+/// The modules of the list, without what fills them up.
+#[derive(Drop)]
 struct ModuleEntries;
 
 impl<'a> ItemReader<'a> for ModuleEntries {
@@ -92,11 +93,9 @@ impl<'a> ItemReader<'a> for ModuleEntries {
 
     #[tactic(auto, using(crate::proofs::ModuleLemmas::no_front))]
     fn take(&self, rest: &mut Bytes<'a>) -> Result<ModuleEntry<'a>, Fault> {
-        let whole = rest.len();
         let stream = module_stream(rest.take(FRONT)?);
         let name = rest.text()?;
         rest.text()?;
-        rest.align(whole);
         Ok(ModuleEntry { name, stream })
     }
 }

@@ -1,12 +1,22 @@
 //! The optional debug header: the numbers of streams that not every file has.
 
 ghost use Rattle.std.specs.Prelude.{◌≡◌};
-ghost use Rattle.pdb_dbi.specs.OptionalStreams.{optional_stream};
+ghost use Rattle.pdb_dbi.specs.OptionalStreams.{optional_stream, stream_number};
 
 use pdb_msf::{Bytes, bytes_from};
 
 /// The number that stands for no stream.
-const NO_NUMBER: u16 = 0xffff;
+const NO_STREAM_NUMBER: u16 = 0xffff;
+
+/// The number of a stream, unless it stands for none.
+pub fn stream_number(number: u16) -> Option<u16>
+    ensures { result ≡ stream_number number }
+{
+    if number == NO_STREAM_NUMBER {
+        return None;
+    }
+    Some(number)
+}
 
 /// The number at this position of the streams that not every file has.
 #[tactic(auto, unfolding(crate::specs::OptionalStreams::optional_stream))]
@@ -15,7 +25,7 @@ pub fn optional_stream(numbers: &[u8], position: usize) -> Option<u16>
 {
     let start = position.saturating_mul(2);
     match Bytes::new(bytes_from(numbers, start)).u16() {
-        Ok(NO_NUMBER) | Err(_) => None,
-        Ok(number) => Some(number),
+        Ok(number) => stream_number(number),
+        Err(_) => None,
     }
 }

@@ -1,8 +1,10 @@
 -- Lists of items, one after the other until the bytes end, and such lists in several subsections.
-use Rattle.std.specs.Prelude.{ℕ, zero, suc, ◌==◌, nat_lt, List, [], ◌∷◌, take, drop, length}
+use Rattle.std.specs.Prelude.{ℕ, zero, suc, ◌-◌, ◌==◌, nat_lt, List, [], ◌∷◌, take, drop, length}
 use Rattle.std.specs.Prelude.{Option, Some, None, Result, Ok, Err, if◌then◌else◌}
 use Rattle.pdb_records.specs.Readings.{Read}
 use Rattle.pdb_records.specs.declared.error.StreamError.{StreamError}
+use Rattle.pdb_msf.specs.Bytes.{padding}
+use Rattle.pdb_msf.specs.Faults.{◌>>=◌}
 use Rattle.pdb_msf.specs.Readings.{behind, nothing_read}
 use Rattle.pdb_msf.specs.declared.faults.TheConstants.{CUT}
 
@@ -19,6 +21,13 @@ items_up_to {A = A} first (suc count) bytes =
 -- all items of these bytes: each takes one byte or more, so there are no more of them than bytes
 unfoldable pub all_items : {A : Type 0} → (List ℕ → Result (A × List ℕ) StreamError) → List ℕ → Read A
 all_items first bytes = items_up_to first (length bytes) bytes
+
+-- the item that stands first, and what stands behind the bytes that fill it up to a multiple of four
+abbrev pub first_padded : {A : Type 0} → (List ℕ → Result (A × List ℕ) StreamError) → List ℕ
+    → Result (A × List ℕ) StreamError
+first_padded first bytes = do
+  read ← first bytes
+  Ok (read.0, drop (padding (length bytes - length read.1)) read.1)
 
 -- the entry of this size that stands first, and what stands behind it; one that the bytes end in is cut
 abbrev pub first_entry : {A : Type 0} → (List ℕ → A) → ℕ → List ℕ → Result (A × List ℕ) StreamError

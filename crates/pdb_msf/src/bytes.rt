@@ -1,8 +1,8 @@
 //! What is left of bytes that are read from the front: numbers of one to eight bytes, and texts.
 
-ghost use Rattle.std.specs.Prelude.{◌≡◌, ◌≤◌, ◌<◌, ◌+◌, ◌-◌, ◌==◌, length, take, drop, Some, None, IfSome, IfOk};
+ghost use Rattle.std.specs.Prelude.{◌≡◌, ◌≤◌, ◌<◌, ◌+◌, ◌==◌, length, take, drop, Some, None, IfSome, IfOk};
 ghost use Rattle.std.specs.Prelude.{slice_get, IfErr, OnOk, OnErr};
-ghost use Rattle.pdb_msf.specs.Bytes.{counted_text_in, padding, text_in, text_length};
+ghost use Rattle.pdb_msf.specs.Bytes.{counted_text_in, text_in, text_length};
 ghost use Rattle.pdb_msf.specs.NumberLists.{number, two_byte_number};
 
 use crate::faults::CUT;
@@ -70,15 +70,6 @@ impl<'a> Bytes<'a> {
         let (taken, rest) = self.rest.split_at(count);
         self.rest = rest;
         Ok(taken)
-    }
-
-    /// Passes over the bytes up to the next place that is a multiple of four, counted from where so many were left.
-    /// Where the bytes end before, nothing is left.
-    pub fn align(&mut self, left: usize)
-        ensures { self.new ≡ drop (padding (left - length self.old)) self.old }
-    {
-        let read = left.saturating_sub(self.rest.len());
-        self.rest = bytes_from(self.rest, (4 - read % 4) % 4);
     }
 
     /// The next byte.

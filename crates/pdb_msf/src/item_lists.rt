@@ -8,6 +8,7 @@ ghost use Rattle.pdb_msf.specs.Readings.{whole};
 
 use crate::bytes::Bytes;
 use crate::faults::Fault;
+use crate::number_lists::bytes_from;
 use pdb_records::{Reading, StreamError};
 use std::alloc::{AllocError, Global};
 
@@ -21,6 +22,26 @@ pub trait ItemReader<'a> {
     /// Takes the next item.
     fn take(&self, rest: &mut Bytes<'a>) -> Result<Self::Item, Fault>
         ensures { Gives (λ item. (item, rest.new)) result (first self.now rest.old) };
+}
+
+/// Items that are each filled up to a multiple of four bytes, counted from where the item starts.
+#[derive(Drop)]
+pub struct PaddedItems<R>(pub R);
+
+impl<'a, R: ItemReader<'a> + Drop> ItemReader<'a> for PaddedItems<R> {
+    type Item = R::Item;
+
+    ghost use Rattle.pdb_msf.specs.ItemLists.{first_padded};
+
+    ghost first = { λ padded. first_padded (R.first padded.0) };
+
+    fn take(&self, rest: &mut Bytes<'a>) -> Result<R::Item, Fault> {
+        let left = rest.len();
+        let item = self.0.take(rest)?;
+        let read = left.saturating_sub(rest.len());
+        *rest = Bytes::new(bytes_from(rest.rest(), (4 - read % 4) % 4));
+        Ok(item)
+    }
 }
 
 /// Appends the items of these bytes, up to the first fault.

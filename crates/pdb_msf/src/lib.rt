@@ -26,7 +26,7 @@ mod superblock;
 pub use bytes::{Bytes, u16_at, u32_at};
 pub use container_fault::{ContainerFault, other_file};
 pub use excerpt::Excerpt;
-pub use item_lists::{ItemReader, push_items, read_all_items, read_items};
+pub use item_lists::{ItemReader, PaddedItems, push_items, read_all_items, read_items};
 pub use msf::Container;
 pub use names::{copy_name, offset_of};
 pub use number_lists::{bytes_from, number_at, take_numbers};

@@ -1,6 +1,6 @@
 //! Lists of numbers of four bytes, such as those of a stream's blocks.
 
-ghost use Rattle.std.specs.Prelude.{◌≡◌, ◌≤◌, ◌+◌, ◌*◌, drop, length, IfOk};
+ghost use Rattle.std.specs.Prelude.{◌≡◌, ◌≤◌, ◌+◌, ◌*◌, drop, length, IfOk, OnOk};
 ghost use Rattle.pdb_msf.specs.Faults.{Gives};
 ghost use Rattle.pdb_msf.specs.NumberLists.{listed, number, numbers};
 
@@ -14,6 +14,7 @@ pub fn take_numbers(alloc: Global, rest: &mut Bytes<'_>, count: usize) -> Result
     ensures answer { Gives (λ taken. taken.items) result (listed count rest.old) }
     ensures items { IfOk result (λ taken. taken.items ≡ numbers count rest.old) }
     ensures count { IfOk result (λ taken. length taken.items ≡ count) }
+    ensures state { OnOk result (rest.new ≡ drop (4 * count) rest.old) }
 {
     if rest.len() / 4 < count {
         return Err(Fault::Broken(CUT));

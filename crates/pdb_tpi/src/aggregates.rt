@@ -7,6 +7,7 @@ ghost use Rattle.pdb_tpi.specs.Aggregates.{sized_names, union, union_by, unique_
 
 use crate::names::take_name;
 use crate::numbers::{take_size, take_variant};
+use crate::types::{TypeKind, type_kind};
 use pdb_msf::faults::Fault;
 use pdb_msf::{Bytes, u16_at, u32_at};
 use pdb_records::{
@@ -19,6 +20,22 @@ const FORWARD_REFERENCE: u16 = 0x80;
 
 /// The bit of a type's properties that says that a unique name stands behind its name.
 const UNIQUE_NAME: u16 = 0x200;
+
+/// Where a class or a union has its properties.
+const PROPERTIES: usize = 2;
+
+/// Where one of the newer layout has them.
+const NEWER_PROPERTIES: usize = 0;
+
+/// The bytes of a class in front of its size and its names.
+const CLASS_FRONT: usize = 16;
+
+const NEWER_CLASS_FRONT: usize = 18;
+
+/// Those of a union.
+const UNION_FRONT: usize = 8;
+
+const NEWER_UNION_FRONT: usize = 10;
 
 /// What stands behind the indices of a class or a union.
 #[derive(Drop)]
@@ -34,8 +51,8 @@ pub(crate) fn class(alloc: Global, class_kind: ClassKind, bytes: &[u8]) -> Resul
     ensures { Gives (λ read. read) result (class class_kind bytes.now) }
 {
     let mut rest = Bytes::new(bytes);
-    rest.take(16)?;
-    let properties = u16_at(bytes, 2);
+    rest.take(CLASS_FRONT)?;
+    let properties = u16_at(bytes, PROPERTIES);
     let named = take_names(alloc, properties, &mut rest)?;
     Ok(class_by(class_kind, properties, named))
 }
@@ -51,8 +68,8 @@ pub(crate) fn newer_class(
     ensures { Gives (λ read. read) result (newer_class class_kind bytes.now) }
 {
     let mut rest = Bytes::new(bytes);
-    rest.take(18)?;
-    let properties = u16_at(bytes, 0);
+    rest.take(NEWER_CLASS_FRONT)?;
+    let properties = u16_at(bytes, NEWER_PROPERTIES);
     let named = take_names(alloc, properties, &mut rest)?;
     Ok(class_by(class_kind, properties, named))
 }
@@ -76,8 +93,8 @@ pub(crate) fn union(alloc: Global, bytes: &[u8]) -> Result<TypeData, Fault>
     ensures { Gives (λ read. read) result (union bytes.now) }
 {
     let mut rest = Bytes::new(bytes);
-    rest.take(8)?;
-    let properties = u16_at(bytes, 2);
+    rest.take(UNION_FRONT)?;
+    let properties = u16_at(bytes, PROPERTIES);
     let named = take_names(alloc, properties, &mut rest)?;
     Ok(union_by(properties, named))
 }
@@ -88,8 +105,8 @@ pub(crate) fn newer_union(alloc: Global, bytes: &[u8]) -> Result<TypeData, Fault
     ensures { Gives (λ read. read) result (newer_union bytes.now) }
 {
     let mut rest = Bytes::new(bytes);
-    rest.take(10)?;
-    let properties = u16_at(bytes, 0);
+    rest.take(NEWER_UNION_FRONT)?;
+    let properties = u16_at(bytes, NEWER_PROPERTIES);
     let named = take_names(alloc, properties, &mut rest)?;
     Ok(union_by(properties, named))
 }
@@ -120,9 +137,9 @@ pub(crate) fn is_definition(kind: u16, content: &[u8]) -> bool {
 fn properties_place(kind: u16) -> Option<usize>
     ensures { IfSome result (λ place. place ≤ 2) }
 {
-    match kind {
-        0x1504 | 0x1505 | 0x1506 | 0x1519 => Some(2),
-        0x1608 | 0x1609 | 0x160a | 0x160b => Some(0),
+    match type_kind(kind)? {
+        TypeKind::Class(_) | TypeKind::Union => Some(PROPERTIES),
+        TypeKind::NewerClass(_) | TypeKind::NewerUnion => Some(NEWER_PROPERTIES),
         _ => None,
     }
 }

@@ -111,8 +111,8 @@ fn type_content(
     }
 }
 
-// The kind of type that a number is, if it is one that is read.
-fn type_kind(number: u16) -> Option<TypeKind>
+/// The kind of type that a number is, if it is one that is read.
+pub(crate) fn type_kind(number: u16) -> Option<TypeKind>
     ensures { result ≡ type_kind number }
 {
     match number {
