@@ -117,7 +117,7 @@ impl<'a, P: ModuleProvider> TypeFormatter<'a, P> {
             progress.fail(Failure::OfError(Error::CircularTypeDefinition(next.0)));
             return Ok(());
         }
-        match self.read_type(module_index, next) {
+        match self.printed_type(module_index, next) {
             Ok(type_data) => self.element(
                 module_index,
                 progress,

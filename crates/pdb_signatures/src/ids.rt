@@ -14,8 +14,8 @@ ghost use Rattle.pdb_signatures.specs.PendingPlans.{Advances, AdvancesClosing, S
 
 use crate::functions::{is_left_out, unless_left_out};
 use crate::type_formatter::TypeFormatter;
-use pdb_documents::printed_texts::Printed;
 use pdb_documents::failures::Failure;
+use pdb_documents::printed_texts::Printed;
 use pdb_documents::progress::Progress;
 use pdb_documents::tasks::{MethodForm, Task};
 use pdb_documents::wording::{Wording, static_word};
@@ -238,7 +238,7 @@ impl<'a, P: ModuleProvider> TypeFormatter<'a, P> {
             progress.fail(Failure::OfError(Error::CircularTypeDefinition(index.0)));
             return Ok(());
         }
-        match self.read_id(module_index, index) {
+        match self.printed_id(module_index, index) {
             Ok(id_data) => {
                 met.insert(index.0)?;
                 self.id_by_kind(module_index, progress, met, id_data)

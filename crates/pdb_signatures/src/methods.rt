@@ -63,7 +63,7 @@ impl<'a, P: ModuleProvider> TypeFormatter<'a, P> {
         let Some(this) = this else {
             return Ok(PLAIN_THIS);
         };
-        let type_data = self.read_type(module_index, this)?;
+        let type_data = self.printed_type(module_index, this)?;
         let TypeData::Pointer(p) = type_data else {
             return Ok(This {
                 constant: false,
@@ -73,7 +73,7 @@ impl<'a, P: ModuleProvider> TypeFormatter<'a, P> {
         if p.underlying_type == class {
             return Ok(PLAIN_THIS);
         }
-        let target = self.read_type(module_index, p.underlying_type)?;
+        let target = self.printed_type(module_index, p.underlying_type)?;
         Ok(this_by_target(class, this, target))
     }
 

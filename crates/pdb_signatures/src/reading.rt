@@ -31,7 +31,7 @@ impl<'a, P: ModuleProvider> TypeFormatter<'a, P> {
 
     // The type of an index, as the module at a module index writes it.
     #[tactic(auto, unfolding(pdb_documents::specs::PrintInputs::type_at))]
-    pub(crate) fn read_type(
+    pub(crate) fn printed_type(
         &mut self,
         module_index: usize,
         index: TypeIndex,
@@ -48,7 +48,7 @@ impl<'a, P: ModuleProvider> TypeFormatter<'a, P> {
 
     // The id of an index, as the module at a module index writes it.
     #[tactic(auto, unfolding(pdb_documents::specs::PrintInputs::id_at))]
-    pub(crate) fn read_id(
+    pub(crate) fn printed_id(
         &mut self,
         module_index: usize,
         index: IdIndex,
@@ -143,7 +143,7 @@ impl<'a, P: ModuleProvider> TypeFormatter<'a, P> {
         if !progress.open(index.0)? {
             return Ok(None);
         }
-        match self.read_type(module_index, index) {
+        match self.printed_type(module_index, index) {
             Ok(type_data) => Ok(Some(type_data)),
             Err(read_error) => {
                 self.refuse(progress, read_error)?;
@@ -166,7 +166,7 @@ impl<'a, P: ModuleProvider> TypeFormatter<'a, P> {
             EnteredAlone (formatter_inputs P.info self.old.type_inputs module_index) index.0
             progress.old self.old.failed progress.new self.new.failed (option_copied found)) }
     {
-        match self.read_type(module_index, index) {
+        match self.printed_type(module_index, index) {
             Ok(type_data) => {
                 progress.open_alone(Some(index.0))?;
                 Ok(Some(type_data))

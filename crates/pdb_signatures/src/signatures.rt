@@ -95,7 +95,7 @@ impl<'a, P: ModuleProvider> TypeFormatter<'a, P> {
             progress.first(Task::Written(Wording::Text(function_name(name))))?;
             return Ok(());
         }
-        match self.read_type(module_index, index) {
+        match self.printed_type(module_index, index) {
             Ok(type_data) => {
                 progress.open(index.0)?;
                 by_type(progress, self.flags(), name, type_data)

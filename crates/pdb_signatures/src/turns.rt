@@ -70,7 +70,7 @@ impl<'a, P: ModuleProvider> TypeFormatter<'a, P> {
             (Later (open_in progress.old.steps) (Index index.0)) 1
             progress.old self.old.failed progress.new self.new.failed) }
     {
-        match self.read_type(module_index, index) {
+        match self.printed_type(module_index, index) {
             Ok(type_data) => index_read(progress, index, type_data),
             Err(read_error) => self.note(progress, read_error),
         }
@@ -100,7 +100,7 @@ impl<'a, P: ModuleProvider> TypeFormatter<'a, P> {
     }
 
     // A chain of pointers with a modifier between them and the type of an index.
-    pub(crate) fn behind_modifier<'s>(
+    pub(crate) fn chain_behind_modifier<'s>(
         &mut self,
         module_index: usize,
         progress: &mut Progress<'s>,
@@ -123,7 +123,7 @@ impl<'a, P: ModuleProvider> TypeFormatter<'a, P> {
     }
 
     // The target of a modifier.
-    pub(crate) fn modified<'s>(
+    pub(crate) fn modifier<'s>(
         &mut self,
         module_index: usize,
         progress: &mut Progress<'s>,
@@ -180,13 +180,13 @@ impl<'a, P: ModuleProvider> TypeFormatter<'a, P> {
                 attributes,
                 target,
             ),
-            Task::BehindModifier(attributes, target) => self.behind_modifier(
+            Task::BehindModifier(attributes, target) => self.chain_behind_modifier(
                 module_index,
                 progress,
                 attributes,
                 target,
             ),
-            Task::Modified(m) => self.modified(module_index, progress, m),
+            Task::Modified(m) => self.modifier(module_index, progress, m),
             Task::Elements(elements, levels, next) => self.elements(
                 module_index,
                 progress,

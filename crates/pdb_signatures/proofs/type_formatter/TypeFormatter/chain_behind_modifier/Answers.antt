@@ -5,7 +5,7 @@ use Rattle.pdb_documents.specs.Plans.{BehindModifier}
 use Rattle.pdb_documents.specs.Rules.{behind_modifier}
 use Rattle.pdb_documents.specs.PrintInputs.{formatter_inputs}
 use Rattle.pdb_signatures.proofs.TurnLemmas.{turned_some, turned_none}
-use Rattle.pdb_signatures.proofs.type_formatter.TypeFormatter.behind_modifier.Goals as goal
+use Rattle.pdb_signatures.proofs.type_formatter.TypeFormatter.chain_behind_modifier.Goals as goal
 
 pub returns-in-None-clause-advances : goal.returns-in-None-clause-advances
 returns-in-None-clause-advances g c =
