@@ -1,22 +1,16 @@
 //! Writes modules, contributions and the machine type as JSON.
 
 use crate::faults::ExportFault;
+use crate::json_names::kind_name;
 use crate::members::{ToJson, member};
 use crate::sections::section_offset;
 use json::Writer;
+use pdb_json_records::MACHINES;
 use pdb_records::{DebugInformation, MachineType, Module, SectionContribution};
 
 impl ToJson for MachineType {
     fn to_json(&self, text: &mut Writer) -> Result<(), ExportFault> {
-        let name = match self {
-            MachineType::Amd64 => "Amd64",
-            MachineType::Arm64 => "Arm64",
-            MachineType::Ia64 => "Ia64",
-            MachineType::RiscV64 => "RiscV64",
-            MachineType::RiscV128 => "RiscV128",
-            MachineType::Other => "Other",
-        };
-        name.to_json(text)
+        kind_name(text, &MACHINES, *self)
     }
 }
 

@@ -1,10 +1,24 @@
-//! Writes names as JSON texts, or as their bytes where they are no UTF-8.
+//! Writes names as JSON texts, or as their bytes where they are no UTF-8, and the names of kinds.
 
 use crate::faults::ExportFault;
 use crate::members::ToJson;
 use json::Writer;
 use pdb_records::RawString;
 use std::str;
+
+/// Writes the name that a kind has among these, or that of all others.
+pub(crate) fn kind_name<T: Copy + PartialEq>(
+    text: &mut Writer,
+    names: &[(&str, T)],
+    kind: T,
+) -> Result<(), ExportFault> {
+    for (name, known) in names {
+        if *known == kind {
+            return name.to_json(text);
+        }
+    }
+    "Other".to_json(text)
+}
 
 impl ToJson for &str {
     fn to_json(&self, text: &mut Writer) -> Result<(), ExportFault> {

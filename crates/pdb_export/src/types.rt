@@ -2,60 +2,15 @@
 
 use crate::faults::ExportFault;
 use crate::items::ToMembers;
+use crate::json_names::kind_name;
 use crate::members::{ToJson, member, optional};
 use json::Writer;
+use pdb_json_records::{CLASS_KINDS, POINTER_MODES, PRIMITIVE_KINDS};
 use pdb_records::{
     ArrayType, ClassKind, ClassType, EnumerationType, MemberFunctionType, ModifierType,
     PointerMode, PointerType, PrimitiveKind, PrimitiveType, ProcedureType, TypeData, UnionType,
     Variant,
 };
-
-/// The names of the primitive kinds, in the order of [`PrimitiveKind`].
-const PRIMITIVE_NAMES: [&str; 43] = [
-    "NoType",
-    "Void",
-    "Char",
-    "UChar",
-    "RChar",
-    "WChar",
-    "RChar16",
-    "RChar32",
-    "Char8",
-    "I8",
-    "U8",
-    "Short",
-    "UShort",
-    "I16",
-    "U16",
-    "Long",
-    "ULong",
-    "I32",
-    "U32",
-    "Quad",
-    "UQuad",
-    "I64",
-    "U64",
-    "Octa",
-    "UOcta",
-    "I128",
-    "U128",
-    "F16",
-    "F32",
-    "F32PP",
-    "F48",
-    "F64",
-    "F80",
-    "F128",
-    "Complex32",
-    "Complex64",
-    "Complex80",
-    "Complex128",
-    "Bool8",
-    "Bool16",
-    "Bool32",
-    "Bool64",
-    "HRESULT",
-];
 
 impl ToMembers for TypeData {
     fn to_members(&self, text: &mut Writer) -> Result<(), ExportFault> {
@@ -95,7 +50,7 @@ fn primitive(text: &mut Writer, data: PrimitiveType) -> Result<(), ExportFault> 
 
 impl ToJson for PrimitiveKind {
     fn to_json(&self, text: &mut Writer) -> Result<(), ExportFault> {
-        PRIMITIVE_NAMES[*self as usize].to_json(text)
+        kind_name(text, &PRIMITIVE_KINDS, *self)
     }
 }
 
@@ -111,12 +66,7 @@ fn class(text: &mut Writer, data: &ClassType) -> Result<(), ExportFault> {
 
 impl ToJson for ClassKind {
     fn to_json(&self, text: &mut Writer) -> Result<(), ExportFault> {
-        let name = match self {
-            ClassKind::Class => "Class",
-            ClassKind::Interface => "Interface",
-            ClassKind::Struct => "Struct",
-        };
-        name.to_json(text)
+        kind_name(text, &CLASS_KINDS, *self)
     }
 }
 
@@ -149,14 +99,7 @@ fn pointer(text: &mut Writer, data: PointerType) -> Result<(), ExportFault> {
 
 impl ToJson for PointerMode {
     fn to_json(&self, text: &mut Writer) -> Result<(), ExportFault> {
-        let name = match self {
-            PointerMode::Pointer => "Pointer",
-            PointerMode::LValueReference => "LValueReference",
-            PointerMode::Member => "Member",
-            PointerMode::MemberFunction => "MemberFunction",
-            PointerMode::RValueReference => "RValueReference",
-        };
-        name.to_json(text)
+        kind_name(text, &POINTER_MODES, *self)
     }
 }
 

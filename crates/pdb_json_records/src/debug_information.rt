@@ -10,7 +10,8 @@ use pdb_json_values::{Reader, RecordFault, object, text};
 use pdb_records::{DebugInformation, MachineType, Module, SectionContribution};
 use serde_json::Value;
 
-const MACHINES: [(&str, MachineType); 5] = [
+/// The names of the processors that have one of their own.
+pub const MACHINES: [(&str, MachineType); 5] = [
     ("Amd64", MachineType::Amd64),
     ("Arm64", MachineType::Arm64),
     ("Ia64", MachineType::Ia64),

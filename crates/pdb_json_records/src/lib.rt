@@ -22,5 +22,7 @@ mod symbols;
 mod types;
 
 pub use all_records::shared_records;
+pub use debug_information::MACHINES;
 pub use members::{FromJson, element, member};
 pub use name_values::Text;
+pub use types::{CLASS_KINDS, POINTER_MODES, PRIMITIVE_KINDS};

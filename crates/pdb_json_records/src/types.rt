@@ -18,7 +18,8 @@ use pdb_records::{
 };
 use serde_json::Value;
 
-const PRIMITIVE_KINDS: [(&str, PrimitiveKind); 43] = [
+/// The names of the types that the compiler brings.
+pub const PRIMITIVE_KINDS: [(&str, PrimitiveKind); 43] = [
     ("NoType", PrimitiveKind::NoType),
     ("Void", PrimitiveKind::Void),
     ("Char", PrimitiveKind::Char),
@@ -72,7 +73,8 @@ impl FromJson for PrimitiveKind {
     }
 }
 
-const CLASS_KINDS: [(&str, ClassKind); 3] = [
+/// The names of the words that classes are declared with.
+pub const CLASS_KINDS: [(&str, ClassKind); 3] = [
     ("Class", ClassKind::Class),
     ("Interface", ClassKind::Interface),
     ("Struct", ClassKind::Struct),
@@ -86,7 +88,8 @@ impl FromJson for ClassKind {
     }
 }
 
-const POINTER_MODES: [(&str, PointerMode); 5] = [
+/// The names of the ways in which pointers point.
+pub const POINTER_MODES: [(&str, PointerMode); 5] = [
     ("Pointer", PointerMode::Pointer),
     ("LValueReference", PointerMode::LValueReference),
     ("Member", PointerMode::Member),
