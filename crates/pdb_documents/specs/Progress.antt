@@ -44,6 +44,15 @@ beginning = record { steps = []; text = []; failure = None }
 abbrev pub with_step : Pending → Stage → Stage
 with_step step s = record { steps = step ∷ s.steps; text = s.text; failure = s.failure }
 
+-- these are to be printed next, one after the other
+abbrev pub with_tasks : List tasks.Task → Stage → Stage
+with_tasks [] s = s
+with_tasks (task ∷ further) s = with_step (Print task) (with_tasks further s)
+
+-- these were put before what was to be done, to be printed one after the other
+pub record Puts (put : List tasks.Task) (old new : Stage) : Type 0 where
+  pub is : new ≡ with_tasks put old
+
 -- this was written
 abbrev pub with_text : List ℕ → Stage → Stage
 with_text more s = record { steps = s.steps; text = s.text ++ more; failure = s.failure }

@@ -5,16 +5,16 @@
 //! [`progress`] holds what is still to be done, so that no depth of a document is a depth of calls.
 #![tactic(auto)]
 
-pub mod printed_texts;
 pub mod attributes;
 mod dimensions;
 pub mod failures;
 pub mod flags;
-pub mod signature_laws;
 mod namespaces;
 mod primitives;
+pub mod printed_texts;
 pub mod progress;
 pub mod seen;
+pub mod signature_laws;
 pub mod tasks;
 pub mod this;
 pub mod wording;

@@ -8,12 +8,12 @@ ghost use Rattle.pdb_documents.specs.declared.attributes.Predecessor.TheVariants
 ghost use Rattle.pdb_documents.specs.Attributes.{attributes_text};
 ghost use Rattle.pdb_documents.specs.Documents.{caught_by, is_sigil, ends_in_sigil};
 ghost use Rattle.pdb_documents.specs.Progress.{released_by, Stage, beginning, with_step, with_text, with_failure};
-ghost use Rattle.pdb_documents.specs.Progress.{failure_of, failure_in, MayBeCut, Opens, OpensAlone, Takes};
+ghost use Rattle.pdb_documents.specs.Progress.{failure_of, failure_in, MayBeCut, Opens, OpensAlone, Puts, Takes};
 ghost use Rattle.pdb_documents.specs.Wording.{wording_text, missing_text};
 
-use crate::printed_texts::Printed;
 use crate::attributes::{Attribute, Predecessor, write_attributes};
 use crate::failures::Failure;
+use crate::printed_texts::Printed;
 use crate::tasks::{Pending, Task};
 use crate::wording::{Wording, write, write_missing};
 use pdb_errors::Error;
@@ -103,6 +103,59 @@ impl<'s> Progress<'s> {
     {
         self.steps.push(Pending::Print(task))?;
         Ok(())
+    }
+
+    /// These two are printed next, one after the other, before what was next so far.
+    pub fn two(&mut self, first: Task<'s>, second: Task<'s>) -> Result<(), AllocError>
+        ensures { OnOk result (Puts (first.entry ∷ second.entry ∷ []) self.old self.new) }
+    {
+        self.first(second)?;
+        self.first(first)
+    }
+
+    /// The same of three.
+    pub fn three(
+        &mut self,
+        first: Task<'s>,
+        second: Task<'s>,
+        third: Task<'s>,
+    ) -> Result<(), AllocError>
+        ensures { OnOk result (Puts (first.entry ∷ second.entry ∷ third.entry ∷ []) self.old self.new) }
+    {
+        self.two(second, third)?;
+        self.first(first)
+    }
+
+    /// The same of four.
+    pub fn four(
+        &mut self,
+        first: Task<'s>,
+        second: Task<'s>,
+        third: Task<'s>,
+        fourth: Task<'s>,
+    ) -> Result<(), AllocError>
+        ensures { OnOk result
+            (Puts (first.entry ∷ second.entry ∷ third.entry ∷ fourth.entry ∷ []) self.old self.new) }
+    {
+        self.three(second, third, fourth)?;
+        self.first(first)
+    }
+
+    /// The same of six.
+    pub fn six(
+        &mut self,
+        first: Task<'s>,
+        second: Task<'s>,
+        third: Task<'s>,
+        fourth: Task<'s>,
+        fifth: Task<'s>,
+        sixth: Task<'s>,
+    ) -> Result<(), AllocError>
+        ensures { OnOk result (Puts (first.entry ∷ second.entry ∷ third.entry ∷ fourth.entry ∷ fifth.entry
+            ∷ sixth.entry ∷ []) self.old self.new) }
+    {
+        self.four(third, fourth, fifth, sixth)?;
+        self.two(first, second)
     }
 
     /// Printing fails.

@@ -1,5 +1,5 @@
 -- What stands among the steps of a stage.
-use Rattle.std.proofs.Common.{◌≡◌, ℕ, ◌+◌, ◌≤◌, List, ◌∷◌, length, refl, sym, ap, ◌∙◌, arith}
+use Rattle.std.proofs.Common.{◌≡◌, ℕ, ◌+◌, ◌≤◌, List, [], ◌∷◌, length, refl, sym, ap, ◌∙◌, arith}
 use Rattle.std.specs.Prelude.{reverse, Vec}
 use Rattle.std.specs.declared.alloc.Global.{Global}
 use Rattle.pdb_documents.specs.declared.tasks.Task as tasks
@@ -10,7 +10,7 @@ use Rattle.pdb_documents.specs.Attributes.{attributes_text}
 use Rattle.pdb_documents.specs.Documents.{Run, run, then_by}
 use Rattle.pdb_documents.specs.PrintInputs.{PrintInputs}
 use Rattle.pdb_documents.specs.Plans.{Plan, Buffered, ◌▸◌}
-use Rattle.pdb_documents.specs.Progress.{Stage, with_step, open_in, task_plan}
+use Rattle.pdb_documents.specs.Progress.{Stage, with_step, Puts, open_in, task_plan}
 use Rattle.pdb_signatures.specs.PendingPlans.{PendingPlan, Then, Goes, plans, Stands, StandsHere}
 use Rattle.pdb_signatures.proofs.GoesLemmas.{goes_on, goes_then, goes_fewer, goes_seq, goes_buffered}
 
@@ -49,6 +49,20 @@ stands_fewer n less stands = record {
   text = stands.text;
   failure = stands.failure;
 }
+
+-- what is printed of tasks, one after the other
+abbrev pub tasks_plan : PrintInputs → List ℕ → tasks.Task → List tasks.Task → Plan
+tasks_plan w inside task [] = task_plan w inside task
+tasks_plan w inside task (next ∷ further) = task_plan w inside task ▸ tasks_plan w inside next further
+
+-- tasks that were put first, one after the other, are their plans
+pub stands_all : (w : PrintInputs) {task : tasks.Task} {further : List tasks.Task} {old new : Stage}
+    → Puts (task ∷ further) old new
+    → Stands w (length further) (tasks_plan w (open_in old.steps) task further) old new
+stands_all w {further = []} put = stands_first w put.is
+stands_all w {task = task} {further = next ∷ rest} {old = old} put =
+    let further = stands_all w {task = next} {further = rest} {old = old} (record { is = refl }) in
+    stands_fewer (length (next ∷ rest)) (omega arith) (further ◂ put.is)
 
 -- what stands, stands here
 pub stands_here : {w : PrintInputs} {p : Plan} {old new : Stage} → Stands w 0 p old new → StandsHere w p old new

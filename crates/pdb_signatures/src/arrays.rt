@@ -66,8 +66,10 @@ impl<'a, P: ModuleProvider> TypeFormatter<'a, P> {
             Err(_) => return Err(AllocError),
         };
         self.type_inputs.remember(&mut self.cache, size.met)?;
-        progress.first(Task::Written(Wording::Dimensions(levels, size.size)))?;
-        progress.first(Task::OfType(type_data))
+        progress.two(
+            Task::OfType(type_data),
+            Task::Written(Wording::Dimensions(levels, size.size)),
+        )
     }
 
     // An element of an array that was read: one more level, or the base.

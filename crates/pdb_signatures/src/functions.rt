@@ -42,8 +42,7 @@ pub(crate) fn returned(
     let Some(index) = index else {
         return Ok(());
     };
-    progress.first(Task::Written(Wording::Text(" ")))?;
-    progress.first(Task::Index(index))
+    progress.two(Task::Index(index), Task::Written(Wording::Text(" ")))
 }
 
 // Further types, each behind a separator.
@@ -58,9 +57,11 @@ pub(crate) fn further_types<'s>(
     let Some((next, rest)) = list.split_first() else {
         return Ok(());
     };
-    progress.first(Task::FurtherTypes(separator, rest))?;
-    progress.first(Task::Index(*next))?;
-    progress.first(Task::Written(Wording::Text(separator)))
+    progress.three(
+        Task::Written(Wording::Text(separator)),
+        Task::Index(*next),
+        Task::FurtherTypes(separator, rest),
+    )
 }
 
 // Types, with a separator between them, behind `this` where that is one of them.
@@ -75,14 +76,12 @@ pub(crate) fn types_between<'s>(
         progress.old progress.new) }
 {
     if let Some(this) = this {
-        progress.first(Task::FurtherTypes(separator, list))?;
-        return progress.first(Task::Index(this));
+        return progress.two(Task::Index(this), Task::FurtherTypes(separator, list));
     }
     let Some((next, rest)) = list.split_first() else {
         return Ok(());
     };
-    progress.first(Task::FurtherTypes(separator, rest))?;
-    progress.first(Task::Index(*next))
+    progress.two(Task::Index(*next), Task::FurtherTypes(separator, rest))
 }
 
 // A function's arguments in parentheses, unless functions are printed without them.
@@ -97,7 +96,9 @@ pub(crate) fn function_arguments(
     if without_arguments(flags) {
         return Ok(());
     }
-    progress.first(Task::Written(Wording::Text(")")))?;
-    progress.first(Task::Index(list))?;
-    progress.first(Task::Written(Wording::Text("(")))
+    progress.three(
+        Task::Written(Wording::Text("(")),
+        Task::Index(list),
+        Task::Written(Wording::Text(")")),
+    )
 }

@@ -40,8 +40,7 @@ pub(crate) fn scope(
     let Some(index) = index else {
         return Ok(());
     };
-    progress.first(Task::Written(Wording::Text("::")))?;
-    progress.first(Task::Id(met, index))
+    progress.two(Task::Id(met, index), Task::Written(Wording::Text("::")))
 }
 
 // A function of a class: what it returns, the class, its name and its arguments.
@@ -56,12 +55,14 @@ fn method<'s>(
         progress.old progress.new) }
 {
     let return_type = unless_left_out(is_left_out(flags, m.is_constructor), Some(m.return_type));
-    progress.first(Task::MethodArguments(m, MethodForm::Signature))?;
-    progress.first(Task::Written(Wording::FunctionName(&method.name)))?;
-    progress.first(Task::Written(Wording::Text("::")))?;
-    progress.first(Task::Index(method.parent))?;
-    progress.first(Task::Returned(return_type))?;
-    progress.first(Task::Written(Wording::Text(static_word(flags, m.this_pointer_type))))
+    progress.six(
+        Task::Written(Wording::Text(static_word(flags, m.this_pointer_type))),
+        Task::Returned(return_type),
+        Task::Index(method.parent),
+        Task::Written(Wording::Text("::")),
+        Task::Written(Wording::FunctionName(&method.name)),
+        Task::MethodArguments(m, MethodForm::Signature),
+    )
 }
 
 // A function of no class: what it returns, its scope, its name and its arguments.
@@ -77,10 +78,12 @@ fn function<'s>(
         progress.old progress.new) }
 {
     let return_type = unless_left_out(is_left_out(flags, p.is_constructor), p.return_type);
-    progress.first(Task::FunctionArguments(p.argument_list))?;
-    progress.first(Task::Written(Wording::FunctionName(&function.name)))?;
-    progress.first(Task::Scope(met, function.scope))?;
-    progress.first(Task::Returned(return_type))
+    progress.four(
+        Task::Returned(return_type),
+        Task::Scope(met, function.scope),
+        Task::Written(Wording::FunctionName(&function.name)),
+        Task::FunctionArguments(p.argument_list),
+    )
 }
 
 // A function of a class, whose type was read: it has to be a method's.
@@ -136,9 +139,11 @@ fn string_list<'s>(
         progress.old failed progress.new failed) }
 {
     progress.open_alone(None)?;
-    progress.first(Task::Written(Wording::Text("\"")))?;
-    progress.first(Task::Types("\" \"", None, substrings))?;
-    progress.first(Task::Written(Wording::Text("\"")))
+    progress.three(
+        Task::Written(Wording::Text("\"")),
+        Task::Types("\" \"", None, substrings),
+        Task::Written(Wording::Text("\"")),
+    )
 }
 
 impl<'a, P: ModuleProvider> TypeFormatter<'a, P> {

@@ -43,9 +43,11 @@ pub(crate) fn method_list<'s>(
         → Stands w 0 (method_list w (open_in progress.old.steps) form list.now this)
         progress.old progress.new) }
 {
-    progress.first(Task::Written(Wording::Text(closing(form, this.constant))))?;
-    progress.first(Task::Types(comma(flags), this.argument, list))?;
-    progress.first(Task::Written(Wording::Text("(")))
+    progress.three(
+        Task::Written(Wording::Text("(")),
+        Task::Types(comma(flags), this.argument, list),
+        Task::Written(Wording::Text(closing(form, this.constant))),
+    )
 }
 
 impl<'a, P: ModuleProvider> TypeFormatter<'a, P> {

@@ -28,12 +28,14 @@ fn pointers_to_method<'s>(
         progress.old progress.new) }
 {
     let return_type = unless_left_out(m.is_constructor, Some(m.return_type));
-    progress.first(Task::MethodArguments(m, MethodForm::TypeName))?;
-    progress.first(Task::Written(Wording::Text(")")))?;
-    progress.first(Task::Written(Wording::Pointers(attributes)))?;
-    progress.first(Task::Index(m.class_type))?;
-    progress.first(Task::Written(Wording::Text("(")))?;
-    progress.first(Task::Returned(return_type))
+    progress.six(
+        Task::Returned(return_type),
+        Task::Written(Wording::Text("(")),
+        Task::Index(m.class_type),
+        Task::Written(Wording::Pointers(attributes)),
+        Task::Written(Wording::Text(")")),
+        Task::MethodArguments(m, MethodForm::TypeName),
+    )
 }
 
 // A pointer to a function: what it returns, the pointers in parentheses, and its arguments in
@@ -48,12 +50,14 @@ fn pointers_to_function<'s>(
         progress.old progress.new) }
 {
     let return_type = unless_left_out(p.is_constructor, p.return_type);
-    progress.first(Task::Written(Wording::Text(")")))?;
-    progress.first(Task::Index(p.argument_list))?;
-    progress.first(Task::Written(Wording::Text(")(")))?;
-    progress.first(Task::Written(Wording::Pointers(attributes)))?;
-    progress.first(Task::Written(Wording::Text("(")))?;
-    progress.first(Task::Returned(return_type))
+    progress.six(
+        Task::Returned(return_type),
+        Task::Written(Wording::Text("(")),
+        Task::Written(Wording::Pointers(attributes)),
+        Task::Written(Wording::Text(")(")),
+        Task::Index(p.argument_list),
+        Task::Written(Wording::Text(")")),
+    )
 }
 
 // The end of a chain of pointers: functions are printed around the pointers, and any other type before

@@ -44,9 +44,11 @@ fn method<'s>(
         → Stands w 0 (by_kind w (open_in progress.old.steps) (MemberFunction m.now)) progress.old progress.new) }
 {
     let return_type = unless_left_out(is_left_out(flags, m.is_constructor), Some(m.return_type));
-    progress.first(Task::MethodArguments(m, MethodForm::TypeName))?;
-    progress.first(Task::Written(Wording::Text("()")))?;
-    progress.first(Task::Returned(return_type))
+    progress.three(
+        Task::Returned(return_type),
+        Task::Written(Wording::Text("()")),
+        Task::MethodArguments(m, MethodForm::TypeName),
+    )
 }
 
 // A procedure: what it returns where that is wanted, and its arguments, with no parenthesis behind them.
@@ -59,9 +61,11 @@ fn procedure<'s>(
         → Stands w 0 (by_kind w (open_in progress.old.steps) (Procedure p.now)) progress.old progress.new) }
 {
     let return_type = unless_left_out(is_left_out(flags, p.is_constructor), p.return_type);
-    progress.first(Task::Index(p.argument_list))?;
-    progress.first(Task::Written(Wording::Text("()(")))?;
-    progress.first(Task::Returned(return_type))
+    progress.three(
+        Task::Returned(return_type),
+        Task::Written(Wording::Text("()(")),
+        Task::Index(p.argument_list),
+    )
 }
 
 // A pointer, constant where it says so or `constant` does: a chain of pointers begins.
@@ -110,8 +114,10 @@ pub(crate) fn modified<'s>(
         TypeData::Pointer(p) => pointer(progress, p, constant),
         TypeData::Primitive(p) => progress.first(Task::Written(Wording::Primitive(*p, constant))),
         _ => {
-            progress.first(Task::OfType(type_data))?;
-            progress.first(Task::Written(Wording::Text(const_word(constant))))
+            progress.two(
+                Task::Written(Wording::Text(const_word(constant))),
+                Task::OfType(type_data),
+            )
         }
     }
 }

@@ -32,10 +32,12 @@ fn method<'s>(
         progress.old progress.new) }
 {
     let return_type = unless_left_out(is_left_out(flags, m.is_constructor), Some(m.return_type));
-    progress.first(Task::MethodArguments(m, MethodForm::Signature))?;
-    progress.first(Task::Written(Wording::Text(function_name(name))))?;
-    progress.first(Task::Returned(return_type))?;
-    progress.first(Task::Written(Wording::Text(static_word(flags, m.this_pointer_type))))
+    progress.four(
+        Task::Written(Wording::Text(static_word(flags, m.this_pointer_type))),
+        Task::Returned(return_type),
+        Task::Written(Wording::Text(function_name(name))),
+        Task::MethodArguments(m, MethodForm::Signature),
+    )
 }
 
 // The signature of a procedure with this name.
@@ -50,9 +52,11 @@ fn procedure<'s>(
         progress.old progress.new) }
 {
     let return_type = unless_left_out(is_left_out(flags, p.is_constructor), p.return_type);
-    progress.first(Task::FunctionArguments(p.argument_list))?;
-    progress.first(Task::Written(Wording::Text(function_name(name))))?;
-    progress.first(Task::Returned(return_type))
+    progress.three(
+        Task::Returned(return_type),
+        Task::Written(Wording::Text(function_name(name))),
+        Task::FunctionArguments(p.argument_list),
+    )
 }
 
 // The signature of a function with this name and type. Where the type is no function's, the name as it is.

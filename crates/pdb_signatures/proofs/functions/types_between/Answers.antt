@@ -1,10 +1,16 @@
 use Rattle.std.proofs.lemmas.Result.{on_ok_weaker}
 use Rattle.std.proofs.Common.{arith}
-use Rattle.pdb_signatures.proofs.StandsLemmas.{stands_first, ◌◂◌, stands_fewer}
+use Rattle.pdb_signatures.proofs.StandsLemmas.{stands_all, stands_fewer}
 use Rattle.pdb_signatures.proofs.functions.types_between.Goals as goal
 
+pub returns-in-Some : goal.returns-in-Some
+returns-in-Some c = on_ok_weaker c.two.result (λ put w.
+    let all = stands_fewer 1 (omega arith) (stands_all w put) in
+    rw c.in-Some.is all)
+    c.two.ensures
+
 pub returns : goal.returns
-returns c = on_ok_weaker c.first-3.result (λ put w.
-    let all = stands_fewer 1 (omega arith) (stands_first w c.in_ok-first-2.ensures ◂ put) in
+returns c = on_ok_weaker c.two-2.result (λ put w.
+    let all = stands_fewer 1 (omega arith) (stands_all w put) in
     rw (c.in_default.is, c.in-Some-split_first.ensures.cases.0) all)
-    c.first-3.ensures
+    c.two-2.ensures

@@ -1,10 +1,10 @@
 use Rattle.std.proofs.lemmas.Result.{on_ok_weaker}
 use Rattle.std.proofs.Common.{arith}
-use Rattle.pdb_signatures.proofs.StandsLemmas.{stands_first, ◌◂◌, stands_fewer}
+use Rattle.pdb_signatures.proofs.StandsLemmas.{stands_all, stands_fewer}
 use Rattle.pdb_signatures.proofs.ids.scope.Goals as goal
 
 pub returns : goal.returns
-returns c = on_ok_weaker c.first-2.result (λ put w.
-    let all = stands_fewer 1 (omega arith) (stands_first w c.in_ok-first.ensures ◂ put) in
+returns c = on_ok_weaker c.two.result (λ put w.
+    let all = stands_fewer 1 (omega arith) (stands_all w put) in
     rw c.in-Some.is all)
-    c.first-2.ensures
+    c.two.ensures

@@ -1,17 +1,10 @@
 use Rattle.std.proofs.lemmas.Result.{on_ok_weaker}
 use Rattle.std.proofs.Common.{arith, refl, sym, ap}
 use Rattle.pdb_documents.specs.PrintInputs.{formatter_inputs}
-use Rattle.pdb_signatures.proofs.StandsLemmas.{stands_first, ◌◂◌, stands_fewer}
+use Rattle.pdb_signatures.proofs.StandsLemmas.{stands_all, stands_fewer}
 use Rattle.pdb_signatures.proofs.TurnLemmas.{advances_met}
 use Rattle.pdb_signatures.proofs.ReadLemmas.{adds_met}
 use Rattle.pdb_signatures.proofs.type_formatter.TypeFormatter.base.Goals as goal
-
-pub returns-in_err-first-clause-later : goal.returns-in_err-first-clause-later
-returns-in_err-first-clause-later g c =
-    let w = formatter_inputs g.P.ModuleProvider.info c.self.inside.type_inputs c.args.module_index in
-    let met = sym (ap (λ t. t.met) c.in-Ok.ensures.answer) in
-    let adds = adds_met w c.args.index.0 _ met c.in_ok-remember.ensures.failed in
-    rw (← c.self.view_is) (record { type_inputs = refl; broken = rw c.in-Ok.ensures.state.failed at adds })
 
 pub returns-clause-later : goal.returns-clause-later
 returns-clause-later g c =
@@ -21,10 +14,10 @@ returns-clause-later g c =
     rw (← c.self.view_is) (record { type_inputs = refl; broken = rw c.in-Ok.ensures.state.failed at adds })
 
 pub returns-clause-advances : goal.returns-clause-advances
-returns-clause-advances g c = rw (← c.self.view_is) (on_ok_weaker c.first-2.result (λ put.
+returns-clause-advances g c = rw (← c.self.view_is) (on_ok_weaker c.two.result (λ put.
     let w = formatter_inputs g.P.ModuleProvider.info c.self.inside.type_inputs c.args.module_index in
-    let row = stands_fewer 0 (omega arith) (stands_first w c.in_ok-first.ensures ◂ put) in
+    let row = stands_fewer 0 (omega arith) (stands_all w put) in
     let remembered = rw c.in-Ok.ensures.state.failed at c.in_ok-remember.ensures.failed in
     rw (← c.in-Ok.ensures.answer)
     (advances_met w _ _ c.args.progress.now _ c.self.inside.cache.failed _ c.requires.no_failure remembered row))
-    c.first-2.ensures)
+    c.two.ensures)
