@@ -6,10 +6,10 @@
 #![tactic(auto)]
 
 mod depth_tables;
+pub mod inline_range_laws;
 mod inline_ranges;
 mod inline_rows;
 mod inline_stacks;
-pub mod inline_range_laws;
 mod listed_ranges;
 mod missing_rows;
 mod procedure_stacks;

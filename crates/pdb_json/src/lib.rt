@@ -8,10 +8,10 @@
 #![tactic(auto)]
 
 mod json;
-pub mod records_file_laws;
 mod module_infos;
 mod named_files;
 mod records_file;
+pub mod records_file_laws;
 mod versions;
 
 pub use pdb_json_values::RecordFault;

@@ -21,11 +21,11 @@
 //! there are and how many differ.
 #![tactic(auto)]
 
-mod reading_texts;
 mod changes;
 mod members;
 mod module_files;
 mod no_json;
+mod reading_texts;
 mod tally;
 
 use changes::around;

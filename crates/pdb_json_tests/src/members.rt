@@ -1,7 +1,7 @@
 //! Files of which a member has another value, or is absent.
 
-use crate::reading_texts::is_wanted;
 use crate::changes::{around, joined};
+use crate::reading_texts::is_wanted;
 use crate::tally::Tally;
 use pdb_json::read_records;
 use serde_json::Value;

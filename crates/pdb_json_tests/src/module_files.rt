@@ -1,7 +1,7 @@
 //! Files with module files, and the names of these.
 
-use crate::reading_texts::{is_refused_as, is_wanted};
 use crate::changes::{around, changed, joined, parts};
+use crate::reading_texts::{is_refused_as, is_wanted};
 use pdb_json::{RecordFault, RecordsFile, module_files, read_records_with};
 use pdb_records::PDB;
 use std::alloc::{AllocError, Global};

@@ -3,18 +3,18 @@
 
 mod arguments;
 mod file_reports;
-pub mod report_laws;
 mod printed_frames;
 mod printed_lines;
-mod reports;
+pub mod report_laws;
 mod report_runs;
+mod reports;
 mod sinks;
 mod stops;
 
 pub use arguments::{Request, parse, parse_address};
 pub use file_reports::{report_file, report_read};
 pub use pdb_records_files::ran_out_of_memory;
-pub use reports::{Command, ReportFault, report};
 pub use report_runs::run;
+pub use reports::{Command, ReportFault, report};
 pub use sinks::{Out, Sink, SinkFault};
 pub use stops::Stop;

@@ -6,18 +6,18 @@
 //! modules can be files of a folder.
 #![tactic(auto)]
 
-mod request_answers;
 mod frame_texts;
 mod harmless_names;
 mod json_text;
+mod request_answers;
 mod request_reader;
 mod requests;
 mod wanted_modules;
 
-pub use request_answers::{error_line, write_answer};
 pub use frame_texts::{FoundFunction, FrameTexts, Place};
 pub use harmless_names::is_harmless_name;
 pub use json_text::write_quoted;
 pub use pdb_json_values::RecordFault;
+pub use request_answers::{error_line, write_answer};
 pub use requests::{FrameModule, Job, MemoryMapEntry, Request, Stack, StackFrame};
 pub use wanted_modules::{WantedModule, WantedModules};
