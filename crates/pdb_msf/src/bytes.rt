@@ -1,7 +1,7 @@
 //! What is left of bytes that are read from the front: numbers of one to eight bytes, and texts.
 
 ghost use Rattle.std.specs.Prelude.{◌≡◌, ◌≤◌, ◌<◌, ◌+◌, ◌==◌, length, take, drop, Some, None, IfSome, IfOk};
-ghost use Rattle.std.specs.Prelude.{slice_get, IfErr, OnOk, OnErr};
+ghost use Rattle.std.specs.Prelude.{◌-◌, ◌^◌, min, slice_get, IfErr, OnOk, OnErr};
 ghost use Rattle.pdb_msf.specs.Bytes.{counted_text_in, text_in, text_length};
 ghost use Rattle.pdb_msf.specs.NumberLists.{number, two_byte_number};
 
@@ -169,4 +169,11 @@ pub fn u32_at(front: &[u8], at: usize) -> u32
     ensures { result ≡ number (drop at front.now) }
 {
     LittleEndian::read_u32(&front[at..])
+}
+
+/// How far a reading has come: the bytes of the whole that are no longer left.
+pub fn offset_of(whole: usize, left: usize) -> u32
+    ensures { result ≡ min (whole - left) (2 ^ 32 - 1) }
+{
+    u32::try_from(whole.saturating_sub(left)).unwrap_or(u32::MAX)
 }

@@ -9,7 +9,7 @@ use Rattle.pdb_msf.specs.declared.faults.TheConstants.{CUT}
 use Rattle.pdb_msf.specs.Faults.{◌>>=◌}
 use Rattle.pdb_msf.specs.NumberLists.{number, two_byte_number}
 use Rattle.pdb_tpi.specs.declared.aggregates.SizedNames.{SizedNames}
-use Rattle.pdb_tpi.specs.Names.{name_in}
+use Rattle.pdb_tpi.specs.TypeNames.{name_in}
 use Rattle.pdb_tpi.specs.Numbers.{numeric_leaf, size_in}
 
 -- fwdref of the properties: the record is a forward reference, and the type is defined by another one

@@ -17,7 +17,7 @@ use Rattle.pdb_tpi.specs.declared.ids.IdKind.{IdKind}
 use Rattle.pdb_tpi.specs.declared.ids.IdKind.TheVariants as leaf
 use Rattle.pdb_tpi.specs.Contents.{or_error}
 use Rattle.pdb_tpi.specs.IndexLists.{index_list}
-use Rattle.pdb_tpi.specs.Names.{name_in}
+use Rattle.pdb_tpi.specs.TypeNames.{name_in}
 use Rattle.pdb_tpi.specs.TypeRecords.{TypeBytes}
 use Rattle.pdb_tpi.specs.TypeStream.{TypeList, index_at, items_from, type_list}
 

@@ -3,7 +3,7 @@ pub mod Contents
 pub mod Header
 pub mod Ids
 pub mod IndexLists
-pub mod Names
+pub mod TypeNames
 pub mod Numbers
 pub mod Primitives
 pub mod TypeRecords

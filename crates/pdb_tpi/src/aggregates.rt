@@ -5,8 +5,8 @@ ghost use Rattle.pdb_msf.specs.Faults.{Gives};
 ghost use Rattle.pdb_tpi.specs.Aggregates.{class, class_by, enumerate, enumeration, newer_class, newer_union};
 ghost use Rattle.pdb_tpi.specs.Aggregates.{sized_names, union, union_by, unique_name};
 
-use crate::names::take_name;
 use crate::numbers::{take_size, take_variant};
+use crate::type_names::take_name;
 use crate::types::{TypeKind, type_kind};
 use pdb_msf::faults::Fault;
 use pdb_msf::{Bytes, u16_at, u32_at};

@@ -9,7 +9,7 @@ ghost use Rattle.pdb_tpi.specs.Ids.{no_ids, optional_scope, string, string_list}
 
 use crate::contents::content_of;
 use crate::index_lists::read_indices;
-use crate::names::take_name;
+use crate::type_names::take_name;
 use crate::type_records::TypeRecord;
 use crate::type_stream::TypeStream;
 use pdb_msf::faults::Fault;

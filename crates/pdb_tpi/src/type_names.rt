@@ -1,7 +1,7 @@
 //! Names in the records of types and ids.
 
 ghost use Rattle.pdb_msf.specs.Faults.{Gives};
-ghost use Rattle.pdb_tpi.specs.Names.{name_in};
+ghost use Rattle.pdb_tpi.specs.TypeNames.{name_in};
 
 use pdb_msf::faults::Fault;
 use pdb_msf::{Bytes, copy_name};
