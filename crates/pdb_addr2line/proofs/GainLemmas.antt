@@ -1,6 +1,7 @@
 -- The parts that failed grow by broken ones alone.
 use Rattle.std.proofs.Common.{◌≡◌, ◌∙◌, ℕ, List, [], ◌∷◌, ◌++◌, refl}
 use Rattle.std.specs.List.{AllByRecursion}
+use Rattle.std.specs.Prelude.{Result, Ok, Err, OnOk}
 use Rattle.pdb_types.specs.FailedParts.{Parts}
 use Rattle.pdb_types.specs.TypeInputs.{TypeInputs}
 use Rattle.pdb_errors.specs.Provided.{ProviderInfos}
@@ -52,6 +53,14 @@ gains_by_one info before after inputs gains code = record {
   };
   code_failed = code;
 }
+
+-- a context in which these parts failed, and nothing else changed
+pub state_with_failed : {P A E : Type 0} (before after : ContextState P) (failed : Parts) (answer : Result A E)
+    → after.inputs ≡ before.inputs → OnOk answer (after.failed ≡ failed) → after.code_failed ≡ before.code_failed
+    → OnOk answer (after ≡ record before { failed = failed })
+state_with_failed before after failed (Ok found) inputs are code =
+    λ i. record { inputs = inputs i; failed = are i; code_failed = code i }
+state_with_failed before after failed (Err e) inputs are code = tt
 
 -- a context that stays as it is gains none
 pub gains_none : {P : Type 0} (info : P → ProviderInfos) (before after : ContextState P) → after ≡ before

@@ -1,12 +1,11 @@
 //! The functions of a program, one by one or all at once, by where they start.
 
-ghost use Rattle.std.specs.Prelude.{◌≡◌, [], ◌∷◌, ◌++◌, length, map, option_map, IfOk, OnOk, OnErr, MatchResult};
+ghost use Rattle.std.specs.Prelude.{◌≡◌, [], ◌∷◌, ◌++◌, length, map, IfOk, OnOk, OnErr, MatchResult};
 ghost use Rattle.pdb_errors.specs.declared.error.Error.TheVariants.{OutOfMemory};
 ghost use Rattle.pdb_function_info.specs.Function.{function_view};
 ghost use Rattle.pdb_addr2line.specs.Functions.{start_addresses, functions_at, functions_of, after_function};
 ghost use Rattle.pdb_addr2line.specs.Functions.{after_functions, IsCutShort, OnlyGainsBroken};
 ghost use Rattle.pdb_addr2line.specs.FunctionSteps.{untried, lender, ContinuesNext};
-ghost use Rattle.pdb_addr2line.specs.Lookups.{function_at};
 
 use crate::context::Context;
 use pdb_errors::{ModuleProvider, Result};
@@ -45,7 +44,7 @@ impl<'c, 'a, P: ModuleProvider> Iterator for FunctionIter<'c, 'a, P> {
 
     fn next(&mut self) -> Option<Result<Function>> {
         while let Some(address) = self.untried.next() {
-            let answered = self.context.next_function(address).transpose();
+            let answered = self.context.find_function(address).transpose();
             if answered.is_some() {
                 return answered;
             }
@@ -108,20 +107,9 @@ impl<'a, P: ModuleProvider> Context<'a, P> {
         ensures early { OnErr result (IsCutShort P.info self.old self.new (address ∷ [])) }
         ensures gains { OnlyGainsBroken P.info self.old self.new }
     {
-        if let Some(function) = self.next_function(address)? {
+        if let Some(function) = self.find_function(address)? {
             functions.push(function)?;
         }
         Ok(())
-    }
-
-    // The function over an address, by [`Context::find_function`].
-    pub(crate) fn next_function(&mut self, address: u32) -> Result<Option<Function>>
-        ensures answer { MatchResult result
-            (λ found. option_map function_view found ≡ function_at P.info self.old.inputs address)
-            (λ e. e ≡ OutOfMemory) }
-        ensures state { OnOk result (self.new ≡ after_function P.info self.old address) }
-        ensures gains { OnlyGainsBroken P.info self.old self.new }
-    {
-        self.find_function(address)
     }
 }

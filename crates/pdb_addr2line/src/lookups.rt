@@ -16,16 +16,17 @@ ghost use Rattle.pdb_function_info.specs.NameTexts.{GainsBroken};
 ghost use Rattle.pdb_function_info.specs.Function.{function_view, info_of, failed_after_info};
 ghost use Rattle.pdb_addr2line.specs.ContextInputs.{contributions_of, global_functions_of};
 ghost use Rattle.pdb_function_info.specs.Frames.{ButForMemory};
-ghost use Rattle.pdb_addr2line.specs.Lookups.{contribution_at, found_at, function_at, failed_after};
+ghost use Rattle.pdb_addr2line.specs.Functions.{after_function, OnlyGainsBroken};
+ghost use Rattle.pdb_addr2line.specs.Lookups.{contribution_at, found_at, function_at};
 ghost use Rattle.pdb_addr2line.specs.Lookups.{frames_of, failed_by_frames_of, failed_after_frames};
 ghost use Rattle.pdb_addr2line.specs.Lookups.{records_of, blamed_for, answered_refusal, failed_by_refusal};
 ghost use Rattle.pdb_addr2line.specs.Lookups.{frames_answered, code_failed_after, answered_error, with_blamed};
 
-use crate::caches::{frames_info_by, part_blamed_by};
+use crate::caches::part_blamed_by;
 use crate::context::Context;
 use pdb_errors::{Error, ModuleProvider, Result};
 use pdb_frames::{CodePart, FunctionFrames};
-use pdb_function_info::{Function, function_info};
+use pdb_function_info::{Function, frames_info, function_info};
 use pdb_functions::{
     ContributionTable, FoundFunction, GlobalFunctionTable, ModuleSectionContribution,
     ProcedureSymbolFunction, global_function_in,
@@ -47,9 +48,9 @@ impl<'a, P: ModuleProvider> Context<'a, P> {
             (λ found. option_map function_view found ≡ function_at P.info self.old.inputs address)
             (λ e. e ≡ OutOfMemory) }
         ensures inputs { self.new.inputs ≡ self.old.inputs }
-        ensures failed { OnOk result
-            (self.new.failed ≡ failed_after P.info self.old.inputs address self.old.failed) }
+        ensures state { OnOk result (self.new ≡ after_function P.info self.old address) }
         ensures code_failed { self.new.code_failed ≡ self.old.code_failed }
+        ensures gains { OnlyGainsBroken P.info self.old self.new }
         ensures broken { GainsBroken P.info self.old.inputs.type_inputs self.old.failed self.new.failed }
         // Outside every section and every contribution no memory is needed.
         ensures outside { contribution_at self.old.inputs address ≡ None
@@ -176,12 +177,14 @@ impl<'a, P: ModuleProvider> Context<'a, P> {
         ensures code_failed { self.new.code_failed ≡ self.old.code_failed }
         ensures broken { GainsBroken P.info self.old.inputs.type_inputs self.old.failed self.new.failed }
     {
-        frames_info_by(
-            &mut self.caches,
+        let tables = &self.tables;
+        frames_info(
             self.alloc,
             self.address_map,
-            &self.tables,
+            &tables.file_names,
+            &tables.global_functions,
             &mut self.names,
+            &mut self.caches.code,
             module_info,
             found,
             offset,

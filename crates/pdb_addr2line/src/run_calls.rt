@@ -88,7 +88,7 @@ impl<'a, P: ModuleProvider> Context<'a, P> {
         ensures memory { IfErr result (λ e. e ≡ OutOfMemory) }
         ensures gains { OnErr result (OnlyGainsBroken P.info self.old self.new) }
     {
-        let function = self.next_function(address)?;
+        let function = self.find_function(address)?;
         Ok(Answer::Function(function))
     }
 

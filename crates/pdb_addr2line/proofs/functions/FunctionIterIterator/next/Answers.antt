@@ -14,10 +14,10 @@ loop-address-preserved g c =
     let nothing = ap is_some (sym c.transpose-answered.ensures) ∙ (sym c.is_some.ensures ∙ c.if-is_some.false) in (
       c.loop-address.invariant.0,
       passed ++ c.in-Some.address ∷ [],
-      passed_here info (lender c.args.self.now) (lender c.loop-address.self) c.next_function.new.self all passed
+      passed_here info (lender c.args.self.now) (lender c.loop-address.self) c.find_function.new.self all passed
           (untried c.loop-address.self)
-          (into_iter_items c.next.new.self) c.in-Some.address c.next_function.result c.loop-address.invariant.2
-          c.in-Some.ensures.items c.next_function.ensures.answer c.next_function.ensures.state nothing,
+          (into_iter_items c.next.new.self) c.in-Some.address c.find_function.result c.loop-address.invariant.2
+          c.in-Some.ensures.items c.find_function.ensures.answer c.find_function.ensures.state nothing,
     )
 
 pub returns-then-is_some-clause-steps : goal.returns-then-is_some-clause-steps
@@ -27,10 +27,10 @@ returns-then-is_some-clause-steps g c =
     let passed = c.loop-address.invariant.1 in
     let something = ap is_some (sym c.transpose-answered.ensures) ∙ (sym c.is_some.ensures ∙ c.if-is_some.true) in
     let answered = answered_here info (lender c.args.self.now)
-    (lender c.loop-address.self) c.next_function.new.self all passed (untried c.loop-address.self)
-    (into_iter_items c.next.new.self) c.in-Some.address c.next_function.result c.loop-address.invariant.2
-    c.in-Some.ensures.items c.next_function.ensures.answer c.next_function.ensures.state
-    (on_error c.next_function.result c.next_function.ensures.gains) something in
+    (lender c.loop-address.self) c.find_function.new.self all passed (untried c.loop-address.self)
+    (into_iter_items c.next.new.self) c.in-Some.address c.find_function.result c.loop-address.invariant.2
+    c.in-Some.ensures.items c.find_function.ensures.answer c.find_function.ensures.state
+    (on_error c.find_function.result c.find_function.ensures.gains) something in
     record {
       same_reference = c.loop-address.invariant.0;
       matches = rw c.transpose-answered.ensures answered;
