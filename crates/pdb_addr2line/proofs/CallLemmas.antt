@@ -16,8 +16,7 @@ use Rattle.pdb_documents.specs.PrintInputs.{formatter_inputs}
 use Rattle.pdb_addr2line.specs.Calls.{AnswerView, FramesView, TextView, answer_to, after_call, answers_to, printed}
 use Rattle.pdb_addr2line.specs.Calls.{text_unless, successful, fresh}
 use Rattle.pdb_addr2line.specs.declared.calls.Call.{Call}
-use Rattle.pdb_addr2line.specs.declared.calls.Call.TheVariants.{FindFrames, Functions}
-use Rattle.pdb_addr2line.specs.declared.calls.Call.TheVariants.{FormatFunction, FormatId}
+use Rattle.pdb_addr2line.specs.declared.calls.Call.TheVariants.{FindFrames, Functions, FormatFunction, FormatId}
 use Rattle.pdb_addr2line.specs.Functions.{start_addresses}
 use Rattle.pdb_addr2line.specs.Lookups.{frames_at, frames_answered, blamed_at, answered_refusal}
 use Rattle.pdb_function_info.specs.NameTexts.{faultless}

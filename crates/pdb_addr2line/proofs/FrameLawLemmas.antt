@@ -15,8 +15,7 @@ use Rattle.pdb_functions.specs.FoundFunctions.{FoundFunction, function_module, f
 use Rattle.pdb_frames.specs.Frame.{FrameInfo, FramesInfo}
 use Rattle.pdb_frames.specs.Origins.{origin}
 use Rattle.pdb_addr2line.specs.FrameLaws.{EndIn}
-use Rattle.pdb_function_info.specs.Frames.{Strings, own_frame, inlined_frames, function_frames}
-use Rattle.pdb_function_info.specs.Frames.{function_size}
+use Rattle.pdb_function_info.specs.Frames.{Strings, own_frame, inlined_frames, function_frames, function_size}
 use Rattle.pdb_function_info.specs.Function.{sum_in_32_bits}
 use Rattle.pdb_addr2line.specs.Lookups.{found_at, frames_of, frames_at, records_of}
 use Rattle.pdb_function_info.specs.NameTexts.{function_name, id_name}

@@ -4,12 +4,11 @@ use Rattle.std.proofs.lemmas.List.{length-reverse, length-map}
 use Rattle.std.specs.Prelude.{Option, Some, None, Result, Ok, reverse}
 use Rattle.pdb_records.specs.LinePrograms.{Lines}
 use Rattle.pdb_records.specs.declared.modules.Inlinee.{Inlinee}
-use Rattle.pdb_errors.specs.Outcomes.{streamed}
+use Rattle.pdb_errors.specs.Outcomes.{streamed, unless}
 use Rattle.pdb_records.specs.declared.addresses.PdbInternalSectionOffset.{PdbInternalSectionOffset}
 use Rattle.pdb_records.specs.Addresses.{internal_offset}
 use Rattle.pdb_records.specs.declared.ids.IdIndex.{IdIndex}
 use Rattle.pdb_records.specs.declared.modules.ModuleInfo.{ModuleInfo}
-use Rattle.pdb_errors.specs.Outcomes.{unless}
 use Rattle.pdb_errors.specs.Provided.{ProviderInfos}
 use Rattle.pdb_errors.specs.declared.error.Error.{Error}
 use Rattle.pdb_functions.specs.FoundFunctions.{FoundFunction, found_procedure, found_global}

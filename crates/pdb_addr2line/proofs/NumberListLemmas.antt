@@ -1,6 +1,5 @@
 -- A number that is put among others in order.
-use Rattle.std.proofs.Common.{zero, suc, ◌≡◌, ◌⊎◌, ℕ, ◌<◌, List, [], ◌∷◌}
-use Rattle.std.proofs.Common.{inl, inr, refl, sym, arith}
+use Rattle.std.proofs.Common.{zero, suc, ◌≡◌, ◌⊎◌, ℕ, ◌<◌, List, [], ◌∷◌, inl, inr, refl, sym, arith}
 use Rattle.std.specs.BTreeSet.{insert_key}
 use Rattle.std.specs.List.{AllByRecursion, Contains}
 use Rattle.std.specs.Ordering.{nat_cmp, match_ordering}

@@ -1,7 +1,6 @@
 -- What a reader is shown by numbered calls and places.
 use Rattle.std.proofs.Common.{◌≡◌, ◌∙◌, ℕ, zero, suc, ◌+◌, ◌-◌, ◌≤◌, ◌<◌, List, [], ◌∷◌, ◌++◌, map, take, length}
-use Rattle.std.proofs.Common.{slice_get, get_or}
-use Rattle.std.proofs.Common.{Option, Some, None, option_map, refl, sym, ap, subst, arith}
+use Rattle.std.proofs.Common.{slice_get, get_or, Option, Some, None, option_map, refl, sym, ap, subst, arith}
 use Rattle.std.specs.Prelude.{is_some, if◌then◌else◌}
 use Rattle.std.specs.List.{AllZip}
 use Rattle.std.specs.Option.{option_and_then}
@@ -17,8 +16,7 @@ use Rattle.pdb_breakpad.specs.AddressSpans.{content_at}
 use Rattle.pdb_breakpad.specs.FrameTexts.{FrameText, frame_text}
 use Rattle.pdb_breakpad.specs.FunctionRecords.{Reads}
 use Rattle.pdb_breakpad.specs.InlineRecords.{calls_at}
-use Rattle.pdb_breakpad.specs.NumberedCode.{AreCalls, IsCall, IsCode, IsOptionalPlace}
-use Rattle.pdb_breakpad.specs.NumberedCode.{KeepsAllNames}
+use Rattle.pdb_breakpad.specs.NumberedCode.{AreCalls, IsCall, IsCode, IsOptionalPlace, KeepsAllNames}
 use Rattle.pdb_breakpad.specs.ShownFrames.{ShownCall, ShownFrame, ShownPlace, answer_shown, calls_between, calls_in}
 use Rattle.pdb_breakpad.specs.ShownFrames.{innermost_place, own_name, own_place, place_of, shown_up_to}
 use Rattle.pdb_breakpad.specs.ShownFrames.{stack_read, stack_shown}

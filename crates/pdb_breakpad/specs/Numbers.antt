@@ -1,6 +1,5 @@
 -- The numbers of names.
-use Rattle.std.specs.Prelude.{ℕ, ◌≡◌, List, Some, slice_get}
-use Rattle.std.specs.Prelude.{String}
+use Rattle.std.specs.Prelude.{ℕ, ◌≡◌, List, Some, slice_get, String}
 use Rattle.std.specs.BTreeMap.{BTreeMap, get_by_text}
 
 -- a table has the numbers of names: under each name one at which it stands

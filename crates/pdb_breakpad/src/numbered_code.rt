@@ -2,8 +2,7 @@
 
 ghost use Rattle.std.specs.Prelude.{◌≡◌, map, IfOk};
 ghost use Rattle.pdb_breakpad.specs.FrameTexts.{frame_text};
-ghost use Rattle.pdb_breakpad.specs.NumberedCode.{IsCall, IsPlace, IsOptionalPlace, AreCalls, IsCode};
-ghost use Rattle.pdb_breakpad.specs.NumberedCode.{KeepsAllNames};
+ghost use Rattle.pdb_breakpad.specs.NumberedCode.{IsCall, IsPlace, IsOptionalPlace, AreCalls, IsCode, KeepsAllNames};
 ghost use Rattle.pdb_breakpad.specs.ShownFrames.{calls_in, innermost_place, own_place, place_of};
 
 use crate::frame_texts::{file_name, function_name};

@@ -24,8 +24,7 @@ use Rattle.pdb_report_lib.specs.Reports.{addresses_text, function_text, stack_te
 use Rattle.pdb_report_lib.specs.Reports.{EndsEarly}
 use Rattle.pdb_c.specs.declared.refusals.Refusal.{Refusal}
 use Rattle.pdb_c.specs.declared.refusals.Refusal.TheVariants as refusal
-use Rattle.pdb_c.specs.Refusals.{refusal_of, refusal_of_fault, refusal_or_memory, refusal_of_records}
-use Rattle.pdb_c.specs.Refusals.{refusal_of_report}
+use Rattle.pdb_c.specs.Refusals.{refusal_of, refusal_of_fault, refusal_or_memory, refusal_of_records, refusal_of_report}
 use Rattle.std.specs.Result.{IsErrAnd}
 use Rattle.pdb_c.specs.Texts.{with_refusal, text_of_context, text_over, Agrees}
 use Rattle.pdb_c.specs.Questions.{infos}

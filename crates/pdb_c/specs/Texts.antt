@@ -11,8 +11,7 @@ use Rattle.pdb_report_lib.specs.declared.reports.Command.{Command}
 use Rattle.pdb_report_lib.specs.Reports.{report_text}
 use Rattle.pdb_report_lib.specs.FileReports.{opened}
 use Rattle.pdb_c.specs.declared.refusals.Refusal.{Refusal}
-use Rattle.pdb_c.specs.declared.refusals.Refusal.TheVariants.{NoAddresses, RecordsRefused, AddressRefused}
-use Rattle.pdb_c.specs.declared.refusals.Refusal.TheVariants.{OutOfMemory}
+use Rattle.pdb_c.specs.declared.refusals.Refusal.TheVariants.{NoAddresses, RecordsRefused, AddressRefused, OutOfMemory}
 use Rattle.pdb_c.specs.Refusals.{refusal_of}
 
 -- an answer whose error is shown as a refusal

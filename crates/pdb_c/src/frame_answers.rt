@@ -9,8 +9,7 @@ ghost use Rattle.pdb_c.specs.FrameAnswers.{shown_result, LeavesFrames};
 ghost use Rattle.pdb_c.specs.Questions.{infos, frames_over, answer_in, report_asked};
 ghost use Rattle.pdb_c.specs.Questions.{IsLeftByCall, IsLeftBy, IsLeftByReport};
 ghost use Rattle.pdb_c.specs.Texts.{Agrees};
-ghost use Rattle.pdb_c.specs.declared.found_frames.Question.TheVariants.{Frames, NextStart};
-ghost use Rattle.pdb_c.specs.declared.found_frames.Question.TheVariants.{Function as of_function};
+ghost use Rattle.pdb_c.specs.declared.found_frames.Question.TheVariants.{Frames, NextStart, Function as of_function};
 ghost use Rattle.pdb_c.specs.declared.refusals.Refusal.TheVariants.{OutOfMemory};
 
 use crate::found_frames::{

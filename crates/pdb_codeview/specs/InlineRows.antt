@@ -1,7 +1,6 @@
 -- The rows of an inlined body: what its annotations say, one after the other.
 use Rattle.std.specs.Prelude.{ℕ, ◌+◌, ◌-◌, ◌/◌, ◌%◌, ◌^◌, ◌==◌, Bool, true, false, nat_le, List, [], ◌∷◌, ◌++◌}
-use Rattle.std.specs.Prelude.{Option, Some, None}
-use Rattle.std.specs.Prelude.{option_to_list, option_map, if◌then◌else◌}
+use Rattle.std.specs.Prelude.{Option, Some, None, option_to_list, option_map, if◌then◌else◌}
 use Rattle.pdb_records.specs.declared.symbols.InlineRow.{InlineRow}
 use Rattle.pdb_codeview.specs.declared.annotations.Annotation.{Annotation}
 use Rattle.pdb_codeview.specs.declared.annotations.Annotation.TheVariants.{Start, Advance, Length, File, Line}

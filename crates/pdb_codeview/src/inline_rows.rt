@@ -1,8 +1,7 @@
 //! The rows of an inline site, made of its annotations one after the other.
 
 ghost use Rattle.std.specs.Prelude.{◌≡◌, IfErr, IfOk, None};
-ghost use Rattle.pdb_codeview.specs.InlineRows.{moved, moved_line, starts_row, own_length, closed, lengthened};
-ghost use Rattle.pdb_codeview.specs.InlineRows.{new_row};
+ghost use Rattle.pdb_codeview.specs.InlineRows.{moved, moved_line, starts_row, own_length, closed, lengthened, new_row};
 ghost use Rattle.pdb_codeview.specs.InlineRows.{rows_from};
 
 use crate::annotations::Annotation;

@@ -2,8 +2,7 @@
 
 ghost use Rattle.std.specs.Prelude.{◌≡◌, ◌≤◌, length, IfErr, IfOk, IfSome, option_map};
 ghost use Rattle.std.specs.List.Sorted.{IsNonDecreasingBy};
-ghost use Rattle.pdb_codeview.specs.SymbolRecords.{is_filler, name_behind, name_in, position_at};
-ghost use Rattle.pdb_codeview.specs.SymbolRecords.{symbol_records};
+ghost use Rattle.pdb_codeview.specs.SymbolRecords.{is_filler, name_behind, name_in, position_at, symbol_records};
 
 use pdb_msf::faults::{BAD_LENGTH, Fault};
 use pdb_msf::{Bytes, ItemReader, push_items};

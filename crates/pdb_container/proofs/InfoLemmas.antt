@@ -1,6 +1,5 @@
 -- The info stream, step by step.
-use Rattle.std.proofs.Common.{◌≡◌, ◌∙◌, ℕ, ◌+◌, ◌-◌, ◌≤◌, ◌<◌, List, take, drop, length, ap, length-drop}
-use Rattle.std.proofs.Common.{arith, subst}
+use Rattle.std.proofs.Common.{◌≡◌, ◌∙◌, ℕ, ◌+◌, ◌-◌, ◌≤◌, ◌<◌, List, take, drop, length, ap, length-drop, arith, subst}
 use Rattle.std.proofs.lemmas.List.{drop-drop}
 use Rattle.pdb_msf.specs.NumberLists.{number}
 use Rattle.pdb_container.specs.Info.{bits_size, names, present_place, table_place}

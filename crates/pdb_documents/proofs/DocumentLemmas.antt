@@ -4,8 +4,7 @@ use Rattle.pdb_records.specs.declared.types.TypeData.TheVariants.{Array}
 use Rattle.pdb_types.specs.FailedParts.{Parts}
 use Rattle.pdb_documents.specs.Documents.{Document, Run, run}
 use Rattle.pdb_documents.specs.PrintInputs.{PrintInputs}
-use Rattle.pdb_documents.specs.Plans.{Task, OfType, Elements}
-use Rattle.pdb_documents.specs.Plans.{Id, Plan, Done, Later, Seq, Buffered, Catch}
+use Rattle.pdb_documents.specs.Plans.{Task, OfType, Elements, Id, Plan, Done, Later, Seq, Buffered, Catch}
 use Rattle.pdb_documents.specs.Rules.{rule}
 use Rattle.pdb_documents.specs.Unfolding.{Unfolds, done, later, seq, buffered, catch, HasOneUnfolding, Runs}
 use Rattle.pdb_documents.specs.Printed.{plan_document, task_document, enough_for, document_of}

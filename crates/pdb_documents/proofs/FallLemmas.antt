@@ -5,8 +5,7 @@ use Rattle.std.specs.BTreeSet.{insert_key}
 use Rattle.std.specs.Ordering.{nat_cmp}
 use Rattle.pdb_records.specs.declared.types.TypeData.{TypeData}
 use Rattle.pdb_records.specs.declared.types.TypeData.TheVariants.{Primitive, MemberFunction, Procedure, Pointer}
-use Rattle.pdb_records.specs.declared.types.TypeData.TheVariants.{Array, Modifier}
-use Rattle.pdb_records.specs.declared.types.TypeData.TheVariants.{ArgumentList}
+use Rattle.pdb_records.specs.declared.types.TypeData.TheVariants.{Array, Modifier, ArgumentList}
 use Rattle.pdb_types.specs.declared.read_error.Part.{Part}
 use Rattle.pdb_documents.specs.Wording.{comma}
 use Rattle.pdb_documents.specs.declared.tasks.MethodForm.TheVariants.{TypeName}

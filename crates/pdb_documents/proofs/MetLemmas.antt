@@ -10,8 +10,7 @@ use Rattle.pdb_types.specs.declared.read_error.Part.{Part}
 use Rattle.pdb_types.specs.declared.read_error.Part.TheVariants.{Imports, Exports}
 use Rattle.pdb_types.specs.FailedParts.{Parts, part_cmp, with_part}
 use Rattle.pdb_documents.specs.BrokenParts.{with_parts, Settled}
-use Rattle.pdb_documents.specs.Documents.{Failure, Document, Text, Seq, Buffered, Catch, Fail}
-use Rattle.pdb_documents.specs.Documents.{Ask, Met, run}
+use Rattle.pdb_documents.specs.Documents.{Failure, Document, Text, Seq, Buffered, Catch, Fail, Ask, Met, run}
 use Rattle.pdb_documents.proofs.AlikeLemmas.{alike-runs}
 
 -- ---- the order of parts

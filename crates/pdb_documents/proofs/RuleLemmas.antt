@@ -6,8 +6,7 @@ use Rattle.pdb_records.specs.declared.types.TypeIndex.{TypeIndex}
 use Rattle.pdb_records.specs.declared.types.MemberFunctionType.{MemberFunctionType}
 use Rattle.pdb_records.specs.declared.ids.IdData.{IdData}
 use Rattle.pdb_records.specs.declared.types.TypeData.{TypeData}
-use Rattle.pdb_records.specs.declared.types.TypeData.TheVariants.{Array}
-use Rattle.pdb_records.specs.declared.types.TypeData.TheVariants.{ArgumentList}
+use Rattle.pdb_records.specs.declared.types.TypeData.TheVariants.{Array, ArgumentList}
 use Rattle.pdb_documents.specs.Flags.{without_arguments}
 use Rattle.pdb_types.specs.ReadError.{ReadErrorView}
 use Rattle.pdb_documents.specs.PrintInputs.{PrintInputs}

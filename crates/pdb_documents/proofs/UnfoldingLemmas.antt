@@ -1,6 +1,5 @@
 -- A plan unfolds to one document.
-use Rattle.std.proofs.Common.{◌≡◌, ◌^◌, ℕ, ◌<◌, true, List, [], refl}
-use Rattle.std.proofs.Common.{ap}
+use Rattle.std.proofs.Common.{◌≡◌, ◌^◌, ℕ, ◌<◌, true, List, [], refl, ap}
 use Rattle.std.specs.Prelude.{Some, Ok}
 use Rattle.pdb_records.specs.Readings.{Read}
 use Rattle.pdb_records.specs.declared.types.Item.{Item}

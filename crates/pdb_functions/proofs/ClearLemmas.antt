@@ -1,6 +1,5 @@
 -- Which of two intervals comes before the other, and intervals of which each lies before or behind the others.
-use Rattle.std.proofs.Common.{◌≡◌, ◌∙◌, ◌<◌, ◌≤◌, ℕ, Bool, true, false, cond, List, [], ◌∷◌, refl}
-use Rattle.std.proofs.Common.{sym, inl, inr, arith}
+use Rattle.std.proofs.Common.{◌≡◌, ◌∙◌, ◌<◌, ◌≤◌, ℕ, Bool, true, false, cond, List, [], ◌∷◌, refl, sym, inl, inr, arith}
 use Rattle.std.specs.Prelude.{◌⊎◌, ⊤, nat_lt, max}
 use Rattle.std.specs.List.{AllByRecursion}
 use Rattle.std.specs.Ordering.{nat_cmp, ordering_then, is_lt, MatchOrdering}
@@ -10,8 +9,7 @@ use Rattle.std.specs.declared.cmp.Ordering.TheVariants.{Less, Equal, Greater}
 use Rattle.std.proofs.lemmas.Cmp.{ranked}
 use Rattle.pdb_functions.specs.declared.contributions.ModuleSectionContribution.{ModuleSectionContribution}
 use Rattle.pdb_tables.specs.InOrder.{put, in_order}
-use Rattle.pdb_functions.specs.Contributions.{is_same_module, contribution_before, intervals_with}
-use Rattle.pdb_functions.specs.Contributions.{intervals_of}
+use Rattle.pdb_functions.specs.Contributions.{is_same_module, contribution_before, intervals_with, intervals_of}
 use Rattle.pdb_functions.specs.ReadingOrder.{AreOnly}
 use Rattle.pdb_functions.specs.LookupLaws.{IsFilled, LiesBefore, AreApart}
 use Rattle.pdb_tables.proofs.NumberLemmas.{cases_lt}

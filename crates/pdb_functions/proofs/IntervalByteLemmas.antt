@@ -8,8 +8,7 @@ use Rattle.std.proofs.Math.Nat.{max-eq_left, max-eq_right}
 use Rattle.pdb_errors.specs.declared.error.Error.{Error}
 use Rattle.pdb_errors.specs.declared.error.Error.TheVariants.{OverlappingSectionContributions}
 use Rattle.pdb_functions.specs.declared.contributions.ModuleSectionContribution.{ModuleSectionContribution}
-use Rattle.pdb_functions.specs.Contributions.{is_same_module, intervals_with, intervals_of}
-use Rattle.pdb_functions.specs.Contributions.{overlap_after}
+use Rattle.pdb_functions.specs.Contributions.{is_same_module, intervals_with, intervals_of, overlap_after}
 use Rattle.pdb_functions.specs.LookupLaws.{IsFilled, LiesBefore, AreApart, lies_in, LiesInOneOf}
 use Rattle.pdb_functions.specs.LookupLaws.{IsApartFrom, NeighboursDiffer, HasByteOf, IsOverlap}
 use Rattle.pdb_tables.proofs.NumberLemmas.{cases_lt, cases_le, le-leb, eqb_same}

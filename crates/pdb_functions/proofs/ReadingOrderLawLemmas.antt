@@ -14,8 +14,7 @@ use Rattle.pdb_tables.specs.InOrder.{put, in_order}
 use Rattle.pdb_functions.specs.Contributions.{claims, is_same_module, refused_ends, contribution_before, intervals_with}
 use Rattle.pdb_functions.specs.Contributions.{intervals_of, overlap_after, merged_contributions}
 use Rattle.pdb_functions.specs.ReadingOrder.{AreOnly, StartsNeverFall, reading_intervals, refusal_after}
-use Rattle.pdb_functions.specs.ReadingOrder.{joining_refusal}
-use Rattle.pdb_functions.specs.ReadingOrder.{merged_in_reading_order}
+use Rattle.pdb_functions.specs.ReadingOrder.{joining_refusal, merged_in_reading_order}
 use Rattle.pdb_functions.specs.LookupLaws.{IsFilled, LiesBefore}
 use Rattle.pdb_tables.proofs.SortLemmas.{Rises, rises_in_order}
 use Rattle.pdb_functions.proofs.ContributionLemmas.{contributions_rank, both_accepted}
@@ -23,8 +22,7 @@ use Rattle.pdb_functions.proofs.OrderLemmas.{all_weaker, all_in_order}
 use Rattle.pdb_functions.proofs.IntervalLemmas.{same_fields, starts_rise, apart_from_starts, intervals_filled}
 use Rattle.pdb_functions.proofs.MergedLemmas.{claims_filled, unless_accepted}
 use Rattle.pdb_functions.proofs.ReadingOrderLemmas.{same_of_alike, reading_intervals_are}
-use Rattle.pdb_functions.proofs.ReadingOrderLemmas.{neither_refused, ends_accepted_in_reading, IsNoEarlier}
-use Rattle.pdb_functions.proofs.ReadingOrderLemmas.{never_fall}
+use Rattle.pdb_functions.proofs.ReadingOrderLemmas.{neither_refused, ends_accepted_in_reading, IsNoEarlier, never_fall}
 use Rattle.pdb_functions.proofs.ClearLemmas.{starts_before, not_before, before_when_lies, behind_when_lies}
 use Rattle.pdb_functions.proofs.ClearLemmas.{starts_behind, IsOther, StartsBehind, IsClear, IsClearOfOther, AreClear}
 use Rattle.pdb_functions.proofs.ClearLemmas.{NoneFalls, other_back, joined, second_lies, lies_before_second}

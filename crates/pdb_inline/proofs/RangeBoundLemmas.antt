@@ -7,7 +7,7 @@ use Rattle.std.specs.List.Sorted.{IsPermutation, IsSorted}
 use Rattle.std.specs.Ordering.{nat_cmp}
 use Rattle.std.proofs.lemmas.Bool.{or_cases, or_left, or_right, leb-true, le-leb}
 use Rattle.std.proofs.lemmas.Bool.Decides.{nat_tests}
-use Rattle.std.proofs.lemmas.List.Sorted.{list_any-IsPermutation}
+use Rattle.std.proofs.lemmas.List.Sorted.{list_any-IsPermutation, ranks_by}
 use Rattle.pdb_tables.specs.RangeSet.{is_within}
 use Rattle.pdb_tables.proofs.HasLemmas.{within_above}
 use Rattle.pdb_tables.proofs.NumberLemmas.{eqb_same}
@@ -15,7 +15,6 @@ use Rattle.pdb_tables.proofs.SortLemmas.{Rises, rises_from_sorted}
 use Rattle.pdb_inline.specs.declared.inline_ranges.InlineRange.{InlineRange}
 use Rattle.pdb_inline.specs.RangeBounds.{bounds, ChangesAt}
 use Rattle.std.proofs.lemmas.Cmp.{nat_cmp_total}
-use Rattle.std.proofs.lemmas.List.Sorted.{ranks_by}
 use Rattle.pdb_tables.specs.Keyed.{is_lower}
 use Rattle.pdb_inline.proofs.LastPickedLemmas.{no_less_from}
 

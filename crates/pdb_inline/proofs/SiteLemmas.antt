@@ -1,9 +1,7 @@
 -- The turns of a walk, one symbol at a time.
 use Rattle.std.proofs.Common.{◌≡◌, ◌∙◌, ℕ, zero, suc, ◌+◌, ◌-◌, ◌<◌, ◌≤◌, min, List, [], ◌∷◌, ◌++◌, length, map, drop}
-use Rattle.std.proofs.Common.{reverse, refl, ap, arith, inl, inr, add-one}
-use Rattle.std.specs.Prelude.{◌⊎◌}
-use Rattle.std.specs.Prelude.{Option, Some, None, Ok, option_map, option_to_list, is_some}
-use Rattle.std.proofs.Common.{false, sym}
+use Rattle.std.proofs.Common.{reverse, refl, ap, arith, inl, inr, add-one, false, sym}
+use Rattle.std.specs.Prelude.{◌⊎◌, Option, Some, None, Ok, option_map, option_to_list, is_some}
 use Rattle.std.proofs.lemmas.Bool.{cases_lt, le-leb, lt-leb, lt-ltb, le-ltb}
 use Rattle.std.proofs.lemmas.List.{map-append, reverse-append, append-nil, append_assoc, length-reverse, length-map}
 use Rattle.pdb_records.specs.declared.error.StreamError.{StreamError}

@@ -1,17 +1,14 @@
 -- Each entry of a stack is a range of a site.
-use Rattle.std.proofs.Common.{◌≡◌, ℕ, Bool, true, false, cond, List, []}
-use Rattle.std.proofs.Common.{◌∷◌, subst, arith, inl, inr}
+use Rattle.std.proofs.Common.{◌≡◌, ℕ, Bool, true, false, cond, List, [], ◌∷◌, subst, arith, inl, inr}
 use Rattle.std.specs.List.{Contains, flat_map, slice_get}
 use Rattle.std.specs.Prelude.{Some, IsTrue, ◌⊎◌}
 use Rattle.std.proofs.lemmas.List.Elements.{Contains-append_cases, Contains-append_left, Contains-append_right}
 use Rattle.pdb_records.specs.declared.ids.IdIndex.{IdIndex}
 use Rattle.pdb_inline.specs.declared.inline_ranges.InlineRange.{InlineRange}
 use Rattle.pdb_inline.specs.Sites.{Site, depth}
-use Rattle.pdb_inline.specs.InlineRanges.{missing, own_ranges, added_ranges, read_ranges}
-use Rattle.pdb_inline.specs.InlineRanges.{range_before, inline_ranges}
+use Rattle.pdb_inline.specs.InlineRanges.{missing, own_ranges, added_ranges, read_ranges, range_before, inline_ranges}
 use Rattle.pdb_tables.specs.InOrder.{put, in_order}
-use Rattle.pdb_inline.specs.InlineStacks.{lies_over, inline_stack}
-use Rattle.pdb_inline.specs.InlineStacks.{site_ranges}
+use Rattle.pdb_inline.specs.InlineStacks.{lies_over, inline_stack, site_ranges}
 use Rattle.pdb_inline.proofs.WellNestedLemmas.{contains_cases}
 use Rattle.pdb_inline.proofs.DirectlyInsideLemmas.{contains_later, contains_first, over_from_range, stack_entry}
 

@@ -1,7 +1,6 @@
 //! Reads the debug information: the machine type, the modules, and the contributions to sections.
 
-ghost use Rattle.pdb_json_records.specs.DebugInformation.{machine_of, module_of, contribution_of};
-ghost use Rattle.pdb_json_records.specs.DebugInformation.{debug_information_of};
+ghost use Rattle.pdb_json_records.specs.DebugInformation.{machine_of, module_of, contribution_of, debug_information_of};
 
 use crate::members::{FromJson, member};
 use crate::name_values::named;

@@ -35,8 +35,7 @@ use Rattle.pdb_documents.specs.Functions.{unless_left_out, returned, further_typ
 use Rattle.pdb_documents.specs.Ids.{method_id, scope, function_id, id_by_kind}
 use Rattle.pdb_documents.specs.Methods.{plain_this, this_by_target, this_by_type, this_of, arguments_behind}
 use Rattle.pdb_documents.specs.Methods.{method_list, on_list}
-use Rattle.pdb_documents.specs.Plans.{Index, OfType}
-use Rattle.pdb_documents.specs.Plans.{Plan, Done, Later, Seq, Buffered, Catch, ◌▸◌, written}
+use Rattle.pdb_documents.specs.Plans.{Index, OfType, Plan, Done, Later, Seq, Buffered, Catch, ◌▸◌, written}
 use Rattle.pdb_documents.specs.Plans.{refusal, note_or_refusal, on_read, on_printed, met_before}
 use Rattle.pdb_documents.specs.Rules.{chain_end, behind_modifier, behind_pointer, element, modified, by_kind}
 use Rattle.pdb_documents.specs.Signatures.{signature_by_type, signature}

@@ -1,6 +1,5 @@
 -- What the rule of a task gives: what fails for nothing but some errors, or the refusal of an index that it repeats.
-use Rattle.std.proofs.Common.{◌≡◌, ℕ, Bool, true, false, List, [], ◌∷◌, Ok, Err, Result, refl}
-use Rattle.std.proofs.Common.{inl, inr}
+use Rattle.std.proofs.Common.{◌≡◌, ℕ, Bool, true, false, List, [], ◌∷◌, Ok, Err, Result, refl, inl, inr}
 use Rattle.std.specs.Prelude.{◌⊎◌}
 use Rattle.std.specs.BTreeSet.{insert_key}
 use Rattle.std.specs.Ordering.{nat_cmp}
@@ -11,8 +10,7 @@ use Rattle.pdb_documents.specs.Flags.{without_arguments}
 use Rattle.pdb_documents.specs.Ids.{id_by_kind}
 use Rattle.pdb_documents.specs.Methods.{on_list}
 use Rattle.pdb_documents.specs.Plans.{Task, Index, OfType, MethodArguments, Chain, BehindModifier, Modified, Elements}
-use Rattle.pdb_documents.specs.Plans.{Id, Plan, Later, circular, is_among}
-use Rattle.pdb_documents.specs.Plans.{opening}
+use Rattle.pdb_documents.specs.Plans.{Id, Plan, Later, circular, is_among, opening}
 use Rattle.pdb_documents.specs.Rules.{behind_modifier, behind_pointer, element, modified, rule}
 use Rattle.pdb_documents.specs.PrintInputs.{PrintInputs}
 use Rattle.pdb_laws.specs.Circles.{Repeats}

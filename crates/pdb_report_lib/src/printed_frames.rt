@@ -1,7 +1,6 @@
 //! The lines that are written of the frames over an address.
 
-ghost use Rattle.std.specs.Prelude.{◌≡◌, ◌++◌, length, string_bytes, IfOk, OnOk};
-ghost use Rattle.std.specs.Prelude.{option_map};
+ghost use Rattle.std.specs.Prelude.{◌≡◌, ◌++◌, length, string_bytes, IfOk, OnOk, option_map};
 ghost use Rattle.std.specs.Cow.{cow_str_bytes};
 ghost use Rattle.pdb_report_lib.specs.PrintedFrames.{file_text, line_number_text, frame_line};
 ghost use Rattle.pdb_report_lib.specs.PrintedFrames.{frame_lines, frames_heading, frames_text};

@@ -9,8 +9,7 @@ use Rattle.pdb_records.specs.declared.types.PointerType.{PointerType}
 use Rattle.pdb_records.specs.declared.types.ModifierType.{ModifierType}
 use Rattle.pdb_records.specs.declared.types.TypeData.{TypeData}
 use Rattle.pdb_records.specs.declared.types.TypeData.TheVariants.{Primitive, MemberFunction, Procedure, Pointer}
-use Rattle.pdb_records.specs.declared.types.TypeData.TheVariants.{Modifier}
-use Rattle.pdb_records.specs.declared.types.TypeData.TheVariants.{ArgumentList}
+use Rattle.pdb_records.specs.declared.types.TypeData.TheVariants.{Modifier, ArgumentList}
 use Rattle.pdb_errors.specs.declared.error.Error.TheVariants.{ArgumentTypeNotArgumentList}
 use Rattle.pdb_errors.specs.declared.error.Error.TheVariants.{MemberFunctionIdIsNotMemberFunctionType}
 use Rattle.pdb_errors.specs.declared.error.Error.TheVariants.{FunctionIdIsNotProcedureType}

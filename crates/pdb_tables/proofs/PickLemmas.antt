@@ -1,13 +1,11 @@
 -- Of what lies over a place, the one that starts last.
 use Rattle.std.proofs.Common.{◌≡◌, ℕ, ◌<◌, ◌≤◌, Bool, true, false, cond, List, [], ◌∷◌, ◌++◌, map, Option, Some, None}
 use Rattle.std.proofs.Common.{refl, ap, ◌∙◌, inl, inr, arith}
-use Rattle.std.specs.Prelude.{◌⊎◌}
+use Rattle.std.specs.Prelude.{◌⊎◌, nat_lt, option_map}
 use Rattle.std.specs.List.{AllByRecursion}
-use Rattle.std.specs.Prelude.{nat_lt, option_map}
 use Rattle.std.proofs.lemmas.Bool.Decides.{nat_tests}
 use Rattle.pdb_tables.proofs.NumberLemmas.{cases_lt}
-use Rattle.pdb_tables.specs.Pick.{pick, later_start}
-use Rattle.pdb_tables.specs.Pick.{IsPick, IsPicked}
+use Rattle.pdb_tables.specs.Pick.{pick, later_start, IsPick, IsPicked}
 
 -- of three, it does not matter which two are compared first
 pub later_start_assoc : {T : Type 0} (start : T → ℕ) (a b c : Option T)

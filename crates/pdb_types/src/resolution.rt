@@ -1,11 +1,10 @@
 //! Indices that lead to other modules: imports, names of modules and exports, followed to the index there.
 
 ghost use Rattle.std.specs.Prelude.{◌≡◌, Some};
-ghost use Rattle.pdb_errors.specs.Outcomes.{lent};
+ghost use Rattle.pdb_errors.specs.Outcomes.{lent, streamed};
 ghost use Rattle.pdb_types.specs.ReadError.{Matches};
 ghost use Rattle.pdb_types.specs.TypeInputs.{link_inputs};
 ghost use Rattle.pdb_types.specs.Resolution.{module_info, imports, exports, module_named, module_under};
-ghost use Rattle.pdb_errors.specs.Outcomes.{streamed};
 ghost use Rattle.pdb_types.specs.Resolution.{found_export, export_of, import_target, across, resolved};
 ghost use Rattle.pdb_types.specs.TypeCache.{IsCacheOf, IsCacheAfter};
 

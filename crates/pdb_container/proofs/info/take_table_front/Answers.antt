@@ -3,8 +3,7 @@ use Rattle.std.proofs.Common.{◌≡◌, ◌∙◌, ◌+◌, ◌<◌, length, ap
 use Rattle.std.proofs.lemmas.Grind.{common_steps}
 use Rattle.pdb_msf.specs.NumberLists.{number}
 use Rattle.pdb_container.proofs.InfoLemmas.{all_there, behind_one, bits_at, cut_at}
-use Rattle.pdb_container.proofs.InfoLemmas.{cut_bits, names_are, names_at, present_at}
-use Rattle.pdb_container.proofs.InfoLemmas.{table_at}
+use Rattle.pdb_container.proofs.InfoLemmas.{cut_bits, names_are, names_at, present_at, table_at}
 use Rattle.pdb_container.proofs.info.take_table_front.Goals as goal
 use Rattle.pdb_container.specs.Info.{deleted_place, names_size, pairs_place, present_place, table_place}
 

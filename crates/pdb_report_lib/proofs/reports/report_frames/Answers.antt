@@ -1,6 +1,5 @@
 use Rattle.std.proofs.Common.{◌∙◌, ◌<◌, length, get_or, arith}
-use Rattle.pdb_report_lib.specs.Reports.{stack_text, TakesText, EndsAtOnce, EndsAmidTexts}
-use Rattle.pdb_report_lib.specs.Reports.{IsLeftAmid}
+use Rattle.pdb_report_lib.specs.Reports.{stack_text, TakesText, EndsAtOnce, EndsAmidTexts, IsLeftAmid}
 use Rattle.pdb_report_lib.proofs.ContextLemmas.{after_frames_more, left_at_address}
 use Rattle.pdb_report_lib.proofs.ReportLemmas.{takes_one_more, ends_at_address, fails_with}
 use Rattle.pdb_report_lib.proofs.reports.report_frames.Goals as goal
