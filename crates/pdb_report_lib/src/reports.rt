@@ -1,13 +1,12 @@
 //! Writes a report: looks up each address, and writes its text whole before the next is looked up.
 
-ghost use Rattle.std.specs.Prelude.{◌≡◌, [], ◌∷◌, map, option_map, Ok, OnOk, OnErr, IfErr, MatchResult};
+ghost use Rattle.std.specs.Prelude.{◌≡◌, [], ◌∷◌, map, Ok, OnOk, OnErr, IfErr};
 ghost use Rattle.pdb_errors.specs.declared.error.Error.TheVariants.{OutOfMemory};
 ghost use Rattle.pdb_report_lib.specs.declared.reports.ReportFault.TheVariants.{Lookup, Write};
 ghost use Rattle.pdb_addr2line.specs.declared.calls.Call.TheVariants.{FindFrames};
 ghost use Rattle.pdb_errors.specs.Outcomes.{Gives};
-ghost use Rattle.pdb_function_info.specs.Function.{function_view};
 ghost use Rattle.pdb_addr2line.specs.Calls.{after_frames, after_calls};
-ghost use Rattle.pdb_addr2line.specs.Lookups.{function_at, frames_answered};
+ghost use Rattle.pdb_addr2line.specs.Lookups.{frames_answered};
 ghost use Rattle.pdb_addr2line.specs.Functions.{functions_at, functions_of, start_addresses};
 ghost use Rattle.pdb_addr2line.specs.Functions.{after_function, after_functions, OnlyGainsBroken, IsCutShort};
 ghost use Rattle.pdb_report_lib.specs.PrintedLines.{list_text};
@@ -18,7 +17,7 @@ ghost use Rattle.pdb_report_lib.specs.Reports.{report_calls, IsLeft, IsLeftAmid,
 use crate::printed_frames::frames_text;
 use crate::printed_lines::{list_line, names_line};
 use crate::sinks::{Sink, SinkFault};
-use pdb_addr2line::{Context, Error, Function, FunctionFrames, ModuleProvider};
+use pdb_addr2line::{Context, Error, FunctionFrames, ModuleProvider};
 use std::alloc::{AllocError, Global};
 
 /// What is asked of the program.
@@ -66,20 +65,6 @@ impl From<SinkFault> for ReportFault {
     }
 }
 
-// The function over an address. What the context met broken on the way is broken.
-fn look_up<P: ModuleProvider>(
-    context: &mut Context<'_, P>,
-    address: u32,
-) -> Result<Option<Function>, Error>
-    ensures answer { MatchResult result
-        (λ found. option_map function_view found ≡ function_at P.info context.old.inputs address)
-        (λ e. e ≡ OutOfMemory) }
-    ensures state { OnOk result (context.new ≡ after_function P.info context.old address) }
-    ensures gains { OnlyGainsBroken P.info context.old context.new }
-{
-    context.find_function(address)
-}
-
 // The frames over an address. What the context met broken on the way is broken.
 fn look_up_frames<'a, P: ModuleProvider>(
     context: &mut Context<'a, P>,
@@ -108,7 +93,7 @@ fn put_function<P: ModuleProvider, W: Sink>(
     ensures refused { IfErr result
         (EndsAtOnce (function_text P.info context.old.inputs address) (W.state sink.old) (W.state sink.new)) }
 {
-    let function = look_up(context, address)?;
+    let function = context.find_function(address)?;
     let line = names_line(alloc, address, &function)?;
     sink.put(line.as_bytes())?;
     Ok(())
@@ -152,7 +137,7 @@ fn put_listed<P: ModuleProvider, W: Sink>(
         (Ok (list_text (functions_at P.info context.old.inputs (start ∷ [])))) (W.state sink.old) (W.state sink.new)) }
     ensures refused { IfErr result (EndsListEarly [] (W.state sink.old) (W.state sink.new)) }
 {
-    let Some(function) = look_up(context, start)? else {
+    let Some(function) = context.find_function(start)? else {
         return Ok(());
     };
     let line = list_line(alloc, &function)?;
