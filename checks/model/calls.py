@@ -1,4 +1,3 @@
-#!/usr/bin/env python3
 """Compares a built pdb_call_tests with the model on random lists of calls.
 
 Usage: calls.py PROGRAM COUNT [FIRST_SEED]
