@@ -18,7 +18,7 @@ from errors import Error
 from frames import Context
 from functions import GREATEST, address_of
 from generate import generate
-from model import with_big_stack
+from model import parse_words, with_big_stack
 from records import Fault, lossy, read_records
 from type_reader import FIRST_CROSS_MODULE
 
@@ -97,19 +97,8 @@ def call_text(call):
 
 def addresses_of(runs):
     """The addresses that the runs over a random file ask for."""
-    found = set()
-    for words in runs:
-        if words[:1] in (["names"], ["frames"]):
-            found |= {int(word, 16) for word in words[1:] if word.isascii() and len(word) <= 10
-                      and word.replace("0x", "", 1).isalnum() and is_hexadecimal(word)}
-    return sorted(address for address in found if address <= GREATEST) or [0x1000]
-
-
-def is_hexadecimal(word):
-    try:
-        return int(word, 16) >= 0
-    except ValueError:
-        return False
+    parsed = [parse_words(["FILE", *words]) for words in runs]
+    return sorted({address for run in parsed if run for address in run[2]}) or [0x1000]
 
 
 def indices_of(chance, reading):
@@ -195,8 +184,9 @@ def main(program, count, first=0):
         ran = subprocess.run([program], cwd=folder, capture_output=True, text=True, errors="replace")
     for key, number in sorted(counts.items()):
         print(f"{number:9d}  {key}")
-    print(ran.stdout.split(" sizes,")[0].rsplit("\n", 1)[0])
-    print(ran.stderr, end="")
+    lines = ran.stdout.splitlines()
+    told = next((n for n, line in enumerate(lines, 1) if " calls, " in line), len(lines))
+    print("\n".join(lines[:told]) + ran.stderr)
     return 0 if ran.returncode == 0 and " calls, 0 differ" in ran.stdout else 1
 
 
