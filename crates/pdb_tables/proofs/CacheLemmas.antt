@@ -7,10 +7,7 @@ use Rattle.std.specs.Ordering.{is_eq}
 use Rattle.std.specs.FinMap.{IsAntisymmetric}
 use Rattle.std.specs.Map.{lookup}
 use Rattle.std.specs.BTreeMap.{BTreeMap, get, Updates}
-
--- what a map has under each key fits the key
-abbrev pub HoldsOfEach : {K X : Type 0} → (K → K → Ordering) → (K → X → Type 0) → BTreeMap K X → Type 0
-HoldsOfEach {K} {X} cmp P m = (k : K) (x : X) → get cmp m k ≡ Some x → P k x
+use Rattle.pdb_tables.specs.OnceMap.{HoldsOfEach}
 
 -- in an empty map all fits
 pub is_cache_of_nothing : {K X : Type 0} (cmp : K → K → Ordering) (P : K → X → Type 0) (m : BTreeMap K X)

@@ -8,3 +8,4 @@ pub mod Last
 pub mod Probes
 pub mod Segments
 pub mod Painting
+pub mod OnceMap

@@ -11,6 +11,7 @@
 
 mod first_values;
 mod keyed;
+mod once_map;
 mod painting;
 mod probes;
 mod range_set;
@@ -23,6 +24,7 @@ pub mod table_laws;
 
 pub use first_values::insert_first;
 pub use keyed::{Keyed, first_of_each_key, sort_by_key};
+pub use once_map::{Once, OnceMap};
 pub use probes::Probes;
 pub use range_set::RangeSet;
 pub use search::{Neighbours, neighbours_of};
