@@ -14,14 +14,12 @@ use Rattle.pdb_tables.proofs.CacheLemmas.{is_cache_of_nothing, is_cache_same, is
 use Rattle.pdb_errors.specs.Outcomes.{Gives}
 use Rattle.pdb_errors.specs.declared.error.Error.{Error}
 use Rattle.pdb_inline.specs.declared.inline_ranges.InlineRange.{InlineRange}
-use Rattle.pdb_frames.specs.CodeCaches.{ModuleRecords, IsExtendedInfoCache, function_cmp, HasProgram, IsEntryCache}
+use Rattle.pdb_frames.specs.CodeCaches.{ModuleRecords, function_cmp, HasProgram, IsEntryCache}
 use Rattle.pdb_frames.specs.CodeCaches.{IsLineCache, procedure_cmp, procedure_ranges, IsRangeCache}
-use Rattle.pdb_frames.specs.ExtendedInfo.{extended_info_view, extended_info}
 use Rattle.pdb_frames.specs.FunctionRows.{row_in}
 use Rattle.pdb_frames.specs.Lines.{function_row}
 use Rattle.pdb_frames.specs.declared.code_keys.FunctionKey.{FunctionKey}
 use Rattle.pdb_frames.specs.declared.code_keys.ProcedureKey.{ProcedureKey}
-use Rattle.pdb_frames.specs.declared.extended_info.ExtendedModuleInfo.{ExtendedModuleInfo}
 
 -- of two comparisons in turn that tie, both tie
 pub ties : (o p : Ordering) → ordering_then o p ≡ Equal → (o ≡ Equal) × (p ≡ Equal)
@@ -64,42 +62,6 @@ pub gives_same : {A : Type 0} (answer definition : Result A Error) → answer �
     → Gives (λ a. a) answer definition
 gives_same (Ok a) definition same = sym same
 gives_same (Err e) definition same = λ _. sym same
-
--- nothing is cached of any module's code
-pub infos_new : (records : ModuleRecords) (m : BTreeMap ℕ ExtendedModuleInfo) → m.entries ≡ []
-    → IsExtendedInfoCache records m
-unfolding IsExtendedInfoCache
-infos_new records m empty = is_cache_of_nothing nat_cmp
-    (λ module_index known. option_map extended_info (records module_index) ≡ Some (Ok (extended_info_view known))) m
-    empty
-
--- what is cached stays
-pub infos_same : (records : ModuleRecords) (m n : BTreeMap ℕ ExtendedModuleInfo) → n.entries ≡ m.entries
-    → IsExtendedInfoCache records m → IsExtendedInfoCache records n
-unfolding IsExtendedInfoCache
-infos_same records m n same is_cache =
-    is_cache_same nat_cmp (λ module_index known. option_map extended_info (records module_index) ≡ Some
-    (Ok (extended_info_view known))) m n same is_cache
-
--- one more module
-pub infos_more : (records : ModuleRecords) (module_index : ℕ) (info : ModuleInfo) (known : ExtendedModuleInfo)
-    (m n : BTreeMap ℕ ExtendedModuleInfo) → records module_index ≡ Some info
-    → extended_info info ≡ Ok (extended_info_view known) → Updates nat_cmp m n module_index (Some known)
-    → IsExtendedInfoCache records m → IsExtendedInfoCache records n
-unfolding IsExtendedInfoCache
-infos_more records module_index info known m n there read updates is_cache =
-    is_cache_more nat_cmp nat_cmp-IsAntisymmetric
-    (λ module_index known. option_map extended_info (records module_index) ≡ Some (Ok (extended_info_view known))) m n
-    module_index known updates
-    (ap (λ o. option_map extended_info o) there ∙ ap (λ r. Some r) read) is_cache
-
--- what is cached of a module is what is known of its code
-pub infos_found : (records : ModuleRecords) (module_index : ℕ) (info : ModuleInfo) (known : ExtendedModuleInfo)
-    (m : BTreeMap ℕ ExtendedModuleInfo) → records module_index ≡ Some info → IsExtendedInfoCache records m
-    → get nat_cmp m module_index ≡ Some known → extended_info info ≡ Ok (extended_info_view known)
-unfolding IsExtendedInfoCache
-infos_found records module_index info known m there is_cache got =
-    some_same _ _ (sym (ap (λ o. option_map extended_info o) there) ∙ is_cache module_index known got)
 
 -- a module index has one line program
 one_program : (o : Option (Result Lines Error)) (a b : Lines) → o ≡ Some (Ok a) → o ≡ Some (Ok b) → a ≡ b

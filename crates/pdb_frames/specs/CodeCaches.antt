@@ -24,11 +24,10 @@ use Rattle.pdb_frames.specs.declared.code_keys.ProcedureKey.{ProcedureKey}
 abbrev pub ModuleRecords : Type 0
 ModuleRecords = ℕ → Option ModuleInfo
 
--- what is cached at a module index is what is known of the code of the module there
-unfoldable pub IsExtendedInfoCache : ModuleRecords → BTreeMap ℕ ExtendedModuleInfo → Type 0
-IsExtendedInfoCache records cached =
-    (module_index : ℕ) (known : ExtendedModuleInfo) → get nat_cmp cached module_index ≡ Some known
-    → option_map extended_info (records module_index) ≡ Some (Ok (extended_info_view known))
+-- this is what is known of the code of the module at a module index
+abbrev pub IsKnownOf : ModuleRecords → ℕ → ExtendedModuleInfo → Type 0
+IsKnownOf records module_index known =
+    option_map extended_info (records module_index) ≡ Some (Ok (extended_info_view known))
 
 -- the order of functions: by module, section and offset
 abbrev pub function_cmp : FunctionKey → FunctionKey → Ordering

@@ -1,35 +1,49 @@
 //! The cache of modules' extended infos by module index, and the inline ranges that they lead to.
 
 ghost use Rattle.std.specs.Prelude.{◌≡◌, [], Some, Ok, IfOk};
+ghost use Rattle.std.specs.FinMap.{nat_cmp-IsAntisymmetric};
+ghost use Rattle.std.specs.Ordering.{nat_cmp};
 ghost use Rattle.pdb_errors.specs.Outcomes.{Gives, and_then, streamed};
+ghost use Rattle.pdb_tables.specs.OnceMap.{HoldsOfEach};
 ghost use Rattle.pdb_inline.specs.InlineRanges.{procedure_inline_ranges};
 ghost use Rattle.pdb_frames.specs.ExtendedInfo.{extended_info};
-ghost use Rattle.pdb_frames.specs.CodeCaches.{ModuleRecords, IsExtendedInfoCache, procedure_ranges};
+ghost use Rattle.pdb_frames.specs.CodeCaches.{ModuleRecords, IsKnownOf, procedure_ranges};
 
 use crate::extended_info::{ExtendedModuleInfo, compute_extended_module_info};
 use crate::inline_ranges::compute_procedure_inline_ranges;
-use pdb_errors::{Error, Result};
+use pdb_errors::Result;
 use pdb_functions::ProcedureSymbolFunction;
 use pdb_inline::InlineRange;
 use pdb_records::{LineProgram, ModuleInfo};
+use pdb_tables::{Once, OnceMap};
 use std::alloc::Global;
-use std::collections::BTreeMap;
+
+// It is made once for each module index.
+impl Once for ExtendedModuleInfo<'_> {
+    type Key = usize;
+
+    ghost Source = { ModuleRecords };
+
+    ghost fits = { IsKnownOf };
+
+    ghost apart = { nat_cmp-IsAntisymmetric };
+}
 
 // What is known of modules' code, beside their procedures, by module index. It is read once.
 #[derive(Drop)]
 pub struct ExtendedInfos<'a> {
     pub(crate) alloc: Global,
-    pub(crate) cached: BTreeMap<usize, ExtendedModuleInfo<'a>>,
+    pub(crate) cached: OnceMap<ExtendedModuleInfo<'a>>,
 }
 
 impl<'a> ExtendedInfos<'a> {
     // Nothing yet. It takes no memory.
     pub fn new(alloc: Global) -> Self
-        ensures { (records : ModuleRecords) → IsExtendedInfoCache records result.cached }
+        ensures { (records : ModuleRecords) → HoldsOfEach nat_cmp (IsKnownOf records) result.cached.made }
     {
         ExtendedInfos {
             alloc,
-            cached: BTreeMap::new(alloc),
+            cached: OnceMap::new(alloc),
         }
     }
 
@@ -41,21 +55,19 @@ impl<'a> ExtendedInfos<'a> {
         module_info: &'a ModuleInfo,
     ) -> Result<&'a LineProgram>
         ghost records: { ModuleRecords }
-        requires is_cache { IsExtendedInfoCache records self.old.cached }
+        requires is_cache { HoldsOfEach nat_cmp (IsKnownOf records) self.old.cached.made }
         requires module_info { records module_index ≡ Some module_info.now }
         ensures answer { Gives (λ p. p.now) result
             (and_then (extended_info module_info.now) (λ known. Ok known.line_program)) }
-        ensures is_cache { IsExtendedInfoCache records self.new.cached }
+        ensures is_cache { HoldsOfEach nat_cmp (IsKnownOf records) self.new.cached.made }
     {
         if let Some(known) = self.cached.get(&module_index) {
             return Ok(known.line_program);
         }
         let known = compute_extended_module_info(self.alloc, module_info)?;
         let line_program = known.line_program;
-        match self.cached.insert(module_index, known) {
-            Ok(_) => Ok(line_program),
-            Err(_) => Err(Error::OutOfMemory),
-        }
+        self.cached.insert(module_index, known)?;
+        Ok(line_program)
     }
 
     // The ranges of a procedure's code that came from inlined bodies, by depth and start. Refused as the line program
@@ -67,7 +79,7 @@ impl<'a> ExtendedInfos<'a> {
         procedure: &ProcedureSymbolFunction<'_>,
     ) -> Result<Vec<InlineRange>>
         ghost records: { ModuleRecords }
-        requires is_cache { IsExtendedInfoCache records self.now.cached }
+        requires is_cache { HoldsOfEach nat_cmp (IsKnownOf records) self.now.cached.made }
         requires module_info { records module_index ≡ Some module_info.now }
         ensures { Gives (λ v. v.items) result (procedure_ranges module_info.now
             procedure.now.symbol_index.0 procedure.now.end_symbol_index.0) }

@@ -1,8 +1,10 @@
 //! The cache of procedures' inline ranges, each as the stacks over its offsets.
 
 ghost use Rattle.std.specs.Prelude.{◌≡◌, Some};
+ghost use Rattle.std.specs.Ordering.{nat_cmp};
 ghost use Rattle.pdb_errors.specs.Outcomes.{Gives};
-ghost use Rattle.pdb_frames.specs.CodeCaches.{ModuleRecords, IsExtendedInfoCache, IsRangeCache, procedure_stack};
+ghost use Rattle.pdb_tables.specs.OnceMap.{HoldsOfEach};
+ghost use Rattle.pdb_frames.specs.CodeCaches.{ModuleRecords, IsKnownOf, IsRangeCache, procedure_stack};
 
 use crate::code_keys::{ProcedureKey, procedure_key};
 use crate::extended_infos::ExtendedInfos;
@@ -43,7 +45,7 @@ impl ProcedureRanges {
         offset: u32,
     ) -> Result<Vec<InlineRange>>
         ghost records: { ModuleRecords }
-        requires infos { IsExtendedInfoCache records infos.now.cached }
+        requires infos { HoldsOfEach nat_cmp (IsKnownOf records) infos.now.cached.made }
         requires is_cache { IsRangeCache records self.old.cached }
         requires module_info { records module_index ≡ Some module_info.now }
         ensures answer { Gives (λ v. v.items) result (procedure_stack module_info.now
