@@ -1,6 +1,5 @@
 -- What is cached of modules' code, and that it is what the records say.
 use Rattle.std.specs.Prelude.{◌≡◌, ℕ, List, [], Option, Some, Result, Ok, option_map}
-use Rattle.std.specs.BTreeMap.{BTreeMap, get}
 use Rattle.std.specs.Ordering.{nat_cmp, ordering_then}
 use Rattle.std.specs.declared.cmp.Ordering.{Ordering}
 use Rattle.pdb_records.specs.LinePrograms.{Lines}
@@ -40,17 +39,10 @@ abbrev pub HasProgram : ModuleRecords → ℕ → Lines → Type 0
 HasProgram records module_index program =
     option_map (λ info. streamed info.line_program) (records module_index) ≡ Some (Ok program)
 
--- the line program that is cached at a module index is that of the module there
-unfoldable pub IsEntryCache : ModuleRecords → BTreeMap ℕ Lines → Type 0
-IsEntryCache records cached =
-    (module_index : ℕ) (program : Lines) → get nat_cmp cached module_index ≡ Some program
-    → HasProgram records module_index program
-
--- the rows that are cached of a function give over each offset what its module's line program gives
-unfoldable pub IsLineCache : ModuleRecords → BTreeMap FunctionKey (Read LineInfo) → Type 0
-IsLineCache records cached =
-    (key : FunctionKey) (rows : Read LineInfo) → get function_cmp cached key ≡ Some rows
-    → (program : Lines) → HasProgram records key.module_index program
+-- these rows give over each offset what the line program of the function's module gives for the function
+abbrev pub AreRowsOf : ModuleRecords → FunctionKey → Read LineInfo → Type 0
+AreRowsOf records key rows =
+    (program : Lines) → HasProgram records key.module_index program
     → (x : ℕ) → row_in rows x ≡ function_row program (record { section = key.section; offset = key.offset }) x
 
 -- the order of procedures: by module and symbols
@@ -74,8 +66,7 @@ abbrev pub function_stack : ModuleInfo → FoundFunction → ℕ → Result (Lis
 function_stack info (found_global m f) x = Ok []
 function_stack info (found_procedure m p) x = procedure_stack info p.symbol_index.0 p.end_symbol_index.0 x
 
--- the ranges that are cached of a procedure are those of its module's records
-unfoldable pub IsRangeCache : ModuleRecords → BTreeMap ProcedureKey (List InlineRange) → Type 0
-IsRangeCache records cached =
-    (key : ProcedureKey) (ranges : List InlineRange) → get procedure_cmp cached key ≡ Some ranges
-    → option_map (λ info. procedure_ranges info key.symbol key.end) (records key.module_index) ≡ Some (Ok ranges)
+-- these are the ranges of a procedure, by its module's records
+abbrev pub AreRangesOf : ModuleRecords → ProcedureKey → List InlineRange → Type 0
+AreRangesOf records key ranges =
+    option_map (λ info. procedure_ranges info key.symbol key.end) (records key.module_index) ≡ Some (Ok ranges)

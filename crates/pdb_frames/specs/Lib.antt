@@ -7,3 +7,4 @@ pub mod CodeParts
 pub mod Frame
 pub mod CodeCaches
 pub mod CodeCache
+pub mod CodeKeys

@@ -15,7 +15,7 @@ pub(crate) struct FunctionKey {
 
 // A procedure of a module: the module index, and those of the symbols that open and close it.
 #[derive(Clone, Copy, PartialEq, Eq, PartialOrd, Ord)]
-pub(crate) struct ProcedureKey {
+pub struct ProcedureKey {
     pub(crate) module_index: usize,
     pub(crate) symbol: usize,
     pub(crate) end: usize,

@@ -19,9 +19,7 @@ use pdb_tables::{Once, OnceMap};
 use std::alloc::Global;
 
 // It is made once for each module index.
-impl Once for ExtendedModuleInfo<'_> {
-    type Key = usize;
-
+impl Once<usize> for ExtendedModuleInfo<'_> {
     ghost Source = { ModuleRecords };
 
     ghost fits = { IsKnownOf };
@@ -33,7 +31,7 @@ impl Once for ExtendedModuleInfo<'_> {
 #[derive(Drop)]
 pub struct ExtendedInfos<'a> {
     pub(crate) alloc: Global,
-    pub(crate) cached: OnceMap<ExtendedModuleInfo<'a>>,
+    pub(crate) cached: OnceMap<usize, ExtendedModuleInfo<'a>>,
 }
 
 impl<'a> ExtendedInfos<'a> {

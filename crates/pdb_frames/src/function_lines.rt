@@ -1,16 +1,28 @@
 //! The cache of functions' line rows: the line row over an offset in a function.
 
+ghost use Rattle.std.specs.Ordering.{nat_cmp};
 ghost use Rattle.pdb_errors.specs.Outcomes.{Gives};
+ghost use Rattle.pdb_tables.specs.OnceMap.{HoldsOfEach};
 ghost use Rattle.pdb_frames.specs.Lines.{function_row};
-ghost use Rattle.pdb_frames.specs.CodeCaches.{ModuleRecords, HasProgram, IsEntryCache, IsLineCache};
+ghost use Rattle.pdb_frames.specs.CodeCaches.{ModuleRecords, HasProgram, function_cmp, AreRowsOf};
+ghost use Rattle.pdb_frames.specs.CodeKeys.{function_cmp-apart};
 
 use crate::code_keys::{FunctionKey, function_key};
 use crate::function_rows::FunctionRows;
 use crate::line_entries::ProgramEntries;
-use pdb_errors::{Error, Result};
+use pdb_errors::Result;
 use pdb_records::{LineInfo, LineProgram, PdbInternalSectionOffset};
+use pdb_tables::{Once, OnceMap};
 use std::alloc::Global;
-use std::collections::BTreeMap;
+
+// They are made once for each function.
+impl Once<FunctionKey> for FunctionRows {
+    ghost Source = { ModuleRecords };
+
+    ghost fits = { AreRowsOf };
+
+    ghost apart = { function_cmp-apart };
+}
 
 // The line rows of functions, by module index and where they start. The rows of a function are
 // looked up and sorted once.
@@ -18,19 +30,19 @@ use std::collections::BTreeMap;
 pub struct FunctionLines<'a> {
     pub(crate) alloc: Global,
     pub(crate) entries: ProgramEntries<'a>,
-    pub(crate) cached: BTreeMap<FunctionKey, FunctionRows>,
+    pub(crate) cached: OnceMap<FunctionKey, FunctionRows>,
 }
 
 impl<'a> FunctionLines<'a> {
     // Nothing yet. It takes no memory.
     pub fn new(alloc: Global) -> Self
-        ensures entries { (records : ModuleRecords) → IsEntryCache records result.entries.cached }
-        ensures is_cache { (records : ModuleRecords) → IsLineCache records result.cached }
+        ensures entries { (records : ModuleRecords) → HoldsOfEach nat_cmp (HasProgram records) result.entries.cached.made }
+        ensures is_cache { (records : ModuleRecords) → HoldsOfEach function_cmp (AreRowsOf records) result.cached.made }
     {
         FunctionLines {
             alloc,
             entries: ProgramEntries::new(alloc),
-            cached: BTreeMap::new(alloc),
+            cached: OnceMap::new(alloc),
         }
     }
 
@@ -44,12 +56,12 @@ impl<'a> FunctionLines<'a> {
         offset: u32,
     ) -> Result<Option<LineInfo>>
         ghost records: { ModuleRecords }
-        requires entries { IsEntryCache records self.old.entries.cached }
-        requires is_cache { IsLineCache records self.old.cached }
+        requires entries { HoldsOfEach nat_cmp (HasProgram records) self.old.entries.cached.made }
+        requires is_cache { HoldsOfEach function_cmp (AreRowsOf records) self.old.cached.made }
         requires line_program { HasProgram records module_index line_program.now }
         ensures answer { Gives (λ row. row) result (function_row line_program.now start offset) }
-        ensures entries { IsEntryCache records self.new.entries.cached }
-        ensures is_cache { IsLineCache records self.new.cached }
+        ensures entries { HoldsOfEach nat_cmp (HasProgram records) self.new.entries.cached.made }
+        ensures is_cache { HoldsOfEach function_cmp (AreRowsOf records) self.new.cached.made }
     {
         let key = function_key(module_index, start);
         if let Some(rows) = self.cached.get(&key) {
@@ -58,9 +70,7 @@ impl<'a> FunctionLines<'a> {
         let read = self.entries.rows_at(module_index, line_program, start)?;
         let rows = FunctionRows::new(self.alloc, read)?;
         let row = rows.row(offset);
-        match self.cached.insert(key, rows) {
-            Ok(_) => row,
-            Err(_) => Err(Error::OutOfMemory),
-        }
+        self.cached.insert(key, rows)?;
+        row
     }
 }

@@ -2,14 +2,17 @@
 
 ghost use Rattle.std.specs.Prelude.{◌≡◌, IfOk};
 ghost use Rattle.std.specs.BTreeMap.{get};
+ghost use Rattle.std.specs.FinMap.{nat_cmp-IsAntisymmetric};
 ghost use Rattle.std.specs.Option.{option_copied};
+ghost use Rattle.std.specs.Ordering.{nat_cmp};
 ghost use Rattle.pdb_records.specs.Lines.{lines_at};
 ghost use Rattle.pdb_records.specs.declared.addresses.PdbInternalSectionOffset.{PdbInternalSectionOffset};
 ghost use Rattle.pdb_functions.specs.Starts.{section_offset_cmp};
-ghost use Rattle.pdb_frames.specs.CodeCaches.{ModuleRecords, HasProgram, IsEntryCache};
+ghost use Rattle.pdb_tables.specs.OnceMap.{HoldsOfEach};
+ghost use Rattle.pdb_frames.specs.CodeCaches.{ModuleRecords, HasProgram};
 
 use pdb_records::{LineInfo, LineProgram, PdbInternalSectionOffset, Reading};
-use pdb_tables::insert_first;
+use pdb_tables::{Once, OnceMap, insert_first};
 use std::alloc::{AllocError, Global};
 use std::collections::BTreeMap;
 use std::marker::Model;
@@ -67,21 +70,30 @@ impl<'a> LineEntries<'a> {
     }
 }
 
+// They are made once for each module index.
+impl Once<usize> for LineEntries<'_> {
+    ghost Source = { ModuleRecords };
+
+    ghost fits = { HasProgram };
+
+    ghost apart = { nat_cmp-IsAntisymmetric };
+}
+
 // The line rows of modules' line programs, by module index. Each line program is walked once.
 #[derive(Drop)]
 pub struct ProgramEntries<'a> {
     pub(crate) alloc: Global,
-    pub(crate) cached: BTreeMap<usize, LineEntries<'a>>,
+    pub(crate) cached: OnceMap<usize, LineEntries<'a>>,
 }
 
 impl<'a> ProgramEntries<'a> {
     // Nothing yet. It takes no memory.
     pub(crate) fn new(alloc: Global) -> Self
-        ensures { (records : ModuleRecords) → IsEntryCache records result.cached }
+        ensures { (records : ModuleRecords) → HoldsOfEach nat_cmp (HasProgram records) result.cached.made }
     {
         ProgramEntries {
             alloc,
-            cached: BTreeMap::new(alloc),
+            cached: OnceMap::new(alloc),
         }
     }
 
@@ -93,19 +105,17 @@ impl<'a> ProgramEntries<'a> {
         section_offset: PdbInternalSectionOffset,
     ) -> Result<Option<&'a Reading<LineInfo>>, AllocError>
         ghost records: { ModuleRecords }
-        requires is_cache { IsEntryCache records self.old.cached }
+        requires is_cache { HoldsOfEach nat_cmp (HasProgram records) self.old.cached.made }
         requires line_program { HasProgram records module_index line_program.now }
         ensures answer { IfOk result (λ rows. option_copied rows ≡ lines_at section_offset line_program.now.entries) }
-        ensures is_cache { IsEntryCache records self.new.cached }
+        ensures is_cache { HoldsOfEach nat_cmp (HasProgram records) self.new.cached.made }
     {
         if let Some(entries) = self.cached.get(&module_index) {
             return Ok(entries.rows_at(section_offset));
         }
         let entries = LineEntries::new(self.alloc, line_program)?;
         let rows = entries.rows_at(section_offset);
-        match self.cached.insert(module_index, entries) {
-            Ok(_) => Ok(rows),
-            Err(_) => Err(AllocError),
-        }
+        self.cached.insert(module_index, entries)?;
+        Ok(rows)
     }
 }

@@ -4,33 +4,43 @@ ghost use Rattle.std.specs.Prelude.{◌≡◌, Some};
 ghost use Rattle.std.specs.Ordering.{nat_cmp};
 ghost use Rattle.pdb_errors.specs.Outcomes.{Gives};
 ghost use Rattle.pdb_tables.specs.OnceMap.{HoldsOfEach};
-ghost use Rattle.pdb_frames.specs.CodeCaches.{ModuleRecords, IsKnownOf, IsRangeCache, procedure_stack};
+ghost use Rattle.pdb_frames.specs.CodeCaches.{ModuleRecords, IsKnownOf, procedure_cmp, procedure_stack, AreRangesOf};
+ghost use Rattle.pdb_frames.specs.CodeKeys.{procedure_cmp-apart};
 
 use crate::code_keys::{ProcedureKey, procedure_key};
 use crate::extended_infos::ExtendedInfos;
-use pdb_errors::{Error, Result};
+use pdb_errors::Result;
 use pdb_functions::ProcedureSymbolFunction;
 use pdb_inline::{InlineRange, ProcedureStacks};
 use pdb_records::ModuleInfo;
+use pdb_tables::{Once, OnceMap};
 use std::alloc::Global;
-use std::collections::BTreeMap;
+
+// They are made once for each procedure.
+impl Once<ProcedureKey> for ProcedureStacks {
+    ghost Source = { ModuleRecords };
+
+    ghost fits = { AreRangesOf };
+
+    ghost apart = { procedure_cmp-apart };
+}
 
 // The ranges of procedures' code that came from inlined bodies, by module index and their
 // symbols. A procedure's symbols are walked once, and its ranges are put in a table once.
 #[derive(Drop)]
 pub struct ProcedureRanges {
     pub(crate) alloc: Global,
-    pub(crate) cached: BTreeMap<ProcedureKey, ProcedureStacks>,
+    pub(crate) cached: OnceMap<ProcedureKey, ProcedureStacks>,
 }
 
 impl ProcedureRanges {
     // Nothing yet. It takes no memory.
     pub fn new(alloc: Global) -> Self
-        ensures { (records : ModuleRecords) → IsRangeCache records result.cached }
+        ensures { (records : ModuleRecords) → HoldsOfEach procedure_cmp (AreRangesOf records) result.cached.made }
     {
         ProcedureRanges {
             alloc,
-            cached: BTreeMap::new(alloc),
+            cached: OnceMap::new(alloc),
         }
     }
 
@@ -46,11 +56,11 @@ impl ProcedureRanges {
     ) -> Result<Vec<InlineRange>>
         ghost records: { ModuleRecords }
         requires infos { HoldsOfEach nat_cmp (IsKnownOf records) infos.now.cached.made }
-        requires is_cache { IsRangeCache records self.old.cached }
+        requires is_cache { HoldsOfEach procedure_cmp (AreRangesOf records) self.old.cached.made }
         requires module_info { records module_index ≡ Some module_info.now }
         ensures answer { Gives (λ v. v.items) result (procedure_stack module_info.now
             procedure.now.symbol_index.0 procedure.now.end_symbol_index.0 offset) }
-        ensures is_cache { IsRangeCache records self.new.cached }
+        ensures is_cache { HoldsOfEach procedure_cmp (AreRangesOf records) self.new.cached.made }
     {
         let key = procedure_key(module_index, procedure);
         if let Some(stacks) = self.cached.get(&key) {
@@ -59,9 +69,7 @@ impl ProcedureRanges {
         let ranges = infos.inline_ranges(module_index, module_info, procedure)?;
         let stacks = ProcedureStacks::new(self.alloc, ranges)?;
         let stack = stacks.stack(self.alloc, u64::from(offset))?;
-        match self.cached.insert(key, stacks) {
-            Ok(_) => Ok(stack),
-            Err(_) => Err(Error::OutOfMemory),
-        }
+        self.cached.insert(key, stacks)?;
+        Ok(stack)
     }
 }

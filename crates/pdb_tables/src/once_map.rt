@@ -8,29 +8,27 @@ use std::alloc::{AllocError, Global};
 use std::collections::BTreeMap;
 
 /// What is made once for each key.
-pub trait Once: Drop {
-    type Key: Ord + Drop;
-
+pub trait Once<K: Ord + Drop>: Drop {
     // What it is made from.
     ghost Source: { Type 0 };
 
     // It is what is made from a source for a key.
-    ghost fits: { Source → Self.Key → Self → Type 0 };
+    ghost fits: { Source → K → Self → Type 0 };
 
     // Only equal keys tie.
-    ghost apart: { IsAntisymmetric Self.Key.cmp };
+    ghost apart: { IsAntisymmetric K.cmp };
 }
 
 /// What was made so far, by its keys.
 #[derive(Drop)]
-pub struct OnceMap<T: Once> {
-    made: BTreeMap<T::Key, T>,
+pub struct OnceMap<K: Ord + Drop, T: Once<K>> {
+    made: BTreeMap<K, T>,
 }
 
-impl<T: Once> OnceMap<T> {
+impl<K: Ord + Drop, T: Once<K>> OnceMap<K, T> {
     /// Nothing yet. It takes no memory.
     pub fn new(alloc: Global) -> Self
-        ensures { (source : T.Source) → HoldsOfEach T.Key.cmp (T.fits source) result.made }
+        ensures { (source : T.Source) → HoldsOfEach K.cmp (T.fits source) result.made }
     {
         OnceMap {
             made: BTreeMap::new(alloc),
@@ -38,17 +36,17 @@ impl<T: Once> OnceMap<T> {
     }
 
     /// What was made for a key.
-    pub fn get(&self, key: &T::Key) -> Option<&T>
+    pub fn get(&self, key: &K) -> Option<&T>
         ensures { IfSome result (λ content. (source : T.Source)
-            → HoldsOfEach T.Key.cmp (T.fits source) self.now.made → T.fits source key.now content.now) }
+            → HoldsOfEach K.cmp (T.fits source) self.now.made → T.fits source key.now content.now) }
     {
         self.made.get(key)
     }
 
     /// Keeps what was made for a key. Answers `AllocError` where memory runs out, and the map stays.
-    pub fn insert(&mut self, key: T::Key, content: T) -> Result<(), AllocError>
-        ensures { (source : T.Source) → HoldsOfEach T.Key.cmp (T.fits source) self.old.made
-            → T.fits source key content → HoldsOfEach T.Key.cmp (T.fits source) self.new.made }
+    pub fn insert(&mut self, key: K, content: T) -> Result<(), AllocError>
+        ensures { (source : T.Source) → HoldsOfEach K.cmp (T.fits source) self.old.made
+            → T.fits source key content → HoldsOfEach K.cmp (T.fits source) self.new.made }
     {
         match self.made.insert(key, content) {
             Ok(_) => Ok(()),
