@@ -2,7 +2,7 @@
 use Rattle.std.proofs.Common.{◌≡◌, ◌∙◌, ℕ, zero, suc, ◌+◌, ◌<◌, ◌≤◌, Bool, true, false, cond, not, List, [], ◌∷◌}
 use Rattle.std.proofs.Common.{length, get_or, map, Option, Some, refl, inl, inr, arith}
 use Rattle.std.specs.Prelude.{⊤, find, option_map}
-use Rattle.std.specs.List.{AllByRecursion, position_or_len, slice_get}
+use Rattle.std.specs.List.{AllByRecursion, position_or_len}
 use Rattle.std.proofs.lemmas.Bool.{cases_lt}
 use Rattle.std.proofs.lemmas.List.Sums.{fails_before_first}
 use Rattle.pdb_tables.specs.Last.{ahead_of, last_over}

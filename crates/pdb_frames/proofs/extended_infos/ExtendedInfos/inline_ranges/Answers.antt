@@ -1,4 +1,4 @@
-use Rattle.std.proofs.Common.{rules, ◌≡◌}
+use Rattle.std.proofs.Common.{rules}
 use Rattle.pdb_frames.proofs.extended_infos.ExtendedInfos.inline_ranges.Goals as goal
 
 pub returns-in-Some : goal.returns-in-Some

@@ -1,4 +1,4 @@
-use Rattle.std.proofs.Common.{rules, ◌≡◌}
+use Rattle.std.proofs.Common.{rules}
 use Rattle.pdb_frames.proofs.extended_infos.ExtendedInfos.line_program.Goals as goal
 
 pub returns-in-Some-clause-answer : goal.returns-in-Some-clause-answer

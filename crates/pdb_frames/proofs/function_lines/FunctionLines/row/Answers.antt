@@ -1,4 +1,4 @@
-use Rattle.std.proofs.Common.{rules, ◌≡◌, ◌∙◌}
+use Rattle.std.proofs.Common.{rules, ◌∙◌}
 use Rattle.pdb_frames.proofs.CodeCacheLemmas.{gives_same}
 use Rattle.pdb_frames.proofs.function_lines.FunctionLines.row.Goals as goal
 

@@ -1,4 +1,4 @@
-use Rattle.std.proofs.Common.{rules, ◌≡◌}
+use Rattle.std.proofs.Common.{rules}
 use Rattle.pdb_frames.proofs.procedure_ranges.ProcedureRanges.stack.Goals as goal
 
 pub returns-in-Some-clause-answer : goal.returns-in-Some-clause-answer
