@@ -6,6 +6,7 @@ use Rattle.std.specs.Ordering.{nat_cmp, ordering_then}
 use Rattle.std.specs.FinMap.{IsAntisymmetric, nat_cmp-IsAntisymmetric}
 use Rattle.std.specs.BTreeMap.{BTreeMap, get, Updates}
 use Rattle.pdb_records.specs.declared.strings.StringRef.{StringRef}
+use Rattle.pdb_tables.specs.OnceMap.{HoldsOfEach}
 use Rattle.pdb_tables.proofs.CacheLemmas.{is_cache_of_nothing, is_cache_more}
 use Rattle.pdb_types.specs.declared.type_cache.TypeCache.{TypeCache}
 use Rattle.pdb_types.specs.declared.type_cache.Asked.{Asked}
@@ -15,7 +16,7 @@ use Rattle.pdb_types.specs.Resolution.{texts, module_under}
 use Rattle.pdb_types.specs.TypeInputs.{TypeInputs, LinkInputs, link_inputs}
 use Rattle.pdb_errors.specs.Provided.{ProviderInfos}
 use Rattle.pdb_types.specs.TypeSizes.{size_of}
-use Rattle.pdb_types.specs.TypeCache.{IsNameCache, IsExportCache, IsSizeCache, asked_cmp, IsCacheOf, IsCacheAfter}
+use Rattle.pdb_types.specs.TypeCache.{IsNameCache, AreExportsOf, IsSizeCache, asked_cmp, IsCacheOf, IsCacheAfter}
 
 -- the question of a module index and an index
 abbrev question : ℕ → ℕ → Asked
@@ -33,30 +34,29 @@ asked_cmp-apart a b tied =
 
 -- where nothing was found yet, the type cache is a cache of the type inputs
 pub is_cache_new : {P : Type 0} (info : P → ProviderInfos) (inputs : TypeInputs P) (cache : TypeCache)
-    → cache.types ≡ inputs.types → cache.ids ≡ inputs.ids → cache.named.entries ≡ [] → cache.exports.entries ≡ []
-    → cache.forward_sizes ≡ None → cache.sizes.entries ≡ [] → IsCacheOf info inputs cache
-unfolding IsNameCache IsExportCache IsSizeCache
+    → cache.types ≡ inputs.types → cache.ids ≡ inputs.ids → cache.named.entries ≡ []
+    → HoldsOfEach nat_cmp (AreExportsOf (link_inputs info inputs)) cache.exports.made → cache.forward_sizes ≡ None → cache.sizes.entries ≡ [] → IsCacheOf info inputs cache
+unfolding IsNameCache IsSizeCache
 is_cache_new info inputs cache types ids named found forward sizes = record {
   types = types;
   ids = ids;
   named = is_cache_of_nothing nat_cmp _ cache.named named;
-  exports = is_cache_of_nothing nat_cmp _ cache.exports found;
+  exports = found;
   forward = rw forward tt;
   sizes = is_cache_of_nothing asked_cmp _ cache.sizes sizes;
 }
 
--- a type cache with other names of modules, exports and sizes that fit
+-- a type cache with other names of modules and sizes that fit
 pub caches_with : {P : Type 0} (info : P → ProviderInfos) (inputs : TypeInputs P) (cache : TypeCache)
-    (named : BTreeMap ℕ ℕ) (found : BTreeMap ℕ (List (ℕ × ℕ))) (sizes : BTreeMap Asked TypeSize)
-    → IsCacheOf info inputs cache → IsNameCache (link_inputs info inputs) named
-    → IsExportCache (link_inputs info inputs) found → IsSizeCache info inputs sizes
-    → IsCacheAfter info inputs cache (record cache { named = named; exports = found; sizes = sizes })
-caches_with info inputs cache named found sizes is_cache names more others = record {
+    (named : BTreeMap ℕ ℕ) (sizes : BTreeMap Asked TypeSize)
+    → IsCacheOf info inputs cache → IsNameCache (link_inputs info inputs) named → IsSizeCache info inputs sizes
+    → IsCacheAfter info inputs cache (record cache { named = named; sizes = sizes })
+caches_with info inputs cache named sizes is_cache names others = record {
   is_cache = record {
     types = is_cache.types;
     ids = is_cache.ids;
     named = names;
-    exports = more;
+    exports = is_cache.exports;
     forward = is_cache.forward;
     sizes = others;
   };

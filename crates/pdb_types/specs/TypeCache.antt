@@ -3,6 +3,7 @@ use Rattle.std.specs.Prelude.{◌≡◌, ℕ, List, Some, Ok, IfSome}
 use Rattle.std.specs.BTreeMap.{BTreeMap, get}
 use Rattle.std.specs.Ordering.{nat_cmp, ordering_then}
 use Rattle.std.specs.declared.cmp.Ordering.{Ordering}
+use Rattle.pdb_tables.specs.OnceMap.{HoldsOfEach}
 use Rattle.pdb_types.specs.declared.type_cache.TypeCache.{TypeCache}
 use Rattle.pdb_types.specs.declared.type_cache.Asked.{Asked}
 use Rattle.pdb_types.specs.declared.type_sizes.TypeSize.{TypeSize}
@@ -19,11 +20,9 @@ IsNameCache link named = (reference module_index : ℕ) → get nat_cmp named re
     → and_then (texts link.strings) (λ strings. module_under link.modules strings (record { 0 = reference }))
     ≡ Ok module_index
 
--- the cached exports are those of the modules at their module indices
-unfoldable pub IsExportCache : LinkInputs → BTreeMap ℕ (List (ℕ × ℕ)) → Type 0
-IsExportCache link found =
-    (module_index : ℕ) (list : List (ℕ × ℕ)) → get nat_cmp found module_index ≡ Some list
-    → exports link module_index ≡ Ok list
+-- these are the exports of the module at a module index
+abbrev pub AreExportsOf : LinkInputs → ℕ → List (ℕ × ℕ) → Type 0
+AreExportsOf link module_index list = exports link module_index ≡ Ok list
 
 -- the order of questions: by the module index of the module that asks, and then by the index
 abbrev pub asked_cmp : Asked → Asked → Ordering
@@ -40,7 +39,7 @@ pub record IsCacheOf {P : Type 0} (info : P → ProviderInfos) (inputs : TypeInp
   pub types : cache.types ≡ inputs.types
   pub ids : cache.ids ≡ inputs.ids
   pub named : IsNameCache (link_inputs info inputs) cache.named
-  pub exports : IsExportCache (link_inputs info inputs) cache.exports
+  pub exports : HoldsOfEach nat_cmp (AreExportsOf (link_inputs info inputs)) cache.exports.made
   pub forward : IfSome cache.forward_sizes (Tabulates inputs.types.items)
   pub sizes : IsSizeCache info inputs cache.sizes
 

@@ -1,11 +1,15 @@
 //! The exports of a module, each found by its number in a table that is made once.
 
+ghost use Rattle.std.specs.FinMap.{nat_cmp-IsAntisymmetric};
 ghost use Rattle.std.specs.Prelude.{◌≡◌, IfOk};
 ghost use Rattle.pdb_records.specs.References.{exported};
+ghost use Rattle.pdb_types.specs.TypeCache.{AreExportsOf};
+ghost use Rattle.pdb_types.specs.TypeInputs.{LinkInputs};
 
 use crate::ascending::Numbered;
 use crate::numbered_table::NumberedTable;
 use pdb_records::CrossModuleExports;
+use pdb_tables::Once;
 use std::alloc::{AllocError, Global};
 use std::marker::Model;
 
@@ -28,6 +32,15 @@ impl<'a> Model for ExportTable<'a> {
     ghost Value = { List (ℕ × ℕ) };
 
     ghost view = { λ t. t.exports };
+}
+
+// It is made once for each module index.
+impl Once<usize> for ExportTable<'_> {
+    ghost Source = { LinkInputs };
+
+    ghost fits = { AreExportsOf };
+
+    ghost apart = { nat_cmp-IsAntisymmetric };
 }
 
 impl Drop for ExportTable<'_> {

@@ -129,10 +129,8 @@ impl<'a, P: ModuleProvider> TypeInputs<'a, P> {
         };
         let table = ExportTable::new(self.alloc, exports)?;
         let found = table.get(local);
-        match cache.exports.insert(module_index, table) {
-            Ok(_) => found_export(local, found),
-            Err(_) => Err(ReadError::OutOfMemory),
-        }
+        cache.exports.insert(module_index, table)?;
+        found_export(local, found)
     }
 
     // The index behind an import: the name of the other module, and the number there.

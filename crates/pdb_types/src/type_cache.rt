@@ -1,12 +1,17 @@
 //! The type cache: what was found of types, ids and exports so far, and the parts that failed.
 
 ghost use Rattle.std.specs.Prelude.{◌≡◌, [], None};
+ghost use Rattle.std.specs.Ordering.{nat_cmp};
+ghost use Rattle.pdb_tables.specs.OnceMap.{HoldsOfEach};
+ghost use Rattle.pdb_types.specs.TypeCache.{AreExportsOf};
+ghost use Rattle.pdb_types.specs.TypeInputs.{LinkInputs};
 
 use crate::exports::ExportTable;
 use crate::failed_parts::FailedParts;
 use crate::items::{IdMap, ItemMap, TypeMap};
 use crate::type_sizes::TypeSize;
 use pdb_records::{IdInformation, TypeInformation};
+use pdb_tables::OnceMap;
 use std::alloc::Global;
 use std::collections::BTreeMap;
 
@@ -28,7 +33,7 @@ pub struct TypeCache<'a> {
     // Module indices, by the references of the modules' names.
     pub(crate) named: BTreeMap<u32, usize>,
     // What modules export, by module index.
-    pub(crate) exports: BTreeMap<usize, ExportTable<'a>>,
+    pub(crate) exports: OnceMap<usize, ExportTable<'a>>,
     // The sizes of forward references, by their numbers: of all of them, or nothing yet.
     pub(crate) forward_sizes: Option<BTreeMap<u32, u64>>,
     // Sizes of types.
@@ -57,7 +62,7 @@ impl<'a> TypeCache<'a> {
         ensures types { result.types ≡ types.now.items }
         ensures ids { result.ids ≡ ids.now.items }
         ensures named { result.named.entries ≡ [] }
-        ensures exports { result.exports.entries ≡ [] }
+        ensures exports { (link : LinkInputs) → HoldsOfEach nat_cmp (AreExportsOf link) result.exports.made }
         ensures forward { result.forward_sizes ≡ None }
         ensures sizes { result.sizes.entries ≡ [] }
         ensures failed { result.failed ≡ [] }
@@ -66,7 +71,7 @@ impl<'a> TypeCache<'a> {
             types: ItemMap::new(alloc, types),
             ids: ItemMap::new(alloc, ids),
             named: BTreeMap::new(alloc),
-            exports: BTreeMap::new(alloc),
+            exports: OnceMap::new(alloc),
             forward_sizes: None,
             sizes: BTreeMap::new(alloc),
             failed: FailedParts::new(alloc),

@@ -8,7 +8,7 @@ unfolding IsSizeCache
 returns-in-Ok-clause-state g c =
     let cache = c.args.cache.now in
     let is_cache = c.requires.is_cache in
-    caches_with _ _ cache cache.named cache.exports c.insert.new.self is_cache is_cache.named is_cache.exports
+    caches_with _ _ cache cache.named c.insert.new.self is_cache is_cache.named
     (is_cache_more asked_cmp asked_cmp-apart _ cache.sizes c.insert.new.self c.args.asked c.args.size
     c.in-Ok.ensures.updates c.requires.size is_cache.sizes)
 
@@ -17,5 +17,5 @@ unfolding IsSizeCache
 returns-in-Err-clause-state g c =
     let cache = c.args.cache.now in
     let is_cache = c.requires.is_cache in
-    caches_with _ _ cache cache.named cache.exports c.insert.new.self is_cache is_cache.named is_cache.exports
+    caches_with _ _ cache cache.named c.insert.new.self is_cache is_cache.named
     (is_cache_same asked_cmp _ cache.sizes c.insert.new.self c.in-Err.ensures.err is_cache.sizes)

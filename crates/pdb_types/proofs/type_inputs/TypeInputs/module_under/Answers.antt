@@ -20,16 +20,16 @@ returns-in-Ok-clause-state g c =
     (λ name. module_named c.args.self.now.modules name)) (sym c.in-Some-get.ensures) ∙ c.in_ok-module_index.ensures in
     let cache = c.args.cache.now in
     let is_cache = c.requires.is_cache in
-    caches_with _ _ cache c.insert.new.self cache.exports cache.sizes is_cache
+    caches_with _ _ cache c.insert.new.self cache.sizes is_cache
     (names_more (link_inputs g.P.ModuleProvider.info c.args.self.now) c.args.strings.now c.args.reference.0
     c.in_ok-module_index.module_index cache.named c.insert.new.self c.requires.strings found c.in-Ok.ensures.updates
-    is_cache.named) is_cache.exports is_cache.sizes
+    is_cache.named) is_cache.sizes
 
 pub returns-in-Err-clause-state : goal.returns-in-Err-clause-state
 unfolding IsNameCache
 returns-in-Err-clause-state g c =
     let cache = c.args.cache.now in
     let is_cache = c.requires.is_cache in
-    caches_with _ _ cache c.insert.new.self cache.exports cache.sizes is_cache
+    caches_with _ _ cache c.insert.new.self cache.sizes is_cache
     (is_cache_same nat_cmp _ cache.named c.insert.new.self c.in-Err.ensures.err is_cache.named)
-    is_cache.exports is_cache.sizes
+    is_cache.sizes
