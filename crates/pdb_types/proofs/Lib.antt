@@ -5,6 +5,5 @@ pub mod ModuleLemmas
 pub mod SizeLemmas
 pub mod ChainLemmas
 pub mod PassedLemmas
-pub mod TypeCacheLemmas
 pub mod FreeNumbers
 pub mod ReadingLemmas

@@ -12,7 +12,7 @@ use crate::exports::ExportTable;
 use crate::module_list::lower_case;
 use crate::read_error::{Part, ReadError};
 use crate::texts::Texts;
-use crate::type_cache::TypeCache;
+use crate::type_cache::{NamedModule, TypeCache};
 use crate::type_inputs::TypeInputs;
 use pdb_errors::{Error, ModuleProvider, Result};
 use pdb_records::{
@@ -97,16 +97,14 @@ impl<'a, P: ModuleProvider> TypeInputs<'a, P> {
         ensures state { IsCacheAfter P.info self.now cache.old cache.new }
     {
         if let Some(module_index) = cache.named.get(&reference.0) {
-            return Ok(*module_index);
+            return Ok(module_index.0);
         }
         let Some(name) = strings.get(reference) else {
             return Err(ReadError::from(pdb_records::Error::StringNotFound(reference.0)));
         };
         let module_index = self.module_named(name)?;
-        match cache.named.insert(reference.0, module_index) {
-            Ok(_) => Ok(module_index),
-            Err(_) => Err(ReadError::OutOfMemory),
-        }
+        cache.named.insert(reference.0, NamedModule(module_index))?;
+        Ok(module_index)
     }
 
     // The index that the module at a module index exports under a number. Its exports are read once.

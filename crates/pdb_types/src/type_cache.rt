@@ -1,25 +1,49 @@
 //! The type cache: what was found of types, ids and exports so far, and the parts that failed.
 
-ghost use Rattle.std.specs.Prelude.{◌≡◌, [], None};
+ghost use Rattle.std.specs.Prelude.{◌≡◌, ℕ, [], None};
+ghost use Rattle.std.specs.FinMap.{nat_cmp-IsAntisymmetric};
 ghost use Rattle.std.specs.Ordering.{nat_cmp};
 ghost use Rattle.pdb_tables.specs.OnceMap.{HoldsOfEach};
-ghost use Rattle.pdb_types.specs.TypeCache.{AreExportsOf};
+ghost use Rattle.pdb_types.specs.TypeCache.{IsModuleUnder, AreExportsOf, asked_cmp, asked_cmp-apart, IsSizeOf};
 ghost use Rattle.pdb_types.specs.TypeInputs.{LinkInputs};
+ghost use Rattle.pdb_types.specs.declared.type_sizes.TypeSize.{TypeSize};
 
 use crate::exports::ExportTable;
 use crate::failed_parts::FailedParts;
 use crate::items::{IdMap, ItemMap, TypeMap};
 use crate::type_sizes::TypeSize;
 use pdb_records::{IdInformation, TypeInformation};
-use pdb_tables::OnceMap;
+use pdb_tables::{Once, OnceMap};
 use std::alloc::Global;
 use std::collections::BTreeMap;
 
 // A question for a size: the module index of the module that asks, and the index as it writes it.
 #[derive(Clone, Copy, PartialEq, Eq, PartialOrd, Ord)]
-pub(crate) struct Asked {
+pub struct Asked {
     pub(crate) module_index: usize,
     pub(crate) index: u32,
+}
+
+// It is found once for each question.
+impl Once<Asked> for TypeSize {
+    ghost Source = { ℕ → ℕ → TypeSize };
+
+    ghost fits = { IsSizeOf };
+
+    ghost apart = { asked_cmp-apart };
+}
+
+// The module index of a module.
+#[derive(Clone, Copy)]
+pub(crate) struct NamedModule(pub(crate) usize);
+
+// It is found once for each reference.
+impl Once<u32> for NamedModule {
+    ghost Source = { LinkInputs };
+
+    ghost fits = { IsModuleUnder };
+
+    ghost apart = { nat_cmp-IsAntisymmetric };
 }
 
 /// The type cache: what was found of the records so far. It grows, and is asked before the records are read again.
@@ -31,13 +55,13 @@ pub struct TypeCache<'a> {
     // The entries of ids.
     pub(crate) ids: IdMap<'a>,
     // Module indices, by the references of the modules' names.
-    pub(crate) named: BTreeMap<u32, usize>,
+    pub(crate) named: OnceMap<u32, NamedModule>,
     // What modules export, by module index.
     pub(crate) exports: OnceMap<usize, ExportTable<'a>>,
     // The sizes of forward references, by their numbers: of all of them, or nothing yet.
     pub(crate) forward_sizes: Option<BTreeMap<u32, u64>>,
     // Sizes of types.
-    pub(crate) sizes: BTreeMap<Asked, TypeSize>,
+    pub(crate) sizes: OnceMap<Asked, TypeSize>,
     /// The parts of the records that were met broken.
     pub failed: FailedParts,
 }
@@ -61,19 +85,19 @@ impl<'a> TypeCache<'a> {
     pub(crate) fn new(alloc: Global, types: &'a TypeInformation, ids: &'a IdInformation) -> Self
         ensures types { result.types ≡ types.now.items }
         ensures ids { result.ids ≡ ids.now.items }
-        ensures named { result.named.entries ≡ [] }
+        ensures named { (link : LinkInputs) → HoldsOfEach nat_cmp (IsModuleUnder link) result.named.made }
         ensures exports { (link : LinkInputs) → HoldsOfEach nat_cmp (AreExportsOf link) result.exports.made }
         ensures forward { result.forward_sizes ≡ None }
-        ensures sizes { result.sizes.entries ≡ [] }
+        ensures sizes { (size_of : ℕ → ℕ → TypeSize) → HoldsOfEach asked_cmp (IsSizeOf size_of) result.sizes.made }
         ensures failed { result.failed ≡ [] }
     {
         TypeCache {
             types: ItemMap::new(alloc, types),
             ids: ItemMap::new(alloc, ids),
-            named: BTreeMap::new(alloc),
+            named: OnceMap::new(alloc),
             exports: OnceMap::new(alloc),
             forward_sizes: None,
-            sizes: BTreeMap::new(alloc),
+            sizes: OnceMap::new(alloc),
             failed: FailedParts::new(alloc),
         }
     }

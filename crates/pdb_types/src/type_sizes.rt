@@ -159,10 +159,8 @@ impl<'a, P: ModuleProvider> TypeInputs<'a, P> {
         ensures memory { IfErr result (λ e. e ≡ OutOfMemory) }
         ensures state { IsCacheAfter P.info self.now cache.old cache.new }
     {
-        match cache.sizes.insert(asked, size) {
-            Ok(_) => Ok(()),
-            Err(_) => Err(Error::OutOfMemory),
-        }
+        cache.sizes.insert(asked, size)?;
+        Ok(())
     }
 
     // Caches the size of types that were asked for by the module at a module index.

@@ -6,7 +6,6 @@ use Rattle.pdb_types.specs.TypeInputs.{link_inputs}
 use Rattle.pdb_types.specs.TypeSizes.{no_size, step, size_of}
 use Rattle.pdb_types.specs.SizeLaws.{Leads}
 use Rattle.pdb_types.proofs.ChainLemmas.{step-below, type_size-at_end}
-use Rattle.pdb_types.proofs.TypeCacheLemmas.{sizes_found}
 use Rattle.pdb_types.proofs.FreeNumbers.{free_lt}
 use Rattle.pdb_types.proofs.PassedLemmas.{type_size-leads, type_size-back, leads_more, passed_alike, with_one}
 use Rattle.pdb_types.proofs.type_inputs.TypeInputs.chain_size.Goals as goal
@@ -15,17 +14,14 @@ pub returns-in-Some-clause-answer : goal.returns-in-Some-clause-answer
 returns-in-Some-clause-answer g c =
     let inputs = c.args.self.now in
     let info = g.P.ModuleProvider.info in
-    let found = sizes_found info inputs
-    (record { module_index = c.args.module_index; index = c.chain.index.0 }) c.in-Some.size.now c.chain.cache.sizes
-    c.chain.invariant.state.is_cache.sizes (sym c.in-Some.ensures.value) in
+    let found = c.in-Some.ensures (size_of info inputs) c.chain.invariant.state.is_cache.sizes in
     sym (type_size-leads (link_inputs info inputs) inputs.types inputs.pointer_size c.args.module_index c.args.index.0
     c.chain.index.0 c.chain.invariant.led.0 c.chain.invariant.led.1 ∙ found)
 
 pub returns-in-Some-clause-passed : goal.returns-in-Some-clause-passed
 returns-in-Some-clause-passed g c =
-    let found = sizes_found g.P.ModuleProvider.info c.args.self.now
-    (record { module_index = c.args.module_index; index = c.chain.index.0 }) c.in-Some.size.now c.chain.cache.sizes
-    c.chain.invariant.state.is_cache.sizes (sym c.in-Some.ensures.value) in
+    let found = c.in-Some.ensures (size_of g.P.ModuleProvider.info c.args.self.now)
+    c.chain.invariant.state.is_cache.sizes in
     passed_alike _ _ _ _ c.chain.index.0 _ c.chain.passed found c.chain.invariant.passed
 
 pub returns-then-not-branch-clause-answer : goal.returns-then-not-branch-clause-answer
