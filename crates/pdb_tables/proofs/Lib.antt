@@ -21,4 +21,3 @@ pub mod ElementLemmas
 pub mod PositionLemmas
 pub mod KeyedLemmas
 pub mod SlotLemmas
-pub mod CacheLemmas

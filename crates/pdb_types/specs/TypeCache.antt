@@ -2,7 +2,7 @@
 use Rattle.std.proofs.Common.{ap}
 use Rattle.std.proofs.lemmas.Map.Lookups.{exact_unsigned, exact_pairs}
 use Rattle.std.specs.FinMap.{IsAntisymmetric}
-use Rattle.std.specs.Prelude.{◌≡◌, ℕ, List, Some, Ok, IfSome}
+use Rattle.std.specs.Prelude.{◌≡◌, ℕ, List, Ok, IfSome}
 use Rattle.std.specs.Ordering.{nat_cmp, ordering_then}
 use Rattle.std.specs.declared.cmp.Ordering.{Ordering}
 use Rattle.pdb_tables.specs.OnceMap.{HoldsOfEach}
