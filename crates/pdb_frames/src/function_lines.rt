@@ -36,7 +36,8 @@ pub struct FunctionLines<'a> {
 impl<'a> FunctionLines<'a> {
     // Nothing yet. It takes no memory.
     pub fn new(alloc: Global) -> Self
-        ensures entries { (records : ModuleRecords) → HoldsOfEach nat_cmp (HasProgram records) result.entries.cached.made }
+        ensures entries { (records : ModuleRecords)
+            → HoldsOfEach nat_cmp (HasProgram records) result.entries.cached.made }
         ensures is_cache { (records : ModuleRecords) → HoldsOfEach function_cmp (AreRowsOf records) result.cached.made }
     {
         FunctionLines {
