@@ -1,6 +1,8 @@
 //! Maps of what is made once for each key.
 
-ghost use Rattle.std.specs.Prelude.{IfSome};
+ghost use Rattle.std.specs.BTreeMap.{get, Updates};
+ghost use Rattle.std.specs.Option.{option_copied};
+ghost use Rattle.std.specs.Prelude.{◌≡◌, Some, IfSome, OnOk, OnErr};
 ghost use Rattle.std.specs.FinMap.{IsAntisymmetric};
 ghost use Rattle.pdb_tables.specs.OnceMap.{HoldsOfEach};
 
@@ -37,7 +39,8 @@ impl<K: Ord + Drop, T: Once<K>> OnceMap<K, T> {
 
     /// What was made for a key.
     pub fn get(&self, key: &K) -> Option<&T>
-        ensures { IfSome result (λ content. (source : T.Source)
+        ensures answer { option_copied result ≡ get K.cmp self.now.made key.now }
+        ensures fits { IfSome result (λ content. (source : T.Source)
             → HoldsOfEach K.cmp (T.fits source) self.now.made → T.fits source key.now content.now) }
     {
         self.made.get(key)
@@ -45,7 +48,9 @@ impl<K: Ord + Drop, T: Once<K>> OnceMap<K, T> {
 
     /// Keeps what was made for a key. Answers `AllocError` where memory runs out, and the map stays.
     pub fn insert(&mut self, key: K, content: T) -> Result<(), AllocError>
-        ensures { (source : T.Source) → HoldsOfEach K.cmp (T.fits source) self.old.made
+        ensures state { OnOk result (Updates K.cmp self.old.made self.new.made key (Some content)) }
+        ensures unchanged_if_refused { OnErr result (self.new.made.entries ≡ self.old.made.entries) }
+        ensures fits { (source : T.Source) → HoldsOfEach K.cmp (T.fits source) self.old.made
             → T.fits source key content → HoldsOfEach K.cmp (T.fits source) self.new.made }
     {
         match self.made.insert(key, content) {

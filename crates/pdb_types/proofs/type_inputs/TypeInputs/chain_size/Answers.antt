@@ -14,13 +14,13 @@ pub returns-in-Some-clause-answer : goal.returns-in-Some-clause-answer
 returns-in-Some-clause-answer g c =
     let inputs = c.args.self.now in
     let info = g.P.ModuleProvider.info in
-    let found = c.in-Some.ensures (size_of info inputs) c.chain.invariant.state.is_cache.sizes in
+    let found = c.in-Some.ensures.fits (size_of info inputs) c.chain.invariant.state.is_cache.sizes in
     sym (type_size-leads (link_inputs info inputs) inputs.types inputs.pointer_size c.args.module_index c.args.index.0
     c.chain.index.0 c.chain.invariant.led.0 c.chain.invariant.led.1 ∙ found)
 
 pub returns-in-Some-clause-passed : goal.returns-in-Some-clause-passed
 returns-in-Some-clause-passed g c =
-    let found = c.in-Some.ensures (size_of g.P.ModuleProvider.info c.args.self.now)
+    let found = c.in-Some.ensures.fits (size_of g.P.ModuleProvider.info c.args.self.now)
     c.chain.invariant.state.is_cache.sizes in
     passed_alike _ _ _ _ c.chain.index.0 _ c.chain.passed found c.chain.invariant.passed
 
