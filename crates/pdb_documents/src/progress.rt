@@ -23,6 +23,9 @@ use std::collections::BTreeSet;
 use std::marker::Model;
 use std::mem;
 
+/// How many steps there is room for at first: most signatures never have more to be done.
+const MOST_STEPS: usize = 14;
+
 /// How far printing has come: what is still to be done, and the text so far.
 ///
 /// Whatever is printed within something else is a step of its own, so that no depth of the records is a
@@ -69,16 +72,16 @@ pub enum Next<'s> {
 }
 
 impl<'s> Progress<'s> {
-    /// Nothing is to be done, and nothing is printed. It takes no memory.
-    pub fn new(alloc: Global) -> Self
-        ensures { result ≡ beginning }
+    /// Nothing is to be done, and nothing is printed. It has room for the steps of most signatures.
+    pub fn new(alloc: Global) -> Result<Self, AllocError>
+        ensures { IfOk result (λ progress. progress ≡ beginning) }
     {
-        Progress {
-            steps: Vec::new(alloc),
+        Ok(Progress {
+            steps: Vec::with_capacity(alloc, MOST_STEPS)?,
             open_indices: BTreeSet::new(alloc),
             text: String::new(alloc),
             failure: None,
-        }
+        })
     }
 
     /// What printing came to.

@@ -16,7 +16,7 @@ fn no_segments(alloc: Global, depths: usize) -> Result<Vec<Vec<Segment<usize>>>,
     ensures count { IfOk result (λ v. length v.items ≡ depths) }
     ensures none { IfOk result (λ v. (depth : ℕ) → segments_at v.items depth ≡ []) }
 {
-    let mut all = Vec::new(alloc);
+    let mut all = Vec::with_capacity(alloc, depths)?;
     while all.len() < depths {
         all.push(Vec::new(alloc))?;
     }

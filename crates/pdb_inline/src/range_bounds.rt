@@ -12,7 +12,7 @@ use std::alloc::{AllocError, Global};
 fn bounds(alloc: Global, ranges: &[InlineRange]) -> Result<Vec<u64>, AllocError>
     ensures { IfOk result (λ v. v.items ≡ bounds ranges.now) }
 {
-    let mut all = Vec::new(alloc);
+    let mut all = Vec::with_capacity(alloc, ranges.len().saturating_mul(2))?;
     for range in ranges {
         all.push(range.start_offset)?;
         all.push(range.end_offset)?;

@@ -267,7 +267,7 @@ impl<'a, P: ModuleProvider> TypeFormatter<'a, P> {
             }) }
     {
         let alloc = self.allocator();
-        let mut progress = Progress::new(alloc);
+        let mut progress = Progress::new(alloc)?;
         progress.first(Task::Id(BTreeSet::new(alloc), index))?;
         self.print(module_index, &mut progress)?;
         Ok(progress.into_printed())

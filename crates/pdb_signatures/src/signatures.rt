@@ -124,7 +124,7 @@ impl<'a, P: ModuleProvider> TypeFormatter<'a, P> {
               failed = self.new.failed;
             }) }
     {
-        let mut progress = Progress::new(self.allocator());
+        let mut progress = Progress::new(self.allocator())?;
         self.signature(module_index, &mut progress, name, index)?;
         self.print(module_index, &mut progress)?;
         Ok(progress.into_printed())

@@ -4,9 +4,9 @@
 //! and answers them as the fewest ranges that hold the same numbers, in ascending order. A range is a pair
 //! `(lo, hi)`, with `lo` in it and `hi` out of it. [`Segments`] has a value for each number of its ranges.
 //!
-//! What has a key ([`Keyed`]) is put in order by it, of each key the first, and found by [`neighbours_of`], which counts
-//! each entry that it looks at. In a map [`insert_first`] leaves the first value of a key, and [`make_slot`] makes
-//! room in a list of slots.
+//! What has a key ([`Keyed`]) is put in order by it, of each key the first, and found by [`neighbours_of`], which
+//! counts each entry that it looks at. In a map [`insert_first`] leaves the first value of a key, an [`OnceMap`] has
+//! what was made so far, once for each key, and [`make_slot`] makes room in a list of slots.
 #![tactic(auto)]
 
 mod first_values;
