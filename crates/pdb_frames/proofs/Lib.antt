@@ -1,4 +1,4 @@
-pub mod CodeCacheLemmas
+pub mod GivesLemmas
 pub mod OriginLemmas
 pub mod RowLemmas
 pub mod LentNameLemmas

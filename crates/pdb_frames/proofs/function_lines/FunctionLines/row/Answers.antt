@@ -1,5 +1,5 @@
 use Rattle.std.proofs.Common.{rules, ◌∙◌}
-use Rattle.pdb_frames.proofs.CodeCacheLemmas.{gives_same}
+use Rattle.pdb_frames.proofs.GivesLemmas.{gives_same}
 use Rattle.pdb_frames.proofs.function_lines.FunctionLines.row.Goals as goal
 
 pub returns-in-Some-clause-answer : goal.returns-in-Some-clause-answer
