@@ -1,14 +1,14 @@
-//! Answers over a file: the file is read, what is broken is taken out, and a context over it answers words or lines.
+//! Answers over a file: it is opened, and a context over its records answers words or lines.
 
 use crate::addresses::Origin;
 use crate::answer_texts::{write_answer, write_no_answer, write_no_data};
 use crate::base_hints::BaseHint;
-use crate::input_files::{InputFile, SourceFile, find_file, open_source, read_input_file};
+use crate::input_files::{InputFile, SourceFile, find_file};
 use crate::line_queue::LineQueue;
 use crate::module_reader::ModuleReader;
 use crate::options::{Base, Options, Style};
 use crate::pdb_modules::PdbModules;
-use crate::repairs::print_repairs;
+use crate::repaired_files::open_repaired;
 use crate::requests::{Naming, Request, Sort, parse_request};
 use crate::status_line::StatusLine;
 use crate::stops::Stop;
@@ -110,44 +110,6 @@ pub fn hint_for(options: &Options<'_>, input: &InputFile) -> BaseHint {
         (Base::Preferred, None) => BaseHint::ToBePrinted,
         _ => BaseHint::Printed,
     }
-}
-
-/// Reads all of a file, takes out of its records what is broken, and prints that on standard error. An error where
-/// nothing can be answered over it.
-pub fn open_file<R: Files + Eprint + AllocGlobal>(
-    rt: &R,
-    status_line: &StatusLine,
-    options: &Options<'_>,
-    path: &str,
-) -> Result<InputFile, Stop> {
-    let mut input = read_input_file(rt, status_line, options, path)?;
-    repair(rt, &mut input)?;
-    Ok(input)
-}
-
-/// The same of a file that is read as it is asked, with what reads it.
-pub fn open_repaired<R: Files + Eprint + AllocGlobal>(
-    rt: &R,
-    source: SourceFile<R::File>,
-) -> Result<(InputFile, Option<PdbModules<R::File>>), Stop> {
-    let (mut input, reader) = open_source(rt, source)?;
-    repair(rt, &mut input)?;
-    Ok((input, reader))
-}
-
-/// Takes out of the records of a file what is broken, and prints that on standard error. An error where nothing can be
-/// answered over it.
-pub fn repair<R: Eprint + AllocGlobal>(rt: &R, input: &mut InputFile) -> Result<(), Stop> {
-    if let Some(refusal) = input.refusal {
-        return Err(Stop::PdbFile(String::from_str(rt.alloc(), input.path.as_str())?, refusal));
-    }
-    if input.names_only {
-        let _ = eprintln!(rt;
-            "pdb_symbolizer: {}: made with /DEBUG:FASTLINK: names but no lines",
-            input.path
-        );
-    }
-    print_repairs(rt, input.path.as_str(), &mut input.records)
 }
 
 /// Answers the addresses of the command line. What is known of the modules that they lie in is read before.

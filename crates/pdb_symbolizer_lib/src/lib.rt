@@ -24,6 +24,7 @@ mod options;
 mod paths;
 mod pdb_modules;
 mod programs;
+mod repaired_files;
 mod repairs;
 mod requests;
 mod response_files;

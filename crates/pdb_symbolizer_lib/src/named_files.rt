@@ -4,14 +4,13 @@
 
 use crate::answer_texts::{write_answer, write_no_answer};
 use crate::base_hints::BaseHint;
-use crate::file_answers::{
-    FileContext, Questions, hint_for, open_repaired, request_text, write_out,
-};
+use crate::file_answers::{FileContext, Questions, hint_for, request_text, write_out};
 use crate::input_files::{InputFile, SourceFile, find_file};
 use crate::line_queue::LineQueue;
 use crate::module_reader::ModuleReader;
 use crate::options::{Options, Style};
 use crate::pdb_modules::PdbModules;
+use crate::repaired_files::open_repaired;
 use crate::requests::{Naming, Request, parse_request};
 use crate::status_line::StatusLine;
 use crate::stops::Stop;

@@ -1,10 +1,10 @@
 //! The Breakpad symbol file that `--dump-syms` writes, on standard output or into a store.
 
-use crate::file_answers::open_file;
 use crate::file_frames::FileFrames;
 use crate::input_files::InputFile;
 use crate::options::{Options, SymbolFilePlace};
 use crate::paths::last_part;
+use crate::repaired_files::open_file;
 use crate::status_line::StatusLine;
 use crate::stops::Stop;
 use crate::symbol_names::SymbolNames;

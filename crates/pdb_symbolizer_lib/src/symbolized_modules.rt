@@ -1,12 +1,12 @@
 //! The modules that a request asks for: their PDB files in folders, and what is found at the offsets of each.
 
-use crate::file_answers::open_repaired;
 use crate::file_frames::FileFrames;
 use crate::input_files::InputFile;
 use crate::module_reader::ModuleReader;
 use crate::options::Options;
 use crate::pdb_modules::PdbModules;
 use crate::programs::find_in_folders;
+use crate::repaired_files::open_repaired;
 use crate::stops::Stop;
 use crate::symbol_names::SymbolNames;
 use pdb_addr2line::{ContextPdbData, Error, Frame, FunctionFrames};

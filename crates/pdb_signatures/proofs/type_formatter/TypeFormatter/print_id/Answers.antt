@@ -8,8 +8,8 @@ use Rattle.pdb_signatures.proofs.type_formatter.TypeFormatter.print_id.Goals as 
 pub returns-clause-answer : goal.returns-clause-answer
 returns-clause-answer g c =
     let w = formatter_inputs g.P.ModuleProvider.info c.args.self.now.type_inputs c.args.module_index in
-    let runs = begins_task w _ _ _ c.args.self.now.failed _ c.new-progress.ensures c.in_ok-first.ensures
+    let runs = begins_task w _ _ _ c.args.self.now.failed _ c.in_ok-progress.ensures c.in_ok-first.ensures
     c.in_ok-print.ensures.ends in
     let is = document-runs w (formatter-below g.P.ModuleProvider.info c.args.self.now.type_inputs c.args.module_index)
-    (id_of_index c.args.index.0) c.args.self.now.failed _ (rw c.new.ensures.empty at runs) in
+    (id_of_index c.args.index.0) c.args.self.now.failed _ (rw c.new-2.ensures.empty at runs) in
     rw (c.into_printed.ensures.text, c.into_printed.ensures.failure) is
