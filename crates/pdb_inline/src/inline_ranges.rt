@@ -74,7 +74,7 @@ fn own_ranges_of_sites(
     ensures { IfOk result (λ v. v.items
         ≡ flat_map (λ site. own_ranges inlinees.now.keys site.depth site.symbol) (map site_view sites.now)) }
 {
-    let mut ranges = Vec::with_capacity(alloc, sites.len())?;
+    let mut ranges = Vec::new(alloc);
     for site in sites {
         let rows = counted_rows(alloc, inlinees, site.symbol)?;
         push_own(&mut ranges, *site, &rows)?;
