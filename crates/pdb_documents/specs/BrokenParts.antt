@@ -1,19 +1,16 @@
 -- The parts of the records that printing meets broken.
-use Rattle.std.specs.Prelude.{◌≡◌, ◌⊎◌, ℕ, List, [], ◌∷◌, Some, Result, Ok, Err}
+use Rattle.std.specs.Prelude.{◌≡◌, ◌⊎◌, ℕ, List, [], ◌∷◌, Some, Result, Err}
 use Rattle.std.specs.List.{AllByRecursion}
 use Rattle.pdb_types.specs.declared.read_error.Part.{Part}
 use Rattle.pdb_types.specs.FailedParts.{Parts, with_part}
-use Rattle.pdb_types.specs.ReadError.{ReadErrorView, Missing, Unimplemented, Refused, Broken}
+use Rattle.pdb_types.specs.ReadError.{ReadErrorView, Broken}
 use Rattle.pdb_documents.specs.Documents.{Run}
 use Rattle.pdb_documents.specs.PrintInputs.{PrintInputs}
 
 -- reading something meets this part broken
 abbrev pub MeetsBroken : {A : Type 0} → Result A ReadErrorView → Part → Type 0
-MeetsBroken (Ok answer) part = ⊥
-MeetsBroken (Err (Missing index)) part = ⊥
-MeetsBroken (Err (Unimplemented kind)) part = ⊥
-MeetsBroken (Err (Refused e)) part = ⊥
 MeetsBroken (Err (Broken met e)) part = met ≡ part
+MeetsBroken other part = ⊥
 
 -- a part is broken: the type of some index can't be read for it, or its size, or the id of some index
 abbrev pub IsBroken : PrintInputs → Part → Type 0

@@ -162,22 +162,17 @@ OpensAlone index old new = (outer : BTreeSet ℕ) × (new ≡ with_step (EndId o
 -- what the end of something does to a run: what is printed no longer is, where printing failed; an index that closes
 -- and an id that ends do nothing to the run
 abbrev pub ended_run : TypeFormatterFlags → Pending → Run → Run
-ended_run flags (Print task) r = r
-ended_run flags (Close index) r = r
-ended_run flags (EndId outer index) r = r
 ended_run flags EndCatch r = caught_by r.fault r
 ended_run flags (EndBuffer mark attributes) r =
     released_by r.fault r mark
     (attributes_text flags Sigil (reverse attributes.items))
     (attributes_text flags Text (reverse attributes.items))
+ended_run flags other r = r
 
 -- something is to be printed in a stage only where printing failed
 abbrev pub IsPassedOver : Pending → Stage → Type 0
 IsPassedOver (Print task) s = is_some s.failure ≡ true
-IsPassedOver (Close index) s = Unit {0}
-IsPassedOver (EndId outer index) s = Unit {0}
-IsPassedOver EndCatch s = Unit {0}
-IsPassedOver (EndBuffer mark attributes) s = Unit {0}
+IsPassedOver other s = Unit {0}
 
 -- the next step of a stage was taken: it is this one, and it has ended or was passed over
 pub record Ended (flags : TypeFormatterFlags) (old new : Stage) : Type 0 where

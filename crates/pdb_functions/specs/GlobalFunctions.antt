@@ -8,8 +8,7 @@ use Rattle.pdb_records.specs.declared.addresses.PdbInternalSectionOffset.{PdbInt
 use Rattle.pdb_records.specs.declared.debug_information.DebugInformation.{DebugInformation}
 use Rattle.pdb_records.specs.declared.symbols.Symbol.{Symbol}
 use Rattle.pdb_records.specs.declared.symbols.SymbolData.{SymbolData}
-use Rattle.pdb_records.specs.declared.symbols.SymbolData.TheVariants.{Public, Procedure, SeparatedCode}
-use Rattle.pdb_records.specs.declared.symbols.SymbolData.TheVariants.{Thunk, InlineSite, Other}
+use Rattle.pdb_records.specs.declared.symbols.SymbolData.TheVariants.{Public}
 use Rattle.pdb_functions.specs.declared.global_functions.GlobalFunction as code
 use Rattle.pdb_functions.specs.Sections.{is_executable, section_ends}
 use Rattle.pdb_functions.specs.Contributions.{contribution_starts}
@@ -30,12 +29,7 @@ public_data sections (Some (Public symbol)) =
     if is_executable sections symbol.offset.section
     then Some (record { start = symbol.offset; name = Some symbol.name })
     else None
-public_data sections (Some (Procedure symbol)) = None
-public_data sections (Some (SeparatedCode symbol)) = None
-public_data sections (Some (Thunk symbol)) = None
-public_data sections (Some (InlineSite symbol)) = None
-public_data sections (Some Other) = None
-public_data sections None = None
+public_data sections other = None
 
 -- the function that a symbol shows, where it is a public one
 abbrev pub public_function : List ImageSectionHeader → Symbol → Option GlobalFunction

@@ -8,8 +8,7 @@ use Rattle.pdb_records.specs.declared.error.StreamError.{StreamError}
 use Rattle.pdb_records.specs.declared.symbols.Symbol.{Symbol}
 use Rattle.pdb_records.specs.declared.symbols.SymbolIndex.{SymbolIndex}
 use Rattle.pdb_records.specs.declared.symbols.SymbolData.{SymbolData}
-use Rattle.pdb_records.specs.declared.symbols.SymbolData.TheVariants.{Public, Procedure, SeparatedCode}
-use Rattle.pdb_records.specs.declared.symbols.SymbolData.TheVariants.{Thunk, InlineSite, Other}
+use Rattle.pdb_records.specs.declared.symbols.SymbolData.TheVariants.{Procedure, SeparatedCode, Thunk}
 use Rattle.pdb_records.specs.declared.types.TypeIndex.{TypeIndex}
 use Rattle.pdb_records.specs.declared.modules.ModuleInfo.{ModuleInfo}
 use Rattle.pdb_functions.specs.declared.procedures.ProcedureSymbolFunction.{ProcedureSymbolFunction}
@@ -71,10 +70,7 @@ procedure_data at last (Some (Thunk s)) =
       end_symbol_index = s.end;
       type_index = record { 0 = 0 };
     })
-procedure_data at last (Some (Public s)) = None
-procedure_data at last (Some (InlineSite s)) = None
-procedure_data at last (Some Other) = None
-procedure_data at last None = None
+procedure_data at last other = None
 
 -- the procedure that a symbol at a position shows, behind the last one that counts
 abbrev pub procedure_at : ℕ → Option ModuleProcedure → Symbol → Option ModuleProcedure

@@ -6,8 +6,7 @@ use Rattle.pdb_records.specs.declared.error.Error.TheVariants.{Stream}
 use Rattle.pdb_records.specs.declared.error.StreamError.{StreamError}
 use Rattle.pdb_records.specs.declared.symbols.Symbol.{Symbol}
 use Rattle.pdb_records.specs.declared.symbols.SymbolData.{SymbolData}
-use Rattle.pdb_records.specs.declared.symbols.SymbolData.TheVariants.{Public, Procedure, SeparatedCode}
-use Rattle.pdb_records.specs.declared.symbols.SymbolData.TheVariants.{Thunk, InlineSite, Other}
+use Rattle.pdb_records.specs.declared.symbols.SymbolData.TheVariants.{Procedure, InlineSite}
 use Rattle.pdb_records.specs.declared.symbols.InlineSiteSymbol.{InlineSiteSymbol}
 use Rattle.pdb_errors.specs.declared.error.Error.{Error}
 use Rattle.pdb_errors.specs.declared.error.Error.TheVariants.{PdbError}
@@ -17,12 +16,7 @@ use Rattle.pdb_errors.specs.Outcomes.{unless}
 -- what a symbol holds, where that is a site
 abbrev pub site_data : Option SymbolData → Option InlineSiteSymbol
 site_data (Some (InlineSite s)) = Some s
-site_data (Some (Procedure s)) = None
-site_data (Some (SeparatedCode s)) = None
-site_data (Some (Thunk s)) = None
-site_data (Some (Public s)) = None
-site_data (Some Other) = None
-site_data None = None
+site_data other = None
 
 -- the site that a symbol opens, where it opens one
 abbrev pub site_of : Symbol → Option InlineSiteSymbol
@@ -31,12 +25,7 @@ site_of symbol = if is_site_kind symbol.raw_kind then site_data symbol.content e
 -- the position of the symbol that closes what a symbol holds, where that is a procedure
 abbrev pub procedure_data_end : Option SymbolData → Option ℕ
 procedure_data_end (Some (Procedure s)) = Some s.end.0
-procedure_data_end (Some (InlineSite s)) = None
-procedure_data_end (Some (SeparatedCode s)) = None
-procedure_data_end (Some (Thunk s)) = None
-procedure_data_end (Some (Public s)) = None
-procedure_data_end (Some Other) = None
-procedure_data_end None = None
+procedure_data_end other = None
 
 -- the position of the symbol that closes the procedure that a symbol shows, where it shows one
 abbrev pub nested_end : Symbol → Option ℕ
