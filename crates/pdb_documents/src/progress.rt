@@ -23,8 +23,8 @@ use std::collections::BTreeSet;
 use std::marker::Model;
 use std::mem;
 
-/// How many steps there is room for at first: most signatures never have more to be done.
-const MOST_STEPS: usize = 14;
+/// How many steps there is room for at first.
+const STEPS_AT_FIRST: usize = 14;
 
 /// How far printing has come: what is still to be done, and the text so far.
 ///
@@ -72,12 +72,12 @@ pub enum Next<'s> {
 }
 
 impl<'s> Progress<'s> {
-    /// Nothing is to be done, and nothing is printed. It has room for the steps of most signatures.
+    /// Nothing is to be done, and nothing is printed. There is room for some steps already.
     pub fn new(alloc: Global) -> Result<Self, AllocError>
         ensures { IfOk result (λ progress. progress ≡ beginning) }
     {
         Ok(Progress {
-            steps: Vec::with_capacity(alloc, MOST_STEPS)?,
+            steps: Vec::with_capacity(alloc, STEPS_AT_FIRST)?,
             open_indices: BTreeSet::new(alloc),
             text: String::new(alloc),
             failure: None,
