@@ -40,8 +40,7 @@ pub(crate) fn is_answered(alloc: Global, text: &str, line: &str) -> bool {
     let Some((old, new, wanted)) = parts(line) else {
         return false;
     };
-    match changed(alloc, text, old, new) {
-        Some(text) => is_wanted(alloc, &read_records(alloc, text.as_bytes()), wanted),
-        None => false,
-    }
+    changed(alloc, text, old, new).is_some_and(|text| {
+        is_wanted(alloc, &read_records(alloc, text.as_bytes()), wanted)
+    })
 }

@@ -44,17 +44,13 @@ enum Subject {
     Members,
 }
 
-impl Subject {
-    /// The file with the cases.
-    fn file(self) -> &'static str {
-        match self {
-            Subject::Changes => "changes.txt",
-            Subject::ModuleFiles => "module_files.txt",
-            Subject::Names => "names.txt",
-            Subject::Members => "members.txt",
-        }
-    }
-}
+/// All of it, with the file that has the cases.
+const SUBJECTS: [(Subject, &str); 4] = [
+    (Subject::Changes, "changes.txt"),
+    (Subject::ModuleFiles, "module_files.txt"),
+    (Subject::Names, "names.txt"),
+    (Subject::Members, "members.txt"),
+];
 
 /// The file that is cut off at each place.
 const CUT: &str = "small.json";
@@ -76,24 +72,20 @@ fn main(rt: HostRuntime) -> io::Result<ExitCode> {
 fn over_all<R: Files + Print + AllocGlobal>(rt: &R) -> io::Result<Tally> {
     let sorts = fs::read_to_string(rt, SORTS)?;
     let mut tally = no_json::over_texts(rt.alloc(), &fs::read(rt, CUT)?);
-    for subject in [
-        Subject::Changes,
-        Subject::ModuleFiles,
-        Subject::Names,
-        Subject::Members,
-    ] {
-        tally = tally.and(over_subject(rt, subject, sorts.as_str())?);
+    for (subject, file) in SUBJECTS {
+        tally = tally.and(over_subject(rt, subject, file, sorts.as_str())?);
     }
     Ok(tally)
 }
 
-/// Makes the cases of a subject.
+/// Makes the cases of a subject, which are in a file.
 fn over_subject<R: Files + Print + AllocGlobal>(
     rt: &R,
     subject: Subject,
+    file: &str,
     sorts: &str,
 ) -> io::Result<Tally> {
-    let text = fs::read_to_string(rt, subject.file())?;
+    let text = fs::read_to_string(rt, file)?;
     let mut tally = Tally::NOTHING;
     for part in text.split("file ") {
         if let Some((name, lines)) = around(part, "\n") {

@@ -46,10 +46,7 @@ fn change(alloc: Global, file: &mut Value, path: &str, new: &str) -> bool {
     if new == ABSENT {
         return remove(file, path);
     }
-    match Value::from_str(alloc, new) {
-        Ok(value) => replace(file, path, value),
-        Err(_) => false,
-    }
+    Value::from_str(alloc, new).is_ok_and(|value| replace(file, path, value))
 }
 
 /// A file with another value at a path.
@@ -68,18 +65,16 @@ fn before<'t>(path: &'t str, fault: &str) -> &'t str {
 
 /// Whether a file is answered with a fault behind a path, or `read`.
 fn is_read_as(alloc: Global, text: &[u8], path: &str, fault: &str) -> bool {
-    match joined(alloc, before(path, fault), fault, "") {
-        Ok(wanted) => is_wanted(alloc, &read_records(alloc, text), wanted.as_str()),
-        Err(_) => false,
-    }
+    joined(alloc, before(path, fault), fault, "").is_ok_and(|wanted| {
+        is_wanted(alloc, &read_records(alloc, text), wanted.as_str())
+    })
 }
 
 /// Whether a file with another value at a path is answered with a fault behind the path, or `read`.
 fn is_answered(alloc: Global, text: &str, path: &str, new: &str, fault: &str) -> bool {
-    match changed(alloc, text, path, new) {
-        Some(text) => is_read_as(alloc, text.as_bytes(), path, fault),
-        None => false,
-    }
+    changed(alloc, text, path, new).is_some_and(|text| {
+        is_read_as(alloc, text.as_bytes(), path, fault)
+    })
 }
 
 /// Makes the change of a part `VALUE FAULT` of a line, if it can be made.

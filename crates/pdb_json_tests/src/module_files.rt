@@ -32,10 +32,7 @@ fn is_read_as(alloc: Global, text: &[u8], files: &[Vec<u8>], wanted: &str) -> bo
 
 /// Whether a file with the module files of a part of a line is answered as is wanted.
 fn is_read_with(alloc: Global, text: &[u8], files: &str, wanted: &str) -> bool {
-    match files_of(alloc, files) {
-        Ok(files) => is_read_as(alloc, text, &files, wanted),
-        Err(_) => false,
-    }
+    files_of(alloc, files).is_ok_and(|files| is_read_as(alloc, text, &files, wanted))
 }
 
 /// Whether a text with the change of a line is answered as is wanted, with the module files of the line.
@@ -46,10 +43,9 @@ pub(crate) fn is_answered(alloc: Global, text: &str, line: &str) -> bool {
     let Some((wanted, files)) = around(rest, " => ") else {
         return false;
     };
-    match changed(alloc, text, old, new) {
-        Some(text) => is_read_with(alloc, text.as_bytes(), files, wanted),
-        None => false,
-    }
+    changed(alloc, text, old, new).is_some_and(|text| {
+        is_read_with(alloc, text.as_bytes(), files, wanted)
+    })
 }
 
 /// The names of module files in a line.
@@ -61,18 +57,10 @@ fn line_of(alloc: Global, names: &[String]) -> Result<String, AllocError> {
     Ok(line)
 }
 
-/// Whether names of module files are those that are wanted.
-fn are_in_line(alloc: Global, names: &[String], wanted: &str) -> bool {
-    match line_of(alloc, names) {
-        Ok(line) => line.as_str() == wanted,
-        Err(_) => false,
-    }
-}
-
 /// Whether the names of module files, or the refusal of them, are what is wanted.
 fn are_wanted(alloc: Global, names: &Result<Vec<String>, RecordFault>, wanted: &str) -> bool {
     match names {
-        Ok(names) => are_in_line(alloc, names, wanted),
+        Ok(names) => line_of(alloc, names).is_ok_and(|line| line.as_str() == wanted),
         Err(fault) => is_refused_as(alloc, fault, wanted),
     }
 }
@@ -93,8 +81,5 @@ pub(crate) fn are_named(alloc: Global, text: &str, line: &str) -> bool {
     let Some((old, new, wanted)) = parts(line) else {
         return false;
     };
-    match changed(alloc, text, old, new) {
-        Some(text) => is_named(alloc, text.as_bytes(), wanted),
-        None => false,
-    }
+    changed(alloc, text, old, new).is_some_and(|text| is_named(alloc, text.as_bytes(), wanted))
 }

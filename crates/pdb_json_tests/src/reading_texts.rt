@@ -16,25 +16,18 @@ pub(crate) fn is_wanted(alloc: Global, answer: &Result<PDB, RecordFault>, wanted
 
 /// Whether a fault has this text.
 pub(crate) fn is_refused_as(alloc: Global, fault: &RecordFault, wanted: &str) -> bool {
-    match fault.to_string(alloc) {
-        Ok(text) => text.as_str() == wanted,
-        Err(_) => false,
-    }
+    fault
+        .to_string(alloc)
+        .is_ok_and(|text| text.as_str() == wanted)
 }
 
 /// Whether records have the variant that is wanted, or are written again as is wanted.
 fn are_read_as(alloc: Global, records: &PDB, wanted: &str) -> bool {
     match around(wanted, "variant ") {
-        Some((_, number)) => is_number(variant_of(records), number),
+        Some((_, number)) => number
+            .parse::<u8>()
+            .is_ok_and(|number| variant_of(records) == Some(number)),
         None => are_written_as(alloc, records, wanted),
-    }
-}
-
-/// Whether a number is there, and is the one of this text.
-fn is_number(found: Option<u8>, wanted: &str) -> bool {
-    match (found, wanted.parse::<u8>()) {
-        (Some(found), Ok(wanted)) => found == wanted,
-        _ => false,
     }
 }
 
@@ -71,16 +64,6 @@ fn type_variant(item: &Item<TypeIndex, TypeData>) -> Option<u8> {
 /// Whether records are written as this line.
 fn are_written_as(alloc: Global, records: &PDB, wanted: &str) -> bool {
     let mut text = Vec::new(alloc);
-    match write_records(alloc, &mut text, records, &[]) {
-        Ok(()) => is_line(&text, wanted),
-        Err(_) => false,
-    }
-}
-
-/// Whether bytes are those of this line.
-fn is_line(bytes: &[u8], wanted: &str) -> bool {
-    match bytes.split_last() {
-        Some((end, line)) => *end == b'\n' && line == wanted.as_bytes(),
-        None => false,
-    }
+    write_records(alloc, &mut text, records, &[]).is_ok()
+        && text.strip_suffix(b"\n") == Some(wanted.as_bytes())
 }
