@@ -26,6 +26,11 @@ impl Checks {
         })
     }
 
+    /// One more check, which doesn't hold where it could not be made.
+    pub(crate) fn and_tried<E: Drop>(self, name: &'static str, holds: Result<bool, E>) -> Checks {
+        self.and(name, matches!(holds, Ok(true)))
+    }
+
     /// These checks and others.
     pub(crate) fn with(self, others: Checks) -> Checks {
         Checks {

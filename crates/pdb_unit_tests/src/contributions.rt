@@ -1,6 +1,7 @@
 //! Checks of merged contributions, their table, and global functions.
 
 use crate::checks::Checks;
+use crate::modules::is_fault;
 use pdb_errors::{Error, Result};
 use pdb_functions::{
     ContributionTable, GlobalFunctionTable, ModuleSectionContribution, compute_global_functions,
@@ -31,8 +32,8 @@ static GIVEN: [Given; 6] = [
     (1, 0xffff_fff0, 0x0f, 4),
 ];
 
-/// A section of code, and one that holds none.
-static SECTIONS: [ImageSectionHeader; 2] = [
+/// Two sections of code, and one between them that holds none.
+static SECTIONS: [ImageSectionHeader; 3] = [
     ImageSectionHeader {
         virtual_address: 0x1000,
         virtual_size: 0x2_0000,
@@ -42,6 +43,11 @@ static SECTIONS: [ImageSectionHeader; 2] = [
         virtual_address: 0x3_0000,
         virtual_size: 0x100,
         execute: false,
+    },
+    ImageSectionHeader {
+        virtual_address: 0x4_0000,
+        virtual_size: 0x100,
+        execute: true,
     },
 ];
 
@@ -65,27 +71,19 @@ fn run(
     }
 }
 
-/// What [`GIVEN`] is merged into.
-fn counted() -> [ModuleSectionContribution; 3] {
-    [
-        run(1, 0, 0x30, 0),
-        run(1, 0x40, 0x50, 1),
-        run(1, 0xffff_fff0, 0xffff_ffff, 4),
-    ]
-}
+/// What [`GIVEN`] is merged into, by section, start, end and module.
+static COUNTED: [Given; 3] = [
+    (1, 0, 0x30, 0),
+    (1, 0x40, 0x50, 1),
+    (1, 0xffff_fff0, 0xffff_ffff, 4),
+];
 
-/// Where those of [`GIVEN`] that count start.
-fn starts() -> [PdbInternalSectionOffset; 4] {
-    [
-        section_offset(1, 0x40),
-        section_offset(1, 0),
-        section_offset(1, 0x20),
-        section_offset(1, 0xffff_fff0),
-    ]
-}
-
-/// The debug information that holds these contributions.
-fn debug_information(alloc: Global, given: &[Given]) -> Result<DebugInformation, AllocError> {
+/// The debug information that holds these contributions, with this fault behind them.
+fn debug_information(
+    alloc: Global,
+    given: &[Given],
+    fault: Option<StreamError>,
+) -> Result<DebugInformation, AllocError> {
     let mut items = Vec::new(alloc);
     for &(section, offset, size, module) in given {
         items.push(SectionContribution {
@@ -100,58 +98,25 @@ fn debug_information(alloc: Global, given: &[Given]) -> Result<DebugInformation,
             items: Vec::new(alloc),
             fault: None,
         },
-        section_contributions: Reading { items, fault: None },
+        section_contributions: Reading { items, fault },
     })
-}
-
-/// What contributions to these sections are merged into, and where those that count start.
-fn merged_in(
-    alloc: Global,
-    sections: &[ImageSectionHeader],
-    given: &[Given],
-    fault: Option<StreamError>,
-) -> Result<Merged> {
-    let mut debug = debug_information(alloc, given)?;
-    debug.section_contributions.fault = fault;
-    compute_section_contributions(alloc, &debug, sections)
 }
 
 /// What these contributions are merged into, and where those that count start.
 fn merged(alloc: Global, given: &[Given]) -> Result<Merged> {
-    merged_in(alloc, &SECTIONS, given, None)
+    compute_section_contributions(alloc, &debug_information(alloc, given, None)?, &SECTIONS)
 }
 
 /// Whether [`GIVEN`] is merged into those that count.
-fn is_merged(alloc: Global) -> bool {
-    match merged(alloc, &GIVEN) {
-        Ok((merged, section_offsets)) => {
-            merged.as_slice() == counted().as_slice()
-                && section_offsets.as_slice() == starts().as_slice()
-        }
-        Err(_) => false,
-    }
-}
-
-/// Two sections of code.
-static CODE: [ImageSectionHeader; 2] = [
-    ImageSectionHeader {
-        virtual_address: 0x1000,
-        virtual_size: 0x100,
-        execute: true,
-    },
-    ImageSectionHeader {
-        virtual_address: 0x2000,
-        virtual_size: 0x100,
-        execute: true,
-    },
-];
-
-/// Whether contributions to those sections are merged into others, of which the third number is the end.
-fn are_merged_into(alloc: Global, given: &[Given], wanted: &[Given]) -> bool {
-    match merged_in(alloc, &CODE, given, None) {
-        Ok((merged, _)) => are(&merged, wanted),
-        Err(_) => false,
-    }
+fn is_merged(alloc: Global) -> Result<bool> {
+    let starts = [
+        section_offset(1, 0x40),
+        section_offset(1, 0),
+        section_offset(1, 0x20),
+        section_offset(1, 0xffff_fff0),
+    ];
+    let (merged, section_offsets) = merged(alloc, &GIVEN)?;
+    Ok(are(&merged, &COUNTED) && section_offsets.as_slice() == starts.as_slice())
 }
 
 /// Whether merged contributions are those, of which the third number is the end.
@@ -182,17 +147,17 @@ static MERGED: [(&[Given], &[Given]); 5] = [
     ),
     (&[(1, 0x10, 0x10, 0), (1, 0, 0x30, 0)], &[(1, 0, 0x30, 0)]),
     (
-        &[(1, 0, 0x10, 0), (2, 0, 0x10, 1), (1, 0x30, 0x10, 0)],
-        &[(1, 0, 0x40, 0), (2, 0, 0x10, 1)],
+        &[(1, 0, 0x10, 0), (3, 0, 0x10, 1), (1, 0x30, 0x10, 0)],
+        &[(1, 0, 0x40, 0), (3, 0, 0x10, 1)],
     ),
 ];
 
 /// Whether contributions are refused for an end in the first section that is too large, of this module.
 fn is_too_large(alloc: Global, given: &[Given], module: usize) -> bool {
-    match merged(alloc, given) {
-        Err(Error::SectionContributionEndTooLarge(found, 1)) => found == module,
-        _ => false,
-    }
+    matches!(
+        merged(alloc, given),
+        Err(Error::SectionContributionEndTooLarge(found, 1)) if found == module
+    )
 }
 
 /// Whether contributions are refused for an overlap in the first section, of the first two modules.
@@ -204,12 +169,12 @@ fn is_overlap(alloc: Global, given: &[Given]) -> bool {
 }
 
 /// Whether contributions of which two overlap are refused for the fault behind them.
-fn is_fault_first(alloc: Global) -> bool {
+fn is_fault_first(alloc: Global) -> Result<bool> {
+    let fault = StreamError(9);
     let given = [(1, 0, 0x20, 0), (1, 0x10, 0x20, 1)];
-    matches!(
-        merged_in(alloc, &CODE, &given, Some(StreamError(9))),
-        Err(Error::PdbError(pdb_records::Error::Stream(StreamError(9))))
-    )
+    let debug = debug_information(alloc, &given, Some(fault))?;
+    let merged = compute_section_contributions(alloc, &debug, &SECTIONS);
+    Ok(merged.is_err_and(|error| is_fault(&error, fault)))
 }
 
 /// Three thousand contributions, one behind the other, each of another module.
@@ -228,28 +193,11 @@ fn is_table_of_thousands(table: &ContributionTable) -> bool {
         && table.contribution_over(section_offset(2, 0)).is_none()
 }
 
-/// Whether contributions make such a table.
-fn make_table_of_thousands(alloc: Global, counted: Vec<ModuleSectionContribution>) -> bool {
-    match ContributionTable::new(alloc, counted) {
-        Ok(table) => is_table_of_thousands(&table),
-        Err(_) => false,
-    }
-}
-
-/// Whether contributions all start something, and make such a table when they are merged.
-fn are_thousands_found(alloc: Global, given: &[Given]) -> bool {
-    match merged(alloc, given) {
-        Ok((counted, starts)) => starts.len() == 3000 && make_table_of_thousands(alloc, counted),
-        Err(_) => false,
-    }
-}
-
-/// Whether three thousand contributions side by side are found.
-fn finds_thousands(alloc: Global) -> bool {
-    match side_by_side(alloc) {
-        Ok(given) => are_thousands_found(alloc, &given),
-        Err(_) => false,
-    }
+/// Whether those contributions all start something, and are found in their table.
+fn finds_thousands(alloc: Global) -> Result<bool> {
+    let (counted, starts) = merged(alloc, &side_by_side(alloc)?)?;
+    let table = ContributionTable::new(alloc, counted)?;
+    Ok(starts.len() == 3000 && is_table_of_thousands(&table))
 }
 
 /// Three thousand public symbols, one behind the other.
@@ -286,31 +234,22 @@ fn are_thousands(functions: &GlobalFunctionTable<'_>) -> bool {
     functions.len() == 3002 && functions.as_slice().len() == 3002 && finds_functions(functions)
 }
 
-/// Whether symbols and two starts have such functions.
-fn have_thousands(alloc: Global, symbols: &[Symbol]) -> bool {
+/// Whether three thousand public symbols and two starts have such functions in the first two sections.
+fn finds_thousands_of_functions(alloc: Global) -> Result<bool> {
     let starts = [section_offset(1, 8), section_offset(1, 0)];
-    match compute_global_functions(alloc, &SECTIONS, symbols, &starts) {
-        Ok(functions) => are_thousands(&functions),
-        Err(_) => false,
-    }
-}
-
-/// Whether three thousand public symbols have such functions.
-fn finds_thousands_of_functions(alloc: Global) -> bool {
-    match publics(alloc) {
-        Ok(symbols) => have_thousands(alloc, &symbols),
-        Err(_) => false,
-    }
+    let symbols = publics(alloc)?;
+    let functions = compute_global_functions(alloc, &SECTIONS[..2], &symbols, &starts)?;
+    Ok(are_thousands(&functions))
 }
 
 /// Whether all of [`MERGED`] are merged so.
-fn take_turns(alloc: Global) -> bool {
+fn take_turns(alloc: Global) -> Result<bool> {
     for (given, wanted) in &MERGED {
-        if !are_merged_into(alloc, given, wanted) {
-            return false;
+        if !are(&merged(alloc, given)?.0, wanted) {
+            return Ok(false);
         }
     }
-    true
+    Ok(true)
 }
 
 /// The checks of contributions and of global functions.
@@ -321,9 +260,9 @@ pub(crate) fn checks(alloc: Global) -> Checks {
         (1, 0xffff_fff0, 0x20, 3),
     ];
     Checks::NONE
-        .and("contributions and where they start", is_merged(alloc))
-        .and("modules that take turns", take_turns(alloc))
-        .and("a fault behind an overlap", is_fault_first(alloc))
+        .and_tried("contributions and where they start", is_merged(alloc))
+        .and_tried("modules that take turns", take_turns(alloc))
+        .and_tried("a fault behind an overlap", is_fault_first(alloc))
         .and(
             "an end that is too large behind an overlap",
             is_too_large(alloc, &end_before_overlap, 3),
@@ -336,8 +275,8 @@ pub(crate) fn checks(alloc: Global) -> Checks {
             "an overlap",
             is_overlap(alloc, &[(1, 0, 0x20, 0), (1, 0x10, 0x20, 1)]),
         )
-        .and("thousands of contributions", finds_thousands(alloc))
-        .and(
+        .and_tried("thousands of contributions", finds_thousands(alloc))
+        .and_tried(
             "thousands of global functions",
             finds_thousands_of_functions(alloc),
         )

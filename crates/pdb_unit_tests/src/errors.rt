@@ -17,10 +17,9 @@ const REFUSED: &str = "Formatting error: an error occurred when formatting an ar
 
 /// Whether an error prints this text.
 pub(crate) fn says(alloc: Global, error: &Error, wanted: &str) -> bool {
-    match error.to_string(alloc) {
-        Ok(text) => text.as_str() == wanted,
-        Err(_) => false,
-    }
+    error
+        .to_string(alloc)
+        .is_ok_and(|text| text.as_str() == wanted)
 }
 
 /// The checks of texts of errors that no look-up answers in the runs of other crates.

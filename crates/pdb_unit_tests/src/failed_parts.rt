@@ -6,11 +6,6 @@ use pdb_records::StreamError;
 use pdb_types::{FailedParts, Part};
 use std::alloc::{AllocError, Global};
 
-/// A fault of a stream.
-fn fault() -> Error {
-    Error::from(StreamError(9))
-}
-
 /// Whether a part that is met broken answers this, and has failed then.
 fn fails_with(
     alloc: Global,
@@ -18,7 +13,7 @@ fn fails_with(
     part: Part,
     wanted: &str,
 ) -> Result<bool, AllocError> {
-    let error = failed.ask(part, fault())?;
+    let error = failed.ask(part, Error::from(StreamError(9)))?;
     let text = format!(in alloc; "{error}")?;
     Ok(text.as_str() == wanted && failed.has_failed(part))
 }
@@ -46,26 +41,21 @@ fn is_added(failed: &mut FailedParts, part: Part) -> bool {
         && failed.has_failed(part)
 }
 
-/// Whether parts that are met broken fail once, and one that is added has failed.
-fn parts_fail(alloc: Global, failed: &mut FailedParts) -> Result<bool, AllocError> {
+/// Whether two parts that are met broken answer their own errors once, and one that is added has failed.
+fn answers_own_error_once(alloc: Global) -> Result<bool, AllocError> {
+    let mut failed = FailedParts::new(alloc);
     let imports = "Getting the module imports was unsuccessful";
     let exports = "Getting the module exports was unsuccessful";
     Ok(
-        fails_once(alloc, failed, Part::Imports(3), imports)?
-            && fails_once(alloc, failed, Part::Exports(3), exports)?
-            && is_added(failed, Part::Imports(0)),
+        fails_once(alloc, &mut failed, Part::Imports(3), imports)?
+            && fails_once(alloc, &mut failed, Part::Exports(3), exports)?
+            && is_added(&mut failed, Part::Imports(0)),
     )
-}
-
-/// Whether two parts that are met broken answer their own errors once.
-fn answers_own_error_once(alloc: Global) -> bool {
-    let mut failed = FailedParts::new(alloc);
-    matches!(parts_fail(alloc, &mut failed), Ok(true))
 }
 
 /// The checks of failed parts.
 pub(crate) fn checks(alloc: Global) -> Checks {
-    Checks::NONE.and(
+    Checks::NONE.and_tried(
         "a part that answers its own error once",
         answers_own_error_once(alloc),
     )

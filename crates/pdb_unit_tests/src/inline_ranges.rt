@@ -6,7 +6,7 @@ use crate::symbols::{Content, Row, Shown, symbols_of};
 use pdb_errors::Result;
 use pdb_inline::{InlineRange, inline_ranges_of_procedure};
 use pdb_records::{
-    FileIndex, IdIndex, ModuleInfo, S_GPROC32, S_INLINESITE, S_THUNK32, StreamError, SymbolIndex,
+    FileIndex, IdIndex, S_GPROC32, S_INLINESITE, S_THUNK32, StreamError, SymbolIndex,
 };
 use std::alloc::{AllocError, Global};
 use std::collections::BTreeSet;
@@ -53,13 +53,8 @@ fn inlinees(alloc: Global) -> Result<BTreeSet<IdIndex>> {
     Ok(inlinees)
 }
 
-/// The ranges of the procedure whose symbol stands first, with A, B and C among the inlinees.
-fn ranges_of(alloc: Global, info: &ModuleInfo, end: usize) -> Result<Vec<InlineRange>> {
-    let inlinees = inlinees(alloc)?;
-    inline_ranges_of_procedure(alloc, info, SymbolIndex(0), SymbolIndex(end), &inlinees)
-}
-
-/// The ranges of the procedure whose symbol stands first, which the one at a position closes.
+/// The ranges of the procedure whose symbol stands first, which the one at a position closes, with A, B and C among
+/// the inlinees.
 fn ranges_in(
     alloc: Global,
     symbols: &[Shown<'_>],
@@ -67,7 +62,8 @@ fn ranges_in(
     end: usize,
 ) -> Result<Vec<InlineRange>> {
     let info = module_of(alloc, symbols_of(alloc, symbols)?, fault);
-    ranges_of(alloc, &info, end)
+    let inlinees = inlinees(alloc)?;
+    inline_ranges_of_procedure(alloc, &info, SymbolIndex(0), SymbolIndex(end), &inlinees)
 }
 
 /// Whether a range is this one.
@@ -83,14 +79,11 @@ fn is_range(range: &InlineRange, wanted: &Range) -> bool {
 
 /// Whether ranges are these, in this order.
 fn are_ranges(ranges: &[InlineRange], wanted: &[Range]) -> bool {
-    let mut rest = wanted;
-    for range in ranges {
-        match rest {
-            [first, behind @ ..] if is_range(range, first) => rest = behind,
-            _ => return false,
-        }
-    }
-    rest.is_empty()
+    ranges.len() == wanted.len()
+        && ranges
+            .iter()
+            .zip(wanted)
+            .all(|(range, wanted)| is_range(range, wanted))
 }
 
 /// Whether the procedure whose symbol stands first, which the last symbol closes, has these ranges.
@@ -100,10 +93,8 @@ fn has_ranges(
     fault: Option<StreamError>,
     wanted: &[Range],
 ) -> bool {
-    match ranges_in(alloc, symbols, fault, symbols.len().saturating_sub(1)) {
-        Ok(ranges) => are_ranges(&ranges, wanted),
-        Err(_) => false,
-    }
+    let closing = symbols.len().saturating_sub(1);
+    ranges_in(alloc, symbols, fault, closing).is_ok_and(|ranges| are_ranges(&ranges, wanted))
 }
 
 /// The range of the inner site of two.
@@ -236,10 +227,7 @@ static UNCLOSED: [Shown<'static>; 3] = [
 
 /// Whether the ranges of the second procedure are refused for the fault.
 fn is_unclosed_refused(alloc: Global) -> bool {
-    match ranges_in(alloc, &UNCLOSED, Some(FAULT), 10) {
-        Ok(_) => false,
-        Err(error) => is_fault(&error, FAULT),
-    }
+    ranges_in(alloc, &UNCLOSED, Some(FAULT), 10).is_err_and(|error| is_fault(&error, FAULT))
 }
 
 /// How many sites are nested.
@@ -289,36 +277,19 @@ fn are_nested(ranges: &[InlineRange]) -> bool {
     ranges.len() == DEPTH
 }
 
-/// Whether symbols have those ranges.
-fn have_nested_ranges(alloc: Global, symbols: &[Shown<'_>]) -> bool {
-    match ranges_in(alloc, symbols, None, CLOSING) {
-        Ok(ranges) => are_nested(&ranges),
-        Err(_) => false,
-    }
-}
-
-/// Whether all of [`GAPS`] are filled so.
-fn are_all_filled(alloc: Global) -> bool {
-    for gap in &GAPS {
-        if !are_filled(alloc, gap) {
-            return false;
-        }
-    }
-    true
-}
-
 /// Whether nested sites have their ranges.
-fn goes_down(alloc: Global) -> bool {
-    match nested_sites(alloc) {
-        Ok(symbols) => have_nested_ranges(alloc, &symbols),
-        Err(_) => false,
-    }
+fn goes_down(alloc: Global) -> Result<bool> {
+    let symbols = nested_sites(alloc)?;
+    Ok(are_nested(&ranges_in(alloc, &symbols, None, CLOSING)?))
 }
 
 /// The checks of inline ranges.
 pub(crate) fn checks(alloc: Global) -> Checks {
     Checks::NONE
-        .and("a caller's gaps", are_all_filled(alloc))
+        .and(
+            "a caller's gaps",
+            GAPS.iter().all(|gap| are_filled(alloc, gap)),
+        )
         .and(
             "rows before added ranges",
             has_ranges(alloc, &INSIDE_AND_BEHIND, None, &ROWS_BEFORE_ADDED),
@@ -336,5 +307,5 @@ pub(crate) fn checks(alloc: Global) -> Checks {
             "a fault that it doesn't meet",
             has_ranges(alloc, &CLOSED, Some(FAULT), &[]),
         )
-        .and("a thousand nested sites", goes_down(alloc))
+        .and_tried("a thousand nested sites", goes_down(alloc))
 }

@@ -49,10 +49,8 @@ fn ids(alloc: Global, fault: Option<StreamError>) -> Result<IdInformation, Alloc
 
 /// Whether an index is that of a string.
 fn is_string(map: &mut ItemMap<'_, IdIndex, IdData>, index: IdIndex) -> bool {
-    match map.try_get(index) {
-        Ok(item) => matches!(&item.content, Ok(IdData::String(_))),
-        Err(_) => false,
-    }
+    map.try_get(index)
+        .is_ok_and(|item| matches!(&item.content, Ok(IdData::String(_))))
 }
 
 /// Whether an index has no entry, for this reason.
@@ -77,57 +75,25 @@ fn answers(
     Ok(is_string(map, IdIndex(7)) && is_missing(alloc, map, IdIndex(8), wanted)?)
 }
 
-/// Whether a map answers so, and does it again.
-fn answers_twice(
-    alloc: Global,
-    map: &mut ItemMap<'_, IdIndex, IdData>,
-    wanted: &str,
-) -> Result<bool, AllocError> {
-    Ok(answers(alloc, map, wanted)? && answers(alloc, map, wanted)?)
-}
-
-/// Whether the list with this fault answers so.
+/// Whether the list with this fault answers so, and does it again.
 fn list_answers(
     alloc: Global,
     fault: Option<StreamError>,
     wanted: &str,
 ) -> Result<bool, AllocError> {
     let ids = ids(alloc, fault)?;
-    answers_twice(alloc, &mut ItemMap::new(alloc, &ids), wanted)
+    let mut map = ItemMap::new(alloc, &ids);
+    Ok(answers(alloc, &mut map, wanted)? && answers(alloc, &mut map, wanted)?)
 }
 
-/// The size that the public look-up answers for a name behind an index.
-fn size_for(
-    alloc: Global,
-    types: &TypeInformation,
-    index: TypeIndex,
-    name: &RawString,
-) -> Result<Option<u64>> {
+/// Whether the public look-up answers this size for a name behind an index.
+fn has_size(alloc: Global, types: &TypeInformation, size: &Size<'_>) -> Result<bool> {
+    let &(index, name, wanted) = size;
+    let name = raw_string(alloc, name)?;
     let mut map = ItemMap::new(alloc, types);
     let mut cache = TypeSizeCache::new();
-    cache.get_size_for_forward_reference(index, name, &mut map)
-}
-
-/// Whether that is this size.
-fn has_size(alloc: Global, types: &TypeInformation, size: &Size<'_>) -> bool {
-    let &(index, name, wanted) = size;
-    let Ok(name) = raw_string(alloc, name) else {
-        return false;
-    };
-    match size_for(alloc, types, TypeIndex(index), &name) {
-        Ok(size) => size == wanted,
-        Err(_) => false,
-    }
-}
-
-/// Whether types have all of [`SIZES`].
-fn have_sizes(alloc: Global, types: &TypeInformation) -> bool {
-    for size in &SIZES {
-        if !has_size(alloc, types, size) {
-            return false;
-        }
-    }
-    true
+    let found = cache.get_size_for_forward_reference(TypeIndex(index), &name, &mut map)?;
+    Ok(found == wanted)
 }
 
 /// A class or, of size 0, a forward reference to one.
@@ -162,17 +128,15 @@ fn types(alloc: Global) -> Result<TypeInformation, AllocError> {
     })
 }
 
-/// Whether the list with this fault is found to answer so.
-fn is_list_answering(alloc: Global, fault: Option<StreamError>, wanted: &str) -> bool {
-    matches!(list_answers(alloc, fault, wanted), Ok(true))
-}
-
-/// Whether the first definition behind an index has the size.
-fn finds_sizes(alloc: Global) -> bool {
-    match types(alloc) {
-        Ok(types) => have_sizes(alloc, &types),
-        Err(_) => false,
+/// Whether types have all of [`SIZES`].
+fn finds_sizes(alloc: Global) -> Result<bool> {
+    let types = types(alloc)?;
+    for size in &SIZES {
+        if !has_size(alloc, &types, size)? {
+            return Ok(false);
+        }
     }
+    Ok(true)
 }
 
 /// The checks of items.
@@ -181,13 +145,13 @@ pub(crate) fn checks(alloc: Global) -> Checks {
     Checks::NONE
         .and("the number of an id", IdIndex(7).number() == 7)
         .and("the number of a type", TypeIndex(8).number() == 8)
-        .and(
+        .and_tried(
             "an unknown id",
-            is_list_answering(alloc, None, "PDB error: type 0x8 not found"),
+            list_answers(alloc, None, "PDB error: type 0x8 not found"),
         )
-        .and(
+        .and_tried(
             "a fault that stays",
-            is_list_answering(alloc, fault, "PDB error: stream error 5"),
+            list_answers(alloc, fault, "PDB error: stream error 5"),
         )
-        .and("the first definition behind an index", finds_sizes(alloc))
+        .and_tried("the first definition behind an index", finds_sizes(alloc))
 }

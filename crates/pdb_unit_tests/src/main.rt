@@ -22,62 +22,8 @@ mod stated_laws;
 mod symbols;
 
 use checks::Checks;
-use std::alloc::Global;
 use std::io;
 use std::process::ExitCode;
-
-/// Records, and a part that contexts are made of.
-#[derive(Clone, Copy)]
-enum Part {
-    Contributions,
-    Errors,
-    FailedParts,
-    Flags,
-    InlineRanges,
-    InlineStacks,
-    Items,
-    Procedures,
-    RangeSets,
-    Records,
-    Seen,
-    Segments,
-}
-
-/// All parts.
-const PARTS: [Part; 12] = [
-    Part::Contributions,
-    Part::Errors,
-    Part::FailedParts,
-    Part::Flags,
-    Part::InlineRanges,
-    Part::InlineStacks,
-    Part::Items,
-    Part::Procedures,
-    Part::RangeSets,
-    Part::Records,
-    Part::Seen,
-    Part::Segments,
-];
-
-impl Part {
-    /// The checks of the part.
-    fn checks(self, alloc: Global) -> Checks {
-        match self {
-            Part::Contributions => contributions::checks(alloc),
-            Part::Errors => errors::checks(alloc),
-            Part::FailedParts => failed_parts::checks(alloc),
-            Part::Flags => flags::checks(),
-            Part::InlineRanges => inline_ranges::checks(alloc),
-            Part::InlineStacks => inline_stacks::checks(alloc),
-            Part::Items => items::checks(alloc),
-            Part::Procedures => procedures::checks(alloc),
-            Part::RangeSets => range_sets::checks(alloc),
-            Part::Records => records::checks(alloc),
-            Part::Seen => seen::checks(alloc),
-            Part::Segments => segments::checks(alloc),
-        }
-    }
-}
 
 fn main(rt: HostRuntime) -> io::Result<ExitCode> {
     stated_laws::are_stated();
@@ -92,9 +38,22 @@ fn main(rt: HostRuntime) -> io::Result<ExitCode> {
 
 /// Makes the checks of all parts.
 fn over_parts<R: Print + AllocGlobal>(rt: &R) -> io::Result<Checks> {
+    let alloc = rt.alloc();
     let mut all = Checks::NONE;
-    for part in PARTS {
-        let checks = part.checks(rt.alloc());
+    for checks in [
+        contributions::checks(alloc),
+        errors::checks(alloc),
+        failed_parts::checks(alloc),
+        flags::checks(),
+        inline_ranges::checks(alloc),
+        inline_stacks::checks(alloc),
+        items::checks(alloc),
+        procedures::checks(alloc),
+        range_sets::checks(alloc),
+        records::checks(alloc),
+        seen::checks(alloc),
+        segments::checks(alloc),
+    ] {
         if checks.failed > 0 {
             println!(rt; "{} differs", checks.first)?;
         }

@@ -2,7 +2,7 @@
 
 use crate::checks::Checks;
 use crate::modules::{is_fault, module_of};
-use pdb_errors::Error;
+use pdb_errors::Result;
 use pdb_functions::{
     BasicModuleInfo, FoundFunction, GlobalFunction, ModuleSectionContribution,
     ProcedureSymbolFunction, global_function_in,
@@ -48,17 +48,6 @@ enum Code<'a> {
     Separated(u32, u32),
     /// A thunk: its offset.
     Thunk(u32),
-}
-
-/// What a module gives.
-#[derive(Clone, Copy)]
-enum Wanted<'a> {
-    /// These procedures, in this order.
-    Procedures(&'a [Shown<'a>]),
-    /// Three thousand procedures.
-    Thousands,
-    /// A refusal for this fault.
-    Fault(StreamError),
 }
 
 /// The symbol that shows a piece of code.
@@ -122,65 +111,28 @@ fn is_procedure(procedure: &ProcedureSymbolFunction<'_>, wanted: &Shown<'_>) -> 
 
 /// Whether procedures are these, in this order.
 fn are_procedures(procedures: &[ProcedureSymbolFunction<'_>], wanted: &[Shown<'_>]) -> bool {
-    let mut rest = wanted;
-    for procedure in procedures {
-        match rest {
-            [first, behind @ ..] if is_procedure(procedure, first) => rest = behind,
-            _ => return false,
-        }
-    }
-    rest.is_empty()
+    procedures.len() == wanted.len()
+        && procedures
+            .iter()
+            .zip(wanted)
+            .all(|(procedure, wanted)| is_procedure(procedure, wanted))
 }
 
-/// Whether there are three thousand procedures, with one over a section offset and none over another.
-fn are_thousands(basic: &BasicModuleInfo<'_>) -> bool {
-    let Some(over) = basic.procedure_over(section_offset(0x104)) else {
-        return false;
-    };
-    over.offset.offset == 0x100
-        && basic.procedures().len() == 3000
-        && basic.procedure_over(section_offset(0x1_0000)).is_none()
+/// Whether a module of [`CODE`] holds its symbols, and has [`PROCEDURES`].
+fn has_procedures(alloc: Global) -> Result<bool> {
+    let info = module_of(alloc, symbols(alloc, &CODE)?, None);
+    let basic = BasicModuleInfo::try_from_module_info(alloc, &info)?;
+    Ok(
+        basic.module_info().symbols.items.len() == CODE.len()
+            && are_procedures(basic.procedures(), &PROCEDURES),
+    )
 }
 
-/// Whether a module was read as is wanted.
-fn is_read_as(basic: &BasicModuleInfo<'_>, wanted: Wanted<'_>) -> bool {
-    match wanted {
-        Wanted::Procedures(procedures) => are_procedures(basic.procedures(), procedures),
-        Wanted::Thousands => are_thousands(basic),
-        Wanted::Fault(_) => false,
-    }
-}
-
-/// Whether a module is refused as is wanted.
-fn is_refused_as(error: &Error, wanted: Wanted<'_>) -> bool {
-    match wanted {
-        Wanted::Fault(fault) => is_fault(error, fault),
-        _ => false,
-    }
-}
-
-/// Whether a module holds its symbols and its procedures are as is wanted, or it is refused so.
-fn gives(alloc: Global, info: &ModuleInfo, wanted: Wanted<'_>) -> bool {
-    match BasicModuleInfo::try_from_module_info(alloc, info) {
-        Ok(basic) => {
-            basic.module_info().symbols.items.len() == info.symbols.items.len()
-                && is_read_as(&basic, wanted)
-        }
-        Err(error) => is_refused_as(&error, wanted),
-    }
-}
-
-/// Whether a module of these pieces of code, with this fault behind them, gives what is wanted.
-fn code_gives(
-    alloc: Global,
-    code: &[Code<'_>],
-    fault: Option<StreamError>,
-    wanted: Wanted<'_>,
-) -> bool {
-    match symbols(alloc, code) {
-        Ok(symbols) => gives(alloc, &module_of(alloc, symbols, fault), wanted),
-        Err(_) => false,
-    }
+/// Whether a module is refused for the fault behind its symbols.
+fn is_refused(alloc: Global) -> bool {
+    let fault = StreamError(3);
+    let info = module_of(alloc, Vec::new(alloc), Some(fault));
+    BasicModuleInfo::try_from_module_info(alloc, &info).is_err_and(|error| is_fault(&error, fault))
 }
 
 /// Three thousand procedures, the last in the code first, each with the start of the next one in it.
@@ -207,12 +159,16 @@ fn found_from(offset: u32) -> Option<FoundFunction<'static>> {
     global_function_in(contribution, Some(function))
 }
 
-/// Whether three thousand procedures are found.
-fn finds_thousands(alloc: Global) -> bool {
-    match descending(alloc) {
-        Ok(code) => code_gives(alloc, &code, None, Wanted::Thousands),
-        Err(_) => false,
-    }
+/// Whether a module has those procedures, with one over a section offset and none over another.
+fn finds_thousands(alloc: Global) -> Result<bool> {
+    let info = module_of(alloc, symbols(alloc, &descending(alloc)?)?, None);
+    let basic = BasicModuleInfo::try_from_module_info(alloc, &info)?;
+    let over = basic.procedure_over(section_offset(0x104));
+    Ok(
+        over.is_some_and(|over| over.offset.offset == 0x100)
+            && basic.procedures().len() == 3000
+            && basic.procedure_over(section_offset(0x1_0000)).is_none(),
+    )
 }
 
 /// Whether the global function of a contribution that starts at an offset is one of module 5.
@@ -222,15 +178,10 @@ fn is_found_from(offset: u32) -> bool {
 
 /// The checks of procedures, and of the global function of a contribution.
 pub(crate) fn checks(alloc: Global) -> Checks {
-    let fault = StreamError(3);
-    let refused = code_gives(alloc, &[], Some(fault), Wanted::Fault(fault));
     Checks::NONE
-        .and(
-            "procedures by their starts",
-            code_gives(alloc, &CODE, None, Wanted::Procedures(&PROCEDURES)),
-        )
-        .and("a module with a fault", refused)
-        .and("thousands of procedures", finds_thousands(alloc))
+        .and_tried("procedures by their starts", has_procedures(alloc))
+        .and("a module with a fault", is_refused(alloc))
+        .and_tried("thousands of procedures", finds_thousands(alloc))
         .and(
             "a function that starts before the contribution",
             found_from(0x0f).is_none(),

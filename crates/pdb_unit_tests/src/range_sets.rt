@@ -43,10 +43,7 @@ fn added_in_turn(alloc: Global, ranges: &[Range]) -> Result<RangeSet, AllocError
 
 /// Whether ranges that are added one after the other are joined into these.
 fn join(alloc: Global, ranges: &[Range], runs: &[Range]) -> bool {
-    match added_in_turn(alloc, ranges) {
-        Ok(set) => set.runs() == runs,
-        Err(_) => false,
-    }
+    added_in_turn(alloc, ranges).is_ok_and(|set| set.runs() == runs)
 }
 
 /// Whether a set lacks some of another, and has all of it and more once that is put in.
@@ -61,14 +58,6 @@ fn takes_in(set: &mut RangeSet, inner: &RangeSet) -> bool {
 /// Whether a set loses just what another has.
 fn gives_back(set: &mut RangeSet, inner: &RangeSet) -> bool {
     set.minus(inner).is_ok() && set.runs() == REST.as_slice()
-}
-
-/// Whether the set of [`INNER`] is taken in and given back.
-fn is_joined_and_parted(alloc: Global, set: &mut RangeSet) -> bool {
-    match RangeSet::of_rows(alloc, &INNER) {
-        Ok(inner) => takes_in(set, &inner) && gives_back(set, &inner),
-        Err(_) => false,
-    }
 }
 
 /// Three thousand ranges of two numbers from this number on, each four behind the one before.
@@ -93,18 +82,6 @@ fn are_thousands_of_one(runs: &[Range]) -> bool {
     runs.len() == 3000
 }
 
-/// Whether ranges that overlap those of a set can be put in, and leave one number of each when they are taken out.
-fn are_thousands_parted(alloc: Global, set: &mut RangeSet) -> bool {
-    match thousands_from(alloc, 1) {
-        Ok(others) => {
-            set.union(&others).is_ok()
-                && set.minus(&others).is_ok()
-                && are_thousands_of_one(set.runs())
-        }
-        Err(_) => false,
-    }
-}
-
 /// Whether ranges that are added are joined.
 fn are_joined(alloc: Global) -> bool {
     let runs = [(0, 5), (10, 45), (u64::MAX - 1, u64::MAX)];
@@ -115,28 +92,31 @@ fn are_joined(alloc: Global) -> bool {
 
 /// Whether rows in any order are joined.
 fn are_rows_joined(alloc: Global) -> bool {
-    match RangeSet::of_rows(alloc, &ROWS) {
-        Ok(set) => set.runs() == RUNS.as_slice(),
-        Err(_) => false,
-    }
+    RangeSet::of_rows(alloc, &ROWS).is_ok_and(|set| set.runs() == RUNS.as_slice())
 }
 
-/// Whether a set is joined with parts of it and compared with them.
-fn is_compared(alloc: Global) -> bool {
-    match RangeSet::of_rows(alloc, &[(0, 40), (60, 70)]) {
-        Ok(mut set) => {
-            is_joined_and_parted(alloc, &mut set) && set.is_superset(&RangeSet::empty(alloc))
-        }
-        Err(_) => false,
-    }
+/// Whether a set is joined with parts of it, parted from them and compared with them.
+fn is_compared(alloc: Global) -> Result<bool, AllocError> {
+    let mut set = RangeSet::of_rows(alloc, &[(0, 40), (60, 70)])?;
+    let inner = RangeSet::of_rows(alloc, &INNER)?;
+    Ok(
+        takes_in(&mut set, &inner)
+            && gives_back(&mut set, &inner)
+            && set.is_superset(&RangeSet::empty(alloc)),
+    )
 }
 
-/// Whether a set holds thousands of runs.
-fn holds_thousands(alloc: Global) -> bool {
-    match thousands_from(alloc, 0) {
-        Ok(mut set) => set.runs().len() == 3000 && are_thousands_parted(alloc, &mut set),
-        Err(_) => false,
-    }
+/// Whether a set holds thousands of runs, takes in ranges that overlap them, and has one number of each left when
+/// these are taken out.
+fn holds_thousands(alloc: Global) -> Result<bool, AllocError> {
+    let mut set = thousands_from(alloc, 0)?;
+    let others = thousands_from(alloc, 1)?;
+    Ok(
+        set.runs().len() == 3000
+            && set.union(&others).is_ok()
+            && set.minus(&others).is_ok()
+            && are_thousands_of_one(set.runs()),
+    )
 }
 
 /// The checks of sets of ranges.
@@ -144,9 +124,9 @@ pub(crate) fn checks(alloc: Global) -> Checks {
     Checks::NONE
         .and("ranges that overlap or touch", are_joined(alloc))
         .and("rows in any order", are_rows_joined(alloc))
-        .and(
+        .and_tried(
             "sets that are joined, parted and compared",
             is_compared(alloc),
         )
-        .and("thousands of runs", holds_thousands(alloc))
+        .and_tried("thousands of runs", holds_thousands(alloc))
 }

@@ -8,12 +8,6 @@ use pdb_records::{
 };
 use std::alloc::{AllocError, Global};
 
-/// Whether a name is shown with a sign in place of the byte that is no text.
-fn is_written_with_a_sign(alloc: Global, name: &RawString) -> Result<bool, AllocError> {
-    let text = name.to_string_lossy(alloc)?.into_owned(alloc)?;
-    Ok(text.as_bytes() == [0x66, 0xef, 0xbf, 0xbd].as_slice())
-}
-
 /// A section offset.
 fn section_offset(section: u16, offset: u32) -> PdbInternalSectionOffset {
     PdbInternalSectionOffset { section, offset }
@@ -86,18 +80,16 @@ fn line_program(alloc: Global) -> Result<LineProgram, AllocError> {
 
 /// Whether the first entry for a section offset counts.
 fn takes_the_first_entry(program: &LineProgram) -> bool {
-    match program.lines_for_symbol(SECTION_OFFSET) {
-        Some(rows) => rows.items.len() == 1,
-        None => false,
-    }
+    program
+        .lines_for_symbol(SECTION_OFFSET)
+        .is_some_and(|rows| rows.items.len() == 1)
 }
 
 /// Whether the file is answered, and no other.
 fn answers_the_file(program: &LineProgram) -> bool {
-    match program.get_file_info(FileIndex(0)) {
-        Some(file) => file.name == StringRef(5) && program.get_file_info(FileIndex(1)).is_none(),
-        None => false,
-    }
+    let file = program.get_file_info(FileIndex(0));
+    file.is_some_and(|file| file.name == StringRef(5))
+        && program.get_file_info(FileIndex(1)).is_none()
 }
 
 /// A string table with two texts for one reference.
@@ -112,12 +104,9 @@ fn string_table(alloc: Global) -> Result<StringTable, AllocError> {
 
 /// Whether the first text for a reference is answered, and none for another reference.
 fn answers_the_first_text(table: &StringTable) -> bool {
-    match table.get(StringRef(5)) {
-        Some(text) => {
-            text.0.as_slice() == b"first".as_slice() && table.get(StringRef(4)).is_none()
-        }
-        None => false,
-    }
+    let text = table.get(StringRef(5));
+    text.is_some_and(|text| text.0.as_slice() == b"first".as_slice())
+        && table.get(StringRef(4)).is_none()
 }
 
 /// What a module takes from two others: two indices each.
@@ -134,18 +123,17 @@ fn imports(alloc: Global) -> Result<CrossModuleImports, AllocError> {
 
 /// Whether an index is that of an index in another module.
 fn is_imported(imports: &CrossModuleImports, index: u32, module: StringRef, local: u32) -> bool {
-    match imports.resolve_import(index) {
-        Ok((found_module, found_local)) => found_module == module && found_local == local,
-        Err(_) => false,
-    }
+    imports
+        .resolve_import(index)
+        .is_ok_and(|found| found == (module, local))
 }
 
 /// Whether an index is refused as that of no import.
 fn is_not_imported(imports: &CrossModuleImports, index: u32) -> bool {
-    match imports.resolve_import(index) {
-        Err(Error::CrossModuleRefNotFound(with_refusal)) => with_refusal == index,
-        _ => false,
-    }
+    matches!(
+        imports.resolve_import(index),
+        Err(Error::CrossModuleRefNotFound(refused)) if refused == index
+    )
 }
 
 /// Whether the imports are answered, and others are refused.
@@ -157,68 +145,46 @@ fn answers_the_imports(imports: &CrossModuleImports) -> bool {
         && is_not_imported(imports, 0x8008_0000)
 }
 
-/// Whether a name that is no text is shown so.
+/// Whether a name is shown with a sign in place of the byte that is no text.
 fn shows_the_name(alloc: Global) -> Result<bool, AllocError> {
     let name = RawString([0x66, 0xff].to_vec(alloc)?);
-    is_written_with_a_sign(alloc, &name)
+    let text = name.to_string_lossy(alloc)?;
+    Ok(text.as_bytes() == [0x66, 0xef, 0xbf, 0xbd].as_slice())
 }
 
 /// Whether section offsets of addresses are answered, and nothing else.
-fn maps_addresses(alloc: Global) -> bool {
-    match SECTIONS.to_vec(alloc) {
-        Ok(sections) => {
-            let map = AddressMap { sections };
-            answers_section_offsets(&map) && answers_nothing_else(&map)
-        }
-        Err(_) => false,
-    }
+fn maps_addresses(alloc: Global) -> Result<bool, AllocError> {
+    let sections = SECTIONS.to_vec(alloc)?;
+    let map = AddressMap { sections };
+    Ok(answers_section_offsets(&map) && answers_nothing_else(&map))
 }
 
 /// Whether lines and files are answered.
-fn finds_lines(alloc: Global) -> bool {
-    match line_program(alloc) {
-        Ok(program) => takes_the_first_entry(&program) && answers_the_file(&program),
-        Err(_) => false,
-    }
-}
-
-/// Whether texts are answered by their references.
-fn finds_texts(alloc: Global) -> bool {
-    match string_table(alloc) {
-        Ok(table) => answers_the_first_text(&table),
-        Err(_) => false,
-    }
-}
-
-/// Whether imports are answered by their indices.
-fn finds_imports(alloc: Global) -> bool {
-    match imports(alloc) {
-        Ok(imports) => answers_the_imports(&imports),
-        Err(_) => false,
-    }
+fn finds_lines(alloc: Global) -> Result<bool, AllocError> {
+    let program = line_program(alloc)?;
+    Ok(takes_the_first_entry(&program) && answers_the_file(&program))
 }
 
 /// Whether the first export of an index is answered, and none of another index.
-fn finds_exports(alloc: Global) -> bool {
-    match [(7u32, 0x1003u32), (7, 0x1004)].to_vec(alloc) {
-        Ok(exports) => {
-            let exports = CrossModuleExports { exports };
-            exports.resolve_import(7) == Some(0x1003) && exports.resolve_import(8) == None
-        }
-        Err(_) => false,
-    }
+fn finds_exports(alloc: Global) -> Result<bool, AllocError> {
+    let exports = [(7u32, 0x1003u32), (7, 0x1004)].to_vec(alloc)?;
+    let exports = CrossModuleExports { exports };
+    Ok(exports.resolve_import(7) == Some(0x1003) && exports.resolve_import(8) == None)
 }
 
 /// The checks of records.
 pub(crate) fn checks(alloc: Global) -> Checks {
     Checks::NONE
+        .and_tried("a name that is no text", shows_the_name(alloc))
+        .and_tried("section offsets of addresses", maps_addresses(alloc))
+        .and_tried("lines and files", finds_lines(alloc))
         .and(
-            "a name that is no text",
-            matches!(shows_the_name(alloc), Ok(true)),
+            "texts by their references",
+            string_table(alloc).is_ok_and(|table| answers_the_first_text(&table)),
         )
-        .and("section offsets of addresses", maps_addresses(alloc))
-        .and("lines and files", finds_lines(alloc))
-        .and("texts by their references", finds_texts(alloc))
-        .and("imports by their indices", finds_imports(alloc))
-        .and("exports by their indices", finds_exports(alloc))
+        .and(
+            "imports by their indices",
+            imports(alloc).is_ok_and(|imports| answers_the_imports(&imports)),
+        )
+        .and_tried("exports by their indices", finds_exports(alloc))
 }

@@ -28,7 +28,7 @@ fn holds_empty_level(seen: &mut Seen<'_>) -> bool {
         && has_numbers_below(level.set, 6)
 }
 
-/// Whether the level of the number 3 is as before when another level was inside.
+/// Whether the level that is entered with the number 3 is as before when another level was inside.
 fn is_inner_level(level: &mut Seen<'_>) -> bool {
     has_numbers_below(level.set, 4) && holds_empty_level(level) && has_numbers_below(level.set, 4)
 }
@@ -38,15 +38,8 @@ fn refuses_level(seen: &mut Seen<'_>, index: TypeIndex) -> bool {
     seen.insert_one(index).is_err()
 }
 
-/// Whether a level is entered with the number 3.
-fn holds_inner_level(seen: &mut Seen<'_>) -> bool {
-    match seen.insert_one(TypeIndex(3)) {
-        Ok(mut level) => is_inner_level(&mut level),
-        Err(_) => false,
-    }
-}
-
-/// Whether the level of the number 1 takes in another number, and is as before when two levels were inside.
+/// Whether the level that is entered with the number 1 takes in another number, and is as before when two levels were
+/// inside.
 fn is_outer_level(level: &mut Seen<'_>) -> bool {
     level.insert(TypeIndex(0)).is_err()
         && refuses_level(level, TypeIndex(0))
@@ -54,38 +47,24 @@ fn is_outer_level(level: &mut Seen<'_>) -> bool {
         && has_numbers_below(level.set, 2)
         && level.insert(TypeIndex(2)).is_ok()
         && has_numbers_below(level.set, 3)
-        && holds_inner_level(level)
+        && level
+            .insert_one(TypeIndex(3))
+            .is_ok_and(|mut inner| is_inner_level(&mut inner))
         && has_numbers_below(level.set, 3)
-}
-
-/// Whether a level is entered with the number 1.
-fn holds_outer_level(seen: &mut Seen<'_>) -> bool {
-    match seen.insert_one(TypeIndex(1)) {
-        Ok(mut level) => is_outer_level(&mut level),
-        Err(_) => false,
-    }
 }
 
 /// Whether a set has what it had when levels were entered, before it is lent back.
 fn holds_levels(alloc: Global, set: &mut BTreeSet<TypeIndex>) -> bool {
     let mut seen = Seen::new(alloc, set);
-    holds_outer_level(&mut seen) && has_numbers_below(seen.set, 1)
+    seen.insert_one(TypeIndex(1))
+        .is_ok_and(|mut level| is_outer_level(&mut level))
+        && has_numbers_below(seen.set, 1)
 }
 
 /// Whether an index is refused with this text.
 fn is_refused(alloc: Global, seen: &mut Seen<'_>, index: TypeIndex, wanted: &str) -> bool {
-    match seen.insert(index) {
-        Ok(()) => false,
-        Err(error) => says(alloc, &Error::from(error), wanted),
-    }
-}
-
-/// Whether an index is put into a set, and is circular from then on.
-fn is_circular_once_put_in(alloc: Global, set: &mut BTreeSet<TypeIndex>) -> bool {
-    let index = TypeIndex(4097);
-    let mut seen = Seen::new(alloc, set);
-    seen.insert(index).is_ok()
-        && is_refused(alloc, &mut seen, index, "Type with index 4097 is circular")
+    seen.insert(index)
+        .is_err_and(|error| says(alloc, &Error::from(error), wanted))
 }
 
 /// Whether levels take out of a set what they put in.
@@ -94,10 +73,13 @@ fn take_out_what_they_put_in(alloc: Global) -> bool {
     set.insert(TypeIndex(0)).is_ok() && holds_levels(alloc, &mut set) && has_numbers_below(&set, 1)
 }
 
-/// Whether an index that is open is circular.
+/// Whether an index that is put in is circular from then on.
 fn is_open_circular(alloc: Global) -> bool {
     let mut set = BTreeSet::new(alloc);
-    is_circular_once_put_in(alloc, &mut set)
+    let mut seen = Seen::new(alloc, &mut set);
+    let index = TypeIndex(4097);
+    seen.insert(index).is_ok()
+        && is_refused(alloc, &mut seen, index, "Type with index 4097 is circular")
 }
 
 /// The checks of open indices.

@@ -54,12 +54,9 @@ static OF_MANY: [Valued; 5] = [
 /// Whether a table has these values at these numbers.
 fn has_values(table: &Segments<u64>, values: &[Valued]) -> bool {
     let mut probes = Probes::new();
-    for &(x, value) in values {
-        if table.find(x, &mut probes) != value {
-            return false;
-        }
-    }
-    true
+    values
+        .iter()
+        .all(|&(x, value)| table.find(x, &mut probes) == value)
 }
 
 /// The table after segments were painted one after the other.
@@ -73,10 +70,9 @@ fn painted_in_turn(alloc: Global, painted: &[Painted]) -> Result<Segments<u64>, 
 
 /// Whether segments that are painted one after the other make a table of so many, with these values.
 fn paint(alloc: Global, painted: &[Painted], len: usize, values: &[Valued]) -> bool {
-    match painted_in_turn(alloc, painted) {
-        Ok(table) => table.len() == len && has_values(&table, values),
-        Err(_) => false,
-    }
+    painted_in_turn(alloc, painted).is_ok_and(|table| {
+        table.len() == len && has_values(&table, values)
+    })
 }
 
 /// Whether a table without segments has no value for a number, and looks at nothing.
@@ -132,12 +128,7 @@ fn is_found(table: &Segments<u64>, x: u64) -> bool {
 
 /// Whether there are those ranges, and each number in and around them is found.
 fn are_spaced(table: &Segments<u64>) -> bool {
-    for x in 0..4010u64 {
-        if !is_found(table, x) {
-            return false;
-        }
-    }
-    table.len() == 1000
+    table.len() == 1000 && (0..4010u64).all(|x| is_found(table, x))
 }
 
 /// Segments that are painted at once.
@@ -152,20 +143,14 @@ fn painted_at_once(alloc: Global, painted: &[Painted]) -> Result<Segments<u64>, 
 /// Whether two tables have the same values up to a number.
 fn are_alike(table: &Segments<u64>, other: &Segments<u64>, end: u64) -> bool {
     let mut probes = Probes::new();
-    for x in 0..end {
-        if table.find(x, &mut probes) != other.find(x, &mut probes) {
-            return false;
-        }
-    }
-    true
+    (0..end).all(|x| table.find(x, &mut probes) == other.find(x, &mut probes))
 }
 
 /// Whether a table is small, and as if [`MANY`] were painted one after the other.
 fn is_painted_in_turn(alloc: Global, table: &Segments<u64>) -> bool {
-    match painted_in_turn(alloc, &MANY) {
-        Ok(in_turn) => table.len() <= 18 && are_alike(table, &in_turn, 64),
-        Err(_) => false,
-    }
+    painted_in_turn(alloc, &MANY).is_ok_and(|in_turn| {
+        table.len() <= 18 && are_alike(table, &in_turn, 64)
+    })
 }
 
 /// Three thousand segments, each in the one before it.
@@ -175,12 +160,6 @@ fn nested(alloc: Global) -> Result<Vec<Painted>, AllocError> {
         painted.push((at, 6000 - at, at))?;
     }
     Ok(painted)
-}
-
-/// The table of nested segments.
-fn nested_table(alloc: Global) -> Result<Segments<u64>, AllocError> {
-    let painted = nested(alloc)?;
-    painted_at_once(alloc, &painted)
 }
 
 /// Whether nested segments have their values, and are found with few probes.
@@ -202,36 +181,10 @@ fn counts_probes(alloc: Global) -> bool {
     none == 0 && probes.count() == 1 && looks_at_nothing(&Segments::new(alloc))
 }
 
-/// Whether ranges that are apart are found with few probes.
-fn searches_with_few_probes(alloc: Global) -> bool {
-    match spaced(alloc) {
-        Ok(table) => are_spaced(&table),
-        Err(_) => false,
-    }
-}
-
-/// Whether a list is painted as one segment after the other is.
-fn paints_a_list(alloc: Global) -> bool {
-    match painted_at_once(alloc, &MANY) {
-        Ok(table) => has_values(&table, &OF_MANY) && is_painted_in_turn(alloc, &table),
-        Err(_) => false,
-    }
-}
-
-/// Whether no segments are painted as nothing.
-fn paints_nothing(alloc: Global) -> bool {
-    match painted_at_once(alloc, &[]) {
-        Ok(table) => table.len() == 0,
-        Err(_) => false,
-    }
-}
-
 /// Whether thousands of segments are painted.
-fn paints_thousands(alloc: Global) -> bool {
-    match nested_table(alloc) {
-        Ok(table) => are_nested(&table),
-        Err(_) => false,
-    }
+fn paints_thousands(alloc: Global) -> Result<bool, AllocError> {
+    let table = painted_at_once(alloc, &nested(alloc)?)?;
+    Ok(are_nested(&table))
 }
 
 /// The checks of segments.
@@ -247,8 +200,19 @@ pub(crate) fn checks(alloc: Global) -> Checks {
             paint(alloc, &FEW, 2, &over_all),
         )
         .and("probes that are counted", counts_probes(alloc))
-        .and("a search with few probes", searches_with_few_probes(alloc))
-        .and("a list of segments", paints_a_list(alloc))
-        .and("no segments", paints_nothing(alloc))
-        .and("thousands of segments", paints_thousands(alloc))
+        .and(
+            "a search with few probes",
+            spaced(alloc).is_ok_and(|table| are_spaced(&table)),
+        )
+        .and(
+            "a list of segments",
+            painted_at_once(alloc, &MANY).is_ok_and(|table| {
+                has_values(&table, &OF_MANY) && is_painted_in_turn(alloc, &table)
+            }),
+        )
+        .and(
+            "no segments",
+            painted_at_once(alloc, &[]).is_ok_and(|table| table.len() == 0),
+        )
+        .and_tried("thousands of segments", paints_thousands(alloc))
 }
