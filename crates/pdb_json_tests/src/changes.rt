@@ -16,23 +16,19 @@ pub(crate) fn parts(line: &str) -> Option<(&str, &str, &str)> {
     Some((old, new, wanted))
 }
 
-/// Three texts, one behind the other.
-pub(crate) fn joined(
-    alloc: Global,
-    first: &str,
-    second: &str,
-    third: &str,
-) -> Result<String, AllocError> {
-    let mut text = String::from_str(alloc, first)?;
-    text.push_str(second)?;
-    text.push_str(third)?;
-    Ok(text)
+/// Texts, one behind the other.
+pub(crate) fn joined(alloc: Global, texts: &[&str]) -> Result<String, AllocError> {
+    let mut joined = String::new(alloc);
+    for text in texts {
+        joined.push_str(text)?;
+    }
+    Ok(joined)
 }
 
 /// A text with another one in the place of what stands there.
 pub(crate) fn changed(alloc: Global, text: &str, old: &str, new: &str) -> Option<String> {
     let (before, after) = around(text, old)?;
-    joined(alloc, before, new, after).ok()
+    joined(alloc, &[before, new, after]).ok()
 }
 
 /// Whether a text with the change of a line is answered as is wanted.

@@ -65,7 +65,7 @@ fn before<'t>(path: &'t str, fault: &str) -> &'t str {
 
 /// Whether a file is answered with a fault behind a path, or `read`.
 fn is_read_as(alloc: Global, text: &[u8], path: &str, fault: &str) -> bool {
-    joined(alloc, before(path, fault), fault, "").is_ok_and(|wanted| {
+    joined(alloc, &[before(path, fault), fault]).is_ok_and(|wanted| {
         is_wanted(alloc, &read_records(alloc, text), wanted.as_str())
     })
 }

@@ -1,6 +1,6 @@
 //! Files with module files, and the names of these.
 
-use crate::changes::{around, changed, joined, parts};
+use crate::changes::{around, changed, parts};
 use crate::reading_texts::{is_refused_as, is_wanted};
 use pdb_json::{RecordFault, RecordsFile, module_files, read_records_with};
 use pdb_records::PDB;
@@ -52,7 +52,8 @@ pub(crate) fn is_answered(alloc: Global, text: &str, line: &str) -> bool {
 fn line_of(alloc: Global, names: &[String]) -> Result<String, AllocError> {
     let mut line = String::from_str(alloc, "names:")?;
     for name in names {
-        line = joined(alloc, line.as_str(), name.as_str(), ";")?;
+        line.push_str(name.as_str())?;
+        line.push_str(";")?;
     }
     Ok(line)
 }
