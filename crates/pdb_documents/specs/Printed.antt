@@ -51,7 +51,10 @@ abbrev pub AlikeFault : Option Failure → Option Failure → Type 0
 AlikeFault None None = Unit {0}
 AlikeFault (Some (TypeNotFound i)) (Some (TypeNotFound j)) = i ≡ j
 AlikeFault (Some (OfError e)) (Some (OfError e')) = Unit {0}
-AlikeFault fault other = ⊥
+AlikeFault None (Some failure) = ⊥
+AlikeFault (Some failure) None = ⊥
+AlikeFault (Some (TypeNotFound i)) (Some (OfError e)) = ⊥
+AlikeFault (Some (OfError e)) (Some (TypeNotFound j)) = ⊥
 
 -- two runs write the same text, and both succeed or both fail
 pub record AlikeRuns (r s : Run) : Type 0 where
