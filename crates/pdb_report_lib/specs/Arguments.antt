@@ -82,9 +82,7 @@ asked (program ∷ path ∷ command ∷ words) = do
   command ← command_of command
   addresses ← asked_addresses command words
   Some (record { path = path; command = command; addresses = addresses })
-asked [] = None
-asked (program ∷ []) = None
-asked (program ∷ path ∷ []) = None
+asked other = None
 
 -- a request, as it was asked
 abbrev pub request : Request → Asked

@@ -19,10 +19,7 @@ use Rattle.pdb_report_lib.specs.Arguments.{Asked}
 abbrev pub IsReadStop : List ℕ → Stop → Type 0
 IsReadStop path (CannotRead shown) = shown.now ≡ path
 IsReadStop path (Refused error) = error ≡ OutOfMemory
-IsReadStop path (stop.Records shown fault) = ⊥
-IsReadStop path (CannotReadModule shown) = ⊥
-IsReadStop path Usage = ⊥
-IsReadStop path CannotWrite = ⊥
+IsReadStop path other = ⊥
 
 -- a module file that a records file with this value wants can't be read, and is shown by its path; or the value shows
 -- no module files; or memory ran out
@@ -32,18 +29,13 @@ AreModuleReadStops records_path value (CannotReadModule shown) =
 AreModuleReadStops records_path value (Refused error) = error ≡ OutOfMemory
 AreModuleReadStops records_path value (stop.Records shown fault) =
     (shown.now ≡ records_path) × IsFaultOf fault (wanted_files_of value)
-AreModuleReadStops records_path value (CannotRead shown) = ⊥
-AreModuleReadStops records_path value Usage = ⊥
-AreModuleReadStops records_path value CannotWrite = ⊥
+AreModuleReadStops records_path value other = ⊥
 
 -- why a run ends early whose words ask for nothing: memory ran out, or it shows how to ask; the sink is as it was
 abbrev pub StopsUnasked : SinkState → SinkState → Stop → Type 0
 StopsUnasked before after Usage = after ≡ before
 StopsUnasked before after (Refused error) = (error ≡ OutOfMemory) × (after ≡ before)
-StopsUnasked before after (CannotRead path) = ⊥
-StopsUnasked before after (CannotReadModule path) = ⊥
-StopsUnasked before after (stop.Records path fault) = ⊥
-StopsUnasked before after CannotWrite = ⊥
+StopsUnasked before after other = ⊥
 
 -- a run ends as it does over the bytes of some file and of its module files, and what the sink holds back is handed on
 pub record EndsOverSomeFile {A : Type 0} (asked : Asked) (before after : SinkState) (result : Result A Stop)

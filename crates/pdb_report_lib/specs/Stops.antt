@@ -7,8 +7,7 @@ use Rattle.pdb_report_lib.specs.declared.reports.Command.{Command}
 use Rattle.pdb_report_lib.specs.declared.reports.ReportFault.{ReportFault}
 use Rattle.pdb_report_lib.specs.declared.reports.ReportFault.TheVariants.{Lookup, Write}
 use Rattle.pdb_report_lib.specs.declared.stops.Stop.{Stop}
-use Rattle.pdb_report_lib.specs.declared.stops.Stop.TheVariants.{Refused, Usage, CannotRead}
-use Rattle.pdb_report_lib.specs.declared.stops.Stop.TheVariants.{CannotReadModule, CannotWrite}
+use Rattle.pdb_report_lib.specs.declared.stops.Stop.TheVariants.{Refused, CannotWrite}
 use Rattle.pdb_report_lib.specs.declared.stops.Stop.TheVariants as stop
 use Rattle.pdb_report_lib.specs.Sinks.{SinkState}
 use Rattle.pdb_report_lib.specs.FileReports.{opened, TakesTexts, EndsOver}
@@ -16,11 +15,7 @@ use Rattle.pdb_report_lib.specs.FileReports.{opened, TakesTexts, EndsOver}
 -- the exit status of a run that ends early: 1 where the records are refused or memory ran out, and else 2
 abbrev pub status_of : Stop → ℕ
 status_of (Refused error) = 1
-status_of Usage = 2
-status_of (CannotRead path) = 2
-status_of (CannotReadModule path) = 2
-status_of (stop.Records path fault) = 2
-status_of CannotWrite = 2
+status_of other = 2
 
 -- what a report's fault stops a run for
 abbrev pub stop_of : ReportFault → Stop
@@ -33,20 +28,13 @@ StopsOver command addresses records before after (Refused error) =
     EndsOver command addresses (opened records) before after (Lookup error)
 StopsOver command addresses records before after CannotWrite =
     EndsOver command addresses (opened records) before after Write
-StopsOver command addresses records before after (stop.Records path fault) = ⊥
-StopsOver command addresses records before after Usage = ⊥
-StopsOver command addresses records before after (CannotRead path) = ⊥
-StopsOver command addresses records before after (CannotReadModule path) = ⊥
+StopsOver command addresses records before after other = ⊥
 
 -- a run answers that a file holds no records, with the file's path and the fault; the sink is as it was
 abbrev pub StopsAtFault : List ℕ → RecordFault → SinkState → SinkState → Stop → Type 0
 StopsAtFault path fault before after (stop.Records shown given) = (shown.now ≡ path) × (given ≡ fault)
     × (after ≡ before)
-StopsAtFault path fault before after (Refused error) = ⊥
-StopsAtFault path fault before after CannotWrite = ⊥
-StopsAtFault path fault before after Usage = ⊥
-StopsAtFault path fault before after (CannotRead shown) = ⊥
-StopsAtFault path fault before after (CannotReadModule shown) = ⊥
+StopsAtFault path fault before after other = ⊥
 
 -- how a run ends over what was read of the file at a path: the records, or the fault in the file
 abbrev pub Ends : {A : Type 0} → List ℕ → Command → List ℕ → Result Records RecordFault

@@ -28,20 +28,13 @@ fn reports_into(alloc: Global, context: &mut Context<'_, ContextPdbData<'_>>, ro
 
 /// Whether reports to writers with ever more room are refused until there is enough.
 fn reports_into_all(alloc: Global, context: &mut Context<'_, ContextPdbData<'_>>) -> bool {
-    for room in 0..=REPORTED {
-        if !reports_into(alloc, context, room) {
-            return false;
-        }
-    }
-    true
+    (0..=REPORTED).all(|room| reports_into(alloc, context, room))
 }
 
 /// Whether a context that is made of something reports so.
 fn reports_over(alloc: Global, data: &ContextPdbData<'_>) -> bool {
-    match data.make_context() {
-        Ok(mut context) => reports_into_all(alloc, &mut context),
-        Err(_) => false,
-    }
+    data.make_context()
+        .is_ok_and(|mut context| reports_into_all(alloc, &mut context))
 }
 
 /// What a context is made of, from the text of a records file.
@@ -60,12 +53,7 @@ fn is_refused_late(alloc: Global, room: usize, refused: bool) -> io::Result<bool
 /// Whether reports over a records file without sections, and what is held back of them, end as they should in writers
 /// that refuse.
 pub(crate) fn end_as_they_should(alloc: Global, file: &[u8]) -> bool {
-    match data_of(alloc, file) {
-        Some(data) => {
-            reports_over(alloc, &data)
-                && matches!(is_refused_late(alloc, 5, false), Ok(true))
-                && matches!(is_refused_late(alloc, 4, true), Ok(true))
-        }
-        None => false,
-    }
+    data_of(alloc, file).is_some_and(|data| reports_over(alloc, &data))
+        && matches!(is_refused_late(alloc, 5, false), Ok(true))
+        && matches!(is_refused_late(alloc, 4, true), Ok(true))
 }
