@@ -10,45 +10,25 @@ use std::alloc::Global;
 /// The records, whole, as the text of a records file.
 fn text_of(alloc: Global, records: &PDB) -> Option<Vec<u8>> {
     let mut text = Vec::new(alloc);
-    match write_records(alloc, &mut text, records, &[]) {
-        Ok(()) => Some(text),
-        Err(_) => None,
-    }
-}
-
-/// Whether the records are those of a text.
-fn have_text(alloc: Global, records: &PDB, wanted: &[u8]) -> bool {
-    match text_of(alloc, records) {
-        Some(text) => text.as_slice() == wanted,
-        None => false,
-    }
+    write_records(alloc, &mut text, records, &[]).ok()?;
+    Some(text)
 }
 
 /// Whether records that are lent are taken or refused as is wanted.
 fn are_lent_as(alloc: Global, records: &mut PDB, wanted: &str) -> bool {
     match ContextPdbData::try_from_pdb_ref(alloc, records) {
         Ok(_) => wanted == "taken",
-        Err(error) => match text_of_error(alloc, &error) {
-            Ok(text) => text.as_str() == wanted,
-            Err(_) => false,
-        },
+        Err(error) => text_of_error(alloc, &error).is_ok_and(|text| text.as_str() == wanted),
     }
 }
 
 /// Whether records that are lent are taken or refused as is wanted, and stay as they were.
 fn stay(alloc: Global, records: &mut PDB, wanted: &str) -> bool {
-    match text_of(alloc, records) {
-        Some(before) => {
-            are_lent_as(alloc, records, wanted) && have_text(alloc, records, before.as_slice())
-        }
-        None => false,
-    }
+    let before = text_of(alloc, records);
+    before.is_some() && are_lent_as(alloc, records, wanted) && text_of(alloc, records) == before
 }
 
 /// Whether the records of a file, when they are lent, are taken or refused as is wanted, and stay as they were.
 pub(crate) fn stay_as_lent(alloc: Global, file: &[u8], wanted: &str) -> bool {
-    match read_records(alloc, file) {
-        Ok(mut records) => stay(alloc, &mut records, wanted),
-        Err(_) => false,
-    }
+    read_records(alloc, file).is_ok_and(|mut records| stay(alloc, &mut records, wanted))
 }

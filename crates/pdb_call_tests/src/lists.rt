@@ -167,7 +167,7 @@ fn outcome_over(
     let mut answers = Vec::new(alloc);
     let refusals = refusals_of(&mut context, calls, &mut answers);
     Ok(Outcome {
-        differs: !are_wanted(alloc, list, &answers)?,
+        differs: !are_wanted(alloc, list, &answers, Looked::Answers)?,
         made_again: made_again || refusals > 0,
     })
 }
@@ -200,28 +200,26 @@ fn are_texts(list: CallList<'_>, texts: &[String]) -> bool {
     left.is_empty()
 }
 
-/// Whether answers are those that are wanted, one for each line.
+/// What of answers is looked at.
+#[derive(Clone, Copy)]
+pub(crate) enum Looked {
+    Answers,
+    Clones,
+}
+
+/// Whether answers, or clones of them, are those that are wanted, one for each line.
 pub(crate) fn are_wanted(
     alloc: Global,
     list: CallList<'_>,
     answers: &[Answer<'_>],
+    looked: Looked,
 ) -> Result<bool, AllocError> {
     let mut texts = Vec::new(alloc);
     for answer in answers {
-        texts.push(text_of_answer(alloc, answer)?)?;
-    }
-    Ok(are_texts(list, &texts))
-}
-
-/// Whether clones of answers are those that are wanted, one for each line.
-pub(crate) fn are_clones_wanted(
-    alloc: Global,
-    list: CallList<'_>,
-    answers: &[Answer<'_>],
-) -> Result<bool, AllocError> {
-    let mut texts = Vec::new(alloc);
-    for answer in answers {
-        texts.push(text_of_clone(alloc, answer)?)?;
+        texts.push(match looked {
+            Looked::Answers => text_of_answer(alloc, answer)?,
+            Looked::Clones => text_of_clone(alloc, answer)?,
+        })?;
     }
     Ok(are_texts(list, &texts))
 }

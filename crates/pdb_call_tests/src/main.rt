@@ -62,66 +62,36 @@ enum Subject {
     Parts,
 }
 
-/// All of it, in the order in which it is asked for.
-const SUBJECTS: [Subject; 7] = [
-    Subject::Calls,
-    Subject::Sizes,
-    Subject::Signatures,
-    Subject::Ids,
-    Subject::Ways,
-    Subject::Lent,
-    Subject::Parts,
+/// All of it, in the order in which it is asked for: the file with the questions, and what was asked, in a word.
+const SUBJECTS: [(Subject, &str, &str); 7] = [
+    (Subject::Calls, "calls.txt", "calls"),
+    (Subject::Sizes, "sizes.txt", "sizes"),
+    (Subject::Signatures, "signatures.txt", "signatures"),
+    (Subject::Ids, "ids.txt", "ids"),
+    (Subject::Ways, "ways.txt", "calls in other ways"),
+    (Subject::Lent, "lent.txt", "lent files"),
+    (Subject::Parts, "parts.txt", "parts"),
 ];
 
-impl Subject {
-    /// The file with the questions.
-    fn file(self) -> &'static str {
-        match self {
-            Subject::Calls => "calls.txt",
-            Subject::Sizes => "sizes.txt",
-            Subject::Signatures => "signatures.txt",
-            Subject::Ids => "ids.txt",
-            Subject::Ways => "ways.txt",
-            Subject::Lent => "lent.txt",
-            Subject::Parts => "parts.txt",
-        }
-    }
-
-    /// What was asked, in a word.
-    fn name(self) -> &'static str {
-        match self {
-            Subject::Calls => "calls",
-            Subject::Sizes => "sizes",
-            Subject::Signatures => "signatures",
-            Subject::Ids => "ids",
-            Subject::Ways => "calls in other ways",
-            Subject::Lent => "lent files",
-            Subject::Parts => "parts",
-        }
-    }
-}
-
 fn main(rt: HostRuntime) -> io::Result<()> {
-    for subject in SUBJECTS {
-        compare(&rt, subject)?;
+    for (subject, file, name) in SUBJECTS {
+        let tally = compare(&rt, subject, file)?;
+        println!(rt; "{0} {name}, {1} differ", tally.asked, tally.differ)?;
     }
     Ok(())
 }
 
-/// Asks all questions of a subject, and prints how many there were and how many answers differ: of calls, how many
-/// lists of them.
-fn compare<R: Files + Print + AllocGlobal>(rt: &R, subject: Subject) -> io::Result<()> {
-    let text = fs::read_to_string(rt, subject.file())?;
-    let tally = match subject {
-        Subject::Lent | Subject::Parts => over_lines(rt, subject, text.as_str())?,
-        _ => over_files(rt, subject, text.as_str())?,
-    };
-    println!(rt;
-        "{0} {1}, {2} differ",
-        tally.asked,
-        subject.name(),
-        tally.differ
-    )
+/// Asks all questions of a subject, and counts them and the answers that differ: of calls, the lists of them.
+fn compare<R: Files + Print + AllocGlobal>(
+    rt: &R,
+    subject: Subject,
+    file: &str,
+) -> io::Result<Tally> {
+    let text = fs::read_to_string(rt, file)?;
+    match subject {
+        Subject::Lent | Subject::Parts => over_lines(rt, subject, text.as_str()),
+        _ => over_files(rt, subject, text.as_str()),
+    }
 }
 
 /// Asks the question of each line.
@@ -157,10 +127,9 @@ fn over_line<R: Files + Print + AllocGlobal>(
 fn is_as_wanted(alloc: Global, subject: Subject, bytes: &[u8], wanted: &str) -> bool {
     match subject {
         Subject::Lent => lent_records::stay_as_lent(alloc, bytes, wanted),
-        _ => match data_of(alloc, bytes) {
-            Some(data) => single_parts::is_as_it_should(alloc, &data, wanted),
-            None => false,
-        },
+        _ => data_of(alloc, bytes).is_some_and(|data| {
+            single_parts::is_as_it_should(alloc, &data, wanted)
+        }),
     }
 }
 

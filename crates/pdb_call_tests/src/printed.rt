@@ -73,10 +73,9 @@ fn emit<W: fmt::Write>(
 fn is_wanted(alloc: Global, outcome: &Result<(), Error>, wanted: &str) -> bool {
     match outcome {
         Ok(()) => wanted == "ok",
-        Err(error) => match error.to_string(alloc) {
-            Ok(text) => text.as_str() == wanted,
-            Err(_) => false,
-        },
+        Err(error) => error
+            .to_string(alloc)
+            .is_ok_and(|text| text.as_str() == wanted),
     }
 }
 
@@ -93,10 +92,7 @@ impl fmt::Write for Narrow {
             return Err(fmt::Error);
         }
         self.room -= text.len();
-        match self.held.push_str(text) {
-            Ok(()) => Ok(()),
-            Err(_) => Err(fmt::Error),
-        }
+        self.held.push_str(text).map_err(|_| fmt::Error)
     }
 }
 
@@ -123,12 +119,7 @@ fn answers_each_refusal(
     formatter: &mut TypeFormatter<'_, ContextPdbData<'_>>,
     question: PrintedQuestion<'_>,
 ) -> bool {
-    for room in 0..question.text.len() {
-        if !answers_refusal(alloc, formatter, question, room) {
-            return false;
-        }
-    }
-    true
+    (0..question.text.len()).all(|room| answers_refusal(alloc, formatter, question, room))
 }
 
 /// Whether a formatter writes what is wanted, and answers as is wanted.

@@ -34,10 +34,8 @@ fn are_tried(context: &mut Context<'_, ContextPdbData<'_>>) -> bool {
 /// Whether a context tries three starts of functions. The end of the section is among them, and no function lies
 /// over it.
 fn has_three_starts(data: &ContextPdbData<'_>) -> bool {
-    match data.make_context() {
-        Ok(mut context) => are_tried(&mut context),
-        Err(_) => false,
-    }
+    data.make_context()
+        .is_ok_and(|mut context| are_tried(&mut context))
 }
 
 /// What is added for the outer site: it has no row of its own, so the range has no file and no line.
@@ -91,24 +89,18 @@ fn ranges_of(
 
 /// Whether a procedure has the two ranges, the outer one first.
 fn has_both(alloc: Global, info: &ModuleInfo, procedure: &ProcedureSymbolFunction<'_>) -> bool {
-    match ranges_of(alloc, info, procedure) {
-        Ok(ranges) => match ranges.as_slice() {
-            [outer, inner] => are_alike(outer, &OUTER) && are_alike(inner, &INNER),
-            _ => false,
-        },
-        Err(_) => false,
-    }
+    ranges_of(alloc, info, procedure).is_ok_and(|ranges| match ranges.as_slice() {
+        [outer, inner] => are_alike(outer, &OUTER) && are_alike(inner, &INNER),
+        _ => false,
+    })
 }
 
 /// Whether a module's one procedure has the two ranges.
 fn has_procedure_with_both(alloc: Global, info: &ModuleInfo) -> bool {
-    match BasicModuleInfo::try_from_module_info(alloc, info) {
-        Ok(basic) => match basic.procedures() {
-            [procedure] => has_both(alloc, info, procedure),
-            _ => false,
-        },
-        Err(_) => false,
-    }
+    BasicModuleInfo::try_from_module_info(alloc, info).is_ok_and(|basic| match basic.procedures() {
+        [procedure] => has_both(alloc, info, procedure),
+        _ => false,
+    })
 }
 
 /// A module without a name.
@@ -128,12 +120,9 @@ fn has_ranges(alloc: Global, data: &ContextPdbData<'_>) -> bool {
 
 /// Whether the records of a module have one procedure.
 fn has_one_procedure(alloc: Global, info: &ModuleInfo) -> bool {
-    match BasicModuleInfo::try_from_module_info(alloc, info) {
-        Ok(basic) => {
-            basic.procedures().len() == 1 && basic.module_info().symbols.items.len() == 1
-        }
-        Err(_) => false,
-    }
+    BasicModuleInfo::try_from_module_info(alloc, info).is_ok_and(|basic| {
+        basic.procedures().len() == 1 && basic.module_info().symbols.items.len() == 1
+    })
 }
 
 /// Whether a program has the records of one module, which has one procedure.
@@ -150,11 +139,9 @@ fn has_one_module(alloc: Global, data: &ContextPdbData<'_>) -> bool {
 
 /// Whether a formatter with flags of its own answers the size of a type, and has no modules.
 fn has_size(data: &ContextPdbData<'_>) -> bool {
-    match data.make_type_formatter_with_flags(TypeFormatterFlags::NO_ARGUMENTS) {
-        Ok(mut formatter) => {
+    data.make_type_formatter_with_flags(TypeFormatterFlags::NO_ARGUMENTS)
+        .is_ok_and(|mut formatter| {
             formatter.get_type_size(0, TypeIndex(4096)).ok() == Some(10)
                 && formatter.modules().is_empty()
-        }
-        Err(_) => false,
-    }
+        })
 }

@@ -1,8 +1,6 @@
 //! Lists of calls to contexts that are made in other ways, and calls that are made one by one.
 
-use crate::lists::{
-    CallList, WantedSize, are_clones_wanted, are_wanted, calls_of, lists_of, wanted_size,
-};
+use crate::lists::{CallList, Looked, are_wanted, calls_of, lists_of, wanted_size};
 use crate::parts::{Counting, context_of, context_over};
 use crate::tally::Tally;
 use crate::texts::print_line;
@@ -42,23 +40,18 @@ fn is_answered_in_each_way(
     file: &[u8],
     list: CallList<'_>,
 ) -> bool {
-    match read_records(alloc, file) {
-        Ok(mut records) => {
-            is_answered_with_flags(alloc, data, list)
-                && is_answered_by_parts(alloc, data, &records, list)
-                && is_asked_once(alloc, data, &records, list)
-                && is_answered_when_lent(alloc, &mut records, list)
-        }
-        Err(_) => false,
-    }
+    read_records(alloc, file).is_ok_and(|mut records| {
+        is_answered_with_flags(alloc, data, list)
+            && is_answered_by_parts(alloc, data, &records, list)
+            && is_asked_once(alloc, data, &records, list)
+            && is_answered_when_lent(alloc, &mut records, list)
+    })
 }
 
 /// Whether a context with flags of its own answers a list.
 fn is_answered_with_flags(alloc: Global, data: &ContextPdbData<'_>, list: CallList<'_>) -> bool {
-    match data.make_context_with_formatter_flags(TypeFormatterFlags::NO_ARGUMENTS) {
-        Ok(context) => is_answered_by(alloc, context, list),
-        Err(_) => false,
-    }
+    data.make_context_with_formatter_flags(TypeFormatterFlags::NO_ARGUMENTS)
+        .is_ok_and(|context| is_answered_by(alloc, context, list))
 }
 
 /// Whether a context of parts, over records of its own, answers a list.
@@ -71,26 +64,22 @@ fn is_answered_by_parts(
     let Ok(formatter) = data.make_type_formatter() else {
         return false;
     };
-    match context_of(alloc, data, records, formatter) {
-        Some(context) => is_answered_by(alloc, context, list),
-        None => false,
-    }
+    context_of(alloc, data, records, formatter).is_some_and(|context| {
+        is_answered_by(alloc, context, list)
+    })
 }
 
 /// Whether a context over lent records answers a list.
 fn is_answered_when_lent(alloc: Global, records: &mut PDB, list: CallList<'_>) -> bool {
-    match ContextPdbData::try_from_pdb_ref(alloc, records) {
-        Ok(data) => is_answered_over(alloc, &data, list),
-        Err(_) => false,
-    }
+    ContextPdbData::try_from_pdb_ref(alloc, records).is_ok_and(|data| {
+        is_answered_over(alloc, &data, list)
+    })
 }
 
 /// Whether the context that is made of something answers a list.
 fn is_answered_over(alloc: Global, data: &ContextPdbData<'_>, list: CallList<'_>) -> bool {
-    match data.make_context() {
-        Ok(context) => is_answered_by(alloc, context, list),
-        Err(_) => false,
-    }
+    data.make_context()
+        .is_ok_and(|context| is_answered_by(alloc, context, list))
 }
 
 /// Whether a context answers a list, at once and one by one, and has its functions by their start addresses, and the
@@ -119,7 +108,7 @@ fn is_answered<P: ModuleProvider>(
     };
     let mut answers = Vec::new(alloc);
     context.run_calls(&calls, &mut answers).is_ok()
-        && matches!(are_wanted(alloc, list, &answers), Ok(true))
+        && matches!(are_wanted(alloc, list, &answers, Looked::Answers), Ok(true))
 }
 
 /// The functions of a context, one by one.
@@ -159,17 +148,12 @@ fn functions_by_starts<P: ModuleProvider>(
 
 /// Whether functions are the same, one by one.
 fn are_equal(functions: &[Function], others: &[Function]) -> bool {
-    for (position, function) in functions.iter().enumerate() {
-        let Some(other) = others.get(position) else {
-            return false;
-        };
-        let is_at_same_place = function.start_rva == other.start_rva
-            && function.end_rva == other.end_rva;
-        if !is_at_same_place || function.name != other.name {
-            return false;
-        }
-    }
     functions.len() == others.len()
+        && functions.iter().zip(others).all(|(function, other)| {
+            function.start_rva == other.start_rva
+                && function.end_rva == other.end_rva
+                && function.name == other.name
+        })
 }
 
 /// Whether a context has the same functions by their start addresses.
@@ -228,19 +212,8 @@ fn is_answered_one_by_one<P: ModuleProvider>(
     };
     let mut answers = Vec::new(alloc);
     ask_all(alloc, context, &calls, &mut answers).is_ok()
-        && matches!(are_wanted(alloc, list, &answers), Ok(true))
-        && matches!(are_clones_wanted(alloc, list, &answers), Ok(true))
-}
-
-/// Whether a formatter answers a size.
-fn answers_size<P: ModuleProvider>(
-    formatter: &mut TypeFormatter<'_, P>,
-    wanted: WantedSize,
-) -> bool {
-    match formatter.get_type_size(wanted.module, wanted.index) {
-        Ok(size) => size == wanted.size,
-        Err(_) => false,
-    }
+        && matches!(are_wanted(alloc, list, &answers, Looked::Answers), Ok(true))
+        && matches!(are_wanted(alloc, list, &answers, Looked::Clones), Ok(true))
 }
 
 /// Whether a formatter answers the sizes in a list.
@@ -250,7 +223,8 @@ fn answers_sizes<P: ModuleProvider>(
 ) -> bool {
     for line in list.lines().lines() {
         if let Some(wanted) = wanted_size(line) {
-            if !answers_size(formatter, wanted) {
+            let size = formatter.get_type_size(wanted.module, wanted.index);
+            if size.ok() != Some(wanted.size) {
                 return false;
             }
         }
@@ -270,10 +244,9 @@ fn is_asked_once(
         provider: data,
         asked: Cell::new(0),
     };
-    match context_over(alloc, &counting, records) {
-        Some(mut context) => asks_once(alloc, &mut context, &counting.asked, list),
-        None => false,
-    }
+    context_over(alloc, &counting, records).is_some_and(|mut context| {
+        asks_once(alloc, &mut context, &counting.asked, list)
+    })
 }
 
 /// Whether a context answers a list twice and asks its provider at the first time alone, and once more when its caches
