@@ -1,5 +1,6 @@
 -- What a question for frames or for a function finds, as it is shown to C.
 use Rattle.std.specs.Prelude.{ℕ, List, [], ◌∷◌, ◌++◌, Option, Some, None, length, drop, nat_le, Bool, ◌&&◌}
+use Rattle.std.specs.Prelude.{unwrap_or}
 use Rattle.pdb_frames.specs.Frame.{FramesInfo}
 use Rattle.pdb_function_info.specs.Function.{FunctionInfo}
 use Rattle.pdb_c.specs.declared.frame_rows.FrameRow.{FrameRow}
@@ -58,11 +59,6 @@ abbrev pub fits : {A : Type 0} → Shown → List A → List ℕ → Bool
 fits found rows texts =
     nat_le (length found.rows) (length rows) && nat_le (length found.texts) (length texts)
 
--- where a function ends, and 0 where that isn't known
-abbrev pub end_or_0 : Option ℕ → ℕ
-end_or_0 (Some end) = end
-end_or_0 None = 0
-
 -- 1 where it is known where a function ends, and else 0
 abbrev pub end_is_known : Option ℕ → ℕ
 end_is_known (Some end) = 1
@@ -74,6 +70,6 @@ sizes found = record {
   rows = length found.rows;
   texts = length found.texts;
   start = found.start;
-  end = end_or_0 found.end;
+  end = unwrap_or found.end 0;
   end_known = end_is_known found.end;
 }

@@ -4,7 +4,7 @@ use Rattle.pdb_errors.specs.declared.error.Error.{Error}
 use Rattle.pdb_errors.specs.declared.error.Error.TheVariants as error
 use Rattle.pdb_json_values.specs.declared.faults.RecordFault.{RecordFault}
 use Rattle.pdb_json_values.specs.declared.faults.RecordFault.TheVariants as fault
-use Rattle.pdb_json_values.specs.Faults.{Fault, not_json, module_files, shape, out_of_range, module_not_json}
+use Rattle.pdb_json_values.specs.Faults.{Fault, not_json, module_files}
 use Rattle.pdb_report_lib.specs.declared.reports.ReportFault.{ReportFault}
 use Rattle.pdb_report_lib.specs.declared.reports.ReportFault.TheVariants.{Lookup, Write}
 use Rattle.pdb_c.specs.declared.refusals.Refusal.{Refusal}
@@ -49,18 +49,14 @@ code NoDebugId = neg_ℤ (pos 23)
 abbrev pub refusal_of : Fault → Refusal
 refusal_of not_json = NotJson
 refusal_of (module_files wanted given) = ModuleFiles
-refusal_of (shape path wanted) = NoRecords
-refusal_of (out_of_range path) = NoRecords
-refusal_of (module_not_json path) = NoRecords
+refusal_of other = NoRecords
 
 -- what a reader's fault is answered as
 abbrev pub refusal_of_fault : RecordFault → Refusal
 refusal_of_fault fault.NotJson = NotJson
 refusal_of_fault (fault.ModuleFiles wanted given) = ModuleFiles
-refusal_of_fault (fault.Shape path wanted) = NoRecords
-refusal_of_fault (fault.NumberOutOfRange path) = NoRecords
-refusal_of_fault (fault.ModuleNotJson path) = NoRecords
 refusal_of_fault fault.OutOfMemory = OutOfMemory
+refusal_of_fault other = NoRecords
 
 -- this error, but for out of memory, which is answered as itself
 abbrev pub refusal_or_memory : Refusal → Error → Refusal

@@ -66,10 +66,7 @@ fn frames_in(
     ensures state { IsLeftBy result context.old (Frames address) context.new }
 {
     let found = look_up_frames(context, address)?;
-    match found_frames(alloc, &found) {
-        Ok(found) => Ok(found),
-        Err(_) => Err(Refusal::OutOfMemory),
-    }
+    Ok(found_frames(alloc, &found)?)
 }
 
 // What a context finds of the function over an address.
@@ -82,10 +79,7 @@ fn function_in(
     ensures state { IsLeftBy result context.old (of_function address) context.new }
 {
     let found = look_up(context, address)?;
-    match found_function(alloc, found) {
-        Ok(found) => Ok(found),
-        Err(_) => Err(Refusal::OutOfMemory),
-    }
+    Ok(found_function(alloc, found)?)
 }
 
 // Where the next function starts that a context knows, as the frame of a function of which nothing else is known.
@@ -100,10 +94,7 @@ fn next_start_in(
     let Ok(start) = context.next_start_address(address) else {
         return Err(Refusal::OutOfMemory);
     };
-    match found_function(alloc, function_from(start)) {
-        Ok(found) => Ok(found),
-        Err(_) => Err(Refusal::OutOfMemory),
-    }
+    Ok(found_function(alloc, function_from(start))?)
 }
 
 // The text of a report of a context, which has to be of at least one address.

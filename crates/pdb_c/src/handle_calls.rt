@@ -8,7 +8,7 @@ ghost use Rattle.pdb_c.specs.Questions.{EndsWithText};
 use crate::buffers::answer;
 use crate::handle::Handle;
 use crate::openings::text_of_handle;
-use crate::records_calls::open_with_contents;
+use crate::records_calls::limberlime_open_records_unchecked;
 use pdb_report_lib::Command;
 use std::alloc::Global;
 
@@ -22,7 +22,7 @@ pub extern "C" fn limberlime_open_unchecked(
 ) -> i64
     ensures { Opens (context_to_open records.now []) handle.new.held result }
 {
-    open_with_contents(alloc, records, &[], &[], handle)
+    limberlime_open_records_unchecked(alloc, records, &[], &[], handle)
 }
 
 /// Writes the lines of the frames over addresses to the caller's buffer, as `pdb_report RECORDS frames ADDRESS...`

@@ -26,10 +26,8 @@ fn records_of_file(alloc: Global, bytes: &[u8]) -> Result<PDB, Refusal> {
 // The records of a PDB file, of which what is broken is taken out.
 fn repaired_records(alloc: Global, bytes: &[u8]) -> Result<PDB, Refusal> {
     let mut records = records_of_file(alloc, bytes)?;
-    match repair_records(alloc, &mut records) {
-        Ok(_) => Ok(records),
-        Err(_) => Err(Refusal::OutOfMemory),
-    }
+    repair_records(alloc, &mut records)?;
+    Ok(records)
 }
 
 // Puts the records of a PDB file into a closed handle.

@@ -43,23 +43,6 @@ fn open_pieces(
     open_records(alloc, records, &files, handle)
 }
 
-// Reads the records in the bytes of a records file and of its module files into a handle.
-pub(crate) fn open_with_contents(
-    alloc: Global,
-    records: &[u8],
-    contents: &[u8],
-    lengths: &[usize],
-    handle: &mut Handle,
-) -> i64
-    ensures { Opens (context_to_open records.now (cut_after lengths.now contents.now)) handle.new.held result }
-{
-    handle.close(alloc);
-    match open_pieces(alloc, records, contents, lengths, handle) {
-        Ok(()) => 0,
-        Err(refusal) => refusal.code(),
-    }
-}
-
 /// Reads the records in the bytes of a records file and of its module files into a handle, and answers 0. The contents
 /// of the module files stand one behind the other, in the order of [`limberlime_module_files_unchecked`], and `lengths`
 /// has how many bytes each has. All else is as of `limberlime_open_unchecked`.
@@ -73,5 +56,9 @@ pub extern "C" fn limberlime_open_records_unchecked(
 ) -> i64
     ensures { Opens (context_to_open records.now (cut_after lengths.now contents.now)) handle.new.held result }
 {
-    open_with_contents(alloc, records, contents, lengths, handle)
+    handle.close(alloc);
+    match open_pieces(alloc, records, contents, lengths, handle) {
+        Ok(()) => 0,
+        Err(refusal) => refusal.code(),
+    }
 }

@@ -1,6 +1,6 @@
 use Rattle.std.proofs.Common.{Err, refl, ◌∙◌}
 use Rattle.pdb_c.proofs.OpeningLemmas.{code_fits, opens}
-use Rattle.pdb_c.proofs.records_calls.open_with_contents.Goals as goal
+use Rattle.pdb_c.proofs.records_calls.limberlime_open_records_unchecked.Goals as goal
 
 pub returns-in-Ok : goal.returns-in-Ok
 returns-in-Ok c = opens _ _ _ refl c.in-Ok.ensures
