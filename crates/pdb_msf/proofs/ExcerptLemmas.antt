@@ -27,7 +27,7 @@ written x rest small =
     little_from-take 0 4 4 (little_bytes 4 x ++ rest) (omega arith) ∙ little_number-reads_back 4 x rest small
 
 -- the first of blocks that lie in the file does, and so do the others
-first_inside : (size number : ℕ) (file blocks : List ℕ) → all_inside size file (number ∷ blocks) ≡ true
+pub first_inside : (size number : ℕ) (file blocks : List ℕ) → all_inside size file (number ∷ blocks) ≡ true
     → (number * size + size ≤ length file) × (all_inside size file blocks ≡ true)
 first_inside size number file blocks inside = (grind (arith, common_steps), grind (arith, common_steps))
 

@@ -5,5 +5,6 @@ pub mod ExtentLemmas
 pub mod FrontLemmas
 pub mod ItemListLemmas
 pub mod NumberLemmas
+pub mod RangeLemmas
 pub mod SizeLemmas
 pub mod StreamLemmas

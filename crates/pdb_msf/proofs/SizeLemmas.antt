@@ -63,3 +63,9 @@ stream_size msf number bytes some is =
     let enough : size ≤ length found.0 * msf.block_size
     = subst (λ n. size ≤ n * msf.block_size) (sym count) (div_ceil_times size msf.block_size some).0 in
     sized.1 ∙ ap Ok (sym (inside_size msf.block_size msf.file size found.0 bytes enough found.2))
+
+-- as many blocks as a stream of this size has hold its bytes
+pub block_bounds : (size block_size count : ℕ) → 0 < block_size → count ≡ div_ceil size block_size
+    → size ≤ count * block_size
+block_bounds size block_size count some is =
+    subst (λ n. size ≤ n * block_size) (sym is) (div_ceil_times size block_size some).0

@@ -6,6 +6,7 @@ pub mod ItemLists
 pub mod Msf
 pub mod NumberLists
 pub mod Readings
+pub mod StreamBlocks
 pub mod StreamMap
 pub mod Streams
 pub mod Superblock

@@ -24,7 +24,7 @@ pub struct BlockGrid {
 impl BlockGrid {
     /// Where a block starts.
     #[tactic(auto, using(crate::proofs::BlockLemmas::start_below))]
-    fn start(self, number: u32) -> usize
+    pub(crate) fn start(self, number: u32) -> usize
         requires { self.block_size ≤ 32768 }
         ensures answer { result ≡ number * self.block_size }
         ensures below { result ≤ 2 ^ 47 }
@@ -49,9 +49,9 @@ impl BlockGrid {
 
 /// Bytes of a file that follow one another.
 #[derive(Clone, Copy)]
-struct Run {
-    start: usize,
-    length: usize,
+pub(crate) struct Run {
+    pub(crate) start: usize,
+    pub(crate) length: usize,
 }
 
 /// The bytes of these blocks, one after the other, up to a length.
@@ -106,8 +106,12 @@ pub fn append_blocks<S: Source>(
     append_run(source, run, bytes)
 }
 
-// Appends the bytes of a run.
-fn append_run<S: Source>(source: &mut S, run: Run, bytes: &mut Vec<u8>) -> Result<(), SourceFault>
+/// Appends the bytes of a run.
+pub(crate) fn append_run<S: Source>(
+    source: &mut S,
+    run: Run,
+    bytes: &mut Vec<u8>,
+) -> Result<(), SourceFault>
     ensures answer { OnOk result (IfSome (S.bytes source.old) (λ file.
         bytes.new.items ≡ bytes.old.items ++ take run.length (drop run.start file))) }
     ensures inputs { S.bytes source.new ≡ S.bytes source.old }

@@ -45,6 +45,7 @@ impl Model for Excerpt {
 
     ghost invariant = { λ e. record {
       least : 512 ≤ e.block_size;
+      most : e.block_size ≤ 32768;
       listed : e.streams.items ≡ extents e.block_size (4 + 4 * length e.streams.items)
           (map (λ stream. stream.size) e.streams.items);
     } };
@@ -66,6 +67,7 @@ impl Excerpt {
         streams: Vec<StreamExtent>,
     ) -> Self
         requires least { 512 ≤ block_size }
+        requires most { block_size ≤ 32768 }
         requires listed { streams.items ≡ extents block_size (4 + 4 * length streams.items)
             (map (λ stream. stream.size) streams.items) }
         ensures { result ≡ over blocks.items block_size directory.items (map (λ stream. stream.size) streams.items) }

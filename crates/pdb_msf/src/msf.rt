@@ -5,8 +5,10 @@ ghost use Rattle.std.specs.Result.{result_ok};
 ghost use Rattle.pdb_msf.specs.Directory.{extents};
 ghost use Rattle.pdb_msf.specs.Faults.{Gives, Opens};
 ghost use Rattle.pdb_msf.specs.Msf.{container, over, numbers_place, size_of, stream_of};
+ghost use Rattle.pdb_msf.specs.StreamBlocks.{stream_in};
 ghost use Rattle.pdb_msf.specs.Streams.{bytes_of};
 
+use crate::block_reads::BlockGrid;
 use crate::bytes::Bytes;
 use crate::container_fault::ContainerFault;
 use crate::directory::{
@@ -14,6 +16,8 @@ use crate::directory::{
 };
 use crate::faults::{Fault, NO_STREAM};
 use crate::number_lists::{bytes_from, take_numbers};
+use crate::source::{Source, Unreadable};
+use crate::stream_blocks::StreamBlocks;
 use crate::streams::{StreamBytes, read_stream};
 use crate::superblock::read_superblock;
 use pdb_records::StreamError;
@@ -46,6 +50,7 @@ impl<'a> Model for Container<'a> {
 
     ghost invariant = { λ c. record {
       least : 512 ≤ c.block_size;
+      most : c.block_size ≤ 32768;
       listed : c.streams.items ≡ extents c.block_size (4 + 4 * length c.streams.items)
           (map (λ stream. stream.size) c.streams.items);
     } };
@@ -80,6 +85,7 @@ impl<'a> Container<'a> {
         streams: Vec<StreamExtent>,
     ) -> Self
         requires least { 512 ≤ block_size }
+        requires most { block_size ≤ 32768 }
         requires listed { streams.items ≡ extents block_size (4 + 4 * length streams.items)
             (map (λ stream. stream.size) streams.items) }
         ensures { result ≡ over file.now block_size directory.now (map (λ stream. stream.size) streams.items) }
@@ -128,6 +134,23 @@ impl<'a> Container<'a> {
         )
     }
 
+    /// The blocks of the stream of this number.
+    #[tactic(auto, using(crate::proofs::SizeLemmas::block_bounds), unfolding(crate::specs::Msf::stream_of))]
+    pub fn blocks(&self, alloc: Global, number: u32) -> Result<StreamBlocks, Fault>
+        ensures answer { Gives (λ blocks. stream_in self.now.file blocks) result (stream_of self.now number) }
+        ensures length { IfOk result (λ blocks. blocks.file_length ≡ length self.now.file) }
+    {
+        let extent = self.extent(number)?;
+        let count = blocks_over(extent.size, self.block_size);
+        let mut numbers = Bytes::new(bytes_from(self.directory.as_slice(), extent.numbers));
+        let numbers = take_numbers(alloc, &mut numbers, count)?;
+        let grid = BlockGrid {
+            file_length: self.file.len(),
+            block_size: self.block_size,
+        };
+        Ok(StreamBlocks::new(grid, numbers, extent.size)?)
+    }
+
     // Where the directory has the stream of this number.
     #[tactic(auto, unfolding(crate::specs::Msf::size_of))]
     fn extent(&self, number: u32) -> Result<StreamExtent, StreamError>
@@ -135,6 +158,7 @@ impl<'a> Container<'a> {
             (λ error. size_of self.now number ≡ Err error) }
         ensures place { IfOk result (λ extent. extent.numbers ≡ numbers_place self.now number) }
         ensures least { 512 ≤ self.now.block_size }
+        ensures most { self.now.block_size ≤ 32768 }
     {
         let Some(extent) = extent_at(&self.streams, number) else {
             return Err(NO_STREAM);
@@ -143,6 +167,16 @@ impl<'a> Container<'a> {
             return Err(NO_STREAM);
         }
         Ok(extent)
+    }
+}
+
+impl<'a> Source for Container<'a> {
+    ghost use Rattle.std.specs.Prelude.{Some};
+
+    ghost bytes = { λ container. Some container.file };
+
+    fn read_exact_at(&mut self, buffer: &mut [u8], place: usize) -> Result<(), Unreadable> {
+        self.file.read_exact_at(buffer, place)
     }
 }
 

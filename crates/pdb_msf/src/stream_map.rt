@@ -7,6 +7,7 @@ ghost use Rattle.pdb_msf.specs.Directory.{block_map, directory};
 ghost use Rattle.pdb_msf.specs.Faults.{Gives, cut_short};
 ghost use Rattle.pdb_msf.specs.Msf.{container, numbers_place, size_of, stream_of};
 ghost use Rattle.pdb_msf.specs.NumberLists.{listed};
+ghost use Rattle.pdb_msf.specs.StreamBlocks.{blocks_read};
 ghost use Rattle.pdb_msf.specs.StreamMap.{IfFile, IsExcerptOf, Reads, bytes_read, with_bytes};
 ghost use Rattle.pdb_msf.specs.Superblock.{superblock};
 
@@ -20,6 +21,7 @@ use crate::msf::extent_at;
 use crate::number_lists::{bytes_from, take_numbers};
 use crate::source::Source;
 use crate::source_fault::{OpenFault, SourceFault, part_of_source};
+use crate::stream_blocks::StreamBlocks;
 use crate::superblock::{Superblock, read_superblock};
 use pdb_records::StreamError;
 use std::alloc::{AllocError, Global};
@@ -117,6 +119,26 @@ impl StreamMap {
         match part_of_source(self.numbers(alloc, extent))? {
             Ok(blocks) => read_blocks(alloc, source, self.grid, extent.size as usize, &blocks),
             Err(error) => Ok(Err(error)),
+        }
+    }
+
+    /// The blocks of the stream of this number, or why it can't be read.
+    #[tactic(auto, using(crate::proofs::SizeLemmas::block_bounds), unfolding(crate::specs::Msf::stream_of))]
+    pub fn blocks(
+        &self,
+        alloc: Global,
+        number: u32,
+    ) -> Result<Result<StreamBlocks, StreamError>, SourceFault>
+        ensures answer { IfOk result (λ answer. (file : List ℕ) → length file ≡ self.now.file_length
+            → stream_of (with_bytes file self.now) number ≡ blocks_read file answer) }
+        ensures length { IfOk result (λ answer. IfOk answer (λ blocks. blocks.file_length ≡ self.now.file_length)) }
+    {
+        match self.extent(number) {
+            Some(extent) => match part_of_source(self.numbers(alloc, extent))? {
+                Ok(numbers) => Ok(StreamBlocks::new(self.grid, numbers, extent.size)),
+                Err(error) => Ok(Err(error)),
+            },
+            None => Ok(Err(NO_STREAM)),
         }
     }
 
