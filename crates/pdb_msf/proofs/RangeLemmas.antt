@@ -11,6 +11,7 @@ use Rattle.std.proofs.lemmas.List.{take-take, take_all}
 use Rattle.std.proofs.lemmas.Nat.{div_below}
 use Rattle.std.specs.Int.{div_ceil}
 use Rattle.pdb_msf.proofs.ExcerptLemmas.{first_inside}
+use Rattle.pdb_msf.proofs.SizeLemmas.{length_in_order}
 use Rattle.pdb_msf.proofs.StreamLemmas.{take_split}
 use Rattle.pdb_msf.specs.StreamBlocks.{BlockList, said_in, stream_in}
 use Rattle.pdb_msf.specs.Streams.{all_inside, block, in_order}
@@ -290,3 +291,15 @@ range_of known here blocks place wanted count start run more numbers part empty 
     more_is none one_file front
     (subst (λ (xs : List ℕ). IfSome here (λ file. two ≡ one ++ in_order blocks.block_size file xs))
     (part_is ∙ ap (λ xs. take more (drop (place / blocks.block_size + 1) xs)) same) behind) taken
+
+-- a stream has its size, if its blocks, which lie in the file, have as many bytes
+pub said_length : (known : Option (List ℕ)) (blocks : BlockList)
+    → ((file : List ℕ) → length file ≡ blocks.file_length → all_inside blocks.block_size file blocks.numbers ≡ true)
+    → blocks.size ≤ length blocks.numbers * blocks.block_size
+    → IfSome (said_in known blocks) (λ stream. length stream ≡ blocks.size)
+said_length None blocks inside enough = tt
+said_length (Some file) blocks inside enough =
+    from_file (Some file) blocks (λ stream. length stream ≡ blocks.size) (λ long.
+    let bytes : length (in_order blocks.block_size file blocks.numbers) ≡ length blocks.numbers * blocks.block_size
+    = length_in_order blocks.block_size file blocks.numbers (inside file long) in
+    length-take blocks.size (in_order blocks.block_size file blocks.numbers) ∙ (omega (arith, bytes, enough)))

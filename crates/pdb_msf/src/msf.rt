@@ -98,6 +98,13 @@ impl<'a> Container<'a> {
         }
     }
 
+    /// The bytes of the file.
+    pub fn file(&self) -> &'a [u8]
+        ensures { result.now ≡ self.now.file }
+    {
+        self.file
+    }
+
     /// The length of the file.
     pub fn file_length(&self) -> usize
         ensures { result ≡ length self.now.file }

@@ -1,6 +1,6 @@
 //! A stream of a file that is read range by range: the blocks that it stands in, and ranges of its bytes.
 
-ghost use Rattle.std.specs.Prelude.{◌≡◌, ◌≤◌, ◌<◌, ◌*◌, ◌^◌, ℕ, List, length, take, drop, IfOk, IfSome, OnOk};
+ghost use Rattle.std.specs.Prelude.{◌≡◌, ◌≤◌, ◌<◌, ◌*◌, ◌^◌, ℕ, List, Option, length, take, drop, IfOk, IfSome, OnOk};
 ghost use Rattle.pdb_msf.specs.StreamBlocks.{blocks_read, said_in};
 ghost use Rattle.pdb_msf.specs.Streams.{stream_inside};
 
@@ -67,6 +67,7 @@ impl StreamBlocks {
     pub fn len(&self) -> usize
         ensures answer { result ≡ self.now.size }
         ensures below { result < 2 ^ 32 }
+        ensures said { (known : Option (List ℕ)) → IfSome (said_in known self.now) (λ stream. length stream ≡ result) }
     {
         self.size as usize
     }

@@ -1,7 +1,12 @@
 pub mod ContentLemmas
+pub mod HeaderLemmas
 pub mod ItemLemmas
 pub mod NumberLemmas
+pub mod PlacedItemLemmas
+pub mod PlacesReadLemmas
 pub mod PrimitiveLemmas
+pub mod RecordWindowLemmas
 mod StreamExamples
 mod TypeExamples
+pub mod TypePlaceLemmas
 pub mod TypeRecordLemmas

@@ -40,11 +40,11 @@ one_more_of bytes rest start starts records at there others = record {
 }
 
 -- a record that is there ends within the bytes
-ends_within : (bytes : List ℕ) → record_fault bytes ≡ None → 2 + record_len bytes ≤ length bytes
+pub ends_within : (bytes : List ℕ) → record_fault bytes ≡ None → 2 + record_len bytes ≤ length bytes
 ends_within bytes there = grind (arith, common_steps, there)
 
 -- where the record starts that is read where these bytes are left
-abbrev start_of : ℕ → List ℕ → Result (TypeBytes × List ℕ) StreamError → Result (ℕ × List ℕ) StreamError
+abbrev pub start_of : ℕ → List ℕ → Result (TypeBytes × List ℕ) StreamError → Result (ℕ × List ℕ) StreamError
 start_of whole bytes next = next >>= λ read. Ok (min (whole - length bytes) (2 ^ 32 - 1), read.1)
 
 -- the starts that are read where reading stands are those of the records that are left, by whether the next one is there

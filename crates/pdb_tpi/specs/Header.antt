@@ -33,10 +33,15 @@ header_fields stream = record {
   type_record_bytes = type_record_bytes stream;
 }
 
--- the header of a stream, of which 20 bytes are read: its version is the known one, and the stream has HeaderSize bytes
+-- the header that these bytes begin with, in a stream of this length: its version is the known one, and the stream has
+-- HeaderSize bytes
+abbrev pub header_of : List ℕ → ℕ → Result TypeHeader StreamError
+header_of front stream_length =
+    if nat_lt (length front) 20 then Err CUT else
+    if not (version front == version_80) then Err UNKNOWN_VERSION else
+    if nat_lt stream_length (header_size front) then Err POINTS_NOWHERE else
+    Ok (header_fields front)
+
+-- the header of a stream, of which 20 bytes are read
 unfoldable pub type_header : List ℕ → Result TypeHeader StreamError
-type_header stream =
-    if nat_lt (length stream) 20 then Err CUT else
-    if not (version stream == version_80) then Err UNKNOWN_VERSION else
-    if nat_lt (length stream) (header_size stream) then Err POINTS_NOWHERE else
-    Ok (header_fields stream)
+type_header stream = header_of stream (length stream)

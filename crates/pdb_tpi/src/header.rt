@@ -1,14 +1,14 @@
 //! The header of a stream of types or of ids, and where it has the records behind it.
 
 ghost use Rattle.std.specs.Prelude.{◌≡◌};
-ghost use Rattle.pdb_tpi.specs.Header.{type_header};
+ghost use Rattle.pdb_tpi.specs.Header.{header_of, type_header};
 
 use pdb_msf::faults::{CUT, POINTS_NOWHERE, UNKNOWN_VERSION};
 use pdb_msf::u32_at;
 use pdb_records::StreamError;
 
 /// The bytes of the header that are looked at.
-const HEADER: usize = 20;
+pub(crate) const HEADER: usize = 20;
 
 /// The version of a list of types or ids that is known.
 const VERSION: u32 = 20_040_203;
@@ -29,19 +29,26 @@ pub(crate) struct TypeHeader {
 pub(crate) fn read_header(stream: &[u8]) -> Result<TypeHeader, StreamError>
     ensures { result ≡ type_header stream.now }
 {
-    if stream.len() < HEADER {
+    header_of(stream, stream.len())
+}
+
+/// The header of a stream of this length, of which the first bytes are given, up to those of the header at least.
+pub(crate) fn header_of(front: &[u8], length: usize) -> Result<TypeHeader, StreamError>
+    ensures { result ≡ header_of front.now length }
+{
+    if front.len() < HEADER {
         return Err(CUT);
     }
-    if u32_at(stream, 0) != VERSION {
+    if u32_at(front, 0) != VERSION {
         return Err(UNKNOWN_VERSION);
     }
-    let header_size = u32_at(stream, 4);
-    if stream.len() < header_size as usize {
+    let header_size = u32_at(front, 4);
+    if length < header_size as usize {
         return Err(POINTS_NOWHERE);
     }
     Ok(TypeHeader {
         header_size,
-        type_index_begin: u32_at(stream, 8),
-        type_record_bytes: u32_at(stream, 16),
+        type_index_begin: u32_at(front, 8),
+        type_record_bytes: u32_at(front, 16),
     })
 }

@@ -1,19 +1,24 @@
 //! Ids: functions, methods and strings that symbols name by an id.
 
-ghost use Rattle.std.specs.Prelude.{◌≡◌, IfErr, IfOk};
+ghost use Rattle.std.specs.Prelude.{◌≡◌, IfErr, IfOk, IfSome};
 ghost use Rattle.pdb_msf.specs.Faults.{Gives};
+ghost use Rattle.pdb_msf.specs.StreamBlocks.{said_in};
 ghost use Rattle.pdb_msf.specs.Streams.{bytes_of};
 ghost use Rattle.pdb_records.specs.declared.ids.IdData.TheVariants as id;
 ghost use Rattle.pdb_tpi.specs.Ids.{all_ids, data_of, function, id_at, id_data, id_kind, ids_of, member_function};
 ghost use Rattle.pdb_tpi.specs.Ids.{no_ids, optional_scope, string, string_list};
+ghost use Rattle.pdb_tpi.specs.RecordWindows.{Shows, records_in};
+ghost use Rattle.pdb_tpi.specs.TypePlaces.{LieIn, list_at};
 
 use crate::contents::content_of;
 use crate::index_lists::read_indices;
+use crate::record_window::RecordWindow;
 use crate::type_names::take_name;
+use crate::type_places::TypePlaces;
 use crate::type_records::TypeRecord;
 use crate::type_stream::TypeStream;
 use pdb_msf::faults::Fault;
-use pdb_msf::{Bytes, StreamBytes, nothing_read, u32_at};
+use pdb_msf::{Bytes, Source, SourceFault, StreamBytes, nothing_read, u32_at};
 use pdb_records::{
     Error, FunctionId, IdData, IdIndex, IdInformation, Item, ItemInformation, MemberFunctionId,
     Reading, StringId, StringListId, TypeIndex, UnhandledId,
@@ -80,6 +85,60 @@ impl TypeStream<'_> {
         ensures { IfOk result (λ item. item ≡ id_at self.now position) }
     {
         let Some(entry) = self.record(position) else {
+            return Ok(None);
+        };
+        Ok(Some(Item {
+            index: IdIndex(self.index_at(position)),
+            content: id_content(alloc, &entry)?,
+        }))
+    }
+}
+
+impl TypePlaces {
+    /// All ids.
+    pub fn all_ids<S: Source>(
+        &self,
+        alloc: Global,
+        source: &mut S,
+    ) -> Result<IdInformation, SourceFault>
+        ensures answer { IfOk result (λ ids. IfSome (said_in (S.bytes source.old) self.now.records.blocks) (λ stream.
+            LieIn self.now stream → ids ≡ all_ids (list_at self.now stream))) }
+        ensures inputs { S.bytes source.new ≡ S.bytes source.old }
+    {
+        let mut window = RecordWindow::of_many(alloc);
+        let mut items = Vec::with_capacity(alloc, self.len())?;
+        for position in 0..self.len() {
+            if let Some(item) = self.id_at(alloc, source, &mut window, position)? {
+                items.push(item)?;
+            }
+        }
+        Ok(ItemInformation {
+            items: Reading {
+                items,
+                fault: self.fault(),
+            },
+        })
+    }
+
+    /// The id that the record at a position is, or `None` behind the last one. A record that can't be read is an item
+    /// with an error.
+    pub fn id_at<S: Source>(
+        &self,
+        alloc: Global,
+        source: &mut S,
+        window: &mut RecordWindow,
+        position: usize,
+    ) -> Result<Option<Item<IdIndex, IdData>>, SourceFault>
+        ensures answer { IfOk result (λ item. IfSome (said_in (S.bytes source.old) self.now.records.blocks) (λ stream.
+            LieIn self.now stream → Shows (records_in self.now.records stream) window.old
+            → item ≡ id_at (list_at self.now stream) position)) }
+        ensures shows { IfSome (said_in (S.bytes source.old) self.now.records.blocks) (λ stream.
+            Shows (records_in self.now.records stream) window.old
+            → Shows (records_in self.now.records stream) window.new) }
+        ensures inputs { S.bytes source.new ≡ S.bytes source.old }
+    {
+        self.show(source, window, position)?;
+        let Some(entry) = self.shown(window, position) else {
             return Ok(None);
         };
         Ok(Some(Item {

@@ -10,12 +10,16 @@ mod ids;
 mod index_lists;
 mod numbers;
 mod primitives;
+mod record_window;
 mod type_names;
+mod type_places;
 mod type_records;
 mod type_stream;
 mod types;
 
 pub use ids::{no_ids, read_ids};
 pub use primitives::primitive_types;
+pub use record_window::RecordWindow;
+pub use type_places::TypePlaces;
 pub use type_stream::TypeStream;
 pub use types::read_types;

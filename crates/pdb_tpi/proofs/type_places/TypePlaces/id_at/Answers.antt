@@ -1,0 +1,12 @@
+-- The id of the record that the window shows.
+use Rattle.std.proofs.Common.{◌∙◌, sym}
+use Rattle.pdb_tpi.proofs.PlacedItemLemmas.{id_made, item_read}
+use Rattle.pdb_tpi.specs.Ids.{id_item}
+use Rattle.pdb_tpi.proofs.type_places.TypePlaces.id_at.Goals as goal
+
+pub returns-clause-answer : goal.returns-clause-answer
+returns-clause-answer g c =
+    item_read (id_item c.args.self.now.first c.args.position) _ c.args.self.now c.args.window.now c.args.position _
+    c.in-Some.entry _ c.in_ok-show.ensures.record (sym c.shown.ensures ∙ c.in-Some.is)
+    (id_made c.args.self.now.first c.args.position c.index_at.result c.in-Some.entry c.in_ok-id_content.field-0
+    c.index_at.ensures c.in_ok-id_content.ensures)

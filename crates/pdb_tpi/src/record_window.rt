@@ -1,0 +1,142 @@
+//! Bytes of the records of a stream that is read range by range: some of them at a time.
+
+ghost use Rattle.std.specs.Prelude.{◌≡◌, ◌≤◌, ◌+◌, List, ℕ, drop, length, take, true, IfSome, OnErr, OnOk, []};
+ghost use Rattle.pdb_msf.specs.StreamBlocks.{said_in};
+ghost use Rattle.pdb_tpi.specs.RecordWindows.{SameRecord, Shows, records_in, shown_at};
+ghost use Rattle.pdb_tpi.specs.TypeRecords.{record_len};
+
+use pdb_msf::{Bytes, Source, SourceFault, StreamBlocks, bytes_from};
+use std::alloc::Global;
+
+/// How many bytes are read at once where records are read one after the other: so many stay in a processor's cache.
+const MANY: usize = 131_072;
+
+/// How many bytes are read at once where single records are read.
+const FEW: usize = 4096;
+
+/// Where the records stand in a stream that is read range by range.
+#[derive(Drop)]
+pub struct RecordRange {
+    pub(crate) blocks: StreamBlocks,
+    pub(crate) place: u32,
+    pub(crate) length: u32,
+}
+
+/// Some bytes of the records of a stream, in memory.
+#[derive(Drop)]
+pub struct RecordWindow {
+    bytes: Vec<u8>,
+    /// Where they begin, in bytes from the first record.
+    from: usize,
+    /// How many are read at once.
+    step: usize,
+}
+
+impl RecordWindow {
+    /// A window without any bytes, for single records.
+    pub fn of_few(alloc: Global) -> Self
+        ensures { (records : List ℕ) → Shows records result }
+    {
+        RecordWindow {
+            bytes: Vec::new(alloc),
+            from: 0,
+            step: FEW,
+        }
+    }
+
+    /// A window without any bytes, for records one after the other.
+    pub fn of_many(alloc: Global) -> Self
+        ensures { (records : List ℕ) → Shows records result }
+    {
+        RecordWindow {
+            bytes: Vec::new(alloc),
+            from: 0,
+            step: MANY,
+        }
+    }
+
+    /// The bytes from a place on.
+    pub(crate) fn at(&self, place: usize) -> &[u8]
+        ensures { result.now ≡ shown_at self.now place }
+    {
+        if place < self.from {
+            return &[];
+        }
+        bytes_from(&self.bytes, place - self.from)
+    }
+
+    /// Has the window begin with the record at a place, or have it inside of it, as far as there is one.
+    pub(crate) fn show<S: Source>(
+        &mut self,
+        source: &mut S,
+        records: &RecordRange,
+        place: usize,
+    ) -> Result<(), SourceFault>
+        ensures shows { IfSome (said_in (S.bytes source.old) records.now.blocks) (λ stream.
+            Shows (records_in records.now stream) self.old → Shows (records_in records.now stream) self.new) }
+        ensures same { OnOk result (IfSome (said_in (S.bytes source.old) records.now.blocks) (λ stream.
+            Shows (records_in records.now stream) self.old
+            → SameRecord (shown_at self.new place) (drop place (records_in records.now stream)))) }
+        ensures inputs { S.bytes source.new ≡ S.bytes source.old }
+    {
+        if self.has_whole(place) {
+            return Ok(());
+        }
+        self.load(source, records, place, self.step.max(2))?;
+        if !self.has_whole(place) {
+            let size = record_size(&self.bytes);
+            self.load(source, records, place, size)?;
+        }
+        Ok(())
+    }
+
+    // Whether the window has the whole record at a place.
+    fn has_whole(&self, place: usize) -> bool
+        ensures there { result ≡ true → 2 ≤ length (shown_at self.now place) }
+        ensures whole { result ≡ true
+            → 2 + record_len (shown_at self.now place) ≤ length (shown_at self.now place) }
+    {
+        let bytes = self.at(place);
+        record_size(bytes) <= bytes.len()
+    }
+
+    // Reads the records from a place on, so many bytes, or as many as are left.
+    fn load<S: Source>(
+        &mut self,
+        source: &mut S,
+        records: &RecordRange,
+        place: usize,
+        count: usize,
+    ) -> Result<(), SourceFault>
+        ensures answer { OnOk result (IfSome (said_in (S.bytes source.old) records.now.blocks) (λ stream.
+            self.new.bytes.items ≡ take count (drop place (records_in records.now stream)))) }
+        ensures early { OnErr result (self.new.bytes.items ≡ []) }
+        ensures place { self.new.from ≡ place }
+        ensures inputs { S.bytes source.new ≡ S.bytes source.old }
+    {
+        self.from = place;
+        let count = count.min((records.length as usize).saturating_sub(place));
+        let place = (records.place as usize).saturating_add(place);
+        match records
+            .blocks
+            .read_range(source, place, count, &mut self.bytes)
+        {
+            Ok(()) => Ok(()),
+            Err(fault) => {
+                self.bytes.clear();
+                Err(fault)
+            }
+        }
+    }
+}
+
+// How many bytes the record has that these begin with, by its first two.
+fn record_size(bytes: &[u8]) -> usize
+    ensures answer { 2 ≤ length bytes.now → result ≡ 2 + record_len bytes.now }
+    ensures least { 2 ≤ result }
+{
+    match Bytes::new(bytes).u16() {
+        Ok(length) => 2 + usize::from(length),
+        Err(_) => 2,
+    }
+}

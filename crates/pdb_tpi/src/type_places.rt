@@ -1,0 +1,215 @@
+//! A stream of types or of ids that is read range by range: where each of its records starts.
+
+ghost use Rattle.std.specs.Prelude.{◌≡◌, ℕ, List, length, slice_get, IfOk, IfSome, OnOk};
+ghost use Rattle.pdb_msf.specs.ItemLists.{all_items};
+ghost use Rattle.pdb_msf.specs.StreamBlocks.{said_in};
+ghost use Rattle.pdb_tpi.specs.Header.{type_header};
+ghost use Rattle.pdb_tpi.specs.RecordWindows.{Shows, records_in};
+ghost use Rattle.pdb_tpi.specs.TypePlaces.{LieIn, early_end, list_at, places_read, position_shown};
+ghost use Rattle.pdb_tpi.specs.TypeRecords.{next_start};
+ghost use Rattle.pdb_tpi.specs.TypeStream.{index_at, type_list};
+
+use crate::aggregates::is_definition;
+use crate::header::{HEADER, TypeHeader, header_of};
+use crate::record_window::{RecordRange, RecordWindow};
+use crate::type_records::{TypeRecord, take_record};
+use pdb_msf::faults::CUT;
+use pdb_msf::{Bytes, Source, SourceFault, StreamBlocks, offset_of};
+use pdb_records::{Reading, StreamError};
+use std::alloc::Global;
+
+/// Where the records of a stream of types or of ids start. Their bytes stay in the file: they are read from it again,
+/// through a window, when a record is asked for.
+#[derive(Drop)]
+pub struct TypePlaces {
+    records: RecordRange,
+    first: u32,
+    /// Where the records start, in bytes from the first one, and why they end early, if they do.
+    starts: Reading<u32>,
+}
+
+impl TypePlaces {
+    /// The list of types or ids that the stream in these blocks is. The errors are those of
+    /// [`TypeStream::read`](crate::TypeStream::read).
+    pub fn read<S: Source>(
+        alloc: Global,
+        source: &mut S,
+        blocks: StreamBlocks,
+    ) -> Result<Result<Self, StreamError>, SourceFault>
+        ensures answer { IfOk result (λ answer. IfSome (said_in (S.bytes source.old) blocks) (λ stream.
+            type_list stream ≡ places_read stream answer)) }
+        ensures there { IfOk result (λ answer. IfOk answer (λ places.
+            IfSome (said_in (S.bytes source.old) blocks) (λ stream. LieIn places stream))) }
+        ensures blocks { IfOk result (λ answer. IfOk answer (λ places. places.records.blocks ≡ blocks)) }
+        ensures inputs { S.bytes source.new ≡ S.bytes source.old }
+    {
+        let header = match read_front(alloc, source, &blocks)? {
+            Ok(header) => header,
+            Err(error) => return Ok(Err(error)),
+        };
+        let left = blocks.len().saturating_sub(header.header_size as usize);
+        let wanted = header.type_record_bytes as usize;
+        let records = RecordRange {
+            blocks,
+            place: header.header_size,
+            length: left.min(wanted) as u32,
+        };
+        let mut starts = read_starts(alloc, source, &records)?;
+        starts.fault = starts.fault.or(early_end(left, wanted));
+        Ok(Ok(TypePlaces {
+            records,
+            first: header.type_index_begin,
+            starts,
+        }))
+    }
+
+    /// How many records there are.
+    pub fn len(&self) -> usize
+        ensures { result ≡ length self.now.starts.items }
+    {
+        self.starts.items.len()
+    }
+
+    /// The index of the first record.
+    pub fn first(&self) -> u32
+        ensures { result ≡ self.now.first }
+    {
+        self.first
+    }
+
+    /// Why the records end early, if they do: the bytes end in one, or its length has no room for its kind.
+    pub fn fault(&self) -> Option<StreamError>
+        ensures { result ≡ self.now.starts.fault }
+    {
+        self.starts.fault
+    }
+
+    /// Whether the record at a position is of a class or a union, and no forward reference to one. Nothing is copied of
+    /// it but into the window.
+    pub fn is_definition<S: Source>(
+        &self,
+        source: &mut S,
+        window: &mut RecordWindow,
+        position: usize,
+    ) -> Result<bool, SourceFault>
+        ensures inputs { S.bytes source.new ≡ S.bytes source.old }
+    {
+        self.show(source, window, position)?;
+        match self.shown(window, position) {
+            Some(record) => Ok(is_definition(record.kind, record.content)),
+            None => Ok(false),
+        }
+    }
+
+    // The index of the record at a position.
+    pub(crate) fn index_at(&self, position: usize) -> u32
+        ensures { result ≡ index_at self.now.first position }
+    {
+        let position = u32::try_from(position).unwrap_or(u32::MAX);
+        self.first.saturating_add(position)
+    }
+
+    // Has a window show the record at a position, if there is one.
+    pub(crate) fn show<S: Source>(
+        &self,
+        source: &mut S,
+        window: &mut RecordWindow,
+        position: usize,
+    ) -> Result<(), SourceFault>
+        ensures shows { IfSome (said_in (S.bytes source.old) self.now.records.blocks) (λ stream.
+            Shows (records_in self.now.records stream) window.old
+            → Shows (records_in self.now.records stream) window.new) }
+        ensures record { OnOk result (IfSome (said_in (S.bytes source.old) self.now.records.blocks) (λ stream.
+            LieIn self.now stream → Shows (records_in self.now.records stream) window.old
+            → position_shown self.now window.new position
+            ≡ slice_get (list_at self.now stream).records position)) }
+        ensures inputs { S.bytes source.new ≡ S.bytes source.old }
+    {
+        match self.start_of(position) {
+            Some(start) => window.show(source, &self.records, start as usize),
+            None => Ok(()),
+        }
+    }
+
+    // Where the record at a position starts.
+    fn start_of(&self, position: usize) -> Option<u32>
+        ensures { result ≡ slice_get self.now.starts.items position }
+    {
+        self.starts.items.get(position).copied()
+    }
+
+    // The record at a position, as a window shows it.
+    pub(crate) fn shown<'w>(
+        &self,
+        window: &'w RecordWindow,
+        position: usize,
+    ) -> Option<TypeRecord<'w>>
+        ensures { result ≡ position_shown self.now window.now position }
+    {
+        let start = self.start_of(position)?;
+        take_record(&mut Bytes::new(window.at(start as usize))).ok()
+    }
+}
+
+// The header of the stream in these blocks.
+fn read_front<S: Source>(
+    alloc: Global,
+    source: &mut S,
+    blocks: &StreamBlocks,
+) -> Result<Result<TypeHeader, StreamError>, SourceFault>
+    ensures answer { IfOk result (λ answer. IfSome (said_in (S.bytes source.old) blocks.now) (λ stream.
+        answer ≡ type_header stream)) }
+    ensures inputs { S.bytes source.new ≡ S.bytes source.old }
+{
+    let mut front = Vec::new(alloc);
+    blocks.read_range(source, 0, HEADER, &mut front)?;
+    Ok(header_of(&front, blocks.len()))
+}
+
+// Where the records start, in bytes from the first one.
+fn read_starts<S: Source>(
+    alloc: Global,
+    source: &mut S,
+    records: &RecordRange,
+) -> Result<Reading<u32>, SourceFault>
+    ensures answer { IfOk result (λ starts. IfSome (said_in (S.bytes source.old) records.now.blocks) (λ stream.
+        length (records_in records.now stream) ≡ records.now.length
+        → starts ≡ all_items (next_start (length (records_in records.now stream))) (records_in records.now stream))) }
+    ensures inputs { S.bytes source.new ≡ S.bytes source.old }
+{
+    let mut window = RecordWindow::of_many(alloc);
+    let mut starts = Vec::new(alloc);
+    let mut place = 0_usize;
+    for _ in 0..records.length {
+        window.show(source, records, place)?;
+        let mut rest = Bytes::new(window.at(place));
+        let left = rest.len();
+        if left == 0 {
+            return Ok(Reading {
+                items: starts,
+                fault: None,
+            });
+        }
+        match take_record(&mut rest) {
+            Ok(_) => {
+                starts.push(offset_of(place, 0))?;
+                place = place.saturating_add(left - rest.len());
+            }
+            Err(error) => return Ok(Reading {
+                items: starts,
+                fault: Some(error),
+            }),
+        }
+    }
+    Ok(Reading {
+        items: starts,
+        fault: None,
+    })
+}
+
+// Why so many bytes end early, of which so many are there.
+fn early_end(there: usize, wanted: usize) -> Option<StreamError>
+    ensures { result ≡ early_end there wanted }
+{
+    if there < wanted { Some(CUT) } else { None }
+}
