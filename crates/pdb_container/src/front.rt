@@ -9,15 +9,14 @@ ghost use Rattle.pdb_msf.specs.Msf.{stream_of};
 ghost use Rattle.pdb_records.specs.Sections.{listed};
 
 use crate::debug_records::{DebugRecords, debug_records};
-use crate::front_streams::some_stream;
 use crate::info::InfoStream;
 use crate::module_places::{ModuleInfoResult, ModulePlace, module_places};
 use crate::records::read_texts;
-use crate::type_lists::TypeLists;
+use crate::type_lists::{TypeLists, id_list, type_list};
 use pdb_msf::faults::{Fault, part_or_fault};
-use pdb_msf::{Container, StreamBytes, nothing_read};
+use pdb_msf::{Container, nothing_read};
 use pdb_records::{IdInformation, ItemInformation, PDB, Reading, StreamError, TypeInformation};
-use pdb_tpi::{TypeStream, no_ids, primitive_types};
+use pdb_tpi::{TypePlaces, no_ids, primitive_types};
 use std::alloc::{AllocError, Global};
 
 /// The numbers of the streams that stand at fixed places.
@@ -83,25 +82,20 @@ fn records_without_modules(
     })
 }
 
-/// The types and ids of a file that has these streams of them, of which the second is `None` where the file has no ids.
-/// Puts into the records what they have without any of a stream.
-pub fn first_lists<'a>(
+/// These lists of types and ids of a file, of which the second is `None` where the file has no ids. Puts into the records
+/// what they have without any of a stream.
+pub fn first_lists(
     alloc: Global,
     records: &mut PDB,
-    types: Result<StreamBytes<'a>, StreamError>,
-    ids: Result<Option<StreamBytes<'a>>, StreamError>,
-) -> Result<TypeLists<'a>, Fault>
+    types: Result<TypePlaces, StreamError>,
+    ids: Result<Option<TypePlaces>, StreamError>,
+) -> Result<TypeLists, Fault>
     ensures front { SameFront records.old records.new }
     ensures memory { IfErr result (λ fault. fault ≡ Fault.OutOfMemory) }
 {
-    let types = part_or_fault(type_list(alloc, types))?;
-    let ids = part_or_fault(id_list(alloc, ids))?;
     records.type_information = first_types(alloc, &types)?;
     records.id_information = first_ids(alloc, &ids);
-    Ok(TypeLists {
-        types: types.ok(),
-        ids: ids.unwrap_or(None),
-    })
+    Ok(TypeLists::new(alloc, types.ok(), ids.unwrap_or(None)))
 }
 
 // A list without types.
@@ -111,53 +105,42 @@ fn no_types(alloc: Global) -> TypeInformation {
     }
 }
 
-/// The stream of types of a container.
-pub fn type_stream<'a>(
+/// The types of a container.
+pub fn types_of(
     alloc: Global,
-    container: &Container<'a>,
-) -> Result<Result<StreamBytes<'a>, StreamError>, Fault>
+    container: &Container<'_>,
+) -> Result<Result<TypePlaces, StreamError>, Fault>
     ensures memory { IfErr result (λ fault. fault ≡ Fault.OutOfMemory) }
 {
-    part_or_fault(container.stream(alloc, TYPES))
+    let blocks = part_or_fault(container.blocks(alloc, TYPES))?;
+    match type_list(alloc, &mut container.file(), blocks) {
+        Ok(types) => Ok(types),
+        Err(_) => Err(Fault::OutOfMemory),
+    }
 }
 
-/// The stream of ids of a container, where the file lists that it has ids.
-pub fn id_stream<'a>(
+/// The ids of a container, where the file lists that it has ids.
+pub fn ids_of(
     alloc: Global,
-    container: &Container<'a>,
+    container: &Container<'_>,
     info: &InfoStream<'_>,
-) -> Result<Result<Option<StreamBytes<'a>>, StreamError>, Fault>
+) -> Result<Result<Option<TypePlaces>, StreamError>, Fault>
     ensures memory { IfErr result (λ fault. fault ≡ Fault.OutOfMemory) }
 {
     if !info.features().ids {
         return Ok(Ok(None));
     }
-    Ok(some_stream(part_or_fault(container.stream(alloc, IDS))?))
-}
-
-// The list of types.
-fn type_list<'a>(
-    alloc: Global,
-    stream: Result<StreamBytes<'a>, StreamError>,
-) -> Result<TypeStream<'a>, Fault> {
-    TypeStream::read(alloc, stream?)
-}
-
-// The list of ids. A file whose stream of ids is empty has none, as one without that stream.
-fn id_list<'a>(
-    alloc: Global,
-    stream: Result<Option<StreamBytes<'a>>, StreamError>,
-) -> Result<Option<TypeStream<'a>>, Fault> {
-    match stream? {
-        Some(stream) if !stream.as_slice().is_empty() => Ok(Some(TypeStream::read(alloc, stream)?)),
-        _ => Ok(None),
+    let blocks = part_or_fault(container.blocks(alloc, IDS))?;
+    match id_list(alloc, &mut container.file(), blocks) {
+        Ok(ids) => Ok(ids),
+        Err(_) => Err(Fault::OutOfMemory),
     }
 }
 
 // The types without any of a stream.
 fn first_types(
     alloc: Global,
-    types: &Result<TypeStream<'_>, StreamError>,
+    types: &Result<TypePlaces, StreamError>,
 ) -> Result<Result<TypeInformation, StreamError>, AllocError> {
     match types {
         Ok(list) => Ok(Ok(ItemInformation {
@@ -173,7 +156,7 @@ fn first_types(
 // The ids without any of a stream.
 fn first_ids(
     alloc: Global,
-    ids: &Result<Option<TypeStream<'_>>, StreamError>,
+    ids: &Result<Option<TypePlaces>, StreamError>,
 ) -> Result<IdInformation, StreamError> {
     match ids {
         Ok(Some(list)) => Ok(ItemInformation {

@@ -4,10 +4,12 @@ use crate::debug_records::{DEBUG, SECTIONS, debug_stream};
 use crate::front::{IDS, TYPES};
 use crate::info::{INFO, InfoStream};
 use crate::records::NAMES;
+use crate::type_lists::{id_list, type_list};
 use pdb_dbi::{optional_stream, read_header, stream_number};
-use pdb_msf::faults::{Fault, NO_STREAM, part_or_fault};
-use pdb_msf::{Container, Excerpt, Source, SourceFault, StreamBytes, StreamMap};
+use pdb_msf::faults::{Fault, part_or_fault};
+use pdb_msf::{Container, Excerpt, Source, SourceFault, StreamMap};
 use pdb_records::StreamError;
+use pdb_tpi::TypePlaces;
 use std::alloc::Global;
 
 /// The streams of a file that are read before any of its modules.
@@ -16,9 +18,10 @@ pub struct FrontStreams {
     pub file_length: usize,
     /// All but types and ids.
     pub excerpt: Excerpt,
-    pub types: Result<Vec<u8>, StreamError>,
-    /// `None` of a file without ids.
-    pub ids: Result<Option<Vec<u8>>, StreamError>,
+    /// Where the types start, whose bytes stay in the file.
+    pub types: Result<TypePlaces, StreamError>,
+    /// The same of ids; `None` of a file without ids.
+    pub ids: Result<Option<TypePlaces>, StreamError>,
 }
 
 impl FrontStreams {
@@ -35,9 +38,9 @@ impl FrontStreams {
         for &number in &front.numbers {
             excerpt.add(alloc, map, source, number)?;
         }
-        let types = map.load(alloc, source, TYPES)?;
+        let types = type_list(alloc, source, map.blocks(alloc, TYPES)?)?;
         let ids = if front.has_ids {
-            some_stream(map.load(alloc, source, IDS)?)
+            id_list(alloc, source, map.blocks(alloc, IDS)?)?
         } else {
             Ok(None)
         };
@@ -47,15 +50,6 @@ impl FrontStreams {
             types,
             ids,
         })
-    }
-}
-
-/// The bytes of a stream, `None` where the file has none.
-pub fn some_stream<T: Drop>(stream: Result<T, StreamError>) -> Result<Option<T>, StreamError> {
-    match stream {
-        Ok(stream) => Ok(Some(stream)),
-        Err(NO_STREAM) => Ok(None),
-        Err(error) => Err(error),
     }
 }
 
@@ -104,19 +98,4 @@ fn named_streams(alloc: Global, container: &Container<'_>) -> Result<Vec<u32>, F
         numbers.push(u32::from(number))?;
     }
     Ok(numbers)
-}
-
-/// The bytes of a stream that were read.
-pub fn copied<'a>(stream: Result<Vec<u8>, StreamError>) -> Result<StreamBytes<'a>, StreamError> {
-    Ok(StreamBytes::Copied(stream?))
-}
-
-/// The bytes of a stream that were read, if the file has one.
-pub fn copied_ids<'a>(
-    stream: Result<Option<Vec<u8>>, StreamError>,
-) -> Result<Option<StreamBytes<'a>>, StreamError> {
-    match stream? {
-        Some(bytes) => Ok(Some(StreamBytes::Copied(bytes))),
-        None => Ok(None),
-    }
 }

@@ -6,7 +6,7 @@ ghost use Rattle.pdb_container.specs.ModuleSource.{KeepsModules};
 ghost use Rattle.pdb_msf.specs.StreamMap.{IfFile, with_bytes};
 
 use crate::module_places::{ModuleInfoResult, ModulePlace, module_in_stream, read_module_info};
-use pdb_msf::{Container, Source, SourceFault, StreamMap, part_of_source};
+use pdb_msf::{Container, Source, SourceFault, StreamMap, Unreadable, part_of_source};
 use std::alloc::Global;
 
 /// Reads what is known of a module, where its records stand.
@@ -63,6 +63,14 @@ impl<S: Source + Drop> ModuleSource for SourceModules<S> {
         place: ModulePlace,
     ) -> Result<ModuleInfoResult, SourceFault> {
         load_module(alloc, &self.map, &mut self.source, place)
+    }
+}
+
+impl<S: Source + Drop> Source for SourceModules<S> {
+    ghost bytes = { λ modules. S.bytes modules.source };
+
+    fn read_exact_at(&mut self, buffer: &mut [u8], place: usize) -> Result<(), Unreadable> {
+        self.source.read_exact_at(buffer, place)
     }
 }
 

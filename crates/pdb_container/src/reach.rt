@@ -1,11 +1,12 @@
 //! Which types and ids answers over modules depend on: those that their functions name, with all that these lead to.
 
-use crate::type_lists::{TypeLists, id_of, mark, position_of, type_of, unmarked};
+use crate::type_lists::{TypeLists, mark, position_of, unmarked};
+use pdb_msf::{Source, SourceFault};
 use pdb_records::{
     IdData, IdIndex, IdInformation, Item, ItemInformation, ModuleInfo, RawString, Reading, Symbol,
     SymbolData, TypeData, TypeIndex, TypeInformation,
 };
-use pdb_tpi::{TypeStream, primitive_types};
+use pdb_tpi::{RecordWindow, TypePlaces, primitive_types};
 use std::alloc::{AllocError, Global};
 use std::collections::BTreeSet;
 
@@ -32,7 +33,7 @@ pub struct Reach {
 
 impl Reach {
     /// A reach of nothing.
-    pub fn new(alloc: Global, lists: &TypeLists<'_>) -> Result<Self, AllocError> {
+    pub fn new(alloc: Global, lists: &TypeLists) -> Result<Self, AllocError> {
         Ok(Reach {
             types: unmarked(alloc, &lists.types)?,
             sizes: unmarked(alloc, &lists.types)?,
@@ -44,46 +45,51 @@ impl Reach {
     }
 
     /// Adds what the names of a module's functions depend on.
-    pub fn add_module(
+    pub fn add_module<S: Source>(
         &mut self,
         alloc: Global,
-        lists: &TypeLists<'_>,
+        source: &mut S,
+        lists: &mut TypeLists,
         info: &ModuleInfo,
-    ) -> Result<(), AllocError> {
+    ) -> Result<(), SourceFault> {
         for symbol in &info.symbols.items {
             self.add_symbol(lists, symbol)?;
         }
-        self.follow_steps(alloc, lists)
+        self.follow_steps(alloc, source, lists)
     }
 
     /// Adds all that a module exports, whether it is a type or an id.
-    pub fn add_exports(
+    pub fn add_exports<S: Source>(
         &mut self,
         alloc: Global,
-        lists: &TypeLists<'_>,
+        source: &mut S,
+        lists: &mut TypeLists,
         info: &ModuleInfo,
-    ) -> Result<(), AllocError> {
+    ) -> Result<(), SourceFault> {
         if let Ok(exports) = &info.exports {
             for &(_, global) in &exports.exports {
                 self.add_type(lists, TypeIndex(global))?;
                 self.add_id(lists, IdIndex(global))?;
             }
         }
-        self.follow_steps(alloc, lists)
+        self.follow_steps(alloc, source, lists)
     }
 
     /// Adds the types with which the sizes of forward references stand that are reached: all of their names.
-    pub fn add_definitions(
+    pub fn add_definitions<S: Source>(
         &mut self,
         alloc: Global,
-        lists: &TypeLists<'_>,
-    ) -> Result<(), AllocError> {
+        source: &mut S,
+        lists: &TypeLists,
+    ) -> Result<(), SourceFault> {
         if let Some(list) = &lists.types
             && self.looks
         {
+            let mut window = RecordWindow::of_many(alloc);
             for (position, reached) in self.types.iter_mut().enumerate() {
-                if !*reached && list.is_definition(position) {
-                    *reached = has_name(list.type_at(alloc, position)?, &self.names);
+                if !*reached && list.is_definition(source, &mut window, position)? {
+                    let item = list.type_at(alloc, source, &mut window, position)?;
+                    *reached = has_name(item, &self.names);
                 }
             }
             self.looks = false;
@@ -92,14 +98,16 @@ impl Reach {
     }
 
     /// The types that are reached, with the primitives in front of them.
-    pub fn type_information(
+    pub fn type_information<S: Source>(
         &self,
         alloc: Global,
-        list: &TypeStream<'_>,
-    ) -> Result<TypeInformation, AllocError> {
+        source: &mut S,
+        list: &TypePlaces,
+    ) -> Result<TypeInformation, SourceFault> {
+        let mut window = RecordWindow::of_few(alloc);
         let mut items = primitive_types(alloc)?;
         for (position, reached) in self.types.iter().enumerate() {
-            if *reached && let Some(item) = list.type_at(alloc, position)? {
+            if *reached && let Some(item) = list.type_at(alloc, source, &mut window, position)? {
                 items.push(item)?;
             }
         }
@@ -112,14 +120,16 @@ impl Reach {
     }
 
     /// The ids that are reached.
-    pub fn id_information(
+    pub fn id_information<S: Source>(
         &self,
         alloc: Global,
-        list: &TypeStream<'_>,
-    ) -> Result<IdInformation, AllocError> {
+        source: &mut S,
+        list: &TypePlaces,
+    ) -> Result<IdInformation, SourceFault> {
+        let mut window = RecordWindow::of_few(alloc);
         let mut items = Vec::new(alloc);
         for (position, reached) in self.ids.iter().enumerate() {
-            if *reached && let Some(item) = list.id_at(alloc, position)? {
+            if *reached && let Some(item) = list.id_at(alloc, source, &mut window, position)? {
                 items.push(item)?;
             }
         }
@@ -131,7 +141,7 @@ impl Reach {
         })
     }
 
-    fn add_symbol(&mut self, lists: &TypeLists<'_>, symbol: &Symbol) -> Result<(), AllocError> {
+    fn add_symbol(&mut self, lists: &TypeLists, symbol: &Symbol) -> Result<(), AllocError> {
         match &symbol.content {
             Some(SymbolData::Procedure(procedure)) => self.add_type(lists, procedure.type_index),
             Some(SymbolData::InlineSite(site)) => self.add_id(lists, site.inlinee),
@@ -139,7 +149,7 @@ impl Reach {
         }
     }
 
-    fn add_type(&mut self, lists: &TypeLists<'_>, index: TypeIndex) -> Result<(), AllocError> {
+    fn add_type(&mut self, lists: &TypeLists, index: TypeIndex) -> Result<(), AllocError> {
         if let Some(position) = position_of(&lists.types, index.0)
             && mark(&mut self.types, position)
         {
@@ -148,7 +158,7 @@ impl Reach {
         Ok(())
     }
 
-    fn add_size(&mut self, lists: &TypeLists<'_>, index: TypeIndex) -> Result<(), AllocError> {
+    fn add_size(&mut self, lists: &TypeLists, index: TypeIndex) -> Result<(), AllocError> {
         if let Some(position) = position_of(&lists.types, index.0)
             && mark(&mut self.sizes, position)
         {
@@ -157,7 +167,7 @@ impl Reach {
         Ok(())
     }
 
-    fn add_id(&mut self, lists: &TypeLists<'_>, index: IdIndex) -> Result<(), AllocError> {
+    fn add_id(&mut self, lists: &TypeLists, index: IdIndex) -> Result<(), AllocError> {
         if let Some(position) = position_of(&lists.ids, index.0)
             && mark(&mut self.ids, position)
         {
@@ -167,40 +177,84 @@ impl Reach {
     }
 
     // Follows what is reached to its end. Each record is followed at most twice.
-    fn follow_steps(&mut self, alloc: Global, lists: &TypeLists<'_>) -> Result<(), AllocError> {
+    fn follow_steps<S: Source>(
+        &mut self,
+        alloc: Global,
+        source: &mut S,
+        lists: &mut TypeLists,
+    ) -> Result<(), SourceFault> {
         for _ in 0..u64::MAX {
-            match self.steps.pop() {
-                Some(step) => self.follow(alloc, lists, step)?,
-                None => break,
+            let Some(step) = self.steps.pop() else {
+                break;
+            };
+            if let Err(fault) = self.follow(alloc, source, lists, step) {
+                self.steps.push(step)?;
+                return Err(fault);
             }
         }
         Ok(())
     }
 
-    fn follow(
+    fn follow<S: Source>(
         &mut self,
         alloc: Global,
-        lists: &TypeLists<'_>,
+        source: &mut S,
+        lists: &mut TypeLists,
         step: Step,
-    ) -> Result<(), AllocError> {
+    ) -> Result<(), SourceFault> {
         match step {
-            Step::Type(position) => match content_of(&type_of(alloc, &lists.types, position)?) {
-                Some(data) => self.add_types_of(lists, data),
-                None => Ok(()),
-            },
-            Step::Size(position) => match content_of(&type_of(alloc, &lists.types, position)?) {
-                Some(data) => self.add_size_of(alloc, lists, data),
-                None => Ok(()),
-            },
-            Step::Id(position) => match content_of(&id_of(alloc, &lists.ids, position)?) {
-                Some(data) => self.add_types_of_id(lists, data),
-                None => Ok(()),
-            },
+            Step::Type(position) => {
+                let item = lists.type_at(alloc, source, position)?;
+                self.follow_type(lists, &item)?;
+            }
+            Step::Size(position) => {
+                let item = lists.type_at(alloc, source, position)?;
+                self.follow_size(alloc, lists, &item)?;
+            }
+            Step::Id(position) => {
+                let item = lists.id_at(alloc, source, position)?;
+                self.follow_id(lists, &item)?;
+            }
+        }
+        Ok(())
+    }
+
+    fn follow_type(
+        &mut self,
+        lists: &TypeLists,
+        item: &Option<Item<TypeIndex, TypeData>>,
+    ) -> Result<(), AllocError> {
+        match content_of(item) {
+            Some(data) => self.add_types_of(lists, data),
+            None => Ok(()),
+        }
+    }
+
+    fn follow_size(
+        &mut self,
+        alloc: Global,
+        lists: &TypeLists,
+        item: &Option<Item<TypeIndex, TypeData>>,
+    ) -> Result<(), AllocError> {
+        match content_of(item) {
+            Some(data) => self.add_size_of(alloc, lists, data),
+            None => Ok(()),
+        }
+    }
+
+    fn follow_id(
+        &mut self,
+        lists: &TypeLists,
+        item: &Option<Item<IdIndex, IdData>>,
+    ) -> Result<(), AllocError> {
+        match content_of(item) {
+            Some(data) => self.add_types_of_id(lists, data),
+            None => Ok(()),
         }
     }
 
     // The types that a type is printed with, and what has the size of an array's elements.
-    fn add_types_of(&mut self, lists: &TypeLists<'_>, data: &TypeData) -> Result<(), AllocError> {
+    fn add_types_of(&mut self, lists: &TypeLists, data: &TypeData) -> Result<(), AllocError> {
         match data {
             TypeData::MemberFunction(function) => {
                 self.add_type(lists, function.return_type)?;
@@ -228,7 +282,7 @@ impl Reach {
     fn add_size_of(
         &mut self,
         alloc: Global,
-        lists: &TypeLists<'_>,
+        lists: &TypeLists,
         data: &TypeData,
     ) -> Result<(), AllocError> {
         match data {
@@ -253,7 +307,7 @@ impl Reach {
     }
 
     // The types and the ids that an id is printed with.
-    fn add_types_of_id(&mut self, lists: &TypeLists<'_>, data: &IdData) -> Result<(), AllocError> {
+    fn add_types_of_id(&mut self, lists: &TypeLists, data: &IdData) -> Result<(), AllocError> {
         match data {
             IdData::MemberFunction(function) => {
                 self.add_type(lists, function.parent)?;
@@ -272,7 +326,7 @@ impl Reach {
 
     fn add_optional_type(
         &mut self,
-        lists: &TypeLists<'_>,
+        lists: &TypeLists,
         index: Option<TypeIndex>,
     ) -> Result<(), AllocError> {
         match index {
@@ -283,7 +337,7 @@ impl Reach {
 
     fn add_all_types(
         &mut self,
-        lists: &TypeLists<'_>,
+        lists: &TypeLists,
         indices: &[TypeIndex],
     ) -> Result<(), AllocError> {
         for &index in indices {

@@ -6,8 +6,8 @@ ghost use Rattle.pdb_container.specs.ModulePlaces.{module_places, place_at, plac
 ghost use Rattle.pdb_container.specs.ModuleSource.{KeepsModules};
 ghost use Rattle.pdb_container.specs.Reader.{HasFront, SameFront};
 
-use crate::front::{Front, first_lists, id_stream, read_front, type_stream, unread};
-use crate::front_streams::{FrontStreams, copied, copied_ids};
+use crate::front::{Front, first_lists, ids_of, read_front, types_of, unread};
+use crate::front_streams::FrontStreams;
 use crate::imports::imported_modules;
 use crate::info::InfoStream;
 use crate::module_infos::{any_has_unnamed_code, name_all, put_info};
@@ -18,8 +18,9 @@ use crate::records::PdbFile;
 use crate::refusals::refusal_of;
 use crate::type_lists::{TypeLists, put_all_items};
 use pdb_msf::faults::Fault;
-use pdb_msf::{Container, SourceFault, StreamBytes};
+use pdb_msf::{Container, Source, SourceFault};
 use pdb_records::{PDB, StreamError};
+use pdb_tpi::TypePlaces;
 use std::alloc::{AllocError, Global};
 use std::marker::Model;
 
@@ -31,17 +32,17 @@ use std::marker::Model;
 /// answers over their code depend on. So an address in the code of a module that was read is answered as over all
 /// records of the file.
 #[derive(Drop)]
-pub struct PdbReader<'a> {
+pub struct PdbReader {
     file_length: usize,
     /// Where the records of each module stand.
     places: Vec<ModulePlace>,
     /// Whether the records of each module were read.
     read: Vec<bool>,
-    lists: TypeLists<'a>,
+    lists: TypeLists,
     reach: Reach,
 }
 
-impl<'a> Model for PdbReader<'a> {
+impl Model for PdbReader {
     ghost use Rattle.std.specs.Prelude.{List};
     ghost use Rattle.pdb_container.specs.ModulePlaces.{PlaceOrFault};
 
@@ -50,9 +51,9 @@ impl<'a> Model for PdbReader<'a> {
     ghost view = { λ r. r.places.items };
 }
 
-impl<'a> PdbReader<'a> {
+impl PdbReader {
     /// A reader of the file that a container is, and what the file has beside modules, types and ids.
-    pub fn open(alloc: Global, container: &Container<'a>) -> Result<(Self, PdbFile), Fault>
+    pub fn open(alloc: Global, container: &Container<'_>) -> Result<(Self, PdbFile), Fault>
         ensures places { IfOk result (λ opened. opened.0
             ≡ module_places container.now (streams_of_modules container.now)) }
         ensures front { IfOk result (λ opened. HasFront container.now opened.1.records) }
@@ -61,8 +62,8 @@ impl<'a> PdbReader<'a> {
         let info = InfoStream::read(alloc, container)?;
         let file_length = container.file_length();
         let front = read_front(alloc, container, &info, file_length)?;
-        let types = type_stream(alloc, container)?;
-        let ids = id_stream(alloc, container, &info)?;
+        let types = types_of(alloc, container)?;
+        let ids = ids_of(alloc, container, &info)?;
         Self::with_lists(alloc, &info, file_length, front, types, ids)
     }
 
@@ -82,14 +83,7 @@ impl<'a> PdbReader<'a> {
         let container = excerpt.container(alloc)?;
         let info = InfoStream::read(alloc, &container)?;
         let front = read_front(alloc, &container, &info, file_length)?;
-        Self::with_lists(
-            alloc,
-            &info,
-            file_length,
-            front,
-            copied(types),
-            copied_ids(ids),
-        )
+        Self::with_lists(alloc, &info, file_length, front, types, ids)
     }
 
     // A reader with these types and ids.
@@ -98,8 +92,8 @@ impl<'a> PdbReader<'a> {
         info: &InfoStream<'_>,
         file_length: usize,
         front: Front,
-        types: Result<StreamBytes<'a>, StreamError>,
-        ids: Result<Option<StreamBytes<'a>>, StreamError>,
+        types: Result<TypePlaces, StreamError>,
+        ids: Result<Option<TypePlaces>, StreamError>,
     ) -> Result<(Self, PdbFile), Fault>
         ensures places { IfOk result (λ opened. opened.0 ≡ front.places.items) }
         ensures front { IfOk result (λ opened. SameFront front.records opened.1.records) }
@@ -160,8 +154,8 @@ impl<'a> PdbReader<'a> {
     /// call read, ascending. These are all that are left where one of them has code without a name, as chunks and jumps,
     /// which any module may list.
     ///
-    /// Where there is no memory none of them counts as read.
-    pub fn read_modules<M: ModuleSource>(
+    /// Where there is no memory, or a range of the file can't be read, none of them counts as read.
+    pub fn read_modules<M: ModuleSource + Source>(
         &mut self,
         alloc: Global,
         modules: &mut M,
@@ -184,15 +178,15 @@ impl<'a> PdbReader<'a> {
             return self.read_all(alloc, modules, records);
         }
         let imported = self.read_imported(alloc, modules, records, &positions)?;
-        self.reach_modules(alloc, &records.module_infos, &positions, &imported)?;
-        self.put_types(alloc, records)?;
-        self.put_ids(alloc, records)?;
+        self.reach_modules(alloc, modules, &records.module_infos, &positions, &imported)?;
+        self.put_types(alloc, modules, records)?;
+        self.put_ids(alloc, modules, records)?;
         set_read(&mut self.read, &positions);
         Ok(positions)
     }
 
     /// Reads all modules that are left, as [`read_modules`](PdbReader::read_modules) does.
-    pub fn read_all<M: ModuleSource>(
+    pub fn read_all<M: ModuleSource + Source>(
         &mut self,
         alloc: Global,
         modules: &mut M,
@@ -203,7 +197,7 @@ impl<'a> PdbReader<'a> {
         ensures count { OnOk result (length records.new.module_infos ≡ length records.old.module_infos) }
     {
         let positions = self.all_unread(alloc)?;
-        self.put_all_lists(alloc, records)?;
+        self.put_all_lists(alloc, modules, records)?;
         self.read_each(alloc, modules, &mut records.module_infos, &positions)?;
         name_all(alloc, records, self.file_length)?;
         set_read(&mut self.read, &positions);
@@ -279,28 +273,35 @@ impl<'a> PdbReader<'a> {
     }
 
     // Adds to the reach what these modules lead to, and what the imported ones export.
-    fn reach_modules(
+    fn reach_modules<S: Source>(
         &mut self,
         alloc: Global,
+        source: &mut S,
         infos: &[ModuleInfoResult],
         positions: &[usize],
         imported: &[usize],
-    ) -> Result<(), AllocError>
+    ) -> Result<(), SourceFault>
         ensures reader { self.new ≡ self.old }
     {
-        add_exports(alloc, &mut self.reach, &self.lists, infos, imported)?;
-        add_modules(alloc, &mut self.reach, &self.lists, infos, positions)?;
-        self.reach.add_definitions(alloc, &self.lists)
+        let (reach, lists) = (&mut self.reach, &mut self.lists);
+        add_exports(alloc, source, reach, lists, infos, imported)?;
+        add_modules(alloc, source, reach, lists, infos, positions)?;
+        reach.add_definitions(alloc, source, lists)
     }
 
     // Puts into the records the types that are reached.
-    fn put_types(&self, alloc: Global, records: &mut PDB) -> Result<(), AllocError>
+    fn put_types<S: Source>(
+        &self,
+        alloc: Global,
+        source: &mut S,
+        records: &mut PDB,
+    ) -> Result<(), SourceFault>
         ensures front { SameFront records.old records.new }
         ensures modules { records.new.module_infos ≡ records.old.module_infos }
     {
         match &self.lists.types {
             Some(list) => {
-                records.type_information = Ok(self.reach.type_information(alloc, list)?);
+                records.type_information = Ok(self.reach.type_information(alloc, source, list)?);
                 Ok(())
             }
             None => Ok(()),
@@ -308,13 +309,18 @@ impl<'a> PdbReader<'a> {
     }
 
     // Puts into the records the ids that are reached.
-    fn put_ids(&self, alloc: Global, records: &mut PDB) -> Result<(), AllocError>
+    fn put_ids<S: Source>(
+        &self,
+        alloc: Global,
+        source: &mut S,
+        records: &mut PDB,
+    ) -> Result<(), SourceFault>
         ensures front { SameFront records.old records.new }
         ensures modules { records.new.module_infos ≡ records.old.module_infos }
     {
         match &self.lists.ids {
             Some(list) => {
-                records.id_information = Ok(self.reach.id_information(alloc, list)?);
+                records.id_information = Ok(self.reach.id_information(alloc, source, list)?);
                 Ok(())
             }
             None => Ok(()),
@@ -322,12 +328,17 @@ impl<'a> PdbReader<'a> {
     }
 
     // Puts into the records all types and ids, and gives back the lists that they stand in, and what was reached.
-    fn put_all_lists(&mut self, alloc: Global, records: &mut PDB) -> Result<(), AllocError>
+    fn put_all_lists<S: Source>(
+        &mut self,
+        alloc: Global,
+        source: &mut S,
+        records: &mut PDB,
+    ) -> Result<(), SourceFault>
         ensures reader { self.new ≡ self.old }
         ensures front { SameFront records.old records.new }
         ensures modules { records.new.module_infos ≡ records.old.module_infos }
     {
-        put_all_items(alloc, &mut self.lists, records)?;
+        put_all_items(alloc, source, &mut self.lists, records)?;
         self.reach = Reach::new(alloc, &self.lists)?;
         Ok(())
     }
@@ -338,32 +349,34 @@ impl<'a> PdbReader<'a> {
 }
 
 // Adds to a reach what these modules lead to.
-fn add_modules(
+fn add_modules<S: Source>(
     alloc: Global,
+    source: &mut S,
     reach: &mut Reach,
-    lists: &TypeLists<'_>,
+    lists: &mut TypeLists,
     infos: &[ModuleInfoResult],
     positions: &[usize],
-) -> Result<(), AllocError> {
+) -> Result<(), SourceFault> {
     for &position in positions {
         if let Some(Ok(Some(info))) = infos.get(position) {
-            reach.add_module(alloc, lists, info)?;
+            reach.add_module(alloc, source, lists, info)?;
         }
     }
     Ok(())
 }
 
 // Adds to a reach what these modules export.
-fn add_exports(
+fn add_exports<S: Source>(
     alloc: Global,
+    source: &mut S,
     reach: &mut Reach,
-    lists: &TypeLists<'_>,
+    lists: &mut TypeLists,
     infos: &[ModuleInfoResult],
     positions: &[usize],
-) -> Result<(), AllocError> {
+) -> Result<(), SourceFault> {
     for &position in positions {
         if let Some(Ok(Some(info))) = infos.get(position) {
-            reach.add_exports(alloc, lists, info)?;
+            reach.add_exports(alloc, source, lists, info)?;
         }
     }
     Ok(())

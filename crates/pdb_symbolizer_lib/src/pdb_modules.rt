@@ -12,7 +12,7 @@ use std::io::{Read, Seek};
 /// The modules of a PDB file, which are read as they are asked for.
 #[derive(Drop)]
 pub struct PdbModules<F> {
-    reader: PdbReader<'static>,
+    reader: PdbReader,
     modules: SourceModules<FileBytes<F>>,
 }
 
