@@ -23,7 +23,8 @@ ROOT = HERE.parents[1]
 SYMBOLIZER = "pdb_symbolizer_tests"
 RUNS = {name: SYMBOLIZER for name in (
     "pdb_symbolizer_lib", "pdb_symbolication", "pdb_identity", "identity.rt", "reader.rt", "reach.rt", "imports.rt",
-    "module_infos.rt", "block_reads.rt", "excerpt.rt", "stream_map.rt", "front_streams.rt", "module_source.rt")}
+    "module_infos.rt", "block_reads.rt", "excerpt.rt", "stream_map.rt", "front_streams.rt", "module_source.rt",
+    "type_places.rt")}
 READERS = "pdb_container_tests"
 
 
