@@ -306,10 +306,7 @@ impl<'a, P: ModuleProvider> Context<'a, P> {
     {
         let modules = self.names.modules();
         let infos = &mut self.caches.infos;
-        match infos.get_basic_module_info(modules, module_index)? {
-            Some(info) => Ok(info.procedure_over(section_offset)),
-            None => Ok(None),
-        }
+        Ok(infos.procedure_over(modules, module_index, section_offset)?)
     }
 
     // The records of the module at a module index, where there are any and its symbols have no fault.

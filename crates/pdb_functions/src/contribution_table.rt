@@ -87,7 +87,13 @@ impl ContributionTable {
         ensures answer { result ≡ find (contribution_covers section_offset) self.now }
         ensures few { probes.new ≤ probes.old + digits (2 * length self.now) }
     {
-        find(&self.last_first, &self.segments, section_offset, probes)
+        find(
+            &self.last_first,
+            &self.segments,
+            section_offset,
+            &mut None,
+            probes,
+        )
     }
 
     /// The first contribution of the list over a section offset. It is found by a binary search.

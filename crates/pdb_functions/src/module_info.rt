@@ -65,6 +65,20 @@ impl<'a> BasicModuleInfo<'a> {
         self.procedures.as_slice()
     }
 
+    // Of the module's procedures over a section offset the one that starts last. Where a position is given, the
+    // procedure there is tried first, and then the next one; else it is found by a binary search. Afterwards it is the
+    // position of what was found.
+    pub(crate) fn procedure_near(
+        &self,
+        section_offset: PdbInternalSectionOffset,
+        position: &mut Option<usize>,
+    ) -> Option<ProcedureSymbolFunction<'a>>
+        ensures { option_map module_procedure result
+            ≡ pick (procedure_covers section_offset) (λ p. p.offset.offset) (info_procedures self.now) }
+    {
+        self.procedures.procedure_near(section_offset, position)
+    }
+
     /// Of the module's procedures over a section offset the one that starts last. It is found by a binary search.
     pub fn procedure_over(
         &self,
@@ -73,7 +87,7 @@ impl<'a> BasicModuleInfo<'a> {
         ensures { option_map module_procedure result
             ≡ pick (procedure_covers section_offset) (λ p. p.offset.offset) (info_procedures self.now) }
     {
-        self.procedures.procedure_over(section_offset)
+        self.procedure_near(section_offset, &mut None)
     }
 
     /// The records that were read.

@@ -1,23 +1,44 @@
 //! The cache of modules' records and procedures by module index, each read once from the provider.
 
-ghost use Rattle.std.specs.Prelude.{◌≡◌, ◌<◌, [], true, Some, IfSome, IfOk, OnOk, length, slice_get};
+ghost use Rattle.std.specs.Prelude.{◌≡◌, ◌<◌, [], true, Some, IfSome, IfOk, OnOk, length, option_map, slice_get};
 ghost use Rattle.std.specs.Borrow.{sem};
 ghost use Rattle.std.specs.Io.BufRead.{Rests};
 ghost use Rattle.std.specs.Option.{option_copied, option_map_or};
+ghost use Rattle.pdb_tables.specs.Pick.{pick};
 ghost use Rattle.pdb_tables.specs.Slots.{held};
 ghost use Rattle.pdb_errors.specs.Provided.{ProviderInfos};
 ghost use Rattle.pdb_functions.specs.FoundFunctions.{procedures_of_module};
-ghost use Rattle.pdb_functions.specs.Procedures.{info_procedures};
+ghost use Rattle.pdb_functions.specs.Procedures.{info_procedures, module_procedure};
+ghost use Rattle.pdb_functions.specs.Spans.{procedure_covers};
 ghost use Rattle.pdb_functions.specs.ModuleInfos.{readable_info, IsModuleInfoCache, IsCachedInfo};
 ghost use mir.Syntax.{named};
 
 use crate::module_info::BasicModuleInfo;
 use crate::named_info::NamedInfo;
+use crate::procedures::ProcedureSymbolFunction;
 use pdb_errors::ModuleProvider;
-use pdb_records::{Module, RawString};
+use pdb_records::{Module, PdbInternalSectionOffset, RawString};
 use pdb_tables::make_slot;
 use std::alloc::{AllocError, Global};
 use std::marker::Model;
+
+// The procedure that was found last: its module index, and its position among the procedures of the module.
+#[derive(Clone, Copy)]
+struct LastProcedure {
+    module_index: usize,
+    position: Option<usize>,
+}
+
+impl LastProcedure {
+    // Its position, where it is one of the module at a module index.
+    fn position_in(self, module_index: usize) -> Option<usize> {
+        if module_index == self.module_index {
+            self.position
+        } else {
+            None
+        }
+    }
+}
 
 /// Remembers the procedures of modules, so that they are read once.
 ///
@@ -28,6 +49,7 @@ pub struct BasicModuleInfoCache<'a, P: ModuleProvider> {
     provider: &'a P,
     // What was made of modules, by module index.
     cached: Vec<Option<NamedInfo<'a>>>,
+    last: LastProcedure,
 }
 
 impl<P: ModuleProvider> Drop for BasicModuleInfoCache<'_, P> {
@@ -36,6 +58,7 @@ impl<P: ModuleProvider> Drop for BasicModuleInfoCache<'_, P> {
             alloc: _,
             provider: _,
             cached: _,
+            last: _,
         } = self;
     }
 }
@@ -156,6 +179,10 @@ impl<'a, P: ModuleProvider> BasicModuleInfoCache<'a, P> {
             alloc,
             provider,
             cached: Vec::new(alloc),
+            last: LastProcedure {
+                module_index: 0,
+                position: None,
+            },
         }
     }
 
@@ -215,5 +242,33 @@ impl<'a, P: ModuleProvider> BasicModuleInfoCache<'a, P> {
     {
         self.learn(modules, module_index)?;
         Ok(self.look_up(modules, module_index))
+    }
+
+    /// Of the procedures of the module at a module index of a list, over a section offset the one that starts last.
+    /// `None` also where [`get_basic_module_info`](Self::get_basic_module_info) has none.
+    ///
+    /// Where the procedure lies over it that was found last, or the next one, it is found at once; else by a binary
+    /// search. Answers `AllocError` where memory runs out; the same question may find an answer afterwards.
+    pub fn procedure_over(
+        &mut self,
+        modules: &[Module],
+        module_index: usize,
+        section_offset: PdbInternalSectionOffset,
+    ) -> Result<Option<ProcedureSymbolFunction<'a>>, AllocError>
+        ensures answer { IfOk result (λ found. option_map module_procedure found
+            ≡ pick (procedure_covers section_offset) (λ p. p.offset.offset)
+            (procedures_of_module (P.info self.old.provider) modules.now module_index)) }
+        ensures provider { self.new.provider ≡ self.old.provider }
+    {
+        let mut position = self.last.position_in(module_index);
+        let Some(info) = self.get_basic_module_info(modules, module_index)? else {
+            return Ok(None);
+        };
+        let found = info.procedure_near(section_offset, &mut position);
+        self.last = LastProcedure {
+            module_index,
+            position,
+        };
+        Ok(found)
     }
 }

@@ -1,11 +1,12 @@
 //! A table of a module's procedures: of those over a section offset the one that starts last.
 
-ghost use Rattle.std.specs.Prelude.{◌≡◌, ◌+◌, ◌*◌, ◌≤◌, map, option_map, length, IfOk};
+ghost use Rattle.std.specs.Prelude.{◌≡◌, ◌+◌, ◌*◌, ◌≤◌, true, Some, map, option_map, length, IfOk, IfSome};
+ghost use Rattle.std.specs.Option.{option_copied};
 ghost use Rattle.pdb_tables.specs.Pick.{pick};
 ghost use Rattle.pdb_tables.specs.Probes.{digits};
 ghost use Rattle.pdb_functions.specs.Procedures.{module_procedure};
 ghost use Rattle.pdb_functions.specs.Spans.{procedure_covers};
-ghost use Rattle.pdb_functions.specs.Starts.{StartsAscend};
+ghost use Rattle.pdb_functions.specs.Starts.{is_before, StartsAscend};
 
 use crate::procedures::ProcedureSymbolFunction;
 use crate::span_table::{Keys, Span, find, key, segments_of};
@@ -26,6 +27,30 @@ impl Span for ProcedureSymbolFunction<'_> {
     }
 }
 
+// Whether a procedure lies over a section offset.
+fn covers(procedure: ProcedureSymbolFunction<'_>, section_offset: PdbInternalSectionOffset) -> bool
+    ensures { result ≡ procedure_covers section_offset (module_procedure procedure.entry) }
+{
+    let start = procedure.offset;
+    let end = u64::from(start.offset) + u64::from(procedure.len);
+    start.section == section_offset.section
+        && start.offset <= section_offset.offset
+        && u64::from(section_offset.offset) < end
+}
+
+// Whether a procedure starts behind a section offset, where there is one.
+fn starts_behind(
+    procedure: Option<&ProcedureSymbolFunction<'_>>,
+    section_offset: PdbInternalSectionOffset,
+) -> bool
+    ensures { result ≡ true → IfSome (option_copied procedure.entry) (λ p. is_before section_offset p.offset ≡ true) }
+{
+    match procedure {
+        Some(procedure) => section_offset < procedure.offset,
+        None => true,
+    }
+}
+
 // The procedures of a module by section and start, with a table of the positions of those over section offsets.
 #[derive(Drop)]
 pub(crate) struct ProcedureTable<'a> {
@@ -43,6 +68,7 @@ impl<'a> Model for ProcedureTable<'a> {
     ghost use Rattle.pdb_functions.specs.Keys.{key};
     ghost use Rattle.pdb_functions.specs.Procedures.{ModuleProcedure, module_procedure};
     ghost use Rattle.pdb_functions.specs.Spans.{procedure_covers};
+    ghost use Rattle.pdb_functions.specs.Starts.{StartsAscend};
 
     ghost Value = { List ModuleProcedure };
 
@@ -53,6 +79,7 @@ impl<'a> Model for ProcedureTable<'a> {
           → option_map module_procedure
           (option_and_then (slice_get t.procedures.items) (value_at t.segments (key section_offset)))
           ≡ pick (procedure_covers section_offset) (λ p. p.offset.offset) (map module_procedure t.procedures.items);
+      ascend : StartsAscend (λ p. p.offset) t.procedures.items;
       at_most_two_each : length t.segments ≤ 2 * length t.procedures.items;
     } };
 }
@@ -80,27 +107,69 @@ impl<'a> ProcedureTable<'a> {
         &self.procedures
     }
 
-    // Of the procedures over a section offset the one that starts last. Each table entry that is looked at counts.
+    // Of the procedures over a section offset the one that starts last, and its position. Each table entry that is
+    // looked at counts.
     fn search(
         &self,
         section_offset: PdbInternalSectionOffset,
+        position: &mut Option<usize>,
         probes: &mut Probes,
     ) -> Option<ProcedureSymbolFunction<'a>>
         ensures answer { option_map module_procedure result
             ≡ pick (procedure_covers section_offset) (λ p. p.offset.offset) self.now }
         ensures few { probes.new ≤ probes.old + digits (2 * length self.now) }
     {
-        find(&self.procedures, &self.segments, section_offset, probes)
+        find(
+            &self.procedures,
+            &self.segments,
+            section_offset,
+            position,
+            probes,
+        )
     }
 
-    // Of the procedures over a section offset the one that starts last.
-    pub(crate) fn procedure_over(
+    // The procedure at a position, where it is the one over a section offset that starts last.
+    fn procedure_at(
+        &self,
+        position: usize,
+        section_offset: PdbInternalSectionOffset,
+    ) -> Option<ProcedureSymbolFunction<'a>>
+        ensures { IfSome result (λ p. Some (module_procedure p)
+            ≡ pick (procedure_covers section_offset) (λ p. p.offset.offset) self.now) }
+    {
+        if position >= self.procedures.len() {
+            return None;
+        }
+        let procedure = self.procedures[position];
+        if covers(procedure, section_offset)
+            && starts_behind(self.procedures.get(position + 1), section_offset)
+        {
+            Some(procedure)
+        } else {
+            None
+        }
+    }
+
+    // Of the procedures over a section offset the one that starts last. Where a position is given, the procedure there
+    // is tried first, and then the next one. Afterwards it is the position of what was found.
+    pub(crate) fn procedure_near(
         &self,
         section_offset: PdbInternalSectionOffset,
+        position: &mut Option<usize>,
     ) -> Option<ProcedureSymbolFunction<'a>>
         ensures { option_map module_procedure result
             ≡ pick (procedure_covers section_offset) (λ p. p.offset.offset) self.now }
     {
-        self.search(section_offset, &mut Probes::new())
+        if let Some(last) = *position {
+            if let Some(procedure) = self.procedure_at(last, section_offset) {
+                return Some(procedure);
+            }
+            let next = last.saturating_add(1);
+            if let Some(procedure) = self.procedure_at(next, section_offset) {
+                *position = Some(next);
+                return Some(procedure);
+            }
+        }
+        self.search(section_offset, position, &mut Probes::new())
     }
 }

@@ -64,16 +64,17 @@ pub(crate) fn segments_of<T: Span>(
     Ok(table)
 }
 
-// The span whose position the table has for a section offset.
+// The span whose position the table has for a section offset. It is put at `position`.
 pub(crate) fn find<T: Copy>(
     spans: &[T],
     table: &Segments<usize>,
     section_offset: PdbInternalSectionOffset,
+    position: &mut Option<usize>,
     probes: &mut Probes,
 ) -> Option<T>
     ensures answer { result ≡ option_and_then (slice_get spans.now) (value_at table.now (key section_offset)) }
     ensures few { probes.new ≤ probes.old + digits (length table.now) }
 {
-    let position = table.find(key(section_offset), probes)?;
-    spans.get(position).copied()
+    *position = table.find(key(section_offset), probes);
+    spans.get((*position)?).copied()
 }

@@ -6,5 +6,6 @@ invariant_of-result c = record {
   picks = λ section_offset fits.
       rw (rw c.deref.ensures.value at (c.in_ok-segments.ensures.answer section_offset fits))
       (last_procedure section_offset c.args.procedures.items c.requires);
+  ascend = c.requires;
   at_most_two_each = rw (← c.deref.ensures.value) c.in_ok-segments.ensures.few;
 }
