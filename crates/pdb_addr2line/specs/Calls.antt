@@ -1,8 +1,7 @@
 -- Calls of a context, and what it answers to them.
-use Rattle.std.specs.Prelude.{◌≡◌, ℕ, List, [], ◌∷◌, ◌++◌, Option, Some, None, Result}
-use Rattle.std.specs.Prelude.{Ok, Err, length, map, option_map, string_bytes, String}
-use Rattle.std.specs.Global.{Global}
-use Rattle.std.specs.Result.{result_ok}
+use Rattle.std.specs.Prelude.{◌≡◌, ℕ, List, [], ◌∷◌, ◌++◌, Option, Some, None, Result, Ok, Err, length, map, option_map}
+use Rattle.std.specs.Prelude.{string_bytes}
+use Rattle.std.specs.Result.{result_map_both, result_ok}
 use Rattle.pdb_errors.specs.Errors.{ErrorView, error_view}
 use Rattle.pdb_types.specs.FailedParts.{Parts, with_met}
 use Rattle.pdb_errors.specs.Provided.{ProviderInfos}
@@ -31,11 +30,6 @@ pub data AnswerView : Type 0 where
   SizeView : ℕ → AnswerView
   TextView : Result (List ℕ) ErrorView → AnswerView
 
--- a text by its bytes, or the view of the error in its place
-abbrev pub text_view : Result (String Global) Error → Result (List ℕ) ErrorView
-text_view (Ok text) = Ok (string_bytes text)
-text_view (Err e) = Err (error_view e)
-
 -- what the code's answer shows
 abbrev pub answer_view : Answer → AnswerView
 answer_view (answer.Function f) = FunctionView (option_map function_view f)
@@ -43,7 +37,7 @@ answer_view (answer.Frames frames) = FramesView frames
 answer_view (answer.Functions functions) = FunctionsView (map function_view functions.items)
 answer_view (answer.Count count) = CountView count
 answer_view (answer.Size size) = SizeView size
-answer_view (answer.Text text) = TextView (text_view text)
+answer_view (answer.Text text) = TextView (result_map_both string_bytes error_view text)
 
 -- a text that was printed, or the error of the failure in its place
 abbrev pub text_unless : Option Failure → List ℕ → Result (List ℕ) ErrorView
@@ -66,10 +60,6 @@ answer_to info c (FormatFunction name m index) =
     TextView (printed (signature_run info c.inputs.type_inputs m name.now index.0 c.failed))
 answer_to info c (FormatId m index) = TextView (printed (id_run info c.inputs.type_inputs m index.0 c.failed))
 
--- the parts that failed once printing is done
-abbrev pub failed_by_run : Run → Parts
-failed_by_run r = r.failed
-
 -- a context once the frames over an address are answered
 abbrev pub after_frames : {P : Type 0} → (P → ProviderInfos) → ContextState P → ℕ → ContextState P
 after_frames info c address = record {
@@ -91,9 +81,9 @@ after_call info c FunctionCount = c
 after_call info c (TypeSize m index) =
     with_failed c (with_met c.failed (size_of info c.inputs.type_inputs m index.0).met)
 after_call info c (FormatFunction name m index) =
-    with_failed c (failed_by_run (signature_run info c.inputs.type_inputs m name.now index.0 c.failed))
+    with_failed c (signature_run info c.inputs.type_inputs m name.now index.0 c.failed).failed
 after_call info c (FormatId m index) =
-    with_failed c (failed_by_run (id_run info c.inputs.type_inputs m index.0 c.failed))
+    with_failed c (id_run info c.inputs.type_inputs m index.0 c.failed).failed
 
 -- a context once calls are answered, one after the other
 abbrev pub after_calls : {P : Type 0} → (P → ProviderInfos) → ContextState P → List Call → ContextState P

@@ -1,5 +1,6 @@
 -- The context of a program's records, and the formatter of its types.
 use Rattle.std.specs.Prelude.{ℕ, List, [], Option, Some, None, Result, Ok, Err, slice_get, unwrap_or, option_map}
+use Rattle.std.specs.Result.{result_ok}
 use Rattle.pdb_records.specs.Records.{Records}
 use Rattle.pdb_records.specs.declared.error.Error.TheVariants.{Stream}
 use Rattle.pdb_records.specs.declared.error.StreamError.{StreamError}
@@ -47,11 +48,6 @@ formatter_refusal debug =
 abbrev pub default_flags : TypeFormatterFlags
 default_flags = record { 0 = 23 }
 
--- what was read, if it was
-abbrev pub if_read : {A : Type 0} → Result A StreamError → Option A
-if_read (Ok content) = Some content
-if_read (Err fault) = None
-
 -- the type inputs of the formatter of these records: refused for the list of modules and the machine
 abbrev pub formatter_of : TypeFormatterFlags → Records → Result (TypeInputs Records) Error
 formatter_of flags r =
@@ -63,7 +59,7 @@ formatter_of flags r =
     Ok (record {
       provider = r;
       modules = debug.modules.items;
-      strings = if_read r.string_table;
+      strings = result_ok r.string_table;
       pointer_size = pointer_size;
       types = types.items;
       ids = ids.items;
@@ -83,7 +79,7 @@ context_over r type_inputs =
       sections = sections;
       address_map = ranges;
       global_symbols = symbols;
-      strings = if_read r.string_table;
+      strings = result_ok r.string_table;
       debug_information = debug;
       type_inputs = type_inputs;
     })))))

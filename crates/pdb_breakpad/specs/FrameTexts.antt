@@ -1,5 +1,6 @@
 -- What a symbol file says of a frame.
-use Rattle.std.specs.Prelude.{ℕ, List, [], ◌∷◌, codes, Option, Some, None, option_map}
+use Rattle.std.specs.Prelude.{ℕ, List, [], ◌∷◌, codes, Option, option_map}
+use Rattle.std.specs.Option.{option_map_or}
 use Rattle.pdb_frames.specs.Frame.{FrameInfo}
 
 -- what is said of a frame: the function's name, and the file and the line, as far as they are known
@@ -13,14 +14,9 @@ abbrev pub text_or : List ℕ → List ℕ → List ℕ
 text_or other [] = other
 text_or other (character ∷ characters) = character ∷ characters
 
--- a name that may be unknown, or another
-abbrev pub known_or : List ℕ → Option (List ℕ) → List ℕ
-known_or other None = other
-known_or other (Some name) = text_or other name
-
 -- the name of a frame's function: `<name omitted>` where it has none
 abbrev pub function_text : FrameInfo → List ℕ
-function_text frame = known_or (codes "<name omitted>") frame.function
+function_text frame = option_map_or (text_or (codes "<name omitted>")) frame.function (codes "<name omitted>")
 
 -- two question marks, which stand for a file that isn't known
 abbrev pub no_file : List ℕ
@@ -28,7 +24,7 @@ no_file = 63 ∷ 63 ∷ []
 
 -- the name of a frame's file: two question marks where it has none
 abbrev pub file_text : FrameInfo → List ℕ
-file_text frame = known_or no_file frame.file
+file_text frame = option_map_or (text_or no_file) frame.file no_file
 
 -- the text of a frame: a name or a file without characters is one that isn't known
 abbrev pub frame_text : FrameInfo → FrameText

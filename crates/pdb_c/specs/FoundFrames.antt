@@ -1,6 +1,7 @@
 -- What a question for frames or for a function finds, as it is shown to C.
 use Rattle.std.specs.Prelude.{ℕ, List, [], ◌∷◌, ◌++◌, Option, Some, None, length, drop, nat_le, Bool, ◌&&◌}
 use Rattle.std.specs.Prelude.{unwrap_or}
+use Rattle.std.specs.Option.{option_map_or}
 use Rattle.pdb_frames.specs.Frame.{FramesInfo}
 use Rattle.pdb_function_info.specs.Function.{FunctionInfo}
 use Rattle.pdb_c.specs.declared.frame_rows.FrameRow.{FrameRow}
@@ -59,17 +60,12 @@ abbrev pub fits : {A : Type 0} → Shown → List A → List ℕ → Bool
 fits found rows texts =
     nat_le (length found.rows) (length rows) && nat_le (length found.texts) (length texts)
 
--- 1 where it is known where a function ends, and else 0
-abbrev pub end_is_known : Option ℕ → ℕ
-end_is_known (Some end) = 1
-end_is_known None = 0
-
--- the size of an answer, and its function's addresses
+-- the size of an answer, and its function's addresses: whether it is known where the function ends is 1 or 0
 abbrev pub sizes : Shown → FoundFunction
 sizes found = record {
   rows = length found.rows;
   texts = length found.texts;
   start = found.start;
   end = unwrap_or found.end 0;
-  end_known = end_is_known found.end;
+  end_known = option_map_or (λ end. 1) found.end 0;
 }

@@ -1,6 +1,6 @@
 -- Binary annotations: the list that says where the code and the lines of an inlined body go on.
-use Rattle.std.specs.Prelude.{ℕ, ◌/◌, ◌%◌, ◌==◌, ◌&&◌, nat_le, List, [], drop, Option, Some, None, Result, Ok, Err}
-use Rattle.std.specs.Prelude.{if◌then◌else◌}
+use Rattle.std.specs.Option.{ok_or}
+use Rattle.std.specs.Prelude.{ℕ, ◌/◌, ◌%◌, ◌==◌, ◌&&◌, nat_le, List, [], drop, Result, Ok, Err, if◌then◌else◌}
 use Rattle.pdb_records.specs.Readings.{Read}
 use Rattle.pdb_records.specs.declared.error.StreamError.{StreamError}
 use Rattle.pdb_msf.specs.declared.faults.TheConstants.{APART, BAD_NUMBER}
@@ -11,14 +11,9 @@ use Rattle.pdb_codeview.specs.declared.annotations.Annotation.{Annotation}
 use Rattle.pdb_codeview.specs.declared.annotations.Annotation.TheVariants.{Advance, AdvanceAndLine, File, Length}
 use Rattle.pdb_codeview.specs.declared.annotations.Annotation.TheVariants.{LengthAndAdvance, Line, Other, Start}
 
--- the compressed number that may be there
-abbrev pub number_or_fault : Option ℕ → Result ℕ StreamError
-number_or_fault None = Err BAD_NUMBER
-number_or_fault (Some number) = Ok number
-
 -- the compressed number that these bytes begin with, or that they begin with none
 abbrev pub first_number : List ℕ → Result ℕ StreamError
-first_number bytes = number_or_fault (compressed bytes)
+first_number bytes = ok_or (compressed bytes) BAD_NUMBER
 
 -- what stands behind the compressed number that these bytes begin with
 abbrev pub behind_number : List ℕ → List ℕ

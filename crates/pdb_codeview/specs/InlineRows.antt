@@ -1,6 +1,7 @@
 -- The rows of an inlined body: what its annotations say, one after the other.
 use Rattle.std.specs.Prelude.{ℕ, ◌+◌, ◌-◌, ◌/◌, ◌%◌, ◌^◌, ◌==◌, Bool, true, false, nat_le, List, [], ◌∷◌, ◌++◌}
 use Rattle.std.specs.Prelude.{Option, Some, None, option_to_list, option_map, if◌then◌else◌}
+use Rattle.std.specs.Option.{option_or}
 use Rattle.pdb_records.specs.declared.symbols.InlineRow.{InlineRow}
 use Rattle.pdb_codeview.specs.declared.annotations.Annotation.{Annotation}
 use Rattle.pdb_codeview.specs.declared.annotations.Annotation.TheVariants.{Start, Advance, Length, File, Line}
@@ -52,23 +53,17 @@ new_row a p =
 abbrev pub way : ℕ → ℕ → Option ℕ
 way from to = if nat_le from to then Some (to - from) else None
 
--- a row before one that starts at this offset: with the length that its annotation says, else up to there
-abbrev pub closed_by : Option ℕ → ℕ → InlineRow → InlineRow
-closed_by (Some l) offset row = row
-closed_by None offset row = record row { length = way row.offset offset }
+-- a row, with this length where it had none
+abbrev pub with_length : Option ℕ → InlineRow → InlineRow
+with_length length row = record row { length = option_or row.length length }
 
--- the row before one that starts at this offset
+-- the row before one that starts at this offset: with the length that its annotation says, else up to there
 abbrev pub closed : ℕ → InlineRow → InlineRow
-closed offset row = closed_by row.length offset row
-
--- a row with this length, where it had none
-abbrev pub with_length : Option ℕ → ℕ → InlineRow → InlineRow
-with_length (Some l) n row = row
-with_length None n row = record row { length = Some n }
+closed offset row = with_length (way row.offset offset) row
 
 -- the last row, with the length that an annotation behind it says (ChangeCodeLength), unless it had one
 abbrev pub lengthened : Annotation → Option InlineRow → Option InlineRow
-lengthened (Length n) last = option_map (λ row. with_length row.length n row) last
+lengthened (Length n) last = option_map (with_length (Some n)) last
 lengthened a last = last
 
 -- the rows from here on: the last one stays open until another starts, or the annotations end

@@ -1,7 +1,8 @@
 //! The rows of an inline site, made of its annotations one after the other.
 
 ghost use Rattle.std.specs.Prelude.{◌≡◌, IfErr, IfOk, None};
-ghost use Rattle.pdb_codeview.specs.InlineRows.{moved, moved_line, starts_row, own_length, closed, lengthened, new_row};
+ghost use Rattle.pdb_codeview.specs.InlineRows.{closed, lengthened, moved, moved_line, new_row, own_length, starts_row};
+ghost use Rattle.pdb_codeview.specs.InlineRows.{with_length};
 ghost use Rattle.pdb_codeview.specs.InlineRows.{rows_from};
 
 use crate::annotations::Annotation;
@@ -126,17 +127,21 @@ fn new_row(annotation: Annotation, position: RowPosition) -> InlineRow
     }
 }
 
+// A row, with this length where it had none.
+fn with_length(length: Option<u32>, row: InlineRow) -> InlineRow
+    ensures { result ≡ with_length length row }
+{
+    InlineRow {
+        length: row.length.or(length),
+        ..row
+    }
+}
+
 // The row before one that starts at this offset.
 fn closed(offset: u32, row: InlineRow) -> InlineRow
     ensures { result ≡ closed offset row }
 {
-    match row.length {
-        Some(_) => row,
-        None => InlineRow {
-            length: offset.checked_sub(row.offset),
-            ..row
-        },
-    }
+    with_length(offset.checked_sub(row.offset), row)
 }
 
 // The last row, with the length that the annotation behind it says.
@@ -144,13 +149,7 @@ fn lengthened(annotation: Annotation, last: Option<InlineRow>) -> Option<InlineR
     ensures { result ≡ lengthened annotation last }
 {
     match (annotation, last) {
-        (Annotation::Length(length), Some(row)) => match row.length {
-            Some(_) => last,
-            None => Some(InlineRow {
-                length: Some(length),
-                ..row
-            }),
-        },
+        (Annotation::Length(length), Some(row)) => Some(with_length(Some(length), row)),
         _ => last,
     }
 }

@@ -1,7 +1,8 @@
 -- Functions with their names and types, by where they start.
-use Rattle.std.specs.Prelude.{ℕ, ◌==◌, List, [], ◌∷◌, find, Option, Some, None, option_map, Result, Ok, Err}
+use Rattle.std.specs.Prelude.{ℕ, ◌==◌, List, [], ◌∷◌, find, Option, Some, None, option_map, Result, Ok}
 use Rattle.std.specs.List.{filter_map}
-use Rattle.std.specs.Option.{option_or}
+use Rattle.std.specs.Option.{option_map_or, option_or}
+use Rattle.std.specs.Result.{result_ok}
 use Rattle.pdb_records.specs.Readings.{Read}
 use Rattle.pdb_records.specs.declared.error.StreamError.{StreamError}
 use Rattle.pdb_records.specs.declared.symbols.Symbol.{Symbol}
@@ -44,11 +45,8 @@ abbrev pub function_in : ℕ → List ModuleOrFault → Option FunctionStart
 function_in place [] = None
 function_in place (read ∷ modules) = option_or (function_at place (symbols_of read)) (function_in place modules)
 
--- the symbols of a list that was read
-abbrev pub symbols_read : Result (Read Symbol) StreamError → List Symbol
-symbols_read (Ok list) = list.items
-symbols_read (Err fault) = []
-
 -- the function at a place: the first that modules list there, else the first public symbol of the whole program
 abbrev pub any_function : List ModuleOrFault → Result (Read Symbol) StreamError → ℕ → Option FunctionStart
-any_function modules globals place = option_or (function_in place modules) (function_at place (symbols_read globals))
+any_function modules globals place =
+    option_or (function_in place modules)
+    (function_at place (option_map_or (λ list. list.items) (result_ok globals) []))

@@ -1,8 +1,8 @@
 -- The info stream: the version, the streams that have names, and what a file lists that it has.
 use Rattle.std.specs.Prelude.{ℕ, zero, suc, ◌+◌, ◌*◌, ◌/◌, ◌==◌, ◌&&◌, ◌||◌, Bool, true, false, nat_lt, nat_le, List}
-use Rattle.std.specs.Prelude.{[], ◌∷◌, take, drop, length, find, Option, Some, None, Result, Ok, Err, if◌then◌else◌}
+use Rattle.std.specs.Prelude.{[], ◌∷◌, take, drop, length, find, Some, None, Result, Ok, Err, if◌then◌else◌}
 use Rattle.std.specs.List.{starts_with}
-use Rattle.std.specs.Option.{unwrap_or}
+use Rattle.std.specs.Option.{ok_or, option_map, unwrap_or}
 use Rattle.pdb_records.specs.Readings.{Read}
 use Rattle.pdb_records.specs.declared.error.StreamError.{StreamError}
 use Rattle.pdb_msf.specs.declared.faults.TheConstants.{CUT, NO_STREAM}
@@ -82,14 +82,12 @@ pairs (suc count) bytes =
 abbrev pub stands_at : List ℕ → List ℕ → ℕ → Bool
 stands_at all name place = nat_le place (length all) && starts_with (λ a b. a == b) (drop place all) name
 
--- the number of the stream that was found; where none was, the fault that the pairs end by, or that there is no stream
-abbrev pub found_or : Option StreamError → Option NamedStream → Result ℕ StreamError
-found_or fault (Some named) = Ok named.stream
-found_or fault None = Err (unwrap_or fault NO_STREAM)
-
--- the number of the first stream of these that has this name
+-- the number of the first stream of these that has this name; where none has, the fault that the pairs end by, or that
+-- there is no stream
 abbrev pub named_among : List ℕ → List ℕ → Read NamedStream → Result ℕ StreamError
-named_among all name listed = found_or listed.fault (find (λ named. stands_at all name named.name_place) listed.items)
+named_among all name listed =
+    ok_or (option_map (λ named. named.stream) (find (λ named. stands_at all name named.name_place) listed.items))
+    (unwrap_or listed.fault NO_STREAM)
 
 -- the number of the stream of this name, which has its zero behind it
 unfoldable pub named_in : List ℕ → List ℕ → Result ℕ StreamError

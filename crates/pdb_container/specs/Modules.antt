@@ -1,7 +1,7 @@
 -- A module's stream: its symbols, and the subsections of lines, files, inlinees, imports and exports.
 use Rattle.std.specs.Prelude.{ℕ, ◌==◌, nat_lt, List, [], ◌∷◌, take, drop, filter, find, length, map}
 use Rattle.std.specs.Prelude.{Option, Some, None, option_map, Result, Ok, Err, if◌then◌else◌}
-use Rattle.std.specs.Option.{option_or}
+use Rattle.std.specs.Option.{option_map_or, option_or}
 use Rattle.pdb_records.specs.Imports.{Imported}
 use Rattle.pdb_records.specs.LinePrograms.{Lines}
 use Rattle.pdb_records.specs.Readings.{Read}
@@ -103,11 +103,6 @@ line_subsections files (bytes ∷ rest) = do
   others ← line_subsections files rest
   Ok (first ∷ others)
 
--- a value, unless there is this fault
-abbrev pub unless_fault : {A : Type 0} → Option StreamError → Result A StreamError → Result A StreamError
-unless_fault None value = value
-unless_fault (Some error) value = Err error
-
 -- the line program of these entries and files
 abbrev pub program_of : List FileEntry → List Symbol → List LineSubsection → Lines
 program_of files symbols lines = record {
@@ -118,7 +113,7 @@ program_of files symbols lines = record {
 -- the line program of a module, by its subsections of lines (DEBUG_S_LINES, 0xf2), its files and its symbols: it fails
 -- with the list of subsections, with a subsection of files, and with the header of a subsection of lines
 abbrev pub line_program : Read SubsectionBytes → List Symbol → Result Lines StreamError
-line_program list symbols = unless_fault (option_or list.fault (files_of list).fault) (do
+line_program list symbols = option_map_or (λ error. Err error) (option_or list.fault (files_of list).fault) (do
   lines ← line_subsections (files_of list).items (all_of_kind 0xf2 list.items)
   Ok (program_of (files_of list).items symbols lines))
 

@@ -115,14 +115,12 @@ namings function_there room (code ∷ codes) =
           else namings function_there room codes
     ]
 
--- the kind of a symbol that becomes a procedure: of a jump that of a thunk, which has code
-abbrev pub named_kind : ℕ → ℕ
-named_kind raw_kind = if raw_kind == S_TRAMPOLINE then S_THUNK32 else raw_kind
-
--- a symbol that becomes this procedure
+-- a symbol that becomes this procedure: a jump has the kind of a thunk then, which has code
 abbrev pub named_symbol : ProcedureSymbol → Symbol → Symbol
-named_symbol procedure symbol =
-    record { raw_kind = named_kind symbol.raw_kind; content = Some (Procedure procedure) }
+named_symbol procedure symbol = record {
+  raw_kind = if symbol.raw_kind == S_TRAMPOLINE then S_THUNK32 else symbol.raw_kind;
+  content = Some (Procedure procedure);
+}
 
 -- the list with what becomes of an element, where there is one
 abbrev pub changed_at : {A : Type 0} → ℕ → (A → A) → List A → List A

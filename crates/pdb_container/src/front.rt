@@ -12,11 +12,13 @@ use crate::debug_records::{DebugRecords, debug_records};
 use crate::info::InfoStream;
 use crate::module_places::{ModuleInfoResult, ModulePlace, module_places};
 use crate::records::read_texts;
-use crate::type_lists::{TypeLists, id_list, type_list};
+use crate::type_lists::{
+    ItemList, PlacesOrFault, TypeLists, first_items, from_memory, id_list, type_list,
+};
 use pdb_msf::faults::{Fault, part_or_fault};
 use pdb_msf::{Container, nothing_read};
-use pdb_records::{IdInformation, ItemInformation, PDB, Reading, StreamError, TypeInformation};
-use pdb_tpi::{TypePlaces, no_ids, primitive_types};
+use pdb_records::{ItemInformation, PDB};
+use pdb_tpi::no_ids;
 use std::alloc::{AllocError, Global};
 
 /// The numbers of the streams that stand at fixed places.
@@ -75,48 +77,39 @@ fn records_without_modules(
         address_map: debug.address_map,
         global_symbols: debug.global_symbols,
         debug_information: debug.debug_information,
-        type_information: Ok(no_types(alloc)),
+        type_information: Ok(ItemInformation {
+            items: nothing_read(alloc, None),
+        }),
         id_information: Ok(no_ids(alloc)),
         string_table,
         module_infos,
     })
 }
 
-/// These lists of types and ids of a file, of which the second is `None` where the file has no ids. Puts into the records
-/// what they have without any of a stream.
+/// These lists of types and ids of a file. Puts into the records what they have without any of a stream.
 pub fn first_lists(
     alloc: Global,
     records: &mut PDB,
-    types: Result<TypePlaces, StreamError>,
-    ids: Result<Option<TypePlaces>, StreamError>,
+    types: PlacesOrFault,
+    ids: PlacesOrFault,
 ) -> Result<TypeLists, Fault>
     ensures front { SameFront records.old records.new }
     ensures memory { IfErr result (λ fault. fault ≡ Fault.OutOfMemory) }
 {
-    records.type_information = first_types(alloc, &types)?;
-    records.id_information = first_ids(alloc, &ids);
-    Ok(TypeLists::new(alloc, types.ok(), ids.unwrap_or(None)))
-}
-
-// A list without types.
-fn no_types(alloc: Global) -> TypeInformation {
-    ItemInformation {
-        items: nothing_read(alloc, None),
-    }
+    records.type_information = first_items(alloc, &types)?;
+    records.id_information = first_items(alloc, &ids)?;
+    Ok(TypeLists {
+        types: ItemList::new(alloc, types),
+        ids: ItemList::new(alloc, ids),
+    })
 }
 
 /// The types of a container.
-pub fn types_of(
-    alloc: Global,
-    container: &Container<'_>,
-) -> Result<Result<TypePlaces, StreamError>, Fault>
+pub fn types_of(alloc: Global, container: &Container<'_>) -> Result<PlacesOrFault, Fault>
     ensures memory { IfErr result (λ fault. fault ≡ Fault.OutOfMemory) }
 {
     let blocks = part_or_fault(container.blocks(alloc, TYPES))?;
-    match type_list(alloc, &mut container.file(), blocks) {
-        Ok(types) => Ok(types),
-        Err(_) => Err(Fault::OutOfMemory),
-    }
+    from_memory(type_list(alloc, &mut container.file(), blocks))
 }
 
 /// The ids of a container, where the file lists that it has ids.
@@ -124,47 +117,14 @@ pub fn ids_of(
     alloc: Global,
     container: &Container<'_>,
     info: &InfoStream<'_>,
-) -> Result<Result<Option<TypePlaces>, StreamError>, Fault>
+) -> Result<PlacesOrFault, Fault>
     ensures memory { IfErr result (λ fault. fault ≡ Fault.OutOfMemory) }
 {
     if !info.features().ids {
         return Ok(Ok(None));
     }
     let blocks = part_or_fault(container.blocks(alloc, IDS))?;
-    match id_list(alloc, &mut container.file(), blocks) {
-        Ok(ids) => Ok(ids),
-        Err(_) => Err(Fault::OutOfMemory),
-    }
-}
-
-// The types without any of a stream.
-fn first_types(
-    alloc: Global,
-    types: &Result<TypePlaces, StreamError>,
-) -> Result<Result<TypeInformation, StreamError>, AllocError> {
-    match types {
-        Ok(list) => Ok(Ok(ItemInformation {
-            items: Reading {
-                items: primitive_types(alloc)?,
-                fault: list.fault(),
-            },
-        })),
-        Err(error) => Ok(Err(*error)),
-    }
-}
-
-// The ids without any of a stream.
-fn first_ids(
-    alloc: Global,
-    ids: &Result<Option<TypePlaces>, StreamError>,
-) -> Result<IdInformation, StreamError> {
-    match ids {
-        Ok(Some(list)) => Ok(ItemInformation {
-            items: nothing_read(alloc, list.fault()),
-        }),
-        Ok(None) => Ok(no_ids(alloc)),
-        Err(error) => Err(*error),
-    }
+    from_memory(id_list(alloc, &mut container.file(), blocks))
 }
 
 /// Of so many modules that none was read.

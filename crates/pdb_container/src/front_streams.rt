@@ -4,12 +4,10 @@ use crate::debug_records::{DEBUG, SECTIONS, debug_stream};
 use crate::front::{IDS, TYPES};
 use crate::info::{INFO, InfoStream};
 use crate::records::NAMES;
-use crate::type_lists::{id_list, type_list};
+use crate::type_lists::{PlacesOrFault, id_list, type_list};
 use pdb_dbi::{optional_stream, read_header, stream_number};
 use pdb_msf::faults::{Fault, part_or_fault};
 use pdb_msf::{Container, Excerpt, Source, SourceFault, StreamMap};
-use pdb_records::StreamError;
-use pdb_tpi::TypePlaces;
 use std::alloc::Global;
 
 /// The streams of a file that are read before any of its modules.
@@ -19,9 +17,9 @@ pub struct FrontStreams {
     /// All but types and ids.
     pub excerpt: Excerpt,
     /// Where the types start, whose bytes stay in the file.
-    pub types: Result<TypePlaces, StreamError>,
+    pub types: PlacesOrFault,
     /// The same of ids; `None` of a file without ids.
-    pub ids: Result<Option<TypePlaces>, StreamError>,
+    pub ids: PlacesOrFault,
 }
 
 impl FrontStreams {

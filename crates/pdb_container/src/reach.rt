@@ -1,12 +1,14 @@
 //! Which types and ids answers over modules depend on: those that their functions name, with all that these lead to.
 
-use crate::type_lists::{TypeLists, mark, position_of, unmarked};
+ghost use Rattle.std.specs.Prelude.{◌≡◌};
+ghost use Rattle.pdb_container.specs.Reader.{SameFront};
+
+use crate::type_lists::{TypeLists, mark, put_marked};
 use pdb_msf::{Source, SourceFault};
 use pdb_records::{
-    IdData, IdIndex, IdInformation, Item, ItemInformation, ModuleInfo, RawString, Reading, Symbol,
-    SymbolData, TypeData, TypeIndex, TypeInformation,
+    IdData, IdIndex, Item, ModuleInfo, PDB, RawString, Symbol, SymbolData, TypeData, TypeIndex,
 };
-use pdb_tpi::{RecordWindow, TypePlaces, primitive_types};
+use pdb_tpi::RecordWindow;
 use std::alloc::{AllocError, Global};
 use std::collections::BTreeSet;
 
@@ -35,9 +37,9 @@ impl Reach {
     /// A reach of nothing.
     pub fn new(alloc: Global, lists: &TypeLists) -> Result<Self, AllocError> {
         Ok(Reach {
-            types: unmarked(alloc, &lists.types)?,
-            sizes: unmarked(alloc, &lists.types)?,
-            ids: unmarked(alloc, &lists.ids)?,
+            types: lists.types.unmarked(alloc)?,
+            sizes: lists.types.unmarked(alloc)?,
+            ids: lists.ids.unmarked(alloc)?,
             steps: Vec::new(alloc),
             names: BTreeSet::new(alloc),
             looks: false,
@@ -82,13 +84,13 @@ impl Reach {
         source: &mut S,
         lists: &TypeLists,
     ) -> Result<(), SourceFault> {
-        if let Some(list) = &lists.types
+        if let Some(list) = &lists.types.places
             && self.looks
         {
             let mut window = RecordWindow::of_many(alloc);
             for (position, reached) in self.types.iter_mut().enumerate() {
                 if !*reached && list.is_definition(source, &mut window, position)? {
-                    let item = list.type_at(alloc, source, &mut window, position)?;
+                    let item = list.item_at(alloc, source, &mut window, position)?;
                     *reached = has_name(item, &self.names);
                 }
             }
@@ -97,48 +99,31 @@ impl Reach {
         Ok(())
     }
 
-    /// The types that are reached, with the primitives in front of them.
-    pub fn type_information<S: Source>(
+    /// Puts into the records the types and the ids that are reached.
+    pub fn put_items<S: Source>(
         &self,
         alloc: Global,
         source: &mut S,
-        list: &TypePlaces,
-    ) -> Result<TypeInformation, SourceFault> {
-        let mut window = RecordWindow::of_few(alloc);
-        let mut items = primitive_types(alloc)?;
-        for (position, reached) in self.types.iter().enumerate() {
-            if *reached && let Some(item) = list.type_at(alloc, source, &mut window, position)? {
-                items.push(item)?;
-            }
-        }
-        Ok(ItemInformation {
-            items: Reading {
-                items,
-                fault: list.fault(),
-            },
-        })
-    }
-
-    /// The ids that are reached.
-    pub fn id_information<S: Source>(
-        &self,
-        alloc: Global,
-        source: &mut S,
-        list: &TypePlaces,
-    ) -> Result<IdInformation, SourceFault> {
-        let mut window = RecordWindow::of_few(alloc);
-        let mut items = Vec::new(alloc);
-        for (position, reached) in self.ids.iter().enumerate() {
-            if *reached && let Some(item) = list.id_at(alloc, source, &mut window, position)? {
-                items.push(item)?;
-            }
-        }
-        Ok(ItemInformation {
-            items: Reading {
-                items,
-                fault: list.fault(),
-            },
-        })
+        lists: &TypeLists,
+        records: &mut PDB,
+    ) -> Result<(), SourceFault>
+        ensures front { SameFront records.old records.new }
+        ensures modules { records.new.module_infos ≡ records.old.module_infos }
+    {
+        put_marked(
+            alloc,
+            source,
+            &lists.types,
+            &self.types,
+            &mut records.type_information,
+        )?;
+        put_marked(
+            alloc,
+            source,
+            &lists.ids,
+            &self.ids,
+            &mut records.id_information,
+        )
     }
 
     fn add_symbol(&mut self, lists: &TypeLists, symbol: &Symbol) -> Result<(), AllocError> {
@@ -150,7 +135,7 @@ impl Reach {
     }
 
     fn add_type(&mut self, lists: &TypeLists, index: TypeIndex) -> Result<(), AllocError> {
-        if let Some(position) = position_of(&lists.types, index.0)
+        if let Some(position) = lists.types.position_of(index.0)
             && mark(&mut self.types, position)
         {
             self.steps.push(Step::Type(position))?;
@@ -159,7 +144,7 @@ impl Reach {
     }
 
     fn add_size(&mut self, lists: &TypeLists, index: TypeIndex) -> Result<(), AllocError> {
-        if let Some(position) = position_of(&lists.types, index.0)
+        if let Some(position) = lists.types.position_of(index.0)
             && mark(&mut self.sizes, position)
         {
             self.steps.push(Step::Size(position))?;
@@ -168,7 +153,7 @@ impl Reach {
     }
 
     fn add_id(&mut self, lists: &TypeLists, index: IdIndex) -> Result<(), AllocError> {
-        if let Some(position) = position_of(&lists.ids, index.0)
+        if let Some(position) = lists.ids.position_of(index.0)
             && mark(&mut self.ids, position)
         {
             self.steps.push(Step::Id(position))?;
@@ -204,53 +189,29 @@ impl Reach {
     ) -> Result<(), SourceFault> {
         match step {
             Step::Type(position) => {
-                let item = lists.type_at(alloc, source, position)?;
-                self.follow_type(lists, &item)?;
+                let item = lists
+                    .types
+                    .item_at::<TypeIndex, S>(alloc, source, position)?;
+                if let Some(data) = content_of(&item) {
+                    self.add_types_of(lists, data)?;
+                }
             }
             Step::Size(position) => {
-                let item = lists.type_at(alloc, source, position)?;
-                self.follow_size(alloc, lists, &item)?;
+                let item = lists
+                    .types
+                    .item_at::<TypeIndex, S>(alloc, source, position)?;
+                if let Some(data) = content_of(&item) {
+                    self.add_size_of(alloc, lists, data)?;
+                }
             }
             Step::Id(position) => {
-                let item = lists.id_at(alloc, source, position)?;
-                self.follow_id(lists, &item)?;
+                let item = lists.ids.item_at::<IdIndex, S>(alloc, source, position)?;
+                if let Some(data) = content_of(&item) {
+                    self.add_types_of_id(lists, data)?;
+                }
             }
         }
         Ok(())
-    }
-
-    fn follow_type(
-        &mut self,
-        lists: &TypeLists,
-        item: &Option<Item<TypeIndex, TypeData>>,
-    ) -> Result<(), AllocError> {
-        match content_of(item) {
-            Some(data) => self.add_types_of(lists, data),
-            None => Ok(()),
-        }
-    }
-
-    fn follow_size(
-        &mut self,
-        alloc: Global,
-        lists: &TypeLists,
-        item: &Option<Item<TypeIndex, TypeData>>,
-    ) -> Result<(), AllocError> {
-        match content_of(item) {
-            Some(data) => self.add_size_of(alloc, lists, data),
-            None => Ok(()),
-        }
-    }
-
-    fn follow_id(
-        &mut self,
-        lists: &TypeLists,
-        item: &Option<Item<IdIndex, IdData>>,
-    ) -> Result<(), AllocError> {
-        match content_of(item) {
-            Some(data) => self.add_types_of_id(lists, data),
-            None => Ok(()),
-        }
     }
 
     // The types that a type is printed with, and what has the size of an array's elements.

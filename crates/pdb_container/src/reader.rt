@@ -16,11 +16,10 @@ use crate::module_source::ModuleSource;
 use crate::reach::Reach;
 use crate::records::PdbFile;
 use crate::refusals::refusal_of;
-use crate::type_lists::{TypeLists, put_all_items};
+use crate::type_lists::{PlacesOrFault, TypeLists, put_all_items};
 use pdb_msf::faults::Fault;
 use pdb_msf::{Container, Source, SourceFault};
-use pdb_records::{PDB, StreamError};
-use pdb_tpi::TypePlaces;
+use pdb_records::PDB;
 use std::alloc::{AllocError, Global};
 use std::marker::Model;
 
@@ -92,8 +91,8 @@ impl PdbReader {
         info: &InfoStream<'_>,
         file_length: usize,
         front: Front,
-        types: Result<TypePlaces, StreamError>,
-        ids: Result<Option<TypePlaces>, StreamError>,
+        types: PlacesOrFault,
+        ids: PlacesOrFault,
     ) -> Result<(Self, PdbFile), Fault>
         ensures places { IfOk result (λ opened. opened.0 ≡ front.places.items) }
         ensures front { IfOk result (λ opened. SameFront front.records opened.1.records) }
@@ -179,8 +178,7 @@ impl PdbReader {
         }
         let imported = self.read_imported(alloc, modules, records, &positions)?;
         self.reach_modules(alloc, modules, &records.module_infos, &positions, &imported)?;
-        self.put_types(alloc, modules, records)?;
-        self.put_ids(alloc, modules, records)?;
+        self.reach.put_items(alloc, modules, &self.lists, records)?;
         set_read(&mut self.read, &positions);
         Ok(positions)
     }
@@ -287,44 +285,6 @@ impl PdbReader {
         add_exports(alloc, source, reach, lists, infos, imported)?;
         add_modules(alloc, source, reach, lists, infos, positions)?;
         reach.add_definitions(alloc, source, lists)
-    }
-
-    // Puts into the records the types that are reached.
-    fn put_types<S: Source>(
-        &self,
-        alloc: Global,
-        source: &mut S,
-        records: &mut PDB,
-    ) -> Result<(), SourceFault>
-        ensures front { SameFront records.old records.new }
-        ensures modules { records.new.module_infos ≡ records.old.module_infos }
-    {
-        match &self.lists.types {
-            Some(list) => {
-                records.type_information = Ok(self.reach.type_information(alloc, source, list)?);
-                Ok(())
-            }
-            None => Ok(()),
-        }
-    }
-
-    // Puts into the records the ids that are reached.
-    fn put_ids<S: Source>(
-        &self,
-        alloc: Global,
-        source: &mut S,
-        records: &mut PDB,
-    ) -> Result<(), SourceFault>
-        ensures front { SameFront records.old records.new }
-        ensures modules { records.new.module_infos ≡ records.old.module_infos }
-    {
-        match &self.lists.ids {
-            Some(list) => {
-                records.id_information = Ok(self.reach.id_information(alloc, source, list)?);
-                Ok(())
-            }
-            None => Ok(()),
-        }
     }
 
     // Puts into the records all types and ids, and gives back the lists that they stand in, and what was reached.

@@ -8,20 +8,17 @@ ghost use Rattle.pdb_msf.specs.Faults.{Gives, Opens};
 ghost use Rattle.pdb_msf.specs.Msf.{stream_of};
 
 use crate::debug_records::debug_records;
+use crate::front::{IDS, TYPES};
 use crate::info::InfoStream;
 use crate::module_infos::module_infos;
 use crate::refusals::{Refusal, refusal_of};
 use crate::strings::read_strings;
+use crate::type_lists::from_memory;
 use pdb_msf::faults::{Fault, NO_STREAM, part_or_fault};
 use pdb_msf::{Container, ContainerFault};
 use pdb_records::{IdInformation, PDB, StringTable, TypeInformation};
-use pdb_tpi::{no_ids, read_ids, read_types};
+use pdb_tpi::{no_ids, read_items};
 use std::alloc::Global;
-
-/// The numbers of the streams that stand at fixed places.
-const TYPES: u32 = 2;
-
-const IDS: u32 = 4;
 
 /// The name of the stream of texts, with the zero behind it.
 pub const NAMES: [u8; 7] = *b"/names\0";
@@ -113,8 +110,8 @@ pub fn read_texts(
 fn type_information(alloc: Global, container: &Container<'_>) -> Result<TypeInformation, Fault>
     ensures { Gives (λ types. types) result (type_information container.now) }
 {
-    let stream = container.stream(alloc, TYPES)?;
-    read_types(alloc, stream)
+    let blocks = container.blocks(alloc, TYPES)?;
+    Ok(from_memory(read_items(alloc, &mut container.file(), blocks))??)
 }
 
 // The ids. A file that doesn't list that it has ids, as those from before there were any, has none.
@@ -130,8 +127,9 @@ fn id_information(
     if !info.features().ids {
         return Ok(no_ids(alloc));
     }
-    match part_or_fault(container.stream(alloc, IDS))? {
-        Ok(stream) => read_ids(alloc, stream),
+    match part_or_fault(container.blocks(alloc, IDS))? {
+        Ok(blocks) if blocks.len() == 0 => Ok(no_ids(alloc)),
+        Ok(blocks) => Ok(from_memory(read_items(alloc, &mut container.file(), blocks))??),
         Err(NO_STREAM) => Ok(no_ids(alloc)),
         Err(error) => Err(Fault::Broken(error)),
     }

@@ -1,59 +1,71 @@
 //! The lists of types and of ids of a PDB file, and marks of their records.
 
-ghost use Rattle.std.specs.Prelude.{◌≡◌};
+ghost use Rattle.std.specs.Prelude.{◌≡◌, Ok, IfErr, IfOk};
 ghost use Rattle.pdb_container.specs.Reader.{SameFront};
 
-use pdb_msf::faults::NO_STREAM;
+use pdb_msf::faults::{Fault, NO_STREAM};
 use pdb_msf::{Source, SourceFault, StreamBlocks};
-use pdb_records::{IdData, IdIndex, Item, PDB, StreamError, TypeData, TypeIndex};
-use pdb_tpi::{RecordWindow, TypePlaces};
+use pdb_records::{Item, ItemInformation, PDB, Reading, StreamError};
+use pdb_tpi::{ItemIndex, RecordWindow, TypePlaces};
 use std::alloc::{AllocError, Global};
 
-/// The lists of types and of ids of a file, where they can be read, and windows through which single records are read.
+/// What a file has of types, or of ids: where their records start, if there are any, or why they can't be read.
+pub type PlacesOrFault = Result<Option<TypePlaces>, StreamError>;
+
+/// A list of types or of ids of a file, where it can be read, and a window through which single records are read.
 #[derive(Drop)]
-pub struct TypeLists {
-    pub types: Option<TypePlaces>,
-    pub ids: Option<TypePlaces>,
-    type_window: RecordWindow,
-    id_window: RecordWindow,
+pub struct ItemList {
+    pub places: Option<TypePlaces>,
+    window: RecordWindow,
 }
 
-impl TypeLists {
-    /// These lists.
-    pub fn new(alloc: Global, types: Option<TypePlaces>, ids: Option<TypePlaces>) -> Self {
-        TypeLists {
-            types,
-            ids,
-            type_window: RecordWindow::of_few(alloc),
-            id_window: RecordWindow::of_few(alloc),
+impl ItemList {
+    /// This list.
+    pub fn new(alloc: Global, places: PlacesOrFault) -> Self {
+        ItemList {
+            places: places.unwrap_or(None),
+            window: RecordWindow::of_few(alloc),
         }
     }
 
-    /// The type at a position of the list.
-    pub fn type_at<S: Source>(
+    /// The item at a position of the list.
+    pub fn item_at<I: ItemIndex, S: Source>(
         &mut self,
         alloc: Global,
         source: &mut S,
         position: usize,
-    ) -> Result<Option<Item<TypeIndex, TypeData>>, SourceFault> {
-        match &self.types {
-            Some(list) => list.type_at(alloc, source, &mut self.type_window, position),
+    ) -> Result<Option<Item<I, I::Data>>, SourceFault> {
+        match &self.places {
+            Some(places) => places.item_at(alloc, source, &mut self.window, position),
             None => Ok(None),
         }
     }
 
-    /// The id at a position of the list.
-    pub fn id_at<S: Source>(
-        &mut self,
-        alloc: Global,
-        source: &mut S,
-        position: usize,
-    ) -> Result<Option<Item<IdIndex, IdData>>, SourceFault> {
-        match &self.ids {
-            Some(list) => list.id_at(alloc, source, &mut self.id_window, position),
-            None => Ok(None),
+    /// A mark for each record.
+    pub fn unmarked(&self, alloc: Global) -> Result<Vec<bool>, AllocError> {
+        let length = match &self.places {
+            Some(places) => places.len(),
+            None => 0,
+        };
+        let mut marks = Vec::new(alloc);
+        marks.resize(length, false)?;
+        Ok(marks)
+    }
+
+    /// The position at which the record of an index would stand.
+    pub fn position_of(&self, index: u32) -> Option<usize> {
+        match &self.places {
+            Some(places) => Some(index.checked_sub(places.first())? as usize),
+            None => None,
         }
     }
+}
+
+/// The lists of types and of ids of a file.
+#[derive(Drop)]
+pub struct TypeLists {
+    pub types: ItemList,
+    pub ids: ItemList,
 }
 
 /// The list of types that the stream in these blocks is.
@@ -61,9 +73,12 @@ pub fn type_list<S: Source>(
     alloc: Global,
     source: &mut S,
     blocks: Result<StreamBlocks, StreamError>,
-) -> Result<Result<TypePlaces, StreamError>, SourceFault> {
+) -> Result<PlacesOrFault, SourceFault> {
     match blocks {
-        Ok(blocks) => TypePlaces::read(alloc, source, blocks),
+        Ok(blocks) => match TypePlaces::read(alloc, source, blocks)? {
+            Ok(places) => Ok(Ok(Some(places))),
+            Err(error) => Ok(Err(error)),
+        },
         Err(error) => Ok(Err(error)),
     }
 }
@@ -74,27 +89,23 @@ pub fn id_list<S: Source>(
     alloc: Global,
     source: &mut S,
     blocks: Result<StreamBlocks, StreamError>,
-) -> Result<Result<Option<TypePlaces>, StreamError>, SourceFault> {
+) -> Result<PlacesOrFault, SourceFault> {
     match blocks {
         Ok(blocks) if blocks.len() == 0 => Ok(Ok(None)),
-        Ok(blocks) => match TypePlaces::read(alloc, source, blocks)? {
-            Ok(list) => Ok(Ok(Some(list))),
-            Err(error) => Ok(Err(error)),
-        },
         Err(NO_STREAM) => Ok(Ok(None)),
-        Err(error) => Ok(Err(error)),
+        blocks => type_list(alloc, source, blocks),
     }
 }
 
-/// A mark for each record of a list.
-pub fn unmarked(alloc: Global, list: &Option<TypePlaces>) -> Result<Vec<bool>, AllocError> {
-    let length = match list {
-        Some(list) => list.len(),
-        None => 0,
-    };
-    let mut marks = Vec::new(alloc);
-    marks.resize(length, false)?;
-    Ok(marks)
+/// What is read from memory, all of which can be read.
+pub fn from_memory<T>(outcome: Result<T, SourceFault>) -> Result<T, Fault>
+    ensures answer { IfOk result (λ value. outcome ≡ Ok value) }
+    ensures memory { IfErr result (λ fault. fault ≡ Fault.OutOfMemory) }
+{
+    match outcome {
+        Ok(value) => Ok(value),
+        Err(_) => Err(Fault::OutOfMemory),
+    }
 }
 
 /// Sets a mark. Answers whether it was not set.
@@ -108,12 +119,48 @@ pub fn mark(marks: &mut [bool], position: usize) -> bool {
     }
 }
 
-/// The position in a list at which the record of an index would stand.
-pub fn position_of(list: &Option<TypePlaces>, index: u32) -> Option<usize> {
-    match list {
-        Some(list) => Some(index.checked_sub(list.first())? as usize),
-        None => None,
+/// The items that every list has in front of those of a stream, and why those of this list end early, or can't be read.
+pub fn first_items<I: ItemIndex>(
+    alloc: Global,
+    list: &PlacesOrFault,
+) -> Result<Result<ItemInformation<I, I::Data>, StreamError>, AllocError> {
+    let fault = match list {
+        Ok(Some(places)) => places.fault(),
+        Ok(None) => None,
+        Err(error) => return Ok(Err(*error)),
+    };
+    let items = I::first_items(alloc)?;
+    Ok(Ok(ItemInformation {
+        items: Reading { items, fault },
+    }))
+}
+
+/// The marked items of a list, with those that every list has in front of them, in place of others, if the list can be
+/// read.
+pub fn put_marked<I: ItemIndex, S: Source>(
+    alloc: Global,
+    source: &mut S,
+    list: &ItemList,
+    marks: &[bool],
+    information: &mut Result<ItemInformation<I, I::Data>, StreamError>,
+) -> Result<(), SourceFault> {
+    let Some(places) = &list.places else {
+        return Ok(());
+    };
+    let mut window = RecordWindow::of_few(alloc);
+    let mut items = I::first_items(alloc)?;
+    for (position, marked) in marks.iter().enumerate() {
+        if *marked && let Some(item) = places.item_at(alloc, source, &mut window, position)? {
+            items.push(item)?;
+        }
     }
+    *information = Ok(ItemInformation {
+        items: Reading {
+            items,
+            fault: places.fault(),
+        },
+    });
+    Ok(())
 }
 
 /// Puts into the records all types and ids, and gives back the lists that they stand in.
@@ -126,40 +173,25 @@ pub fn put_all_items<S: Source>(
     ensures front { SameFront records.old records.new }
     ensures modules { records.new.module_infos ≡ records.old.module_infos }
 {
-    put_all_types(alloc, source, lists, records)?;
-    put_all_ids(alloc, source, lists, records)
+    put_all(
+        alloc,
+        source,
+        &mut lists.types,
+        &mut records.type_information,
+    )?;
+    put_all(alloc, source, &mut lists.ids, &mut records.id_information)
 }
 
-// Puts all types into the records.
-fn put_all_types<S: Source>(
+// All items of a list in place of others, if the list can be read.
+fn put_all<I: ItemIndex, S: Source>(
     alloc: Global,
     source: &mut S,
-    lists: &mut TypeLists,
-    records: &mut PDB,
-) -> Result<(), SourceFault>
-    ensures front { SameFront records.old records.new }
-    ensures modules { records.new.module_infos ≡ records.old.module_infos }
-{
-    if let Some(list) = &lists.types {
-        records.type_information = Ok(list.all_types(alloc, source)?);
+    list: &mut ItemList,
+    information: &mut Result<ItemInformation<I, I::Data>, StreamError>,
+) -> Result<(), SourceFault> {
+    if let Some(places) = &list.places {
+        *information = Ok(places.all_items(alloc, source)?);
     }
-    lists.types = None;
-    Ok(())
-}
-
-// Puts all ids into the records.
-fn put_all_ids<S: Source>(
-    alloc: Global,
-    source: &mut S,
-    lists: &mut TypeLists,
-    records: &mut PDB,
-) -> Result<(), SourceFault>
-    ensures front { SameFront records.old records.new }
-    ensures modules { records.new.module_infos ≡ records.old.module_infos }
-{
-    if let Some(list) = &lists.ids {
-        records.id_information = Ok(list.all_ids(alloc, source)?);
-    }
-    lists.ids = None;
+    list.places = None;
     Ok(())
 }

@@ -62,15 +62,11 @@ abbrev pub is_refused : {A E : Type 0} → Result A E → Bool
 is_refused (Ok answer) = false
 is_refused (Err e) = true
 
--- the lines of the function at a start could not be read
-abbrev pub has_broken_lines : Lines → PdbInternalSectionOffset → Bool
-has_broken_lines program start = is_refused (function_rows program start)
-
 -- the part that is to blame where it is refused where a function's code comes from, once it is known what is known of
 -- the module's code: the function's lines, else its inline ranges
 abbrev pub blame_after_info : ℕ → PdbInternalSectionOffset → Result Lines Error → CodePart
 blame_after_info m start (Ok program) =
-    if has_broken_lines program start then part.Lines m start else part.InlineRanges m start
+    if is_refused (function_rows program start) then part.Lines m start else part.InlineRanges m start
 blame_after_info m start (Err e) = part.ExtendedInfo m
 
 -- the part that is to blame where it is refused where a function's code comes from: what is known of the module's code,

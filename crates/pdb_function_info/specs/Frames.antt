@@ -2,6 +2,7 @@
 use Rattle.std.specs.Prelude.{◌≢◌, ℕ, ◌-◌, List, [], ◌∷◌, ◌++◌, Option, Some, None, Result}
 use Rattle.std.specs.Prelude.{Ok, Err, map, reverse, fold, option_map, option_and_then}
 use Rattle.std.specs.Option.{option_map_or}
+use Rattle.std.specs.Result.{result_ok}
 use Rattle.pdb_records.specs.Addresses.{rva}
 use Rattle.pdb_records.specs.LinePrograms.{Lines}
 use Rattle.pdb_records.specs.declared.addresses.AddressRange.{AddressRange}
@@ -92,15 +93,11 @@ info_of_frames info type_inputs strings sections globals records found x =
 abbrev pub failed_by_ids : (IdIndex → Parts → Parts) → List InlineRange → Parts → Parts
 failed_by_ids failed_by ranges failed = fold (λ before range. failed_by range.inlinee before) failed ranges
 
--- the inlined bodies over code, where it is known where that comes from
-abbrev pub bodies_of : Result Origin Error → List InlineRange
-bodies_of (Ok o) = o.stack
-bodies_of (Err e) = []
-
 -- the inlined bodies over an offset of a function: none where there are no records of its module, and where it is
 -- refused where the code comes from
 abbrev pub bodies_over : Option ModuleInfo → FoundFunction → ℕ → List InlineRange
-bodies_over records found x = option_map_or (λ info. bodies_of (origin info found x)) records []
+bodies_over records found x =
+    option_map_or (λ o. o.stack) (option_and_then (λ info. result_ok (origin info found x)) records) []
 
 -- the parts that failed once a function's frames are answered: first those by its own name, then those by the names of
 -- the inlined bodies

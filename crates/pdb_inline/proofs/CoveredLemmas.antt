@@ -1,11 +1,10 @@
 -- The list of covered runs, of which the last ones are the top.
-use Rattle.std.proofs.Common.{◌≡◌, ◌∙◌, ℕ, suc, ◌-◌, ◌<◌, ◌≤◌, Bool, true, ltb, ◌||◌, ◌&&◌, List, [], ◌∷◌, ◌++◌, Some}
+use Rattle.std.proofs.Common.{◌≡◌, ◌∙◌, ℕ, suc, ◌-◌, ◌<◌, ◌≤◌, Bool, ◌||◌, ◌&&◌, List, [], ◌∷◌, ◌++◌, Some}
 use Rattle.std.proofs.Common.{length, take, refl, sym, arith, drop-cons}
 use Rattle.std.specs.List.{slice_get}
 use Rattle.std.specs.Prelude.{nat_lt}
-use Rattle.std.proofs.Math.ListN.{drop_of_length-le}
-use Rattle.std.proofs.lemmas.Bool.{lt-ltb}
-use Rattle.std.proofs.lemmas.List.{reverse-append, take-append-drop}
+use Rattle.std.proofs.lemmas.Bool.Decides.{nat_tests}
+use Rattle.std.proofs.lemmas.List.{drop_all, reverse-append, take-append-drop}
 use Rattle.std.proofs.lemmas.Option.{get_or_from_slice_get, slice_get_within}
 use Rattle.pdb_tables.specs.RangeSet.{is_within, has}
 use Rattle.pdb_tables.proofs.HasLemmas.{has-append}
@@ -21,8 +20,7 @@ ends_with xs n x len last =
     ∙ rw (
       drop-cons xs (n - 1) x within,
       get_or_from_slice_get xs (n - 1) x x last,
-      drop_of_length-le xs
-          {i = suc (n - 1)} (omega arith),
+      drop_all (suc (n - 1)) xs (omega arith),
     )
 
 -- a run that is pushed is the top
@@ -36,5 +34,5 @@ pub take_top : (depth d x : ℕ) (before : Bool) (taken : List (ℕ × ℕ)) (st
     → before ≡ (has taken x || is_on_stack d stack x) → stack ≡ rest ++ run ∷ [] → d ≤ depth → depth < run.depth
     → before ≡ (has (taken ++ (run.start, run.end) ∷ []) x || is_on_stack d rest x)
 take_top depth d x before taken stack rest run was is below deeper =
-    let at_top : ltb d run.depth ≡ true = lt-ltb d run.depth (omega arith) in
-    was ∙ rw (is, is_on_stack-push d rest run x, at_top, has-append taken ((run.start, run.end) ∷ []) x) (grind arith)
+    was ∙ rw (is, is_on_stack-push d rest run x, has-append taken ((run.start, run.end) ∷ []) x)
+    (grind (arith, nat_tests))

@@ -1,5 +1,6 @@
 pub mod SiteLemmas
 pub mod CoveredLemmas
+pub mod ContainedLemmas
 pub mod NestingLemmas
 pub mod InsideLemmas
 pub mod InlineRangeLemmas
@@ -9,7 +10,6 @@ pub mod WellNestedLemmas
 pub mod DirectlyInsideLemmas
 pub mod StackEntryLemmas
 pub mod PickedLemmas
-pub mod PickedSlotLemmas
 pub mod LastPickedLemmas
 pub mod DepthTableLemmas
 pub mod RangeBoundLemmas

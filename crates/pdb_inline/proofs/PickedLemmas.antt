@@ -1,25 +1,20 @@
 -- The stack that the ranges make which are picked at their depths.
-use Rattle.std.proofs.Common.{◌≡◌, ◌∙◌, ℕ, suc, ◌+◌, ◌-◌, ◌<◌, List, [], ◌∷◌, ◌++◌, append_assoc, refl, ap, arith, inl}
-use Rattle.std.proofs.Common.{inr}
-use Rattle.std.specs.Prelude.{Some, is_some}
-use Rattle.std.proofs.lemmas.Bool.{cases_lt}
+use Rattle.std.proofs.Common.{◌≡◌, ◌∙◌, ℕ, suc, ◌+◌, ◌-◌, ◌<◌, ◌≤◌, false, List, [], ◌∷◌, ◌++◌, length, append_assoc}
+use Rattle.std.proofs.Common.{Option, refl, arith}
+use Rattle.std.specs.Borrow.{Bor}
+use Rattle.std.specs.Prelude.{Some, None}
 use Rattle.pdb_tables.specs.Pick.{pick}
 use Rattle.pdb_inline.specs.declared.inline_ranges.InlineRange.{InlineRange}
-use Rattle.pdb_inline.specs.InlineStacks.{lies_over, depths, stack_from}
+use Rattle.pdb_inline.specs.InlineStacks.{lies_over, has_range_over, depths, stack_from}
+use Rattle.pdb_inline.specs.PickedSlots.{picked_at}
 use Rattle.pdb_inline.proofs.InlineStackLemmas.{is_some-pick, no_range_past}
 
 -- a depth at which a range is picked is one of the depths of the ranges
 pub picked_below : (ranges : List InlineRange) (d x : ℕ) (range : InlineRange)
     → pick (lies_over d x) (λ r. r.start_offset) ranges ≡ Some range → d < depths ranges
 picked_below ranges d x range picked =
-    elim (cases_lt d (depths ranges)) [
-      | inl below ↦ below
-      | inr past ↦
-          let none = no_range_past ranges d x past in
-          let there = is_some-pick (lies_over d x) (λ (r : InlineRange). r.start_offset) ranges in
-          let some = ap is_some picked in
-          absurd cc
-    ]
+    let none : depths ranges ≤ d → has_range_over ranges d x ≡ false = no_range_past ranges d x in
+    let there = is_some-pick (lies_over d x) (λ (r : InlineRange). r.start_offset) ranges in grind arith
 
 -- with the range that is picked at a depth, a stack goes on at the next one
 pub stack_more : (ranges : List InlineRange) (d x : ℕ) (range : InlineRange)
@@ -38,3 +33,13 @@ pub stack_step : (ranges : List InlineRange) (d x : ℕ) (range : InlineRange) (
 stack_step ranges d x range stack more whole picked all is =
     let rest = stack_from (depths ranges - (d + 1)) ranges x (d + 1) in
     rw is (append_assoc stack (range ∷ []) rest ∙ rw (stack_more ranges d x range picked) at all)
+
+-- where slots have what is picked at each depth that is less than the number of ranges, and nothing behind, what
+-- they have is picked
+pub slot_is_picked : (slots : List (Option (Bor InlineRange))) (ranges : List InlineRange) (x depth : ℕ)
+    (range : InlineRange)
+    → ((d : ℕ) → d < length ranges → picked_at slots d ≡ pick (lies_over d x) (λ r. r.start_offset) ranges)
+    → ((d : ℕ) → length ranges ≤ d → picked_at slots d ≡ None)
+    → picked_at slots depth ≡ Some range → pick (lies_over depth x) (λ r. r.start_offset) ranges ≡ Some range
+slot_is_picked slots ranges x depth range picks none is =
+    let within = picks depth in let past = none depth in grind arith

@@ -21,41 +21,30 @@ pub value_at-with_stacks : (positions : List ℕ) (segments : List (Segment (ℕ
     → value_at (with_stacks positions segments) x ≡ option_map (stack_at positions) (value_at segments x)
 value_at-with_stacks positions [] x = refl
 value_at-with_stacks positions (s ∷ segments) x =
-    ap (λ o. cond (is_within s.start s.end x) (Some (stack_at positions s.value)) o)
-    (value_at-with_stacks positions segments x) ∙ by_test (is_within s.start s.end x)
-  where
-    by_test : (t : Bool) → cond t (Some (stack_at positions s.value))
-        (option_map (stack_at positions) (value_at segments x))
-        ≡ option_map (stack_at positions) (cond t (Some s.value) (value_at segments x))
-    by_test true = refl
-    by_test false = refl
+    let rest = value_at-with_stacks positions segments x in grind arith
 
 -- a stack that is found stands at its place
 pub stack_found : (positions : List ℕ) (segments : List (Segment (ℕ × ℕ))) (x : ℕ) (o : Option (ℕ × ℕ))
     → value_at segments x ≡ o
     → or_empty (option_map (stack_at positions) o) ≡ stack_over (with_stacks positions segments) x
-stack_found positions segments x o is =
-    sym (ap or_empty (value_at-with_stacks positions segments x ∙ ap (λ v. option_map (stack_at positions) v) is))
+stack_found positions segments x o is = rw (value_at-with_stacks positions segments x, is) refl
 
 -- what a list has between two positions stays where it grows
 range_grown : (from to : ℕ) (old more : List ℕ) → from ≤ to → to ≤ length old
     → slice_range (old ++ more) from to ≡ slice_range old from to
 range_grown from to old more up within =
-    let left : length (drop from old) ≡ length old - from = length-drop from old in
     rw (drop-append-le from old more (omega arith))
-    (take-append-le (to - from) (drop from old) more (omega (arith, left)))
+    (take-append-le (to - from) (drop from old) more (omega (arith, length-drop from old)))
 
 -- what is added to a list is what it has from where it ended
 range_added : (old more : List ℕ) → slice_range (old ++ more) (length old) (length (old ++ more)) ≡ more
 range_added old more =
-    let whole : length (old ++ more) - length old ≡ length more =
-    (let h = length-append old more in omega (arith, h)) in
+    let whole : length (old ++ more) - length old ≡ length more = omega (arith, length-append old more) in
     rw (drop-append_seam old more, whole) (take_all (length more) more (omega arith))
 
 -- a stack that is added to a list lies over the numbers that its place is painted over
 pub painted_stack : (old more new : List ℕ) (before after : List (Segment (ℕ × ℕ))) (lo hi from to x : ℕ)
-    → new ≡ old ++ more
-    → from ≡ length old → to ≡ length new → LiesIn old (value_at before x)
+    → new ≡ old ++ more → from ≡ length old → to ≡ length new → LiesIn old (value_at before x)
     → value_at after x ≡ painted lo hi (from, to) (value_at before x) x
     → stack_over (with_stacks new after) x ≡ cond (is_within lo hi x) more (stack_over (with_stacks old before) x)
 painted_stack old more new before after lo hi from to x grown begins ends lies is =

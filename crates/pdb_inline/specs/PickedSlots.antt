@@ -7,5 +7,4 @@ use Rattle.pdb_inline.specs.declared.inline_ranges.InlineRange.{InlineRange}
 
 -- what is picked at a depth: what its slot has, if there is one
 abbrev pub picked_at : List (Option (Bor InlineRange)) → ℕ → Option InlineRange
-picked_at slots depth =
-    option_copied (held slots depth)
+picked_at slots depth = option_copied (held slots depth)

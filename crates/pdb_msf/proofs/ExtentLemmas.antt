@@ -32,16 +32,10 @@ own_extents block_size all streams is =
     let count : length streams ≡ length all
     = ap length is ∙ extent_count block_size (4 + 4 * length all) all in
     let same : sizes streams ≡ all = ap sizes is ∙ extent_sizes block_size (4 + 4 * length all) all in
-    is ∙ sym (ap (λ n. extents block_size (4 + 4 * n) (sizes streams)) count
-    ∙ ap (extents block_size (4 + 4 * length all)) same)
+    rw (count, same) is
 
 -- what is known of streams that were listed
 pub ruleset opened = (own_extents, extent_sizes)
-
--- four times a first number and the others, behind a place
-regroup : (place first others all found : ℕ) → all ≡ first + others → found ≡ place + 4 * first + 4 * others
-    → found ≡ place + 4 * all
-regroup place first others all found sum_is is = omega arith
 
 -- the numbers of a stream's blocks stand behind those of all streams before it
 extent_at : (block_size place : ℕ) (all : List ℕ) (number : ℕ) (found : StreamExtent)
@@ -50,10 +44,9 @@ extent_at : (block_size place : ℕ) (all : List ℕ) (number : ℕ) (found : St
 extent_at block_size place [] number found is = cc
 extent_at block_size place (size ∷ all) zero found is = grind (arith, common_steps)
 extent_at block_size place (size ∷ all) (suc number) found is =
-    regroup place (block_count block_size size) (sum_by (block_count block_size) (take number all))
-    (sum_by (block_count block_size) (size ∷ take number all)) found.numbers
-    (sum_by-cons (block_count block_size) size (take number all))
-    (extent_at block_size (place + 4 * block_count block_size size) all number found is)
+    let others = extent_at block_size (place + 4 * block_count block_size size) all number found is in
+    let sum_is = sum_by-cons (block_count block_size) size (take number all) in
+    omega arith
 
 -- the same of streams that are the extents by their own sizes
 pub own_extent_at : (block_size : ℕ) (streams : List StreamExtent) (number : ℕ) (found : StreamExtent)
@@ -61,7 +54,5 @@ pub own_extent_at : (block_size : ℕ) (streams : List StreamExtent) (number : �
     → slice_get streams number ≡ Some found
     → found.numbers ≡ 4 + 4 * length (sizes streams) + 4 * sum_by (block_count block_size) (take number (sizes streams))
 own_extent_at block_size streams number found own is =
-    extent_at block_size (4 + 4 * length streams) (sizes streams) number found
-    (sym (ap (λ list. slice_get list number) own) ∙ is)
-    ∙ ap (λ n. 4 + 4 * n + 4 * sum_by (block_count block_size) (take number (sizes streams)))
-    (sym (length-map streams (λ stream. stream.size)))
+    rw (length-map streams (λ stream. stream.size))
+    (extent_at block_size (4 + 4 * length streams) (sizes streams) number found (rw own at is))

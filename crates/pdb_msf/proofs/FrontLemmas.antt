@@ -1,12 +1,12 @@
 -- What is known of a file by its first bytes alone.
-use Rattle.std.proofs.Common.{◌≡◌, ◌∙◌, ℕ, zero, suc, ◌+◌, ◌-◌, ◌*◌, ◌≤◌, ◌<◌, nat_lt, min, List, [], ◌∷◌, take, drop}
-use Rattle.std.proofs.Common.{length, codes, ◌≢◌, true, Err, Option, Some, None, refl, sym, ap, arith, lit≤}
-use Rattle.std.proofs.lemmas.Grind.{common_steps}
+use Rattle.std.proofs.Common.{◌≡◌, ◌∙◌, ℕ, ◌+◌, ◌-◌, ◌*◌, ◌≤◌, ◌<◌, nat_lt, min, List, take, drop}
+use Rattle.std.proofs.Common.{length, codes, ◌≢◌, true, Err, Option, refl, ap, arith, lit≤}
 use Rattle.std.proofs.lemmas.Bool.Decides.{nat_tests}
-use Rattle.std.proofs.lemmas.List.{drop-take, length-drop, length-take, take-take}
+use Rattle.std.proofs.lemmas.List.{drop-take, length-drop, length-take, take-take, take_min}
 use Rattle.std.specs.Cmp.Lexicographic.{pointwise}
 use Rattle.std.specs.Prelude.{nat_eq}
 use Rattle.byteorder.specs.Endian.{little_number}
+use Rattle.pdb_msf.proofs.KnownLemmas.{if_file}
 use Rattle.pdb_msf.proofs.NumberLemmas.{numbers_of_taken}
 use Rattle.pdb_msf.specs.declared.faults.TheConstants.{CUT}
 use Rattle.pdb_msf.specs.declared.container_fault.ContainerFault.TheVariants as fault
@@ -25,12 +25,9 @@ begins_of_front count file bytes few = ap (pointwise nat_eq bytes) (take-take (l
 number_of_front : (place count : ℕ) (file : List ℕ) → place + 4 ≤ count
     → number (drop place (take count file)) ≡ number (drop place file)
 number_of_front place count file within =
-    let left : ℕ = count - place in
-    let whole : count ≡ place + left = omega arith in
-    let behind : drop place (take count file) ≡ take left (drop place file)
-    = ap (λ n. drop place (take n file)) whole ∙ drop-take place left file in
-    let enough : 4 ≤ left = omega arith in
-    ap number behind ∙ ap (little_number 4) (take-take 4 left (drop place file) enough)
+    let whole : count ≡ place + (count - place) = omega arith in
+    ap (λ n. number (drop place (take n file))) whole ∙ ap number (drop-take place (count - place) file)
+    ∙ ap (little_number 4) (take-take 4 (count - place) (drop place file) (omega arith))
 
 -- the first bytes are too few if the file's are
 few_of_front : (count : ℕ) (file : List ℕ) → nat_lt (length (take count file)) count ≡ nat_lt (length file) count
@@ -56,36 +53,26 @@ other_of_front file =
 superblock_of_front : (file : List ℕ) → superblock (take 56 file) ≡ superblock file
 unfolding superblock
 superblock_of_front file =
-    let known = is_msf_of_front file in
-    let other = other_of_front file in
-    let short = few_of_front 56 file in
-    let block_size = number_of_front 32 56 file (lit≤ tt) in
-    let directory_size = number_of_front 44 56 file (lit≤ tt) in
-    rw (known, other, short, block_size, directory_size) refl
-
--- the first bytes, up to the file's own length, are as many
-within_file : (count : ℕ) (file : List ℕ) → take (min (length file) count) file ≡ take count file
-within_file zero [] = refl
-within_file (suc count) [] = grind (arith, common_steps)
-within_file zero (x ∷ file) = grind (arith, common_steps)
-within_file (suc count) (x ∷ file) =
-    let least : min (suc (length file)) (suc count) ≡ suc (min (length file) count) = omega arith in
-    rw least (ap (λ rest. x ∷ rest) (within_file count file))
+    rw (
+      is_msf_of_front file,
+      other_of_front file,
+      few_of_front 56 file,
+      number_of_front 32 56 file (lit≤ tt),
+      number_of_front 44 56 file (lit≤ tt),
+    ) refl
 
 -- the superblock is that of the bytes that were read from the front
 pub superblock_of_read : (file front : List ℕ) (file_length : ℕ) → length file ≡ file_length
     → front ≡ take (min file_length 56) (drop 0 file) → superblock front ≡ superblock file
 superblock_of_read file front file_length long is =
-    ap superblock (is ∙ ap (λ n. take (min n 56) (drop 0 file)) (sym long) ∙ within_file 56 file)
-    ∙ superblock_of_front file
+    let least : min file_length 56 ≡ min 56 (length file) = omega arith in
+    rw (is, least, take_min 56 file) (superblock_of_front file)
 
 -- numbers are listed of the bytes that they take as of all bytes
 pub listed_of_taken : (count : ℕ) (bytes : List ℕ) → listed count (take (4 * count) bytes) ≡ listed count bytes
 unfolding listed
 listed_of_taken count bytes =
-    let few = few_of_front (4 * count) bytes in
-    let same = numbers_of_taken count bytes in
-    rw (few, same) refl
+    rw (few_of_front (4 * count) bytes, numbers_of_taken count bytes) refl
 
 -- numbers aren't listed where the file ends before so many
 listed_of_few : (place count file_length : ℕ) (file : List ℕ) → length file ≡ file_length
@@ -99,6 +86,5 @@ listed_of_few place count file_length file long few =
 pub map_cut_short : (known : Option (List ℕ)) (count left file_length : ℕ) → left ≡ file_length - 52
     → left < 4 * count → IfFile known file_length (λ file. fault.CutShort ≢ fault.OutOfMemory
     → cut_short (listed count (drop 52 file)) ≡ Err fault.CutShort)
-map_cut_short None count left file_length is few = tt
-map_cut_short (Some file) count left file_length is few = λ long _.
-    ap cut_short (listed_of_few 52 count file_length file long (omega arith))
+map_cut_short known count left file_length is few =
+    if_file known file_length _ (λ file _ long _. ap cut_short (listed_of_few 52 count file_length file long (omega arith)))

@@ -1,6 +1,6 @@
 -- Lists of items, one by one.
-use Rattle.std.proofs.Common.{◌≡◌, ◌∙◌, ℕ, zero, suc, ◌+◌, ◌-◌, ◌<◌, ◌==◌, false, List, [], ◌∷◌, ◌++◌, length}
-use Rattle.std.proofs.Common.{Option, Some, None, Result, Ok, Err, refl, sym, ap, append_assoc, append-nil, subst}
+use Rattle.std.proofs.Common.{◌≡◌, ℕ, zero, suc, ◌+◌, ◌-◌, ◌<◌, ◌==◌, false, List, [], ◌∷◌, ◌++◌, length}
+use Rattle.std.proofs.Common.{Option, Some, None, Result, Ok, Err, refl, sym, append_assoc, append-nil, subst}
 use Rattle.std.proofs.Common.{arith}
 use Rattle.std.proofs.lemmas.Grind.{common_steps}
 use Rattle.pdb_records.specs.Readings.{Read}
@@ -59,10 +59,8 @@ pub unread : {A : Type 0} (first : List ℕ → Result (A × List ℕ) StreamErr
     → behind before (all_items first bytes) ≡ behind after (items_up_to first (length bytes - 0) rest)
 unfolding all_items
 unread first bytes rest before after same is =
-    let all : length bytes ≡ length bytes - 0 = omega arith in
-    ap (λ n. behind before (items_up_to first n bytes)) all
-    ∙ ap (λ xs. behind before (items_up_to first (length bytes - 0) xs)) (sym is)
-    ∙ ap (λ xs. behind xs (items_up_to first (length bytes - 0) rest)) (sym same)
+    let all : length bytes - 0 ≡ length bytes = omega arith in
+    rw (same, is, all) refl
 
 -- with the next item read, the items are still those that were read and those that are left
 pub one_item_more : {A : Type 0} (first : List ℕ → Result (A × List ℕ) StreamError) (bytes rest next : List ℕ)
@@ -70,13 +68,11 @@ pub one_item_more : {A : Type 0} (first : List ℕ → Result (A × List ℕ) St
     → first rest ≡ Ok (item, next) → after ≡ before ++ item ∷ []
     → all ≡ behind before (items_up_to first (length bytes - counter) rest)
     → all ≡ behind after (items_up_to first (length bytes - (counter + 1)) next)
-one_item_more {A = A} first bytes rest next counter item all before after some there is pushed was =
-    let others : Read A = items_up_to first (length bytes - (counter + 1)) next in
-    let regrouped : before ++ item ∷ others.items ≡ after ++ others.items
-    = sym (append_assoc before (item ∷ []) others.items) ∙ ap (λ xs. xs ++ others.items) (sym pushed) in
-    was ∙ ap (λ n. behind before (items_up_to first n rest)) (one_left (length bytes) counter some)
-    ∙ ap (behind before) (first_up_to first (length bytes - (counter + 1)) rest (item, next) there is)
-    ∙ ap (λ xs. record { items = xs; fault = others.fault }) regrouped
+one_item_more first bytes rest next counter item all before after some there is pushed was =
+    let read : items_up_to first (length bytes - counter) rest
+    ≡ behind (item ∷ []) (items_up_to first (length bytes - (counter + 1)) next)
+    = rw (one_left (length bytes) counter some) (first_up_to first _ rest (item, next) there is) in
+    rw (pushed, append_assoc) (rw read at was)
 
 -- where an item has a fault, what was read is all, and the fault stands behind it
 pub faulty_item : {A : Type 0} (first : List ℕ → Result (A × List ℕ) StreamError) (bytes rest : List ℕ) (counter : ℕ)
@@ -84,6 +80,6 @@ pub faulty_item : {A : Type 0} (first : List ℕ → Result (A × List ℕ) Stre
     → first rest ≡ Err fault → all ≡ behind before (items_up_to first (length bytes - counter) rest)
     → all ≡ record { items = before; fault = Some fault }
 faulty_item first bytes rest counter all before fault some there is was =
-    was ∙ ap (λ n. behind before (items_up_to first n rest)) (one_left (length bytes) counter some)
-    ∙ ap (behind before) (fault_up_to first (length bytes - (counter + 1)) rest fault there is)
-    ∙ ap (λ xs. record { items = xs; fault = Some fault }) (append-nil before)
+    let read : items_up_to first (length bytes - counter) rest ≡ nothing_read (Some fault)
+    = rw (one_left (length bytes) counter some) (fault_up_to first _ rest fault there is) in
+    rw (read, append-nil) at was

@@ -4,6 +4,7 @@ pub mod ExcerptLemmas
 pub mod ExtentLemmas
 pub mod FrontLemmas
 pub mod ItemListLemmas
+pub mod KnownLemmas
 pub mod NumberLemmas
 pub mod RangeLemmas
 pub mod SizeLemmas

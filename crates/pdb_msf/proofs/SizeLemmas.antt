@@ -1,5 +1,5 @@
 -- A stream that is read has as many bytes as the directory says.
-use Rattle.std.proofs.Common.{◌≡◌, ◌∙◌, ℕ, ◌*◌, ◌<◌, ◌≤◌, nat_lt, Bool, true, false, cond, List, [], ◌∷◌}
+use Rattle.std.proofs.Common.{◌≡◌, ◌∙◌, ℕ, ◌*◌, ◌<◌, ◌≤◌, true, List, [], ◌∷◌}
 use Rattle.std.proofs.Common.{drop, length, Result, Ok, Err, refl, sym, subst, ap, arith}
 use Rattle.std.proofs.lemmas.Grind.{common_steps, div_ceil_times}
 use Rattle.std.specs.Int.{div_ceil}
@@ -7,7 +7,7 @@ use Rattle.pdb_records.specs.declared.error.StreamError.{StreamError}
 use Rattle.pdb_msf.proofs.NumberLemmas.{number_count}
 use Rattle.pdb_msf.specs.Faults.{◌>>=◌}
 use Rattle.pdb_msf.specs.Msf.{Msf, numbers_place, size_of, stream_blocks, stream_of}
-use Rattle.pdb_msf.specs.NumberLists.{listed, numbers}
+use Rattle.pdb_msf.specs.NumberLists.{listed}
 use Rattle.pdb_msf.specs.Streams.{all_inside, in_order, stream_inside}
 
 -- where two meanings have a value, the first has one, and the second over it
@@ -15,12 +15,6 @@ after : {A B : Type 0} (first : Result A StreamError) (next : A → Result B Str
     → (first >>= next) ≡ Ok value → (x : A) × (first ≡ Ok x) × (next x ≡ Ok value)
 after (Ok x) next value is = (x, refl, is)
 after (Err error) next value is = cc
-
--- what is chosen before a fault is the value where there is one
-pub chosen : {A : Type 0} (refused : Bool) (error : StreamError) (x value : A)
-    → cond refused (Err error) (Ok x) ≡ Ok value → (refused ≡ false) × (x ≡ value)
-chosen true error x value is = cc
-chosen false error x value is = (refl, cc)
 
 -- so many blocks that lie in the file have so many bytes
 pub length_in_order : (size : ℕ) (file blocks : List ℕ) → all_inside size file blocks ≡ true
@@ -34,10 +28,7 @@ length_in_order size file (number ∷ blocks) inside =
 -- as many numbers are listed as were asked for
 listed_count : (count : ℕ) (bytes found : List ℕ) → listed count bytes ≡ Ok found → length found ≡ count
 unfolding listed
-listed_count count bytes found is =
-    let taken : (nat_lt (length bytes) (4 * count) ≡ false) × (numbers count bytes ≡ found)
-    = chosen (nat_lt (length bytes) (4 * count)) _ (numbers count bytes) found is in
-    sym (ap length taken.1) ∙ number_count count bytes
+listed_count count bytes found is = grind (arith, common_steps, number_count)
 
 -- a stream has its size, if its blocks have as many bytes
 inside_size : (size : ℕ) (file : List ℕ) (stream_length : ℕ) (blocks bytes : List ℕ)

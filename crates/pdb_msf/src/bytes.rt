@@ -64,10 +64,7 @@ impl<'a> Bytes<'a> {
         ensures refused { OnErr result (length self.old < count) }
         ensures fault { IfErr result (λ error. error ≡ CUT) }
     {
-        if self.rest.len() < count {
-            return Err(CUT);
-        }
-        let (taken, rest) = self.rest.split_at(count);
+        let (taken, rest) = self.rest.split_at_checked(count).ok_or(CUT)?;
         self.rest = rest;
         Ok(taken)
     }
@@ -122,9 +119,7 @@ impl<'a> Bytes<'a> {
         ensures refused { OnErr result (text_in self.old ≡ None) }
         ensures fault { IfErr result (λ error. error ≡ CUT) }
     {
-        let Some(end) = zero_in(self.rest) else {
-            return Err(CUT);
-        };
+        let end = zero_in(self.rest).ok_or(CUT)?;
         let (text, rest) = self.rest.split_at(end);
         self.rest = bytes_from(rest, 1);
         Ok(text)

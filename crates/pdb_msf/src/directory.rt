@@ -1,20 +1,21 @@
 //! The directory: its bytes, by the block map, the sizes of the streams, and where the numbers of their blocks are.
 
-ghost use Rattle.std.specs.Prelude.{◌≡◌, ◌≤◌, ◌<◌, ◌+◌, ◌*◌, ◌^◌, length, nat_lt, not, IfOk, IfErr};
+ghost use Rattle.std.specs.Prelude.{◌≡◌, ◌≤◌, ◌<◌, ◌+◌, ◌*◌, ◌^◌, drop, length, nat_lt, not, IfOk, IfErr};
 ghost use Rattle.std.specs.Int.{div_ceil};
 ghost use Rattle.pdb_msf.specs.Directory.{block_count, block_map, directory, extents, sizes_in, total_size};
 ghost use Rattle.pdb_msf.specs.Faults.{Gives};
+ghost use Rattle.pdb_msf.specs.NumberLists.{listed};
 ghost use Rattle.pdb_msf.specs.Streams.{bytes_of};
 
 use crate::bytes::Bytes;
 use crate::faults::{CUT, Fault};
-use crate::number_lists::{bytes_from, number_at, take_numbers};
+use crate::number_lists::{bytes_from, take_numbers};
 use crate::streams::{StreamBytes, read_stream};
 use crate::superblock::Superblock;
 use std::alloc::Global;
 
 /// Where the superblock names the blocks of the block map: most often one, and as many as the map takes.
-const BLOCK_MAP: usize = 52;
+pub(crate) const BLOCK_MAP: usize = 52;
 
 /// The size that stands for a stream that isn't there.
 pub const ABSENT: u32 = 0xffff_ffff;
@@ -60,6 +61,26 @@ fn read_block_map(alloc: Global, file: &[u8], superblock: Superblock) -> Result<
     take_numbers(alloc, &mut Bytes::new(map.as_slice()), count)
 }
 
+/// The numbers of a stream's blocks, as the directory's bytes have them.
+pub fn block_numbers(
+    alloc: Global,
+    directory: &[u8],
+    block_size: usize,
+    extent: StreamExtent,
+) -> Result<Vec<u32>, Fault>
+    requires { 512 ≤ block_size }
+    ensures answer { Gives (λ numbers. numbers.items) result
+        (listed (div_ceil extent.size block_size) (drop extent.numbers directory.now)) }
+    ensures count { IfOk result (λ numbers. length numbers.items ≡ div_ceil extent.size block_size) }
+{
+    let count = blocks_over(extent.size, block_size);
+    take_numbers(
+        alloc,
+        &mut Bytes::new(bytes_from(directory, extent.numbers)),
+        count,
+    )
+}
+
 /// How many blocks hold so many bytes.
 pub fn blocks_over(size: u32, block_size: usize) -> usize
     requires { 512 ≤ block_size }
@@ -75,11 +96,8 @@ pub fn read_sizes(alloc: Global, directory: &[u8]) -> Result<Vec<u32>, Fault>
     ensures answer { Gives (λ sizes. sizes.items) result (sizes_in directory.now) }
     ensures few { IfOk result (λ sizes. length sizes.items < 2 ^ 32) }
 {
-    if directory.len() < 4 {
-        return Err(Fault::Broken(CUT));
-    }
-    let count = number_at(directory, 0);
-    let mut sizes = Bytes::new(bytes_from(directory, 4));
+    let mut sizes = Bytes::new(directory);
+    let count = sizes.u32()?;
     take_numbers(alloc, &mut sizes, count as usize)
 }
 

@@ -1,9 +1,8 @@
 //! Some streams of a file that is read range by range, in memory as a container of their own.
 
-ghost use Rattle.std.specs.Prelude.{◌≡◌, ◌≤◌, ◌<◌, ◌+◌, ◌-◌, ◌*◌, ◌^◌, ◌++◌, ℕ, drop, length, map, IfOk, OnOk};
+ghost use Rattle.std.specs.Prelude.{◌≡◌, ◌≤◌, ◌<◌, ◌+◌, ◌-◌, ◌*◌, ◌^◌, ◌++◌, ℕ, drop, length, IfOk, OnOk};
 ghost use Rattle.byteorder.specs.Endian.{little_bytes};
-ghost use Rattle.pdb_msf.specs.Directory.{extents};
-ghost use Rattle.pdb_msf.specs.Msf.{over, stream_of};
+ghost use Rattle.pdb_msf.specs.Msf.{stream_of};
 ghost use Rattle.pdb_msf.specs.NumberLists.{numbers};
 ghost use Rattle.pdb_msf.specs.StreamMap.{IfFile, IsExcerptOf, following, stream_at, with_bytes};
 ghost use Rattle.pdb_msf.specs.Streams.{stream_inside};
@@ -14,6 +13,7 @@ use crate::msf::Container;
 use crate::source::Source;
 use crate::source_fault::{SourceFault, part_of_source};
 use crate::stream_map::StreamMap;
+use crate::streams::StreamBytes;
 use byteorder::{ByteOrder, LittleEndian};
 use std::alloc::{AllocError, Global};
 use std::marker::Model;
@@ -52,32 +52,22 @@ impl Model for Excerpt {
 }
 
 impl Excerpt {
-    /// An excerpt of a file, without any stream's bytes.
+    /// An excerpt of a file, without any stream's bytes: all blocks lie outside.
     pub fn new(alloc: Global, map: &StreamMap) -> Result<Self, AllocError>
         ensures { IfOk result (λ excerpt. IsExcerptOf excerpt map.now) }
     {
-        map.excerpt(alloc)
-    }
-
-    // The excerpt of these blocks, whose directory is given.
-    pub(crate) fn over(
-        blocks: Vec<u8>,
-        block_size: usize,
-        directory: Vec<u8>,
-        streams: Vec<StreamExtent>,
-    ) -> Self
-        requires least { 512 ≤ block_size }
-        requires most { block_size ≤ 32768 }
-        requires listed { streams.items ≡ extents block_size (4 + 4 * length streams.items)
-            (map (λ stream. stream.size) streams.items) }
-        ensures { result ≡ over blocks.items block_size directory.items (map (λ stream. stream.size) streams.items) }
-    {
-        Excerpt {
-            blocks,
-            block_size,
+        let streams = Vec::from_slice(alloc, &map.streams)?;
+        let mut directory = Vec::from_slice(alloc, &map.directory)?;
+        let front = 4_usize.saturating_add(4_usize.saturating_mul(streams.len()));
+        if front < directory.len() {
+            directory[front..].fill(0xff);
+        }
+        Ok(Excerpt {
+            blocks: Vec::new(alloc),
+            block_size: map.grid.block_size,
             directory,
             streams,
-        }
+        })
     }
 
     /// Adds the bytes of the stream of this number. One that can't be read is broken in the excerpt as in the file.
@@ -103,7 +93,7 @@ impl Excerpt {
         let (blocks, directory) = (&mut self.blocks, &mut self.directory);
         append_numbered(
             source,
-            map.grid(),
+            map.grid,
             &numbers,
             blocks,
             directory,
@@ -117,7 +107,12 @@ impl Excerpt {
         ensures { IfOk result (λ container. container ≡ self.now) }
     {
         let streams = Vec::from_slice(alloc, &self.streams)?;
-        Ok(Container::over(&self.blocks, self.block_size, &self.directory, streams))
+        Ok(Container {
+            file: &self.blocks,
+            block_size: self.block_size,
+            directory: StreamBytes::InPlace(&self.directory),
+            streams,
+        })
     }
 }
 

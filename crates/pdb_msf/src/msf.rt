@@ -1,21 +1,18 @@
 //! The container of a PDB file (MSF 7.00): its superblock, its directory, and the blocks of each stream.
 
-ghost use Rattle.std.specs.Prelude.{◌≡◌, ◌≤◌, ◌+◌, ◌*◌, length, map, slice_get, IfOk, MatchResult};
+ghost use Rattle.std.specs.Prelude.{◌≡◌, ◌≤◌, length, slice_get, IfOk, MatchResult};
 ghost use Rattle.std.specs.Result.{result_ok};
-ghost use Rattle.pdb_msf.specs.Directory.{extents};
 ghost use Rattle.pdb_msf.specs.Faults.{Gives, Opens};
-ghost use Rattle.pdb_msf.specs.Msf.{container, over, numbers_place, size_of, stream_of};
+ghost use Rattle.pdb_msf.specs.Msf.{container, numbers_place, size_of, stream_of};
 ghost use Rattle.pdb_msf.specs.StreamBlocks.{stream_in};
 ghost use Rattle.pdb_msf.specs.Streams.{bytes_of};
 
 use crate::block_reads::BlockGrid;
-use crate::bytes::Bytes;
 use crate::container_fault::ContainerFault;
 use crate::directory::{
-    ABSENT, StreamExtent, blocks_over, list_extents, read_directory, read_sizes, sizes_fit,
+    ABSENT, StreamExtent, block_numbers, list_extents, read_directory, read_sizes, sizes_fit,
 };
 use crate::faults::{Fault, NO_STREAM};
-use crate::number_lists::{bytes_from, take_numbers};
 use crate::source::{Source, Unreadable};
 use crate::stream_blocks::StreamBlocks;
 use crate::streams::{StreamBytes, read_stream};
@@ -27,10 +24,10 @@ use std::marker::Model;
 /// A file with its streams. Contracts see what the file means as a container.
 #[derive(Drop)]
 pub struct Container<'a> {
-    file: &'a [u8],
-    block_size: usize,
-    directory: StreamBytes<'a>,
-    streams: Vec<StreamExtent>,
+    pub(crate) file: &'a [u8],
+    pub(crate) block_size: usize,
+    pub(crate) directory: StreamBytes<'a>,
+    pub(crate) streams: Vec<StreamExtent>,
 }
 
 impl<'a> Model for Container<'a> {
@@ -77,27 +74,6 @@ impl<'a> Container<'a> {
         })
     }
 
-    // The container of these blocks, whose directory is given.
-    pub(crate) fn over(
-        file: &'a [u8],
-        block_size: usize,
-        directory: &'a [u8],
-        streams: Vec<StreamExtent>,
-    ) -> Self
-        requires least { 512 ≤ block_size }
-        requires most { block_size ≤ 32768 }
-        requires listed { streams.items ≡ extents block_size (4 + 4 * length streams.items)
-            (map (λ stream. stream.size) streams.items) }
-        ensures { result ≡ over file.now block_size directory.now (map (λ stream. stream.size) streams.items) }
-    {
-        Container {
-            file,
-            block_size,
-            directory: StreamBytes::InPlace(directory),
-            streams,
-        }
-    }
-
     /// The bytes of the file.
     pub fn file(&self) -> &'a [u8]
         ensures { result.now ≡ self.now.file }
@@ -129,9 +105,7 @@ impl<'a> Container<'a> {
         ensures size { IfOk result (λ bytes. size_of self.now number ≡ Ok (length (bytes_of bytes))) }
     {
         let extent = self.extent(number)?;
-        let count = blocks_over(extent.size, self.block_size);
-        let mut numbers = Bytes::new(bytes_from(self.directory.as_slice(), extent.numbers));
-        let blocks = take_numbers(alloc, &mut numbers, count)?;
+        let blocks = block_numbers(alloc, self.directory.as_slice(), self.block_size, extent)?;
         read_stream(
             alloc,
             self.file,
@@ -148,9 +122,7 @@ impl<'a> Container<'a> {
         ensures length { IfOk result (λ blocks. blocks.file_length ≡ length self.now.file) }
     {
         let extent = self.extent(number)?;
-        let count = blocks_over(extent.size, self.block_size);
-        let mut numbers = Bytes::new(bytes_from(self.directory.as_slice(), extent.numbers));
-        let numbers = take_numbers(alloc, &mut numbers, count)?;
+        let numbers = block_numbers(alloc, self.directory.as_slice(), self.block_size, extent)?;
         let grid = BlockGrid {
             file_length: self.file.len(),
             block_size: self.block_size,

@@ -19,9 +19,7 @@ pub fn take_numbers(alloc: Global, rest: &mut Bytes<'_>, count: usize) -> Result
     if rest.len() / 4 < count {
         return Err(Fault::Broken(CUT));
     }
-    let Ok(bytes) = rest.take(4 * count) else {
-        return Err(Fault::Broken(CUT));
-    };
+    let bytes = rest.take(4 * count)?;
     Ok(copy_numbers(alloc, bytes, count)?)
 }
 

@@ -24,14 +24,8 @@ impl Source for &[u8] {
     ghost bytes = { λ slice. Some slice.now };
 
     fn read_exact_at(&mut self, buffer: &mut [u8], place: usize) -> Result<(), Unreadable> {
-        if self.len() < place {
-            return Err(Unreadable);
-        }
-        let (_, rest) = self.split_at(place);
-        if rest.len() < buffer.len() {
-            return Err(Unreadable);
-        }
-        let (bytes, _) = rest.split_at(buffer.len());
+        let (_, rest) = self.split_at_checked(place).ok_or(Unreadable)?;
+        let (bytes, _) = rest.split_at_checked(buffer.len()).ok_or(Unreadable)?;
         buffer.copy_from_slice(bytes);
         Ok(())
     }

@@ -1,44 +1,39 @@
 //! Where the streams of a file stand that is read range by range.
 
-ghost use Rattle.std.specs.Prelude.{◌≡◌, ◌≤◌, ◌<◌, ◌+◌, ◌*◌, ◌^◌, List, ℕ};
-ghost use Rattle.std.specs.Prelude.{drop, length, take, IfOk, IfSome, MatchOption, MatchResult};
+ghost use Rattle.std.specs.Prelude.{◌≡◌, ◌≤◌, List, ℕ, drop, length, take, IfOk, IfSome, MatchOption};
 ghost use Rattle.std.specs.Int.{div_ceil};
 ghost use Rattle.pdb_msf.specs.Directory.{block_map, directory};
 ghost use Rattle.pdb_msf.specs.Faults.{Gives, cut_short};
 ghost use Rattle.pdb_msf.specs.Msf.{container, numbers_place, size_of, stream_of};
 ghost use Rattle.pdb_msf.specs.NumberLists.{listed};
 ghost use Rattle.pdb_msf.specs.StreamBlocks.{blocks_read};
-ghost use Rattle.pdb_msf.specs.StreamMap.{IfFile, IsExcerptOf, Reads, bytes_read, with_bytes};
+ghost use Rattle.pdb_msf.specs.StreamMap.{IfFile, Reads, bytes_read, with_bytes};
 ghost use Rattle.pdb_msf.specs.Superblock.{superblock};
 
 use crate::block_reads::{BlockGrid, read_blocks};
 use crate::bytes::Bytes;
 use crate::container_fault::ContainerFault;
-use crate::directory::{ABSENT, StreamExtent, blocks_over, list_extents, read_sizes, sizes_fit};
-use crate::excerpt::Excerpt;
+use crate::directory::{
+    ABSENT, BLOCK_MAP, StreamExtent, block_numbers, blocks_over, list_extents, read_sizes,
+    sizes_fit,
+};
 use crate::faults::{Fault, NO_STREAM};
 use crate::msf::extent_at;
-use crate::number_lists::{bytes_from, take_numbers};
+use crate::number_lists::take_numbers;
 use crate::source::Source;
 use crate::source_fault::{OpenFault, SourceFault, part_of_source};
 use crate::stream_blocks::StreamBlocks;
-use crate::superblock::{Superblock, read_superblock};
+use crate::superblock::{SUPERBLOCK, Superblock, read_superblock};
 use pdb_records::StreamError;
-use std::alloc::{AllocError, Global};
+use std::alloc::Global;
 use std::marker::Model;
-
-/// The bytes of the superblock.
-const SUPERBLOCK: usize = 56;
-
-/// Where it names the blocks of the block map.
-const BLOCK_MAP: usize = 52;
 
 /// Where the streams of a file stand, which is read range by range.
 #[derive(Drop)]
 pub struct StreamMap {
-    grid: BlockGrid,
-    directory: Vec<u8>,
-    streams: Vec<StreamExtent>,
+    pub(crate) grid: BlockGrid,
+    pub(crate) directory: Vec<u8>,
+    pub(crate) streams: Vec<StreamExtent>,
 }
 
 impl Model for StreamMap {
@@ -148,9 +143,7 @@ impl StreamMap {
             (listed (div_ceil extent.size self.now.block_size) (drop extent.numbers self.now.directory)) }
         ensures count { IfOk result (λ numbers. length numbers.items ≡ div_ceil extent.size self.now.block_size) }
     {
-        let count = blocks_over(extent.size, self.grid.block_size);
-        let mut numbers = Bytes::new(bytes_from(&self.directory, extent.numbers));
-        take_numbers(alloc, &mut numbers, count)
+        block_numbers(alloc, &self.directory, self.grid.block_size, extent)
     }
 
     // Where the directory has the stream of this number, if it is there.
@@ -167,29 +160,6 @@ impl StreamMap {
             return None;
         }
         Some(extent)
-    }
-
-    // An excerpt of the file, without any stream's bytes: all blocks lie outside.
-    pub(crate) fn excerpt(&self, alloc: Global) -> Result<Excerpt, AllocError>
-        ensures { IfOk result (λ excerpt. IsExcerptOf excerpt self.now) }
-    {
-        let streams = Vec::from_slice(alloc, &self.streams)?;
-        let mut directory = Vec::from_slice(alloc, &self.directory)?;
-        let front = 4_usize.saturating_add(4_usize.saturating_mul(streams.len()));
-        if front < directory.len() {
-            directory[front..].fill(0xff);
-        }
-        Ok(Excerpt::over(Vec::new(alloc), self.grid.block_size, directory, streams))
-    }
-
-    // How long the file is, and each of its blocks.
-    pub(crate) fn grid(&self) -> BlockGrid
-        ensures length { result.file_length ≡ self.now.file_length }
-        ensures size { result.block_size ≡ self.now.block_size }
-        ensures least { 512 ≤ result.block_size }
-        ensures most { result.block_size ≤ 32768 }
-    {
-        self.grid
     }
 }
 
@@ -227,17 +197,6 @@ fn read_range<S: Source>(
     Ok(bytes)
 }
 
-// What is broken in the directory cuts the file short.
-fn or_cut_short<T: Drop>(part: Result<T, StreamError>) -> Result<T, OpenFault>
-    ensures { MatchResult part (λ value. result ≡ Ok value)
-        (λ _. result ≡ Err (OpenFault.Container ContainerFault.CutShort)) }
-{
-    match part {
-        Ok(part) => Ok(part),
-        Err(_) => Err(OpenFault::Container(ContainerFault::CutShort)),
-    }
-}
-
 // The directory's bytes.
 #[tactic(auto, unfolding(crate::specs::Directory::directory))]
 fn read_directory<S: Source>(
@@ -259,7 +218,7 @@ fn read_directory<S: Source>(
     }
     let blocks = read_block_map(alloc, source, grid, superblock)?;
     let directory = read_blocks(alloc, source, grid, size, &blocks)?;
-    or_cut_short(directory)
+    Ok(directory.map_err(Fault::Broken)?)
 }
 
 // The block map: the numbers of the directory's blocks.
@@ -280,7 +239,7 @@ fn read_block_map<S: Source>(
     let count = blocks_over(superblock.directory_size, grid.block_size);
     let size = 4 * count;
     let blocks = read_map_blocks(alloc, source, grid, size.div_ceil(grid.block_size))?;
-    let map = or_cut_short(read_blocks(alloc, source, grid, size, &blocks)?)?;
+    let map = read_blocks(alloc, source, grid, size, &blocks)?.map_err(Fault::Broken)?;
     Ok(take_numbers(alloc, &mut Bytes::new(&map), count)?)
 }
 

@@ -58,16 +58,8 @@ fn block_of(file: &[u8], block_size: usize, number: u32) -> Option<&[u8]>
         (λ bytes. (number * block_size + block_size ≤ length file.now)
         × (bytes.now ≡ block block_size file.now number)) }
 {
-    let length = file.len();
-    let start = block_start(block_size, number)?;
-    if length < start {
-        return None;
-    }
-    let (_, bytes) = file.split_at(start);
-    if bytes.len() < block_size {
-        return None;
-    }
-    let (bytes, _) = bytes.split_at(block_size);
+    let (_, bytes) = file.split_at_checked(block_start(block_size, number)?)?;
+    let (bytes, _) = bytes.split_at_checked(block_size)?;
     Some(bytes)
 }
 

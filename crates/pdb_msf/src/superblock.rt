@@ -10,7 +10,7 @@ use crate::number_lists::number_at;
 const MAGIC: [u8; 32] = *b"Microsoft C/C++ MSF 7.00\r\n\x1aDS\0\0\0";
 
 /// The bytes of the superblock.
-const SUPERBLOCK: usize = 56;
+pub(crate) const SUPERBLOCK: usize = 56;
 
 /// Where it has the size of a block.
 const BLOCK_SIZE: usize = 32;

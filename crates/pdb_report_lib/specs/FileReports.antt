@@ -16,18 +16,14 @@ use Rattle.pdb_report_lib.specs.Reports.{report_text, TakesText, EndsEarly}
 abbrev pub opened : Records → Result (ContextInputs Records) Error
 opened records = unless (records_refusal records) (context_of default_flags records)
 
--- the text of a report, as a command wants it, by a plain scan of records, of which no part has failed
-abbrev pub text_over_records : ContextInputs Records → Command → List ℕ → Result (List ℕ) Error
-text_over_records inputs = report_text (λ records index m. info_at records index) inputs []
-
 -- why a report over records ends early, of which no part has failed
 abbrev pub EndsOverRecords : ContextInputs Records → Command → List ℕ → SinkState → SinkState → ReportFault → Type 0
 EndsOverRecords inputs = EndsEarly (λ records index m. info_at records index) inputs []
 
--- a sink takes the text of a report over records, which are not refused
+-- a sink takes the text of a report by a plain scan of records, which are not refused, and of which no part has failed
 abbrev pub TakesTexts : Command → List ℕ → Result (ContextInputs Records) Error → SinkState → SinkState → Type 0
 TakesTexts command addresses (Ok inputs) before after =
-    TakesText (text_over_records inputs command addresses) before after
+    TakesText (report_text (λ records index m. info_at records index) inputs [] command addresses) before after
 TakesTexts command addresses (Err error) before after = ⊥
 
 -- a report over records that are not refused ends early

@@ -3,12 +3,12 @@
 use crate::addresses::Origin;
 use crate::answer_texts::{write_answer, write_no_answer, write_no_data};
 use crate::base_hints::BaseHint;
-use crate::input_files::{InputFile, SourceFile, find_file};
+use crate::input_files::InputFile;
 use crate::line_queue::LineQueue;
 use crate::module_reader::ModuleReader;
 use crate::options::{Base, Options, Style};
 use crate::pdb_modules::PdbModules;
-use crate::repaired_files::open_repaired;
+use crate::repaired_files::open_asked;
 use crate::requests::{Naming, Request, Sort, parse_request};
 use crate::status_line::StatusLine;
 use crate::stops::Stop;
@@ -56,19 +56,7 @@ pub fn answer_file<R: Files + Input + Print + Eprint + AllocGlobal>(
     options: &Options<'_>,
     path: &str,
 ) -> Result<(), Stop> {
-    match find_file(rt, status_line, options, path) {
-        Ok(source) => answer_source(rt, options, path, source),
-        Err(stop) => answer_unknown(rt, options, path, stop),
-    }
-}
-
-fn answer_source<R: Files + Input + Print + Eprint + AllocGlobal>(
-    rt: &R,
-    options: &Options<'_>,
-    path: &str,
-    source: SourceFile<R::File>,
-) -> Result<(), Stop> {
-    match open_repaired(rt, source) {
+    match open_asked(rt, status_line, options, path) {
         Ok((mut input, reader)) => answer_over(rt, options, path, &mut input, reader),
         Err(stop) => answer_unknown(rt, options, path, stop),
     }
@@ -230,8 +218,13 @@ fn answer_line<R: Print + Eprint + AllocGlobal>(
     hint: &mut BaseHint,
     given: &str,
 ) -> Result<(), Stop> {
-    let mut text = answer_text(rt, questions, data, context, hint, given)?;
-    if questions.options.style == Style::Json {
+    let text = answer_text(rt, questions, data, context, hint, given)?;
+    print_answer(rt, questions.options, text)
+}
+
+/// Prints an answer, which in JSON has a line of its own.
+pub fn print_answer<R: Print>(rt: &R, options: &Options<'_>, mut text: String) -> Result<(), Stop> {
+    if options.style == Style::Json {
         text.push('\n')?;
     }
     write_out(rt, text.as_str())

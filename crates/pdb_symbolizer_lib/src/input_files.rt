@@ -38,14 +38,20 @@ pub struct InputFile {
     pub code_id: Option<CodeId>,
 }
 
-/// A file that was named, or the PDB file that was found for it.
+/// What is known of a file beside its bytes.
 #[derive(Drop)]
-pub struct SourceFile<F> {
+pub struct NamedFile {
     pub path: String,
-    pub bytes: FileBytes<F>,
     /// Where the program wants to be loaded, if one was named, and which build it is of.
     pub image_base: Option<u64>,
     pub code_id: Option<CodeId>,
+}
+
+/// A file that was named, or the PDB file that was found for it.
+#[derive(Drop)]
+pub struct SourceFile<F> {
+    pub file: NamedFile,
+    pub bytes: FileBytes<F>,
 }
 
 /// Opens a file: a PDB file, a records file, or the PDB file of a program, which is looked for. A file of another build
@@ -64,12 +70,7 @@ pub fn find_file<R: Files + Eprint + AllocGlobal>(
     };
     let source = match found {
         Some(source) => source,
-        None => SourceFile {
-            path: String::from_str(rt.alloc(), path)?,
-            bytes,
-            image_base: None,
-            code_id: None,
-        },
+        None => SourceFile::new(String::from_str(rt.alloc(), path)?, bytes),
     };
     check_source(rt.alloc(), options, source)
 }
@@ -98,8 +99,10 @@ fn find_for_program<R: Files + AllocGlobal>(
     let Some(code_view) = &program.code_view else {
         return Err(Stop::NoPdbFile(format!(in rt.alloc(); "{path}: it names no PDB file")?));
     };
-    let found = find_pdb(rt, path, code_view, options)?;
-    Ok(Some(found.of_program(&program)))
+    let mut found = find_pdb(rt, path, code_view, options)?;
+    found.file.image_base = Some(program.image_base);
+    found.file.code_id = Some(program.code_id);
+    Ok(Some(found))
 }
 
 // A file, unless it is of another build than is expected.
@@ -108,7 +111,7 @@ fn check_source<F: Read + Seek + Drop>(
     options: &Options<'_>,
     mut source: SourceFile<F>,
 ) -> Result<SourceFile<F>, Stop> {
-    check_identity(alloc, options, source.path.as_str(), &mut source.bytes)?;
+    check_identity(alloc, options, source.file.path.as_str(), &mut source.bytes)?;
     Ok(source)
 }
 
@@ -144,33 +147,23 @@ pub fn open_source<R: Files + AllocGlobal>(
     }
 }
 
-/// What is known of a file beside its bytes.
-#[derive(Drop)]
-struct NamedFile {
-    path: String,
-    image_base: Option<u64>,
-    code_id: Option<CodeId>,
-}
-
 impl<F: Read + Seek + Drop> SourceFile<F> {
+    /// A file by itself.
+    pub fn new(path: String, bytes: FileBytes<F>) -> Self {
+        let file = NamedFile {
+            path,
+            image_base: None,
+            code_id: None,
+        };
+        SourceFile { file, bytes }
+    }
+
     // All bytes of the file, and what is known of it beside them.
     fn read(self, alloc: Global) -> Result<(NamedFile, Vec<u8>), Stop> {
-        let SourceFile {
-            path,
-            bytes,
-            image_base,
-            code_id,
-        } = self;
+        let SourceFile { file, bytes } = self;
         match bytes.into_memory(alloc) {
-            Ok(bytes) => Ok((
-                NamedFile {
-                    path,
-                    image_base,
-                    code_id,
-                },
-                bytes,
-            )),
-            Err(error) => Err(cannot_read(alloc, path.as_str(), &error)),
+            Ok(bytes) => Ok((file, bytes)),
+            Err(error) => Err(cannot_read(alloc, file.path.as_str(), &error)),
         }
     }
 }
@@ -186,22 +179,10 @@ fn open_container<F: Read + Seek + Drop>(
     alloc: Global,
     source: SourceFile<F>,
 ) -> Result<(InputFile, Option<PdbModules<F>>), Stop> {
-    let SourceFile {
-        path,
-        bytes,
-        image_base,
-        code_id,
-    } = source;
+    let SourceFile { file, bytes } = source;
     match PdbModules::open(alloc, bytes) {
-        Ok((modules, pdb_file)) => {
-            let file = NamedFile {
-                path,
-                image_base,
-                code_id,
-            };
-            Ok((of_pdb_file(file, pdb_file, None), Some(modules)))
-        }
-        Err(fault) => Err(open_stop(alloc, path.as_str(), fault)),
+        Ok((modules, pdb_file)) => Ok((of_pdb_file(file, pdb_file, None), Some(modules))),
+        Err(fault) => Err(open_stop(alloc, file.path.as_str(), fault)),
     }
 }
 

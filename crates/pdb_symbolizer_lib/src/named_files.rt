@@ -4,13 +4,13 @@
 
 use crate::answer_texts::{write_answer, write_no_answer};
 use crate::base_hints::BaseHint;
-use crate::file_answers::{FileContext, Questions, hint_for, request_text, write_out};
-use crate::input_files::{InputFile, SourceFile, find_file};
+use crate::file_answers::{FileContext, Questions, hint_for, print_answer, request_text};
+use crate::input_files::InputFile;
 use crate::line_queue::LineQueue;
 use crate::module_reader::ModuleReader;
-use crate::options::{Options, Style};
+use crate::options::Options;
 use crate::pdb_modules::PdbModules;
-use crate::repaired_files::open_repaired;
+use crate::repaired_files::open_asked;
 use crate::requests::{Naming, Request, parse_request};
 use crate::status_line::StatusLine;
 use crate::stops::Stop;
@@ -68,20 +68,7 @@ fn answer_file_of<R: Files + Print + Eprint + AllocGlobal, T: Read + Drop>(
     path: &str,
     queue: &mut LineQueue<T>,
 ) -> Result<Option<Stop>, Stop> {
-    match find_file(rt, status_line, options, path) {
-        Ok(source) => answer_source(rt, options, path, source, queue),
-        Err(stop) => unopened(stop),
-    }
-}
-
-fn answer_source<R: Files + Print + Eprint + AllocGlobal, T: Read + Drop>(
-    rt: &R,
-    options: &Options<'_>,
-    path: &str,
-    source: SourceFile<R::File>,
-    queue: &mut LineQueue<T>,
-) -> Result<Option<Stop>, Stop> {
-    match open_repaired(rt, source) {
+    match open_asked(rt, status_line, options, path) {
         Ok((mut input, reader)) => {
             answer_lines_of(rt, options, path, &mut input, reader, queue)?;
             Ok(None)
@@ -118,13 +105,6 @@ fn answer_unopened<R: Print + AllocGlobal>(
     let mut text = String::new(rt.alloc());
     write_answer(&mut text, options, request.file, request.address, &[])?;
     print_answer(rt, options, text)
-}
-
-fn print_answer<R: Print>(rt: &R, options: &Options<'_>, mut text: String) -> Result<(), Stop> {
-    if options.style == Style::Json {
-        text.push('\n')?;
-    }
-    write_out(rt, text.as_str())
 }
 
 // Answers lines that name this file. What is known of the modules that ready lines ask for is read together.

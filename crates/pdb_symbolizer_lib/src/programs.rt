@@ -7,44 +7,13 @@ use crate::paths::file_name;
 use crate::stops::Stop;
 use pdb_addr2line::Error;
 use pdb_container::{ContainerFault, DebugId, OpenFault, read_identity_of};
-use pdb_identity::{CodeView, ProgramFile};
+use pdb_identity::CodeView;
 use pdb_records_files::ran_out_of_memory;
 use pdb_symbolication::WantedModule;
 use std::alloc::{AllocError, Global};
 use std::io::{Read, Seek};
 use std::rt::Files;
 use std::str;
-
-/// A file that was found, with its bytes.
-#[derive(Drop)]
-pub struct FoundFile<F> {
-    pub path: String,
-    pub bytes: FileBytes<F>,
-}
-
-impl<F: Read + Seek + Drop> FoundFile<F> {
-    /// The file as the one that a program names.
-    pub fn of_program(self, program: &ProgramFile<'_>) -> SourceFile<F> {
-        let FoundFile { path, bytes } = self;
-        SourceFile {
-            path,
-            bytes,
-            image_base: Some(program.image_base),
-            code_id: Some(program.code_id),
-        }
-    }
-
-    /// The file by itself.
-    pub fn by_itself(self) -> SourceFile<F> {
-        let FoundFile { path, bytes } = self;
-        SourceFile {
-            path,
-            bytes,
-            image_base: None,
-            code_id: None,
-        }
-    }
-}
 
 /// The PDB file of a program: the first of these places with one of its GUID and age. One of another build is passed
 /// over, and where none is left the refusal names each place that was looked at, and why it was passed over.
@@ -53,12 +22,12 @@ pub fn find_pdb<R: Files + AllocGlobal>(
     program: &str,
     code_view: &CodeView<'_>,
     options: &Options<'_>,
-) -> Result<FoundFile<R::File>, Stop> {
+) -> Result<SourceFile<R::File>, Stop> {
     let places = places(rt.alloc(), program, code_view, options)?;
     let mut looked = String::new(rt.alloc());
     for path in places {
         match look_at(rt, path.as_str(), code_view.debug_id)? {
-            Look::Found(bytes) => return Ok(FoundFile { path, bytes }),
+            Look::Found(bytes) => return Ok(SourceFile::new(path, bytes)),
             Look::PassedOver(why) => write!(looked, "\n    {path}: {why}")?,
         }
     }
@@ -71,13 +40,13 @@ pub fn find_in_folders<R: Files + AllocGlobal>(
     rt: &R,
     options: &Options<'_>,
     module: &WantedModule,
-) -> Result<Option<FoundFile<R::File>>, Stop> {
+) -> Result<Option<SourceFile<R::File>>, Stop> {
     let name = module.name.as_str();
     let mut places = Vec::new(rt.alloc());
     push_folder_places(rt.alloc(), &mut places, options, name, module.debug_id)?;
     for path in places {
         if let Look::Found(bytes) = look_at(rt, path.as_str(), module.debug_id)? {
-            return Ok(Some(FoundFile { path, bytes }));
+            return Ok(Some(SourceFile::new(path, bytes)));
         }
     }
     Ok(None)

@@ -1,6 +1,6 @@
 //! Files that are opened for answers: what is broken is taken out of their records.
 
-use crate::input_files::{InputFile, SourceFile, open_source, read_input_file};
+use crate::input_files::{InputFile, SourceFile, find_file, open_source, read_input_file};
 use crate::options::Options;
 use crate::pdb_modules::PdbModules;
 use crate::repairs::print_repairs;
@@ -22,6 +22,17 @@ pub fn open_file<R: Files + Eprint + AllocGlobal>(
 }
 
 /// The same of a file that is read as it is asked, with what reads it.
+pub fn open_asked<R: Files + Eprint + AllocGlobal>(
+    rt: &R,
+    status_line: &StatusLine,
+    options: &Options<'_>,
+    path: &str,
+) -> Result<(InputFile, Option<PdbModules<R::File>>), Stop> {
+    let source = find_file(rt, status_line, options, path)?;
+    open_repaired(rt, source)
+}
+
+/// The same of a file that was found.
 pub fn open_repaired<R: Files + Eprint + AllocGlobal>(
     rt: &R,
     source: SourceFile<R::File>,

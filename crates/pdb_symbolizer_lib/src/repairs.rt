@@ -1,7 +1,7 @@
 //! The lines on standard error that say what of a PDB file is broken and was left out.
 
 use crate::stops::Stop;
-use pdb_addr2line::pdb::{Module, PDB, RawString};
+use pdb_addr2line::pdb::{Module, PDB, RawString, StreamError};
 use pdb_container::faults::fault_text;
 use pdb_repairs::{Repair, repair_modules, repair_records};
 use std::alloc::{AllocError, Global};
@@ -61,43 +61,25 @@ fn repair_text(alloc: Global, records: &PDB, repair: Repair) -> Result<String, A
         Repair::Module {
             module_index,
             fault,
-        } => module_text(alloc, records, module_index, "not read", fault_text(fault)),
+        } => module_text(alloc, records, module_index, "not read", fault),
         Repair::Symbols {
             module_index,
             fault,
-        } => {
-            module_text(
-                alloc,
-                records,
-                module_index,
-                "symbols end early",
-                fault_text(fault),
-            )
-        }
+        } => module_text(alloc, records, module_index, "symbols end early", fault),
         Repair::Lines {
             module_index,
             fault,
-        } => {
-            module_text(
-                alloc,
-                records,
-                module_index,
-                "lines are left out",
-                fault_text(fault),
-            )
-        }
+        } => module_text(alloc, records, module_index, "lines are left out", fault),
         Repair::Inlinees {
             module_index,
             fault,
-        } => {
-            module_text(
-                alloc,
-                records,
-                module_index,
-                "inlined functions end early",
-                fault_text(fault),
-            )
-        }
+        } => module_text(
+            alloc,
+            records,
+            module_index,
+            "inlined functions end early",
+            fault,
+        ),
     }
 }
 
@@ -106,10 +88,10 @@ fn module_text(
     records: &PDB,
     module_index: usize,
     what: &str,
-    fault: &str,
+    fault: StreamError,
 ) -> Result<String, AllocError> {
     let name = module_name(alloc, records, module_index)?;
-    format!(in alloc; "module {name}: {what}: {fault}")
+    format!(in alloc; "module {name}: {what}: {}", fault_text(fault))
 }
 
 // The name of a module, or its position in the list where that is too short.

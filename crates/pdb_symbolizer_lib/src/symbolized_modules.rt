@@ -54,7 +54,7 @@ fn texts_of_file<R: Files + Eprint + AllocGlobal>(
     let Some(found) = find_in_folders(rt, options, module)? else {
         return Ok(None);
     };
-    let (mut input, reader) = open_repaired(rt, found.by_itself())?;
+    let (mut input, reader) = open_repaired(rt, found)?;
     Ok(Some(texts_over(rt, options, module, &mut input, reader)?))
 }
 

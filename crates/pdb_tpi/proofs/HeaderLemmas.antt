@@ -1,6 +1,6 @@
 -- The header of a stream, of which only the first bytes are at hand.
 use Rattle.std.proofs.Common.{◌≡◌, ◌∙◌, ℕ, ◌==◌, ◌<◌, nat_lt, not, List, take, drop, length, min}
-use Rattle.std.proofs.Common.{false, Bool, cond, Option, Some, None, IfSome, Result, Ok, Err, sym, ap, arith}
+use Rattle.std.proofs.Common.{false, Bool, cond, Result, Ok, Err, sym, ap, arith}
 use Rattle.std.proofs.Common.{inl, inr}
 use Rattle.std.proofs.lemmas.Bool.{cases_lt}
 use Rattle.std.proofs.lemmas.Grind.{common_steps}
@@ -58,12 +58,7 @@ front_enough stream =
       | inr short ↦ ap (λ xs. header_of xs (length stream)) (take_all 20 stream short)
     ]
 
--- the header that was read of a stream's first bytes is the stream's
-pub header_read : (known : Option (List ℕ)) (front bytes : List ℕ) (size : ℕ) (answer : Result TypeHeader StreamError)
-    → bytes ≡ front → IfSome known (λ stream. front ≡ take 20 (drop 0 stream))
-    → IfSome known (λ stream. length stream ≡ size) → answer ≡ header_of bytes size
-    → IfSome known (λ stream. answer ≡ type_header stream)
+-- a stream's first 20 bytes have its header
+pub header_read : (stream : List ℕ) → header_of (take 20 stream) (length stream) ≡ type_header stream
 unfolding type_header
-header_read None front bytes size answer same read long is = tt
-header_read (Some stream) front bytes size answer same read long is =
-    is ∙ ap (λ xs. header_of xs size) (same ∙ read) ∙ ap (header_of (take 20 stream)) (sym long) ∙ front_enough stream
+header_read stream = front_enough stream

@@ -1,6 +1,6 @@
 -- What a window has of the records of a stream.
 use Rattle.std.proofs.Common.{◌≡◌, ◌∙◌, ℕ, ◌+◌, ◌-◌, ◌==◌, ◌≤◌, nat_lt, List, [], take, drop, length, min}
-use Rattle.std.proofs.Common.{true, false, Bool, cond, Option, Some, None, IfSome, refl, sym, ap, subst, arith}
+use Rattle.std.proofs.Common.{true, false, Bool, cond, Some, None, refl, sym, ap, subst, arith}
 use Rattle.std.proofs.Common.{inl, inr}
 use Rattle.std.proofs.lemmas.Bool.{cases_lt}
 use Rattle.std.proofs.lemmas.Grind.{common_steps}
@@ -8,15 +8,9 @@ use Rattle.std.proofs.lemmas.List.{drop-drop, drop-take, drop_all, length-take, 
 use Rattle.byteorder.specs.Endian.{little_number}
 use Rattle.pdb_msf.specs.declared.faults.TheConstants.{BAD_LENGTH}
 use Rattle.pdb_msf.specs.NumberLists.{two_byte_number}
-use Rattle.pdb_tpi.specs.RecordWindows.{SameRecord, Shows, records_in, shown_at}
+use Rattle.pdb_tpi.specs.RecordWindows.{SameRecord, Shows, shown_at}
 use Rattle.pdb_tpi.specs.TypeRecords.{behind_len, record_fault, record_len}
-use Rattle.pdb_tpi.specs.declared.record_window.RecordRange.{RecordRange}
 use Rattle.pdb_tpi.specs.declared.record_window.RecordWindow.{RecordWindow}
-
--- what holds of each holds of what there is
-pub of_each : {A : Type 0} (known : Option A) (holds : A → Type 0) → ((value : A) → holds value) → IfSome known holds
-of_each None holds each = tt
-of_each (Some value) holds each = each value
 
 -- so many of so many bytes are as many as the smaller number says
 taken_twice : (count long : ℕ) (bytes : List ℕ) → take count (take long bytes) ≡ take (min count long) bytes
@@ -199,52 +193,3 @@ read_again records before after place count size some least sized was at is =
     omega (arith, same, whole) in
     subst (λ xs. SameRecord xs rest) (sym (at_start after place at))
     (same_record size after.bytes.items rest is least enough)
-
--- a range of a stream that was read, as one of its records
-pub loaded_range : (known : Option (List ℕ)) (count place first long count_left from : ℕ) (bytes : List ℕ)
-    → count_left ≡ min count (long - place) → (place ≤ long → from ≡ first + place)
-    → IfSome known (λ stream. bytes ≡ take count_left (drop from stream))
-    → IfSome known (λ stream. bytes ≡ take count (drop place (take long (drop first stream))))
-loaded_range None count place first long count_left from bytes left at is = tt
-loaded_range (Some stream) count place first long count_left from bytes left at is =
-    is ∙ range_of_records count place first long count_left from stream left at
-
--- a window that was read shows the records
-pub shows_loaded : (known : Option (List ℕ)) (records : RecordRange) (before window : RecordWindow) (place count : ℕ)
-    → window.from ≡ place
-    → IfSome known (λ stream. window.bytes.items ≡ take count (drop place (records_in records stream)))
-    → IfSome known (λ stream. Shows (records_in records stream) before → Shows (records_in records stream) window)
-shows_loaded None records before window place count at is = tt
-shows_loaded (Some stream) records before window place count at is =
-    λ shows. shows_read (records_in records stream) window place count at is
-
--- one that was read, and has the whole record at its start, has that of the records
-pub whole_loaded : (known : Option (List ℕ)) (records : RecordRange) (before window : RecordWindow) (place count : ℕ)
-    → window.from ≡ place → 2 ≤ length (shown_at window place)
-    → 2 + record_len (shown_at window place) ≤ length (shown_at window place)
-    → IfSome known (λ stream. window.bytes.items ≡ take count (drop place (records_in records stream)))
-    → IfSome known (λ stream. Shows (records_in records stream) before
-    → SameRecord (shown_at window place) (drop place (records_in records stream)))
-whole_loaded None records before window place count at some whole is = tt
-whole_loaded (Some stream) records before window place count at some whole is =
-    λ shows. whole_shown (records_in records stream) window place some whole
-    (shows_read (records_in records stream) window place count at is)
-
--- one that was read anew with as many bytes as the record at its start has, has that of the records
-pub again_loaded : (known here : Option (List ℕ)) (records : RecordRange) (start before after : RecordWindow)
-    (front : List ℕ) (place count size : ℕ) → here ≡ known → 2 ≤ count → 2 ≤ size → front ≡ before.bytes.items
-    → (2 ≤ length front → size ≡ 2 + record_len front)
-    → IfSome known (λ stream. before.bytes.items ≡ take count (drop place (records_in records stream)))
-    → after.from ≡ place
-    → IfSome here (λ stream. after.bytes.items ≡ take size (drop place (records_in records stream)))
-    → IfSome known (λ stream. Shows (records_in records stream) start
-    → SameRecord (shown_at after place) (drop place (records_in records stream)))
-again_loaded None here records start before after front place count size same some least one sized was at is = tt
-again_loaded (Some stream) None records start before after front place count size same some least one sized was at is
-    = cc
-again_loaded (Some stream) (Some other) records start before after front place count size same some least one sized was
-    at is =
-    let one_stream : other ≡ stream = cc in
-    λ shows. read_again (records_in records stream) before after place count size some least
-    (subst (λ (xs : List ℕ). 2 ≤ length xs → size ≡ 2 + record_len xs) one sized) was at
-    (is ∙ ap (λ s. take size (drop place (records_in records s))) one_stream)

@@ -14,8 +14,8 @@ use Rattle.pdb_tpi.specs.Ids.{function, id_data, ids_of, member_function, no_ids
 use Rattle.pdb_tpi.specs.IndexLists.{index_list}
 use Rattle.pdb_tpi.specs.Primitives.{primitive_kinds, primitives}
 use Rattle.pdb_msf.specs.ItemLists.{all_items}
-use Rattle.pdb_tpi.specs.TypeStream.{TypeList}
-use Rattle.pdb_tpi.specs.Types.{argument_list, modifier, type_at, type_data, types_of}
+use Rattle.pdb_tpi.specs.Items.{TypeList, item_at}
+use Rattle.pdb_tpi.specs.Types.{argument_list, modifier, type_data, types, types_of}
 
 -- a number below 256, as two bytes and as four
 abbrev short : ℕ → List ℕ
@@ -114,12 +114,12 @@ last_types = record {
   fault = None;
 }
 
-second_type : type_at last_types 1
+second_type : item_at types last_types 1
     ≡ Some (record { index = index 4294967295; content = Ok (type.Other (codes "FieldList")) })
 unfolding type_data
 second_type = refl
 
-no_third_type : type_at last_types 2 ≡ None
+no_third_type : item_at types last_types 2 ≡ None
 no_third_type = refl
 
 -- there are 43 primitives in each of eight modes; T_64PINT4 is the number 0x74 in the mode CV_TM_NPTR64, which is 6

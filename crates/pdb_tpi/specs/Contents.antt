@@ -1,8 +1,9 @@
 -- What items hold, or why one alone can't be read.
-use Rattle.std.specs.Prelude.{Result, Ok, Err, alloc_error}
+use Rattle.std.specs.Option.{option_map_or}
+use Rattle.std.specs.Prelude.{ℕ, List, Option, Result, Ok, Err, alloc_error}
 use Rattle.std.specs.declared.alloc.AllocError.{AllocError}
 use Rattle.pdb_records.specs.declared.error.Error.{Error}
-use Rattle.pdb_records.specs.declared.error.Error.TheVariants.{Stream}
+use Rattle.pdb_records.specs.declared.error.Error.TheVariants.{Stream, UnimplementedTypeKind}
 use Rattle.pdb_records.specs.declared.error.StreamError.{StreamError}
 use Rattle.pdb_msf.specs.declared.faults.Fault.{Fault}
 use Rattle.pdb_msf.specs.declared.faults.Fault.TheVariants.{Broken, OutOfMemory}
@@ -11,6 +12,12 @@ use Rattle.pdb_msf.specs.declared.faults.Fault.TheVariants.{Broken, OutOfMemory}
 abbrev pub or_error : {T : Type 0} → Result T StreamError → Result T Error
 or_error (Ok content) = Ok content
 or_error (Err fault) = Err (Stream fault)
+
+-- what a record says, by the number of its kind, if that has a name, and what stands behind it
+abbrev pub content_by : {K T : Type 0} → (ℕ → Option K) → (K → List ℕ → Result T StreamError) → ℕ → List ℕ
+    → Result T Error
+content_by kind_of data_of number bytes =
+    option_map_or (λ kind. or_error (data_of kind bytes)) (kind_of number) (Err (UnimplementedTypeKind number))
 
 -- the content of an item by what reading it came to; out of memory stays out of memory
 abbrev pub content_of : {T : Type 0} → Result T Fault → Result (Result T Error) AllocError

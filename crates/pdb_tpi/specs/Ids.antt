@@ -1,13 +1,11 @@
 -- Ids: what the content of each kind that is read says. Places are counted from behind the kind.
-use Rattle.std.specs.Prelude.{ℕ, ◌==◌, nat_lt, List, drop, length, slice_get, codes}
-use Rattle.std.specs.Prelude.{Option, Some, None, option_map, Result, Ok, Err, if◌then◌else◌}
+use Rattle.std.specs.Prelude.{ℕ, ◌==◌, nat_lt, List, [], drop, length, codes, Option, Some, None, Result, Ok, Err}
+use Rattle.std.specs.Prelude.{if◌then◌else◌}
 use Rattle.pdb_records.specs.declared.error.Error.{Error}
-use Rattle.pdb_records.specs.declared.error.Error.TheVariants.{UnimplementedTypeKind}
 use Rattle.pdb_records.specs.declared.error.StreamError.{StreamError}
 use Rattle.pdb_records.specs.declared.ids.IdData.{IdData}
 use Rattle.pdb_records.specs.declared.ids.IdData.TheVariants as id
 use Rattle.pdb_records.specs.declared.ids.IdIndex.{IdIndex}
-use Rattle.pdb_records.specs.declared.types.Item.{Item}
 use Rattle.pdb_records.specs.declared.types.ItemInformation.{ItemInformation}
 use Rattle.pdb_msf.specs.declared.faults.TheConstants.{CUT}
 use Rattle.pdb_msf.specs.Faults.{◌>>=◌}
@@ -15,11 +13,10 @@ use Rattle.pdb_msf.specs.NumberLists.{number}
 use Rattle.pdb_msf.specs.Readings.{nothing_read}
 use Rattle.pdb_tpi.specs.declared.ids.IdKind.{IdKind}
 use Rattle.pdb_tpi.specs.declared.ids.IdKind.TheVariants as leaf
-use Rattle.pdb_tpi.specs.Contents.{or_error}
+use Rattle.pdb_tpi.specs.Contents.{content_by}
 use Rattle.pdb_tpi.specs.IndexLists.{index_list}
+use Rattle.pdb_tpi.specs.Items.{ItemMeaning, stream_items}
 use Rattle.pdb_tpi.specs.TypeNames.{name_in}
-use Rattle.pdb_tpi.specs.TypeRecords.{TypeBytes}
-use Rattle.pdb_tpi.specs.TypeStream.{TypeList, index_at, items_from, type_list}
 
 -- the kinds that have a name in the records, by the numbers of their leaves: LF_FUNC_ID, LF_MFUNC_ID, LF_BUILDINFO,
 -- LF_SUBSTR_LIST, LF_STRING_ID, LF_UDT_SRC_LINE and LF_UDT_MOD_SRC_LINE
@@ -77,29 +74,13 @@ data_of leaf.String bytes = string bytes
 data_of leaf.BuildInfo bytes = Ok (id.Other (codes "BuildInfo"))
 data_of leaf.UserDefinedTypeSource bytes = Ok (id.Other (codes "UserDefinedTypeSource"))
 
--- what a record of this kind says, if the kind has a name
-abbrev pub data_by : ℕ → Option IdKind → List ℕ → Result IdData Error
-data_by number None bytes = Err (UnimplementedTypeKind number)
-data_by number (Some known) bytes = or_error (data_of known bytes)
-
 -- what a record of an id says, by its kind and what stands behind it
 unfoldable pub id_data : ℕ → List ℕ → Result IdData Error
-id_data number bytes = data_by number (id_kind number) bytes
+id_data = content_by id_kind data_of
 
--- the id of a record, whose index is by its position
-abbrev pub id_item : ℕ → ℕ → TypeBytes → Item IdIndex IdData
-id_item first position bytes = record {
-  index = record { 0 = index_at first position };
-  content = id_data bytes.kind bytes.content;
-}
-
--- the id at a position of a list, if the list has one there
-abbrev pub id_at : TypeList → ℕ → Option (Item IdIndex IdData)
-id_at list position = option_map (id_item list.first position) (slice_get list.records position)
-
--- all ids of a list
-abbrev pub all_ids : TypeList → ItemInformation IdIndex IdData
-all_ids list = record { items = record { items = items_from (id_item list.first) 0 list.records; fault = list.fault } }
+-- what records of ids mean
+abbrev pub ids : ItemMeaning IdIndex IdData
+ids = record { index = λ number. record { 0 = number }; content = id_data; first = [] }
 
 -- a list without ids
 abbrev pub no_ids : ItemInformation IdIndex IdData
@@ -107,5 +88,4 @@ no_ids = record { items = nothing_read None }
 
 -- the ids of a stream: one without bytes has none
 abbrev pub ids_of : List ℕ → Result (ItemInformation IdIndex IdData) StreamError
-ids_of stream =
-    if length stream == 0 then Ok no_ids else (type_list stream >>= λ list. Ok (all_ids list))
+ids_of stream = if length stream == 0 then Ok no_ids else stream_items ids stream

@@ -3,11 +3,11 @@ pub mod Contents
 pub mod Header
 pub mod Ids
 pub mod IndexLists
+pub mod Items
 pub mod RecordWindows
 pub mod TypeNames
 pub mod Numbers
 pub mod Primitives
 pub mod TypePlaces
 pub mod TypeRecords
-pub mod TypeStream
 pub mod Types

@@ -1,11 +1,11 @@
 -- A stream of types or of ids that is read range by range: where its records start.
-use Rattle.std.specs.Prelude.{ℕ, nat_lt, List, Option, Some, None, slice_get, Result, Ok, Err, if◌then◌else◌}
-use Rattle.std.specs.Option.{option_and_then}
+use Rattle.std.specs.Prelude.{◌≡◌, ℕ, nat_lt, List, Option, Some, None, slice_get, Result, Ok, Err, if◌then◌else◌}
+use Rattle.std.specs.Option.{option_and_then, option_map_or}
 use Rattle.pdb_records.specs.declared.error.StreamError.{StreamError}
 use Rattle.pdb_msf.specs.declared.faults.TheConstants.{CUT}
 use Rattle.pdb_tpi.specs.RecordWindows.{records_in, shown_at}
 use Rattle.pdb_tpi.specs.TypeRecords.{AreStarts, TypeBytes, first_record, record_fault, records_at}
-use Rattle.pdb_tpi.specs.TypeStream.{TypeList}
+use Rattle.pdb_tpi.specs.Items.{TypeList, type_list}
 use Rattle.pdb_tpi.specs.declared.record_window.RecordWindow.{RecordWindow}
 use Rattle.pdb_tpi.specs.declared.type_places.TypePlaces.{TypePlaces}
 
@@ -25,19 +25,15 @@ list_at places stream = record {
 abbrev pub LieIn : TypePlaces → List ℕ → Type 0
 LieIn places stream = AreStarts places.starts.items (records_in places.records stream)
 
--- the list that was found in a stream, or why it can't be read
-abbrev pub places_read : List ℕ → Result TypePlaces StreamError → Result TypeList StreamError
-places_read stream (Ok places) = Ok (list_at places stream)
-places_read stream (Err error) = Err error
+-- records start at these places of a stream, and the list of these is the stream's; or this is why it can't be read
+abbrev pub IsListIn : List ℕ → Result TypePlaces StreamError → Type 0
+IsListIn stream (Ok places) = (type_list stream ≡ Ok (list_at places stream)) × LieIn places stream
+IsListIn stream (Err error) = type_list stream ≡ Err error
 
--- the record that these bytes begin with, unless it has this fault
-abbrev pub without_fault : Option StreamError → List ℕ → Option TypeBytes
-without_fault None bytes = Some (first_record bytes)
-without_fault (Some fault) bytes = None
-
--- the record that a window has at a place
+-- the record that a window has at a place, unless it has a fault
 abbrev pub record_shown : RecordWindow → ℕ → Option TypeBytes
-record_shown window place = without_fault (record_fault (shown_at window place)) (shown_at window place)
+record_shown window place =
+    option_map_or (λ fault. None) (record_fault (shown_at window place)) (Some (first_record (shown_at window place)))
 
 -- the record that a window has at the start of the one at a position
 abbrev pub position_shown : TypePlaces → RecordWindow → ℕ → Option TypeBytes

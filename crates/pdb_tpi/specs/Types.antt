@@ -1,12 +1,9 @@
 -- Types: what the content of each kind that is read says. Places are counted from behind the kind.
-use Rattle.std.specs.Prelude.{ℕ, ◌/◌, ◌%◌, ◌^◌, ◌==◌, nat_lt, bit_and, not, Bool, List, [], ◌++◌, drop}
-use Rattle.std.specs.Prelude.{length, slice_get, slice_index, codes, Option, Some, None, option_map, Result, Ok, Err}
-use Rattle.std.specs.Prelude.{if◌then◌else◌}
+use Rattle.std.specs.Prelude.{ℕ, ◌/◌, ◌%◌, ◌^◌, ◌==◌, nat_lt, bit_and, not, Bool, List, [], drop, length, slice_index}
+use Rattle.std.specs.Prelude.{codes, Option, Some, None, Result, Ok, Err, if◌then◌else◌}
 use Rattle.pdb_records.specs.declared.error.Error.{Error}
-use Rattle.pdb_records.specs.declared.error.Error.TheVariants.{UnimplementedTypeKind}
 use Rattle.pdb_records.specs.declared.error.StreamError.{StreamError}
 use Rattle.pdb_records.specs.declared.types.ClassKind.TheVariants as word
-use Rattle.pdb_records.specs.declared.types.Item.{Item}
 use Rattle.pdb_records.specs.declared.types.ItemInformation.{ItemInformation}
 use Rattle.pdb_records.specs.declared.types.PointerMode.{PointerMode}
 use Rattle.pdb_records.specs.declared.types.PointerMode.TheVariants as mode
@@ -19,12 +16,11 @@ use Rattle.pdb_msf.specs.NumberLists.{number, two_byte_number}
 use Rattle.pdb_tpi.specs.declared.types.TypeKind.{TypeKind}
 use Rattle.pdb_tpi.specs.declared.types.TypeKind.TheVariants as leaf
 use Rattle.pdb_tpi.specs.Aggregates.{class, enumerate, enumeration, newer_class, newer_union, union}
-use Rattle.pdb_tpi.specs.Contents.{or_error}
+use Rattle.pdb_tpi.specs.Contents.{content_by}
 use Rattle.pdb_tpi.specs.IndexLists.{index_list}
+use Rattle.pdb_tpi.specs.Items.{ItemMeaning, stream_items}
 use Rattle.pdb_tpi.specs.Numbers.{size_in}
 use Rattle.pdb_tpi.specs.Primitives.{primitives}
-use Rattle.pdb_tpi.specs.TypeRecords.{TypeBytes}
-use Rattle.pdb_tpi.specs.TypeStream.{TypeList, index_at, items_from, type_list}
 
 -- the kinds that have a name in the records, by the numbers of their leaves: LF_MODIFIER, LF_POINTER, LF_PROCEDURE,
 -- LF_MFUNCTION, LF_ARGLIST, LF_ENUMERATE, LF_ARRAY, LF_CLASS, LF_STRUCTURE, LF_INTERFACE, LF_UNION, LF_ENUM, the newer
@@ -165,35 +161,14 @@ data_of leaf.Bitfield bytes = Ok (type.Other (codes "Bitfield"))
 data_of leaf.MethodList bytes = Ok (type.Other (codes "MethodList"))
 data_of leaf.VirtualFunctionTable bytes = Ok (type.Other (codes "VirtualFunctionTable"))
 
--- what a record of this kind says, if the kind has a name
-abbrev pub data_by : ℕ → Option TypeKind → List ℕ → Result TypeData Error
-data_by number None bytes = Err (UnimplementedTypeKind number)
-data_by number (Some known) bytes = or_error (data_of known bytes)
-
 -- what a record of a type says, by its kind and what stands behind it
 unfoldable pub type_data : ℕ → List ℕ → Result TypeData Error
-type_data number bytes = data_by number (type_kind number) bytes
+type_data = content_by type_kind data_of
 
--- the type of a record, whose index is by its position
-abbrev pub type_item : ℕ → ℕ → TypeBytes → Item TypeIndex TypeData
-type_item first position bytes = record {
-  index = record { 0 = index_at first position };
-  content = type_data bytes.kind bytes.content;
-}
+-- what records of types mean
+abbrev pub types : ItemMeaning TypeIndex TypeData
+types = record { index = λ number. record { 0 = number }; content = type_data; first = primitives }
 
--- the type at a position of a list, if the list has one there
-abbrev pub type_at : TypeList → ℕ → Option (Item TypeIndex TypeData)
-type_at list position = option_map (type_item list.first position) (slice_get list.records position)
-
--- all types of a list, with the primitives in front of them
-abbrev pub all_types : TypeList → ItemInformation TypeIndex TypeData
-all_types list = record {
-  items = record {
-    items = primitives ++ items_from (type_item list.first) 0 list.records;
-    fault = list.fault;
-  };
-}
-
--- the types of a stream
+-- the types of a stream, with the primitives in front of them
 abbrev pub types_of : List ℕ → Result (ItemInformation TypeIndex TypeData) StreamError
-types_of stream = type_list stream >>= λ list. Ok (all_types list)
+types_of = stream_items types

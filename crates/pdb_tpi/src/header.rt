@@ -1,7 +1,7 @@
 //! The header of a stream of types or of ids, and where it has the records behind it.
 
 ghost use Rattle.std.specs.Prelude.{◌≡◌};
-ghost use Rattle.pdb_tpi.specs.Header.{header_of, type_header};
+ghost use Rattle.pdb_tpi.specs.Header.{header_of};
 
 use pdb_msf::faults::{CUT, POINTS_NOWHERE, UNKNOWN_VERSION};
 use pdb_msf::u32_at;
@@ -22,14 +22,6 @@ pub(crate) struct TypeHeader {
     pub(crate) type_index_begin: u32,
     /// How many bytes they have together.
     pub(crate) type_record_bytes: u32,
-}
-
-/// The header of a stream.
-#[tactic(auto, unfolding(crate::specs::Header::type_header))]
-pub(crate) fn read_header(stream: &[u8]) -> Result<TypeHeader, StreamError>
-    ensures { result ≡ type_header stream.now }
-{
-    header_of(stream, stream.len())
 }
 
 /// The header of a stream of this length, of which the first bytes are given, up to those of the header at least.

@@ -1,27 +1,20 @@
 //! Ids: functions, methods and strings that symbols name by an id.
 
-ghost use Rattle.std.specs.Prelude.{◌≡◌, IfErr, IfOk, IfSome};
+ghost use Rattle.std.specs.Prelude.{◌≡◌, IfErr, IfOk};
 ghost use Rattle.pdb_msf.specs.Faults.{Gives};
-ghost use Rattle.pdb_msf.specs.StreamBlocks.{said_in};
-ghost use Rattle.pdb_msf.specs.Streams.{bytes_of};
 ghost use Rattle.pdb_records.specs.declared.ids.IdData.TheVariants as id;
-ghost use Rattle.pdb_tpi.specs.Ids.{all_ids, data_of, function, id_at, id_data, id_kind, ids_of, member_function};
-ghost use Rattle.pdb_tpi.specs.Ids.{no_ids, optional_scope, string, string_list};
-ghost use Rattle.pdb_tpi.specs.RecordWindows.{Shows, records_in};
-ghost use Rattle.pdb_tpi.specs.TypePlaces.{LieIn, list_at};
+ghost use Rattle.pdb_tpi.specs.Ids.{data_of, function, id_data, id_kind, member_function, no_ids, optional_scope};
+ghost use Rattle.pdb_tpi.specs.Ids.{string, string_list};
 
 use crate::contents::content_of;
 use crate::index_lists::read_indices;
-use crate::record_window::RecordWindow;
+use crate::items::ItemIndex;
 use crate::type_names::take_name;
-use crate::type_places::TypePlaces;
-use crate::type_records::TypeRecord;
-use crate::type_stream::TypeStream;
 use pdb_msf::faults::Fault;
-use pdb_msf::{Bytes, Source, SourceFault, StreamBytes, nothing_read, u32_at};
+use pdb_msf::{Bytes, nothing_read, u32_at};
 use pdb_records::{
     Error, FunctionId, IdData, IdIndex, IdInformation, Item, ItemInformation, MemberFunctionId,
-    Reading, StringId, StringListId, TypeIndex, UnhandledId,
+    StringId, StringListId, TypeIndex, UnhandledId,
 };
 use std::alloc::{AllocError, Global};
 
@@ -36,17 +29,6 @@ pub(crate) enum IdKind {
     UserDefinedTypeSource,
 }
 
-/// The ids of a stream. One without any bytes has none; else the errors are those of [`TypeStream::read`].
-pub fn read_ids(alloc: Global, stream: StreamBytes<'_>) -> Result<IdInformation, Fault>
-    ensures { Gives (λ ids. ids) result (ids_of (bytes_of stream.entry)) }
-{
-    if stream.as_slice().is_empty() {
-        return Ok(no_ids(alloc));
-    }
-    let list = TypeStream::read(alloc, stream)?;
-    Ok(list.all_ids(alloc)?)
-}
-
 /// A list without ids.
 pub fn no_ids(alloc: Global) -> IdInformation
     ensures { result ≡ no_ids }
@@ -56,106 +38,31 @@ pub fn no_ids(alloc: Global) -> IdInformation
     }
 }
 
-impl TypeStream<'_> {
-    /// All ids.
-    pub fn all_ids(&self, alloc: Global) -> Result<IdInformation, AllocError>
-        ensures { IfOk result (λ ids. ids ≡ all_ids self.now) }
-    {
-        let mut items = Vec::with_capacity(alloc, self.len())?;
-        for position in 0..self.len() {
-            if let Some(item) = self.id_at(alloc, position)? {
-                items.push(item)?;
-            }
+impl ItemIndex for IdIndex {
+    type Data = IdData;
+
+    ghost use Rattle.pdb_tpi.specs.Ids.{ids};
+
+    ghost meaning = { ids };
+
+    fn of_number(number: u32) -> IdIndex {
+        IdIndex(number)
+    }
+
+    #[tactic(auto, using(crate::proofs::ContentLemmas::given_content), unfolding(crate::specs::Ids::id_data))]
+    fn content(
+        alloc: Global,
+        kind: u16,
+        bytes: &[u8],
+    ) -> Result<Result<IdData, Error>, AllocError> {
+        match id_kind(kind) {
+            Some(known) => content_of(id_data(alloc, known, bytes)),
+            None => Ok(Err(Error::UnimplementedTypeKind(kind))),
         }
-        Ok(ItemInformation {
-            items: Reading {
-                items,
-                fault: self.fault(),
-            },
-        })
     }
 
-    /// The id that the record at a position is, or `None` behind the last one. A record that can't be read is an item
-    /// with an error.
-    pub fn id_at(
-        &self,
-        alloc: Global,
-        position: usize,
-    ) -> Result<Option<Item<IdIndex, IdData>>, AllocError>
-        ensures { IfOk result (λ item. item ≡ id_at self.now position) }
-    {
-        let Some(entry) = self.record(position) else {
-            return Ok(None);
-        };
-        Ok(Some(Item {
-            index: IdIndex(self.index_at(position)),
-            content: id_content(alloc, &entry)?,
-        }))
-    }
-}
-
-impl TypePlaces {
-    /// All ids.
-    pub fn all_ids<S: Source>(
-        &self,
-        alloc: Global,
-        source: &mut S,
-    ) -> Result<IdInformation, SourceFault>
-        ensures answer { IfOk result (λ ids. IfSome (said_in (S.bytes source.old) self.now.records.blocks) (λ stream.
-            LieIn self.now stream → ids ≡ all_ids (list_at self.now stream))) }
-        ensures inputs { S.bytes source.new ≡ S.bytes source.old }
-    {
-        let mut window = RecordWindow::of_many(alloc);
-        let mut items = Vec::with_capacity(alloc, self.len())?;
-        for position in 0..self.len() {
-            if let Some(item) = self.id_at(alloc, source, &mut window, position)? {
-                items.push(item)?;
-            }
-        }
-        Ok(ItemInformation {
-            items: Reading {
-                items,
-                fault: self.fault(),
-            },
-        })
-    }
-
-    /// The id that the record at a position is, or `None` behind the last one. A record that can't be read is an item
-    /// with an error.
-    pub fn id_at<S: Source>(
-        &self,
-        alloc: Global,
-        source: &mut S,
-        window: &mut RecordWindow,
-        position: usize,
-    ) -> Result<Option<Item<IdIndex, IdData>>, SourceFault>
-        ensures answer { IfOk result (λ item. IfSome (said_in (S.bytes source.old) self.now.records.blocks) (λ stream.
-            LieIn self.now stream → Shows (records_in self.now.records stream) window.old
-            → item ≡ id_at (list_at self.now stream) position)) }
-        ensures shows { IfSome (said_in (S.bytes source.old) self.now.records.blocks) (λ stream.
-            Shows (records_in self.now.records stream) window.old
-            → Shows (records_in self.now.records stream) window.new) }
-        ensures inputs { S.bytes source.new ≡ S.bytes source.old }
-    {
-        self.show(source, window, position)?;
-        let Some(entry) = self.shown(window, position) else {
-            return Ok(None);
-        };
-        Ok(Some(Item {
-            index: IdIndex(self.index_at(position)),
-            content: id_content(alloc, &entry)?,
-        }))
-    }
-}
-
-// What the record of an id says, or why it can't be read.
-#[tactic(auto, using(crate::proofs::ContentLemmas::given_content), unfolding(crate::specs::Ids::id_data))]
-fn id_content(alloc: Global, entry: &TypeRecord<'_>) -> Result<Result<IdData, Error>, AllocError>
-    ensures { IfOk result (λ content. content ≡ id_data entry.now.kind entry.now.content) }
-{
-    match id_kind(entry.kind) {
-        Some(kind) => content_of(id_data(alloc, kind, entry.content)),
-        None => Ok(Err(Error::UnimplementedTypeKind(entry.kind))),
+    fn first_items(alloc: Global) -> Result<Vec<Item<IdIndex, IdData>>, AllocError> {
+        Ok(Vec::new(alloc))
     }
 }
 

@@ -1,21 +1,22 @@
 //! A stream of types or of ids that is read range by range: where each of its records starts.
 
-ghost use Rattle.std.specs.Prelude.{◌≡◌, ℕ, List, length, slice_get, IfOk, IfSome, OnOk};
+ghost use Rattle.std.specs.Prelude.{◌≡◌, length, slice_get, IfOk, IfSome, OnOk};
 ghost use Rattle.pdb_msf.specs.ItemLists.{all_items};
 ghost use Rattle.pdb_msf.specs.StreamBlocks.{said_in};
 ghost use Rattle.pdb_tpi.specs.Header.{type_header};
+ghost use Rattle.pdb_tpi.specs.Items.{index_at, item_at, list_items, stream_items};
 ghost use Rattle.pdb_tpi.specs.RecordWindows.{Shows, records_in};
-ghost use Rattle.pdb_tpi.specs.TypePlaces.{LieIn, early_end, list_at, places_read, position_shown};
+ghost use Rattle.pdb_tpi.specs.TypePlaces.{IsListIn, LieIn, early_end, list_at, position_shown};
 ghost use Rattle.pdb_tpi.specs.TypeRecords.{next_start};
-ghost use Rattle.pdb_tpi.specs.TypeStream.{index_at, type_list};
 
 use crate::aggregates::is_definition;
 use crate::header::{HEADER, TypeHeader, header_of};
+use crate::items::ItemIndex;
 use crate::record_window::{RecordRange, RecordWindow};
 use crate::type_records::{TypeRecord, take_record};
 use pdb_msf::faults::CUT;
 use pdb_msf::{Bytes, Source, SourceFault, StreamBlocks, offset_of};
-use pdb_records::{Reading, StreamError};
+use pdb_records::{Item, ItemInformation, Reading, StreamError};
 use std::alloc::Global;
 
 /// Where the records of a stream of types or of ids start. Their bytes stay in the file: they are read from it again,
@@ -29,17 +30,18 @@ pub struct TypePlaces {
 }
 
 impl TypePlaces {
-    /// The list of types or ids that the stream in these blocks is. The errors are those of
-    /// [`TypeStream::read`](crate::TypeStream::read).
+    /// The list of types or ids that the stream in these blocks is.
+    ///
+    /// Broken by [`CUT`](pdb_msf::faults::CUT) where the stream ends in the header, by
+    /// [`UNKNOWN_VERSION`](pdb_msf::faults::UNKNOWN_VERSION) where its version isn't 20040203, and by
+    /// [`POINTS_NOWHERE`](pdb_msf::faults::POINTS_NOWHERE) where it is shorter than the header says that this is.
     pub fn read<S: Source>(
         alloc: Global,
         source: &mut S,
         blocks: StreamBlocks,
     ) -> Result<Result<Self, StreamError>, SourceFault>
         ensures answer { IfOk result (λ answer. IfSome (said_in (S.bytes source.old) blocks) (λ stream.
-            type_list stream ≡ places_read stream answer)) }
-        ensures there { IfOk result (λ answer. IfOk answer (λ places.
-            IfSome (said_in (S.bytes source.old) blocks) (λ stream. LieIn places stream))) }
+            IsListIn stream answer)) }
         ensures blocks { IfOk result (λ answer. IfOk answer (λ places. places.records.blocks ≡ blocks)) }
         ensures inputs { S.bytes source.new ≡ S.bytes source.old }
     {
@@ -101,8 +103,61 @@ impl TypePlaces {
         }
     }
 
+    /// All items, with those that every list has in front of them.
+    pub fn all_items<I: ItemIndex, S: Source>(
+        &self,
+        alloc: Global,
+        source: &mut S,
+    ) -> Result<ItemInformation<I, I::Data>, SourceFault>
+        ensures answer { IfOk result (λ items. IfSome (said_in (S.bytes source.old) self.now.records.blocks) (λ stream.
+            LieIn self.now stream → items ≡ list_items I.meaning (list_at self.now stream))) }
+        ensures inputs { S.bytes source.new ≡ S.bytes source.old }
+    {
+        let mut window = RecordWindow::of_many(alloc);
+        let mut items = I::first_items(alloc)?;
+        items.reserve(self.len())?;
+        for position in 0..self.len() {
+            if let Some(item) = self.item_at(alloc, source, &mut window, position)? {
+                items.push(item)?;
+            }
+        }
+        Ok(ItemInformation {
+            items: Reading {
+                items,
+                fault: self.fault(),
+            },
+        })
+    }
+
+    /// The item that the record at a position is, or `None` behind the last one. A record that can't be read is an item
+    /// with an error.
+    pub fn item_at<I: ItemIndex, S: Source>(
+        &self,
+        alloc: Global,
+        source: &mut S,
+        window: &mut RecordWindow,
+        position: usize,
+    ) -> Result<Option<Item<I, I::Data>>, SourceFault>
+        ensures answer { IfOk result (λ item. IfSome (said_in (S.bytes source.old) self.now.records.blocks) (λ stream.
+            LieIn self.now stream → Shows (records_in self.now.records stream) window.old
+            → item ≡ item_at I.meaning (list_at self.now stream) position)) }
+        ensures shows { IfSome (said_in (S.bytes source.old) self.now.records.blocks) (λ stream.
+            Shows (records_in self.now.records stream) window.old
+            → Shows (records_in self.now.records stream) window.new) }
+        ensures inputs { S.bytes source.new ≡ S.bytes source.old }
+    {
+        self.show(source, window, position)?;
+        let Some(record) = self.shown(window, position) else {
+            return Ok(None);
+        };
+        Ok(Some(Item {
+            index: I::of_number(self.index_at(position)),
+            content: I::content(alloc, record.kind, record.content)?,
+        }))
+    }
+
     // The index of the record at a position.
-    pub(crate) fn index_at(&self, position: usize) -> u32
+    fn index_at(&self, position: usize) -> u32
         ensures { result ≡ index_at self.now.first position }
     {
         let position = u32::try_from(position).unwrap_or(u32::MAX);
@@ -110,7 +165,7 @@ impl TypePlaces {
     }
 
     // Has a window show the record at a position, if there is one.
-    pub(crate) fn show<S: Source>(
+    fn show<S: Source>(
         &self,
         source: &mut S,
         window: &mut RecordWindow,
@@ -139,15 +194,26 @@ impl TypePlaces {
     }
 
     // The record at a position, as a window shows it.
-    pub(crate) fn shown<'w>(
-        &self,
-        window: &'w RecordWindow,
-        position: usize,
-    ) -> Option<TypeRecord<'w>>
+    fn shown<'w>(&self, window: &'w RecordWindow, position: usize) -> Option<TypeRecord<'w>>
         ensures { result ≡ position_shown self.now window.now position }
     {
         let start = self.start_of(position)?;
         take_record(&mut Bytes::new(window.at(start as usize))).ok()
+    }
+}
+
+/// All items of the stream in these blocks. The errors are those of [`TypePlaces::read`].
+pub fn read_items<I: ItemIndex, S: Source>(
+    alloc: Global,
+    source: &mut S,
+    blocks: StreamBlocks,
+) -> Result<Result<ItemInformation<I, I::Data>, StreamError>, SourceFault>
+    ensures { IfOk result (λ items. IfSome (said_in (S.bytes source.old) blocks) (λ stream.
+        items ≡ stream_items I.meaning stream)) }
+{
+    match TypePlaces::read(alloc, source, blocks)? {
+        Ok(places) => Ok(Ok(places.all_items(alloc, source)?)),
+        Err(error) => Ok(Err(error)),
     }
 }
 

@@ -1,13 +1,11 @@
 //! Records of types and ids: how the bytes of a list are cut into them.
 
-ghost use Rattle.std.specs.Prelude.{◌≡◌, ◌+◌, ◌<◌, ◌≤◌, ◌^◌, drop, length, None, Some, IfErr, IfOk, OnOk};
-ghost use Rattle.pdb_tpi.specs.TypeRecords.{AreStarts, first_record, record_fault, record_len, records_at};
-ghost use Rattle.pdb_tpi.specs.TypeRecords.{type_records};
+ghost use Rattle.std.specs.Prelude.{◌≡◌, ◌+◌, ◌≤◌, drop, length, None, Some, IfErr, IfOk, OnOk};
+ghost use Rattle.pdb_tpi.specs.TypeRecords.{first_record, record_fault, record_len};
 
-use pdb_msf::faults::{BAD_LENGTH, Fault};
-use pdb_msf::{Bytes, ItemReader, offset_of, read_items};
-use pdb_records::{Reading, StreamError};
-use std::alloc::{AllocError, Global};
+use pdb_msf::Bytes;
+use pdb_msf::faults::BAD_LENGTH;
+use pdb_records::StreamError;
 use std::marker::Model;
 
 /// The bytes of a type or an id.
@@ -24,38 +22,6 @@ impl<'a> Model for TypeRecord<'a> {
     ghost Value = { TypeBytes };
 
     ghost view = { λ r. record { kind = r.kind; content = r.content.now } };
-}
-
-/// Where the records of a list start, in bytes from its own start.
-#[tactic(auto, using(crate::proofs::TypeRecordLemmas::listed))]
-pub(crate) fn record_starts(alloc: Global, bytes: &[u8]) -> Result<Reading<u32>, AllocError>
-    requires { length bytes.now < 2 ^ 32 }
-    ensures items { IfOk result (λ starts. records_at starts.items bytes.now ≡ (type_records bytes.now).items) }
-    ensures fault { IfOk result (λ starts. starts.fault ≡ (type_records bytes.now).fault) }
-    ensures starts { IfOk result (λ starts. AreStarts starts.items bytes.now) }
-{
-    let whole = bytes.len();
-    read_items(alloc, &RecordStarts { whole }, bytes)
-}
-
-/// Where each record of a list of so many bytes starts.
-#[derive(Drop)]
-struct RecordStarts {
-    whole: usize,
-}
-
-impl<'a> ItemReader<'a> for RecordStarts {
-    type Item = u32;
-
-    ghost use Rattle.pdb_tpi.specs.TypeRecords.{next_start};
-
-    ghost first = { λ list. next_start list.whole };
-
-    fn take(&self, rest: &mut Bytes<'a>) -> Result<u32, Fault> {
-        let start = offset_of(self.whole, rest.len());
-        take_record(rest)?;
-        Ok(start)
-    }
 }
 
 /// The next record of a list.

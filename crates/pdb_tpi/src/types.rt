@@ -1,31 +1,23 @@
 //! Types: pointers, modifiers, procedures, methods, arrays, lists of arguments, and what is not printed.
 
-ghost use Rattle.std.specs.Prelude.{◌≡◌, ◌≤◌, ◌+◌, length, IfErr, IfOk, IfSome};
+ghost use Rattle.std.specs.Prelude.{◌≡◌, ◌≤◌, ◌+◌, length, IfErr, IfOk};
 ghost use Rattle.pdb_msf.specs.Faults.{Gives};
-ghost use Rattle.pdb_msf.specs.StreamBlocks.{said_in};
-ghost use Rattle.pdb_msf.specs.Streams.{bytes_of};
 ghost use Rattle.pdb_records.specs.declared.types.TypeData.TheVariants as type;
-ghost use Rattle.pdb_tpi.specs.RecordWindows.{Shows, records_in};
-ghost use Rattle.pdb_tpi.specs.TypePlaces.{LieIn, list_at};
-ghost use Rattle.pdb_tpi.specs.Types.{all_types, argument_list, array, data_of, is_constructor, member_function};
-ghost use Rattle.pdb_tpi.specs.Types.{modifier, optional_type, pointer, pointer_mode, pointer_size, procedure};
-ghost use Rattle.pdb_tpi.specs.Types.{type_at, type_data, type_kind, types_of};
+ghost use Rattle.pdb_tpi.specs.Types.{argument_list, array, data_of, is_constructor, member_function, modifier};
+ghost use Rattle.pdb_tpi.specs.Types.{optional_type, pointer, pointer_mode, pointer_size, procedure, type_data};
+ghost use Rattle.pdb_tpi.specs.Types.{type_kind};
 
 use crate::aggregates::{class, enumerate, enumeration, newer_class, newer_union, union};
 use crate::contents::content_of;
 use crate::index_lists::read_indices;
+use crate::items::ItemIndex;
 use crate::numbers::take_size;
 use crate::primitives::primitive_types;
-use crate::record_window::RecordWindow;
-use crate::type_places::TypePlaces;
-use crate::type_records::TypeRecord;
-use crate::type_stream::TypeStream;
 use pdb_msf::faults::{BAD_NUMBER, CUT, Fault};
-use pdb_msf::{Bytes, Source, SourceFault, StreamBytes, u16_at, u32_at};
+use pdb_msf::{Bytes, u16_at, u32_at};
 use pdb_records::{
-    ArgumentList, ArrayType, ClassKind, Error, Item, ItemInformation, MemberFunctionType,
-    ModifierType, PointerMode, PointerType, ProcedureType, Reading, StreamError, TypeData,
-    TypeIndex, TypeInformation, UnhandledType,
+    ArgumentList, ArrayType, ClassKind, Error, Item, MemberFunctionType, ModifierType, PointerMode,
+    PointerType, ProcedureType, StreamError, TypeData, TypeIndex, UnhandledType,
 };
 use std::alloc::{AllocError, Global};
 
@@ -55,119 +47,31 @@ pub(crate) enum TypeKind {
     VirtualFunctionTable,
 }
 
-/// The types of a stream, with the primitives in front of them. The errors are those of [`TypeStream::read`].
-pub fn read_types(alloc: Global, stream: StreamBytes<'_>) -> Result<TypeInformation, Fault>
-    ensures { Gives (λ types. types) result (types_of (bytes_of stream.entry)) }
-{
-    let list = TypeStream::read(alloc, stream)?;
-    Ok(list.all_types(alloc)?)
-}
+impl ItemIndex for TypeIndex {
+    type Data = TypeData;
 
-impl TypeStream<'_> {
-    /// All types, with the primitives in front of them.
-    pub fn all_types(&self, alloc: Global) -> Result<TypeInformation, AllocError>
-        ensures { IfOk result (λ types. types ≡ all_types self.now) }
-    {
-        let mut items = primitive_types(alloc)?;
-        items.reserve(self.len())?;
-        for position in 0..self.len() {
-            if let Some(item) = self.type_at(alloc, position)? {
-                items.push(item)?;
-            }
+    ghost use Rattle.pdb_tpi.specs.Types.{types};
+
+    ghost meaning = { types };
+
+    fn of_number(number: u32) -> TypeIndex {
+        TypeIndex(number)
+    }
+
+    #[tactic(auto, using(crate::proofs::ContentLemmas::given_content), unfolding(crate::specs::Types::type_data))]
+    fn content(
+        alloc: Global,
+        kind: u16,
+        bytes: &[u8],
+    ) -> Result<Result<TypeData, Error>, AllocError> {
+        match type_kind(kind) {
+            Some(known) => content_of(type_data(alloc, known, bytes)),
+            None => Ok(Err(Error::UnimplementedTypeKind(kind))),
         }
-        Ok(ItemInformation {
-            items: Reading {
-                items,
-                fault: self.fault(),
-            },
-        })
     }
 
-    /// The type that the record at a position is, or `None` behind the last one. A record that can't be read is an item
-    /// with an error.
-    pub fn type_at(
-        &self,
-        alloc: Global,
-        position: usize,
-    ) -> Result<Option<Item<TypeIndex, TypeData>>, AllocError>
-        ensures { IfOk result (λ item. item ≡ type_at self.now position) }
-    {
-        let Some(entry) = self.record(position) else {
-            return Ok(None);
-        };
-        Ok(Some(Item {
-            index: TypeIndex(self.index_at(position)),
-            content: type_content(alloc, &entry)?,
-        }))
-    }
-}
-
-impl TypePlaces {
-    /// All types, with the primitives in front of them.
-    pub fn all_types<S: Source>(
-        &self,
-        alloc: Global,
-        source: &mut S,
-    ) -> Result<TypeInformation, SourceFault>
-        ensures answer { IfOk result (λ types. IfSome (said_in (S.bytes source.old) self.now.records.blocks) (λ stream.
-            LieIn self.now stream → types ≡ all_types (list_at self.now stream))) }
-        ensures inputs { S.bytes source.new ≡ S.bytes source.old }
-    {
-        let mut window = RecordWindow::of_many(alloc);
-        let mut items = primitive_types(alloc)?;
-        items.reserve(self.len())?;
-        for position in 0..self.len() {
-            if let Some(item) = self.type_at(alloc, source, &mut window, position)? {
-                items.push(item)?;
-            }
-        }
-        Ok(ItemInformation {
-            items: Reading {
-                items,
-                fault: self.fault(),
-            },
-        })
-    }
-
-    /// The type that the record at a position is, or `None` behind the last one. A record that can't be read is an item
-    /// with an error.
-    pub fn type_at<S: Source>(
-        &self,
-        alloc: Global,
-        source: &mut S,
-        window: &mut RecordWindow,
-        position: usize,
-    ) -> Result<Option<Item<TypeIndex, TypeData>>, SourceFault>
-        ensures answer { IfOk result (λ item. IfSome (said_in (S.bytes source.old) self.now.records.blocks) (λ stream.
-            LieIn self.now stream → Shows (records_in self.now.records stream) window.old
-            → item ≡ type_at (list_at self.now stream) position)) }
-        ensures shows { IfSome (said_in (S.bytes source.old) self.now.records.blocks) (λ stream.
-            Shows (records_in self.now.records stream) window.old
-            → Shows (records_in self.now.records stream) window.new) }
-        ensures inputs { S.bytes source.new ≡ S.bytes source.old }
-    {
-        self.show(source, window, position)?;
-        let Some(entry) = self.shown(window, position) else {
-            return Ok(None);
-        };
-        Ok(Some(Item {
-            index: TypeIndex(self.index_at(position)),
-            content: type_content(alloc, &entry)?,
-        }))
-    }
-}
-
-// What the record of a type says, or why it can't be read.
-#[tactic(auto, using(crate::proofs::ContentLemmas::given_content), unfolding(crate::specs::Types::type_data))]
-fn type_content(
-    alloc: Global,
-    entry: &TypeRecord<'_>,
-) -> Result<Result<TypeData, Error>, AllocError>
-    ensures { IfOk result (λ content. content ≡ type_data entry.now.kind entry.now.content) }
-{
-    match type_kind(entry.kind) {
-        Some(kind) => content_of(type_data(alloc, kind, entry.content)),
-        None => Ok(Err(Error::UnimplementedTypeKind(entry.kind))),
+    fn first_items(alloc: Global) -> Result<Vec<Item<TypeIndex, TypeData>>, AllocError> {
+        primitive_types(alloc)
     }
 }
 

@@ -17,10 +17,8 @@ stacks_between-requires c =
 
 pub returns-clause-stacks : goal.returns-clause-stacks
 returns-clause-stacks c = λ x.
-    let ranges = c.args.ranges.now in
-    let values : positions_in c.deref.result.now x ≡ up_to_gap (picked_positions ranges x (length ranges) 0) =
-    rw c.deref.ensures.value (ap up_to_gap (c.in_ok-tables.ensures x)) in
-    rw (c.in_ok-table.ensures.answer x, values) (positions_are ranges x)
+    rw (c.in_ok-table.ensures.answer x, c.deref.ensures.value, ap up_to_gap (c.in_ok-tables.ensures x))
+    (positions_are c.args.ranges.now x)
 
 pub returns-clause-positions : goal.returns-clause-positions
 returns-clause-positions c = λ x.
