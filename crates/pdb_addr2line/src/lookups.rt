@@ -28,8 +28,7 @@ use pdb_errors::{Error, ModuleProvider, Result};
 use pdb_frames::{CodePart, FunctionFrames};
 use pdb_function_info::{Function, frames_info, function_info};
 use pdb_functions::{
-    ContributionTable, FoundFunction, GlobalFunctionTable, ModuleSectionContribution,
-    ProcedureSymbolFunction, global_function_in,
+    FoundFunction, ModuleSectionContribution, ProcedureSymbolFunction, global_function_in,
 };
 use pdb_records::{ModuleInfo, PdbInternalSectionOffset, Rva};
 
@@ -222,20 +221,6 @@ impl<'a, P: ModuleProvider> Context<'a, P> {
         self.tables.section_table.section_offset_of(Rva(address))
     }
 
-    // The merged contributions.
-    fn contributions(&self) -> &ContributionTable
-        ensures { result.now ≡ contributions_of self.now.inputs }
-    {
-        &self.tables.contributions
-    }
-
-    // The global functions.
-    fn global_functions(&self) -> &GlobalFunctionTable<'a>
-        ensures { result.now ≡ global_functions_of self.now.inputs }
-    {
-        &self.tables.global_functions
-    }
-
     // What lies over an address.
     fn found(&mut self, address: u32) -> Result<Option<FoundFunction<'a>>>
         ensures answer { MatchResult result
@@ -264,7 +249,7 @@ impl<'a, P: ModuleProvider> Context<'a, P> {
         ensures outside { find (contribution_covers section_offset) (contributions_of self.old.inputs) ≡ None
             → result ≡ Ok None }
     {
-        match self.contributions().contribution_over(section_offset) {
+        match self.tables.contributions.contribution_over(section_offset) {
             Some(contribution) => self.function_in(section_offset, contribution),
             None => Ok(None),
         }
@@ -287,8 +272,10 @@ impl<'a, P: ModuleProvider> Context<'a, P> {
         if let Some(procedure) = self.procedure_in(section_offset, module_index)? {
             return Ok(Some(FoundFunction::Procedure(module_index, procedure)));
         }
-        let function = self.global_functions().function_over(section_offset);
-        Ok(global_function_in(contribution, function))
+        let mut next_place = 0;
+        let functions = &self.tables.global_functions;
+        let function = functions.function_over(section_offset, &mut next_place);
+        Ok(global_function_in(contribution, function, next_place))
     }
 
     // The procedure of a module over a section offset.

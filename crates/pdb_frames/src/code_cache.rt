@@ -186,7 +186,7 @@ impl<'a> CodeCache<'a> {
         ensures is_cache { IsCodeCache records self.new }
     {
         match function {
-            FoundFunction::Global(_, _) => Ok(Vec::new(self.alloc)),
+            FoundFunction::Global(_, _, _) => Ok(Vec::new(self.alloc)),
             FoundFunction::Procedure(module_index, procedure) => {
                 self.ranges
                     .stack(&self.infos, module_index, module_info, &procedure, offset)

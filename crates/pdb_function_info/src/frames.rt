@@ -198,13 +198,10 @@ fn function_size(functions: &GlobalFunctionTable<'_>, function: FoundFunction<'_
 {
     match function {
         FoundFunction::Procedure(_, procedure) => Some(procedure.len),
-        FoundFunction::Global(_, function) => {
-            let next = functions.next_function(function.start_offset)?;
-            Some(
-                next.start_offset
-                    .offset
-                    .saturating_sub(function.start_offset.offset),
-            )
+        FoundFunction::Global(_, function, next_place) => {
+            let start = function.start_offset;
+            let next = functions.next_function(start, next_place)?;
+            Some(next.start_offset.offset.saturating_sub(start.offset))
         }
     }
 }

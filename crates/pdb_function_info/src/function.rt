@@ -102,6 +102,7 @@ fn global_function_info(
     address_map: &AddressMap,
     functions: &GlobalFunctionTable<'_>,
     function: GlobalFunction<'_>,
+    next_place: usize,
 ) -> Result<Option<Function>, AllocError>
     ensures { IfOk result (λ f. option_map function_view f
         ≡ info_of_global address_map.now functions.now (global_function function.entry)) }
@@ -109,7 +110,7 @@ fn global_function_info(
     let Some(start) = function.start_offset.to_rva(address_map) else {
         return Ok(None);
     };
-    let next = functions.next_function(function.start_offset);
+    let next = functions.next_function(function.start_offset, next_place);
     let Some(end_rva) = end_of_global(address_map, next) else {
         return Ok(None);
     };
@@ -141,9 +142,8 @@ pub fn function_info<'a, P: ModuleProvider>(
     ensures broken { GainsBroken P.info names.old.type_inputs names.old.failed names.new.failed }
 {
     match found {
-        FoundFunction::Global(_, function) => {
-            let function = global_function_info(alloc, address_map, functions, function)?;
-            Ok(function)
+        FoundFunction::Global(_, function, next_place) => {
+            Ok(global_function_info(alloc, address_map, functions, function, next_place)?)
         }
         FoundFunction::Procedure(module_index, procedure) => procedure_info(
             address_map,

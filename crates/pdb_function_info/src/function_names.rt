@@ -252,7 +252,7 @@ impl<'a, P: ModuleProvider> FunctionNames<'a, P> {
             self.old.failed self.new.failed }
     {
         match function {
-            FoundFunction::Global(_, function) => {
+            FoundFunction::Global(_, function, _) => {
                 let name = text_of_name(self.alloc, function.name)?;
                 Ok(name)
             }

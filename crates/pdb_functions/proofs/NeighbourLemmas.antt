@@ -1,18 +1,21 @@
 -- What the neighbours of a section offset, among starts that ascend, show of the starts in its section.
-use Rattle.std.proofs.Common.{◌≡◌, ◌∙◌, Bool, true, false, cond, not, List, [], ◌∷◌, Option, Some, None, refl, sym}
-use Rattle.std.proofs.Common.{ap, arith}
-use Rattle.std.specs.Prelude.{⊤, ◌==◌, ◌&&◌, nat_le, nat_lt, find}
+use Rattle.std.proofs.Common.{◌≡◌, ◌∙◌, ℕ, zero, suc, Bool, true, false, cond, not, List, [], ◌∷◌, Option, Some, None}
+use Rattle.std.proofs.Common.{map, refl, sym, ap, arith}
+use Rattle.std.specs.Prelude.{⊤, ◌==◌, ◌&&◌, nat_le, nat_lt, find, is_some, option_map, slice_get}
 use Rattle.std.specs.List.{AllByRecursion}
+use Rattle.std.specs.Option.{option_map_or}
 use Rattle.std.proofs.lemmas.Bool.Decides.{nat_tests}
 use Rattle.pdb_records.specs.Addresses.{is_same_section_offset}
 use Rattle.pdb_records.specs.declared.addresses.PdbInternalSectionOffset.{PdbInternalSectionOffset}
 use Rattle.pdb_tables.specs.Pick.{pick}
-use Rattle.pdb_functions.specs.GlobalFunctions.{GlobalFunction}
-use Rattle.pdb_tables.specs.Last.{last_over}
+use Rattle.pdb_functions.specs.declared.global_functions.GlobalFunction as code
+use Rattle.pdb_functions.specs.GlobalFunctions.{GlobalFunction, global_function}
+use Rattle.pdb_tables.specs.Last.{ahead_of, last_over}
 use Rattle.pdb_functions.specs.FoundFunctions.{global_at, next_global, where_passes}
 use Rattle.pdb_functions.specs.Spans.{global_function_covers}
 use Rattle.pdb_functions.specs.Starts.{is_before, StartsAscend}
 use Rattle.pdb_tables.proofs.LastLemmas.{pick-last}
+use Rattle.pdb_tables.proofs.PositionLemmas.{map-find}
 use Rattle.pdb_functions.proofs.SectionOffsetLemmas.{climbs_in_section, is_before_test}
 
 -- the element that is there starts before all of a list
@@ -211,3 +214,67 @@ next_from_first section_offset (f ∷ fs) up =
     by_test true before false other rest =
         ap found before ∙ ap (λ t. cond t (Some f) None) other ∙ sym (ap next (not_here other) ∙ none before other)
     by_test false up_to u is rest = ap found up_to ∙ rest ∙ sym (ap next (fails up_to))
+
+-- what holds of all of a list holds of the one at a place
+all_at_place : {T : Type 0} (p : T → Bool) (xs : List T) (place : ℕ) (x : T) → AllByRecursion (λ y. p y ≡ true) xs
+    → slice_get xs place ≡ Some x → p x ≡ true
+all_at_place p [] place x all at = cc
+all_at_place p (y ∷ ys) zero x all at = sym (ap (λ o. option_map_or p o true) at) ∙ all.0
+all_at_place p (y ∷ ys) (suc place) x all at = all_at_place p ys place x all.1 at
+
+-- where all of a list pass a test, the first one that passes is at its head
+first_of_all : {T : Type 0} (p : T → Bool) (xs : List T) → AllByRecursion (λ y. p y ≡ true) xs
+    → find p xs ≡ slice_get xs zero
+first_of_all p [] all = refl
+first_of_all p (x ∷ xs) all = rw all.0 refl
+
+-- of what ascends the first one behind the element ahead of a place stands at that place
+first_behind : {T : Type 0} (start : T → PdbInternalSectionOffset) (xs : List T) (place : ℕ) (x : T)
+    → StartsAscend start xs → ahead_of None xs place ≡ Some x
+    → find (λ y. is_before (start x) (start y)) xs ≡ slice_get xs place
+first_behind start xs zero x up at = cc
+first_behind start [] (suc place) x up at = cc
+first_behind start (y ∷ ys) (suc zero) x up at =
+    let same : start y ≡ start x = ap (λ o. option_map_or start o (start y)) at in
+    ap (λ s. find (λ z. is_before s (start z)) (y ∷ ys)) (sym same)
+    ∙ rw (not_before_itself (start y)) (first_of_all (λ z. is_before (start y) (start z)) ys up.0)
+  where
+    not_before_itself : (s : PdbInternalSectionOffset) → is_before s s ≡ false
+    not_before_itself s = is_before_test s s ∙ grind (arith, nat_tests)
+first_behind start (y ∷ ys) (suc (suc place)) x up at =
+    rw (behind (start y) (start x) (all_at_place (λ z. is_before (start y) (start z)) ys place x up.0 at))
+    (first_behind start ys (suc place) x up.1 at)
+  where
+    behind : (r s : PdbInternalSectionOffset) → is_before r s ≡ true → is_before s r ≡ false
+    behind r s before = let h = rw (is_before_test r s) at before in is_before_test s r ∙ grind (arith, nat_tests)
+
+-- where the one ahead of a place starts at a section offset, the first one behind that stands at the place
+pub behind_from_place : (section_offset : PdbInternalSectionOffset) (fs : List code.GlobalFunction) (place : ℕ)
+    (ahead starting : Option code.GlobalFunction) → StartsAscend (λ f. f.start_offset) fs → ahead ≡ ahead_of None fs place
+    → option_map global_function starting
+    ≡ where_passes (λ f. is_same_section_offset f.start section_offset) (option_map global_function ahead)
+    → is_some starting ≡ true
+    → option_map global_function (slice_get fs place)
+    ≡ find (λ f. is_before section_offset f.start) (map global_function fs)
+behind_from_place section_offset fs place ahead None up at is some = cc
+behind_from_place section_offset fs place None (Some g) up at is some = cc
+behind_from_place section_offset fs place (Some f) (Some g) up at is some =
+    by_test (is_same_section_offset f.start_offset section_offset) refl is
+  where
+    behind : f.start_offset ≡ section_offset → option_map global_function (slice_get fs place)
+        ≡ find (λ g. is_before section_offset g.start) (map global_function fs)
+    behind start =
+        ap (option_map global_function) (sym (first_behind (λ g. g.start_offset) fs place f up (sym at))
+        ∙ ap (λ s. find (λ g. is_before s g.start_offset) fs) start)
+        ∙ map-find global_function (λ g. is_before section_offset g.start) fs
+
+    by_test : (t : Bool) → is_same_section_offset f.start_offset section_offset ≡ t
+        → Some (global_function g) ≡ cond t (Some (global_function f)) None
+        → option_map global_function (slice_get fs place)
+        ≡ find (λ g. is_before section_offset g.start) (map global_function fs)
+    by_test false other is = cc
+    by_test true same is =
+        let section : f.start_offset.section ≡ section_offset.section = grind (arith, nat_tests) in
+        let offset : f.start_offset.offset ≡ section_offset.offset = grind (arith, nat_tests) in
+        behind (ap (λ n. record f.start_offset { section = n }) section
+        ∙ ap (λ n. record section_offset { offset = n }) offset)

@@ -30,7 +30,7 @@ pub data FoundFunction : Type 0 where
 -- the same, as the code has it
 abbrev pub found_function : code.FoundFunction → FoundFunction
 found_function (variant.Procedure m p) = found_procedure m (module_procedure p)
-found_function (variant.Global m f) = found_global m (global_function f)
+found_function (variant.Global m f place) = found_global m (global_function f)
 
 -- the module index of the module that a function was found in
 abbrev pub function_module : FoundFunction → ℕ

@@ -12,8 +12,8 @@ use pdb_records::PdbInternalSectionOffset;
 /// What lies over a section offset, with the module index of the module that it belongs to.
 #[derive(Clone, Copy)]
 pub enum FoundFunction<'a> {
-    /// A global function.
-    Global(usize, GlobalFunction<'a>),
+    /// A global function, and the place of the next one in their table.
+    Global(usize, GlobalFunction<'a>, usize),
     /// A procedure of the module.
     Procedure(usize, ProcedureSymbolFunction<'a>),
 }
@@ -24,7 +24,7 @@ impl FoundFunction<'_> {
         ensures { result ≡ function_module (found_function self.entry) }
     {
         match self {
-            FoundFunction::Global(module_index, _) => module_index,
+            FoundFunction::Global(module_index, _, _) => module_index,
             FoundFunction::Procedure(module_index, _) => module_index,
         }
     }
@@ -34,16 +34,17 @@ impl FoundFunction<'_> {
         ensures { result ≡ function_start (found_function self.entry) }
     {
         match self {
-            FoundFunction::Global(_, function) => function.start_offset,
+            FoundFunction::Global(_, function, _) => function.start_offset,
             FoundFunction::Procedure(_, procedure) => procedure.offset,
         }
     }
 }
 
-/// A global function, where it doesn't start below the contribution.
+/// A global function, where it doesn't start below the contribution, with the place of the next one.
 pub fn global_function_in(
     contribution: ModuleSectionContribution,
     function: Option<GlobalFunction<'_>>,
+    next_place: usize,
 ) -> Option<FoundFunction<'_>>
     ensures { option_map found_function result ≡ global_in contribution (option_map global_function function.entry) }
 {
@@ -51,5 +52,5 @@ pub fn global_function_in(
     if function.start_offset.offset < contribution.start_offset {
         return None;
     }
-    Some(FoundFunction::Global(contribution.module_index, function))
+    Some(FoundFunction::Global(contribution.module_index, function, next_place))
 }

@@ -12,7 +12,7 @@ ghost use Rattle.pdb_functions.specs.Starts.{is_before, StartsAscend};
 
 use crate::global_functions::GlobalFunction;
 use pdb_records::PdbInternalSectionOffset;
-use pdb_tables::{Neighbours, Probes, neighbours_of};
+use pdb_tables::{Neighbours, Probes, neighbours_at, neighbours_of};
 use std::marker::Model;
 
 /// Global functions by section and start, each start once.
@@ -75,14 +75,17 @@ impl<'a> GlobalFunctionTable<'a> {
     }
 
     /// The last function that starts at or below a section offset in its section. It is found by a binary search.
+    /// `next_place` is where the next one stands.
     pub fn function_over(
         &self,
         section_offset: PdbInternalSectionOffset,
+        next_place: &mut usize,
     ) -> Option<GlobalFunction<'a>>
         ensures { option_map global_function result
             ≡ pick (global_function_covers section_offset) (λ f. f.start.offset) self.now }
     {
         let next_to = self.neighbours(section_offset, &mut Probes::new());
+        *next_place = next_to.place;
         in_section(next_to.up_to, section_offset.section)
     }
 
@@ -94,14 +97,19 @@ impl<'a> GlobalFunctionTable<'a> {
         starting_at(next_to.up_to, start)
     }
 
-    /// The next function of a section behind an offset. It is found by a binary search.
+    /// The next function of a section behind an offset. It stands at `next_place` where the one ahead of that place
+    /// starts at the offset; else it is found by a binary search.
     pub fn next_function(
         &self,
         section_offset: PdbInternalSectionOffset,
+        next_place: usize,
     ) -> Option<GlobalFunction<'a>>
         ensures { option_map global_function result ≡ next_global section_offset self.now }
     {
-        let next_to = self.neighbours(section_offset, &mut Probes::new());
+        let mut next_to = neighbours_at(&self.functions, next_place);
+        if starting_at(next_to.up_to, section_offset).is_none() {
+            next_to = self.neighbours(section_offset, &mut Probes::new());
+        }
         in_section(next_to.above, section_offset.section)
     }
 }

@@ -25,7 +25,7 @@ pub const REARRANGED: StreamError = StreamError(8);
 
 /// A number or a kind is none that can stand there.
 pub const BAD_NUMBER: StreamError = StreamError(9);
-/// Code of an inlined body stands part_or_fault from its function's, in a place that isn't shown.
+/// Code of an inlined body stands apart from its function's, in a place that isn't shown.
 pub const APART: StreamError = StreamError(10);
 
 /// What a number says in words.

@@ -1,6 +1,6 @@
 //! The bytes of a stream by the list of its blocks: in the file itself where they follow one another, else copied.
 
-ghost use Rattle.std.specs.Prelude.{◌≡◌, ◌≤◌, ◌<◌, ◌+◌, ◌*◌, ◌^◌, length, take, IfSome, MatchOption};
+ghost use Rattle.std.specs.Prelude.{◌≡◌, ◌≤◌, ◌<◌, ◌+◌, ◌*◌, ◌^◌, length, IfSome, MatchOption};
 ghost use Rattle.pdb_msf.specs.Faults.{Gives};
 ghost use Rattle.pdb_msf.specs.Streams.{block, stream_inside, bytes_of};
 

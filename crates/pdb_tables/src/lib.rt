@@ -27,7 +27,7 @@ pub use keyed::{Keyed, first_of_each_key, sort_by_key};
 pub use once_map::{Once, OnceMap};
 pub use probes::Probes;
 pub use range_set::RangeSet;
-pub use search::{Neighbours, neighbours_of};
+pub use search::{Neighbours, neighbours_at, neighbours_of};
 pub use segment::Segment;
 pub use segments::Segments;
 pub use slots::make_slot;

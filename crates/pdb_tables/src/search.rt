@@ -1,6 +1,7 @@
 //! The search in lists whose keys ascend, in which each look at an entry counts.
 
 ghost use Rattle.std.specs.Prelude.{◌≡◌, ◌+◌, ◌<◌, ◌≤◌, None, find, length, not, slice_get, Some};
+ghost use Rattle.std.specs.List.{position_or_len};
 ghost use Rattle.pdb_tables.specs.Keyed.{is_above, KeysAscend};
 ghost use Rattle.pdb_tables.specs.Last.{ahead_of, last_over};
 ghost use Rattle.pdb_tables.specs.Probes.{digits, one_more};
@@ -15,6 +16,8 @@ pub struct Neighbours<T> {
     pub up_to: Option<T>,
     /// The first entry whose key is above it.
     pub above: Option<T>,
+    /// The place of that one, or the length of the list where there is none.
+    pub place: usize,
 }
 
 // The entry at a place, which counts as one more probe.
@@ -38,11 +41,17 @@ fn entry_ahead_of<T: Copy>(entries: &[T], place: usize) -> Option<T>
     }
 }
 
-// The entry at a place, which the search looked at where there is one, so it isn't counted again.
-fn entry_at<T: Copy>(entries: &[T], place: usize) -> Option<T>
-    ensures { result ≡ slice_get entries.now place }
+/// The entries next to a place in a list: the one ahead of it, and the one that stands there.
+pub fn neighbours_at<T: Copy>(entries: &[T], place: usize) -> Neighbours<T>
+    ensures up_to { result.up_to ≡ ahead_of None entries.now place }
+    ensures above { result.above ≡ slice_get entries.now place }
+    ensures place { result.place ≡ place }
 {
-    entries.get(place).copied()
+    Neighbours {
+        up_to: entry_ahead_of(entries, place),
+        above: entries.get(place).copied(),
+        place,
+    }
 }
 
 /// The entries next to a key in a list whose keys ascend, by a binary search that takes no memory.
@@ -53,6 +62,7 @@ pub fn neighbours_of<T: Keyed>(entries: &[T], key: T::Key, probes: &mut Probes) 
     requires { KeysAscend T.Key.cmp T.key_of entries.now }
     ensures up_to { result.up_to ≡ last_over (λ x. not (is_above T.Key.cmp T.key_of key x)) None entries.now }
     ensures above { result.above ≡ find (is_above T.Key.cmp T.key_of key) entries.now }
+    ensures place { result.place ≡ position_or_len (is_above T.Key.cmp T.key_of key) entries.now }
     ensures no_fewer { probes.old ≤ probes.new }
     ensures few { probes.new ≤ probes.old + digits (length entries.now) }
 {
@@ -66,8 +76,5 @@ pub fn neighbours_of<T: Keyed>(entries: &[T], key: T::Key, probes: &mut Probes) 
             from = middle + 1;
         }
     }
-    Neighbours {
-        up_to: entry_ahead_of(entries, from),
-        above: entry_at(entries, from),
-    }
+    neighbours_at(entries, from)
 }

@@ -217,9 +217,9 @@ fn publics(alloc: Global) -> Result<Vec<Symbol>, AllocError> {
 
 /// Whether a function is found over, at and behind a section offset.
 fn finds_functions(functions: &GlobalFunctionTable<'_>) -> bool {
-    let over = functions.function_over(section_offset(1, 0x1f));
+    let over = functions.function_over(section_offset(1, 0x1f), &mut 0);
     let at = functions.function_at(section_offset(1, 8));
-    let next = functions.next_function(section_offset(1, 0xbb70));
+    let next = functions.next_function(section_offset(1, 0xbb70), 0);
     let (Some(over), Some(at), Some(next)) = (over, at, next) else {
         return false;
     };

@@ -156,7 +156,7 @@ fn found_from(offset: u32) -> Option<FoundFunction<'static>> {
         start_offset: section_offset(offset),
         name: None,
     };
-    global_function_in(contribution, Some(function))
+    global_function_in(contribution, Some(function), 0)
 }
 
 /// Whether a module has those procedures, with one over a section offset and none over another.
@@ -173,7 +173,7 @@ fn finds_thousands(alloc: Global) -> Result<bool> {
 
 /// Whether the global function of a contribution that starts at an offset is one of module 5.
 fn is_found_from(offset: u32) -> bool {
-    matches!(found_from(offset), Some(FoundFunction::Global(5, _)))
+    matches!(found_from(offset), Some(FoundFunction::Global(5, _, _)))
 }
 
 /// The checks of procedures, and of the global function of a contribution.
