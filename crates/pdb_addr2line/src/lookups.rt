@@ -31,6 +31,7 @@ use pdb_functions::{
     FoundFunction, ModuleSectionContribution, ProcedureSymbolFunction, global_function_in,
 };
 use pdb_records::{ModuleInfo, PdbInternalSectionOffset, Rva};
+use pdb_tables::Probes;
 
 impl<'a, P: ModuleProvider> Context<'a, P> {
     /// The function whose code an address lies in, with its addresses and its name but no lines.
@@ -218,7 +219,8 @@ impl<'a, P: ModuleProvider> Context<'a, P> {
     fn section_offset_of(&self, address: u32) -> Option<PdbInternalSectionOffset>
         ensures { result ≡ internal_offset self.now.inputs.address_map (record { 0 = address }) }
     {
-        self.tables.section_table.section_offset_of(Rva(address))
+        let sections = &self.tables.section_table;
+        sections.section_offset_of(Rva(address), &mut Probes::new())
     }
 
     // What lies over an address.
@@ -249,7 +251,8 @@ impl<'a, P: ModuleProvider> Context<'a, P> {
         ensures outside { find (contribution_covers section_offset) (contributions_of self.old.inputs) ≡ None
             → result ≡ Ok None }
     {
-        match self.tables.contributions.contribution_over(section_offset) {
+        let contributions = &self.tables.contributions;
+        match contributions.contribution_over(section_offset, &mut Probes::new()) {
             Some(contribution) => self.function_in(section_offset, contribution),
             None => Ok(None),
         }
@@ -274,7 +277,7 @@ impl<'a, P: ModuleProvider> Context<'a, P> {
         }
         let mut next_place = 0;
         let functions = &self.tables.global_functions;
-        let function = functions.function_over(section_offset, &mut next_place);
+        let function = functions.function_over(section_offset, &mut next_place, &mut Probes::new());
         Ok(global_function_in(contribution, function, next_place))
     }
 
@@ -293,7 +296,7 @@ impl<'a, P: ModuleProvider> Context<'a, P> {
     {
         let modules = self.names.modules();
         let infos = &mut self.caches.infos;
-        Ok(infos.procedure_over(modules, module_index, section_offset)?)
+        Ok(infos.procedure_over(modules, module_index, section_offset, &mut Probes::new())?)
     }
 
     // The records of the module at a module index, where there are any and its symbols have no fault.

@@ -2,6 +2,7 @@
 use Rattle.std.specs.Prelude.{ℕ, List, [], ◌∷◌, codes, Option, option_map}
 use Rattle.std.specs.Option.{option_map_or}
 use Rattle.pdb_frames.specs.Frame.{FrameInfo}
+use Rattle.pdb_frames.specs.SourceFiles.{known_text}
 
 -- what is said of a frame: the function's name, and the file and the line, as far as they are known
 pub record FrameText : Type 0 where
@@ -24,12 +25,12 @@ no_file = 63 ∷ 63 ∷ []
 
 -- the name of a frame's file: two question marks where it has none
 abbrev pub file_text : FrameInfo → List ℕ
-file_text frame = option_map_or (text_or no_file) frame.file no_file
+file_text frame = option_map_or (text_or no_file) (known_text frame.file) no_file
 
 -- the text of a frame: a name or a file without characters is one that isn't known
 abbrev pub frame_text : FrameInfo → FrameText
 frame_text frame = record {
   function = function_text frame;
-  file = option_map (text_or no_file) frame.file;
+  file = option_map (text_or no_file) (known_text frame.file);
   line = frame.line;
 }

@@ -1,6 +1,7 @@
 -- Frames as data: a row of each, and the texts that rows lead to.
 use Rattle.std.specs.Prelude.{ℕ, ◌+◌, List, [], ◌∷◌, ◌++◌, Option, Some, None, length, unwrap_or}
 use Rattle.pdb_frames.specs.Frame.{FrameInfo}
+use Rattle.pdb_frames.specs.SourceFiles.{known_text}
 use Rattle.pdb_c.specs.declared.frame_rows.TextPlace.{TextPlace}
 use Rattle.pdb_c.specs.declared.frame_rows.FrameRow.{FrameRow}
 
@@ -24,13 +25,13 @@ ended_or_none None = []
 
 -- the texts of a frame: its function's, and behind it its file's
 abbrev pub frame_texts : FrameInfo → List ℕ
-frame_texts frame = ended_or_none frame.function ++ ended_or_none frame.file
+frame_texts frame = ended_or_none frame.function ++ ended_or_none (known_text frame.file)
 
 -- the row of a frame whose texts start there
 abbrev pub row_at : ℕ → FrameInfo → FrameRow
 row_at start frame = record {
   function = place_at start frame.function;
-  file = place_at (start + length (ended_or_none frame.function)) frame.file;
+  file = place_at (start + length (ended_or_none frame.function)) (known_text frame.file);
   line = unwrap_or frame.line 0;
 }
 

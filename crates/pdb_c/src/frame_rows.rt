@@ -1,6 +1,6 @@
 //! Frames as data: a row of each, and the texts that rows lead to.
 ghost use Rattle.std.specs.Prelude.{◌≡◌, ◌++◌, length, option_map, string_bytes, IfOk, OnOk};
-ghost use Rattle.std.specs.Cow.{cow_str_bytes};
+ghost use Rattle.pdb_frames.specs.SourceFiles.{file_name_of, known_text};
 ghost use Rattle.pdb_c.specs.FrameRows.{known_place, place_at, row_at, rows_of};
 ghost use Rattle.pdb_c.specs.FrameRows.{ended, ended_or_none, frame_texts, texts_of};
 
@@ -64,9 +64,9 @@ fn append_function(texts: &mut Vec<u8>, name: &Option<String>) -> Result<TextPla
 // Appends the name of a file, where it is known.
 fn append_file(texts: &mut Vec<u8>, name: &Option<CowStr<'_>>) -> Result<TextPlace, AllocError>
     ensures place { IfOk result (λ place. place
-        ≡ place_at (length texts.old.items) (option_map cow_str_bytes name.now)) }
+        ≡ place_at (length texts.old.items) (known_text (option_map file_name_of name.now))) }
     ensures state { OnOk result (texts.new.items
-        ≡ texts.old.items ++ ended_or_none (option_map cow_str_bytes name.now)) }
+        ≡ texts.old.items ++ ended_or_none (known_text (option_map file_name_of name.now))) }
 {
     match name {
         Some(name) => append_text(texts, name.as_str()),

@@ -3,6 +3,7 @@
 use crate::texts::joined;
 use pdb_addr2line::{Answer, Error, Frame, Function, FunctionFrames};
 use std::alloc::{AllocError, Global};
+use std::borrow::CowStr;
 
 /// An answer as text.
 pub(crate) fn text_of_answer(alloc: Global, answer: &Answer<'_>) -> Result<String, AllocError> {
@@ -82,11 +83,15 @@ fn text_of_functions(alloc: Global, functions: &[Function]) -> Result<String, Al
     Ok(text)
 }
 
-/// The place of a frame as text: its file and line.
+/// The place of a frame as text: its file and line. A file name that isn't borrowed from the records is a copy.
 fn text_of_place(alloc: Global, frame: &Frame<'_>) -> Result<String, AllocError> {
     let line = text_of_line(alloc, frame.line)?;
     match &frame.file {
-        Some(file) => joined(alloc, file.as_str(), ":", line.as_str()),
+        Some(CowStr::Borrowed(file)) => joined(alloc, *file, ":", line.as_str()),
+        Some(CowStr::Owned(file)) => {
+            let copy = joined(alloc, "copy of ", file.as_str(), ":")?;
+            joined(alloc, copy.as_str(), line.as_str(), "")
+        }
         None => joined(alloc, "?", ":", line.as_str()),
     }
 }

@@ -1,3 +1,4 @@
+pub mod SourceFiles
 pub mod Lines
 pub mod FileNames
 pub mod FunctionRows

@@ -3,7 +3,6 @@ use Rattle.std.specs.Prelude.{ℕ, List, [], Option, Some, None, Result, Ok}
 use Rattle.std.specs.Prelude.{slice_get, nat_le, option_map, option_and_then}
 use Rattle.pdb_records.specs.LinePrograms.{Lines}
 use Rattle.pdb_records.specs.Lines.{lines_at}
-use Rattle.pdb_records.specs.Names.{lossy}
 use Rattle.pdb_records.specs.Readings.{Read}
 use Rattle.pdb_records.specs.Strings.{string_at}
 use Rattle.pdb_records.specs.declared.addresses.PdbInternalSectionOffset.{PdbInternalSectionOffset}
@@ -15,6 +14,7 @@ use Rattle.pdb_errors.specs.declared.error.Error.{Error}
 use Rattle.pdb_errors.specs.declared.error.Error.TheVariants.{PdbError}
 use Rattle.pdb_errors.specs.Outcomes.{unless, and_then}
 use Rattle.pdb_tables.specs.Pick.{pick}
+use Rattle.pdb_frames.specs.SourceFiles.{FileName, as_file_name}
 
 -- the entries of a list that was read to its end; refused for the fault where one stands behind them
 abbrev pub read_whole : {T : Type 0} → Read T → Result (List T) Error
@@ -36,9 +36,10 @@ row_over rows x = pick (λ row. nat_le row.offset x) (λ row. row.offset) rows
 abbrev pub function_row : Lines → PdbInternalSectionOffset → ℕ → Result (Option LineInfo) Error
 function_row program start x = and_then (function_rows program start) (λ rows. Ok (row_over rows x))
 
--- the name of a file of a module as text: the string under the reference that the file's record has. It is absent
--- where there is no string table, no such record, or no such string
-abbrev pub file_name : Option (List (StringRef × List ℕ)) → Lines → FileIndex → Option (List ℕ)
+-- the name of a file of a module: the string under the reference that the file's record has. It is absent where there
+-- is no string table, no such record, or no such string
+abbrev pub file_name : Option (List (StringRef × List ℕ)) → Lines → FileIndex → Option FileName
 file_name strings program index =
     option_and_then (λ table.
-    option_and_then (λ file. option_map lossy (string_at file.name table)) (slice_get program.files index.0)) strings
+    option_and_then (λ file. option_map as_file_name (string_at file.name table)) (slice_get program.files index.0))
+    strings

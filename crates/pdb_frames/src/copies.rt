@@ -1,7 +1,7 @@
 //! Copies of names that may be unknown, of functions and of files.
 
 ghost use Rattle.std.specs.Prelude.{◌≡◌, option_map, string_bytes, IfOk};
-ghost use Rattle.std.specs.Cow.{cow_str_bytes};
+ghost use Rattle.pdb_frames.specs.SourceFiles.{file_name_of};
 
 use std::alloc::AllocError;
 use std::borrow::CowStr;
@@ -16,12 +16,22 @@ pub fn copy_of_name(name: &Option<String>) -> Result<Option<String>, AllocError>
     }
 }
 
-// The name of a file once more, where there is one. A name that is lent is lent again.
+// A file name once more: borrowed again where it is borrowed, and else a copy of the copy.
+pub(crate) fn again<'a>(name: &CowStr<'a>) -> Result<CowStr<'a>, AllocError>
+    ensures { IfOk result (λ again. file_name_of again ≡ file_name_of name.now) }
+{
+    match name {
+        CowStr::Borrowed(name) => Ok(CowStr::Borrowed(*name)),
+        CowStr::Owned(name) => Ok(CowStr::Owned(name.clone()?)),
+    }
+}
+
+// The name of a file once more, where there is one.
 pub(crate) fn copy_of_file<'a>(file: &Option<CowStr<'a>>) -> Result<Option<CowStr<'a>>, AllocError>
-    ensures { IfOk result (λ copy. option_map cow_str_bytes copy ≡ option_map cow_str_bytes file.now) }
+    ensures { IfOk result (λ copy. option_map file_name_of copy ≡ option_map file_name_of file.now) }
 {
     match file {
         None => Ok(None),
-        Some(file) => Ok(Some(file.clone()?)),
+        Some(file) => Ok(Some(again(file)?)),
     }
 }

@@ -2,13 +2,13 @@
 
 ghost use Rattle.std.specs.Prelude.{◌≡◌, ◌==◌, ℕ, Some, None, option_map, IfOk, OnOk, if◌then◌else◌};
 ghost use Rattle.std.specs.BTreeMap.{get};
-ghost use Rattle.std.specs.Cow.{cow_str_bytes};
 ghost use Rattle.std.specs.Option.{option_copied, option_or};
 ghost use Rattle.std.specs.Ordering.{nat_cmp};
-ghost use Rattle.pdb_records.specs.Names.{lossy};
+ghost use Rattle.pdb_frames.specs.SourceFiles.{file_name_of};
 ghost use Rattle.pdb_frames.specs.FileNames.{KnowsNames};
 ghost use Rattle.pdb_frames.specs.Lines.{file_name};
 
+use crate::copies::again;
 use crate::lent_names::LentNames;
 use pdb_records::{FileIndex, LineProgram, StringTable};
 use pdb_tables::insert_first;
@@ -17,7 +17,7 @@ use std::borrow::CowStr;
 use std::collections::BTreeMap;
 use std::marker::Model;
 
-// The texts of a table, each by the number of its reference.
+// The names of a table, each by the number of its reference.
 fn names_of(alloc: Global, table: &StringTable) -> Result<BTreeMap<u32, CowStr<'_>>, AllocError>
     ensures { IfOk result (λ names. KnowsNames (Some table.now) names) }
 {
@@ -31,7 +31,7 @@ fn names_of(alloc: Global, table: &StringTable) -> Result<BTreeMap<u32, CowStr<'
 /// The names of source files, each found by its reference in a table that is made once.
 ///
 /// It is made in time n log n for n entries and linear in their bytes, and a name is found in time log n, and mostly
-/// at once. A name in UTF-8 is lent by the records.
+/// at once. A name in UTF-8 is borrowed from the records.
 pub struct FileNames<'a> {
     strings: Option<&'a StringTable>,
     names: BTreeMap<u32, CowStr<'a>>,
@@ -86,7 +86,7 @@ impl<'a> FileNames<'a> {
         })
     }
 
-    /// The name of a file of a module. A name in UTF-8 is lent by the records. It is absent where there is no
+    /// The name of a file of a module. A name in UTF-8 is borrowed from the records. It is absent where there is no
     /// string table, where the module has no such file, or where the table has no such string. Answers `AllocError`
     /// where memory runs out.
     pub fn name(
@@ -94,7 +94,7 @@ impl<'a> FileNames<'a> {
         line_program: &LineProgram,
         index: FileIndex,
     ) -> Result<Option<CowStr<'a>>, AllocError>
-        ensures { IfOk result (λ name. option_map cow_str_bytes name
+        ensures { IfOk result (λ name. option_map file_name_of name
             ≡ file_name self.now line_program.now index) }
     {
         let Some(file) = line_program.get_file_info(index) else {
@@ -105,7 +105,7 @@ impl<'a> FileNames<'a> {
             return Ok(Some(CowStr::Borrowed(name)));
         }
         match self.names.get(&number) {
-            Some(name) => Ok(Some(name.clone()?)),
+            Some(name) => Ok(Some(again(name)?)),
             None => Ok(None),
         }
     }

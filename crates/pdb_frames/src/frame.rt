@@ -1,7 +1,6 @@
 //! Frames: the function, file and line of what was called or inlined at an address, and copies of them.
 
-ghost use Rattle.std.specs.Prelude.{◌≡◌, option_map, string_bytes, IfOk};
-ghost use Rattle.std.specs.Cow.{cow_str_bytes};
+ghost use Rattle.std.specs.Prelude.{◌≡◌, IfOk};
 
 use crate::copies::{copy_of_file, copy_of_name};
 use std::alloc::{AllocError, Global};
@@ -14,7 +13,8 @@ pub struct Frame<'a> {
     /// The function's name, if one is known. That of a procedure is its signature, as the formatter's flags
     /// want it. That of a public symbol may be decorated.
     pub function: Option<String>,
-    /// The name of the source file that the code comes from, if it is known.
+    /// The name of the source file that the code comes from, if it is known. It is borrowed from the records where it
+    /// is in UTF-8 there.
     pub file: Option<CowStr<'a>>,
     /// The line in that file, if it is known.
     pub line: Option<u32>,
@@ -22,14 +22,14 @@ pub struct Frame<'a> {
 
 impl<'a> Model for Frame<'a> {
     ghost use Rattle.std.specs.Prelude.{option_map, string_bytes};
-    ghost use Rattle.std.specs.Cow.{cow_str_bytes};
     ghost use Rattle.pdb_frames.specs.Frame.{FrameInfo};
+    ghost use Rattle.pdb_frames.specs.SourceFiles.{file_name_of};
 
     ghost Value = { FrameInfo };
 
     ghost view = { λ f. record {
       function = option_map string_bytes f.function;
-      file = option_map cow_str_bytes f.file;
+      file = option_map file_name_of f.file;
       line = f.line;
     } };
 }

@@ -2,9 +2,9 @@
 
 ghost use Rattle.std.specs.Prelude.{◌≡◌, Option, List, Some, option_map, IfOk, IfSome};
 ghost use Rattle.std.specs.BTreeMap.{get};
-ghost use Rattle.std.specs.Cow.{cow_str_bytes};
 ghost use Rattle.std.specs.Ordering.{nat_cmp};
-ghost use Rattle.pdb_frames.specs.FileNames.{Strings, text_under, KnowsNames, AreLent};
+ghost use Rattle.pdb_frames.specs.FileNames.{Strings, name_under, KnowsNames, AreLent};
+ghost use Rattle.pdb_frames.specs.SourceFiles.{file_name_of, borrowed_name};
 
 use pdb_records::StringTable;
 use std::alloc::{AllocError, Global};
@@ -32,7 +32,8 @@ fn slot_of(number: u32, slots: usize) -> usize {
 
 // The name of this number, if the records lend it.
 fn lent<'a>(names: &BTreeMap<u32, CowStr<'a>>, number: u32) -> Option<&'a str>
-    ensures { IfSome result (λ name. option_map cow_str_bytes (get nat_cmp names.now number) ≡ Some name.now) }
+    ensures { IfSome result (λ name. option_map file_name_of (get nat_cmp names.now number)
+        ≡ Some (borrowed_name name.now)) }
 {
     match names.get(&number)? {
         CowStr::Borrowed(name) => Some(*name),
@@ -95,7 +96,7 @@ impl<'a> LentNames<'a> {
     // The name of this number, if it is at its slot.
     pub(crate) fn name(&self, number: u32) -> Option<&'a str>
         ensures { IfSome result (λ name. (strings : Strings) → AreLent strings self.now.slots.items
-            → text_under strings number ≡ Some name.now) }
+            → name_under strings number ≡ Some (borrowed_name name.now)) }
     {
         let slot = slot_of(number, self.slots.len());
         match self.slots.get(slot)? {

@@ -13,7 +13,7 @@ use pdb_errors::Result;
 use pdb_functions::ProcedureSymbolFunction;
 use pdb_inline::{InlineRange, ProcedureStacks};
 use pdb_records::ModuleInfo;
-use pdb_tables::{Once, OnceMap};
+use pdb_tables::{Once, OnceMap, Probes};
 use std::alloc::Global;
 
 // They are made once for each procedure.
@@ -64,11 +64,11 @@ impl ProcedureRanges {
     {
         let key = procedure_key(module_index, procedure);
         if let Some(stacks) = self.cached.get(&key) {
-            return Ok(stacks.stack(self.alloc, u64::from(offset))?);
+            return Ok(stacks.stack(self.alloc, u64::from(offset), &mut Probes::new())?);
         }
         let ranges = infos.inline_ranges(module_index, module_info, procedure)?;
         let stacks = ProcedureStacks::new(self.alloc, ranges)?;
-        let stack = stacks.stack(self.alloc, u64::from(offset))?;
+        let stack = stacks.stack(self.alloc, u64::from(offset), &mut Probes::new())?;
         self.cached.insert(key, stacks)?;
         Ok(stack)
     }

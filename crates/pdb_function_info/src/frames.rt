@@ -25,6 +25,7 @@ use pdb_frames::{CodeCache, FileNames, Frame, FunctionFrames, Origin};
 use pdb_functions::{FoundFunction, GlobalFunctionTable};
 use pdb_inline::InlineRange;
 use pdb_records::{AddressMap, LineInfo, LineProgram, ModuleInfo};
+use pdb_tables::Probes;
 use std::alloc::{AllocError, Global};
 
 // The frame of a function itself, by its name and the line row over the code.
@@ -200,7 +201,7 @@ fn function_size(functions: &GlobalFunctionTable<'_>, function: FoundFunction<'_
         FoundFunction::Procedure(_, procedure) => Some(procedure.len),
         FoundFunction::Global(_, function, next_place) => {
             let start = function.start_offset;
-            let next = functions.next_function(start, next_place)?;
+            let next = functions.next_function(start, next_place, &mut Probes::new())?;
             Some(next.start_offset.offset.saturating_sub(start.offset))
         }
     }

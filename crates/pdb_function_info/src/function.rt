@@ -19,6 +19,7 @@ use pdb_errors::{ModuleProvider, Result};
 use pdb_frames::copy_of_name;
 use pdb_functions::{FoundFunction, GlobalFunction, GlobalFunctionTable, ProcedureSymbolFunction};
 use pdb_records::AddressMap;
+use pdb_tables::Probes;
 use std::alloc::{AllocError, Global};
 
 /// A function's addresses and its name.
@@ -110,7 +111,7 @@ fn global_function_info(
     let Some(start) = function.start_offset.to_rva(address_map) else {
         return Ok(None);
     };
-    let next = functions.next_function(function.start_offset, next_place);
+    let next = functions.next_function(function.start_offset, next_place, &mut Probes::new());
     let Some(end_rva) = end_of_global(address_map, next) else {
         return Ok(None);
     };

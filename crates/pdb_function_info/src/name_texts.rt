@@ -8,6 +8,7 @@ ghost use Rattle.pdb_function_info.specs.NameTexts.{is_decorated, decorated_at, 
 
 use pdb_functions::{GlobalFunctionTable, ProcedureSymbolFunction};
 use pdb_records::{PdbInternalSectionOffset, RawString};
+use pdb_tables::Probes;
 use std::alloc::{AllocError, Global};
 
 // Whether a name is one that a compiler decorated.
@@ -47,7 +48,7 @@ fn decorated_name_at<'a>(
 ) -> Option<&'a RawString>
     ensures { option_map lossy (option_copied result) ≡ decorated_at functions.now start }
 {
-    let name = functions.function_at(start)?.name?;
+    let name = functions.function_at(start, &mut Probes::new())?.name?;
     if is_decorated_name(name) {
         Some(name)
     } else {

@@ -78,14 +78,17 @@ impl ContributionTable {
         })
     }
 
-    // The first contribution over a section offset. Each entry of the table that is looked at counts.
-    fn search(
+    /// The first contribution of the list over a section offset.
+    ///
+    /// It is found by a binary search. Each entry of the table that is looked at is counted in `probes`: at most one
+    /// more than the number of contributions has binary digits.
+    pub fn contribution_over(
         &self,
         section_offset: PdbInternalSectionOffset,
         probes: &mut Probes,
     ) -> Option<ModuleSectionContribution>
         ensures answer { result ≡ find (contribution_covers section_offset) self.now }
-        ensures few { probes.new ≤ probes.old + digits (2 * length self.now) }
+        ensures few { probes.new ≤ probes.old + digits (length self.now) + 1 }
     {
         find(
             &self.last_first,
@@ -94,15 +97,5 @@ impl ContributionTable {
             &mut None,
             probes,
         )
-    }
-
-    /// The first contribution of the list over a section offset. It is found by a binary search.
-    pub fn contribution_over(
-        &self,
-        section_offset: PdbInternalSectionOffset,
-    ) -> Option<ModuleSectionContribution>
-        ensures { result ≡ find (contribution_covers section_offset) self.now }
-    {
-        self.search(section_offset, &mut Probes::new())
     }
 }

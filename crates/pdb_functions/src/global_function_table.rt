@@ -74,41 +74,55 @@ impl<'a> GlobalFunctionTable<'a> {
         neighbours_of(&self.functions, section_offset, probes)
     }
 
-    /// The last function that starts at or below a section offset in its section. It is found by a binary search.
-    /// `next_place` is where the next one stands.
+    /// The last function that starts at or below a section offset in its section. `next_place` is where the next one
+    /// stands.
+    ///
+    /// It is found by a binary search. Each function that is looked at is counted in `probes`: at most as many as their
+    /// number has binary digits.
     pub fn function_over(
         &self,
         section_offset: PdbInternalSectionOffset,
         next_place: &mut usize,
+        probes: &mut Probes,
     ) -> Option<GlobalFunction<'a>>
-        ensures { option_map global_function result
+        ensures answer { option_map global_function result
             ≡ pick (global_function_covers section_offset) (λ f. f.start.offset) self.now }
+        ensures few { probes.new ≤ probes.old + digits (length self.now) }
     {
-        let next_to = self.neighbours(section_offset, &mut Probes::new());
+        let next_to = self.neighbours(section_offset, probes);
         *next_place = next_to.place;
         in_section(next_to.up_to, section_offset.section)
     }
 
-    /// The function that starts at a section offset. It is found by a binary search.
-    pub fn function_at(&self, start: PdbInternalSectionOffset) -> Option<GlobalFunction<'a>>
-        ensures { option_map global_function result ≡ global_at start self.now }
+    /// The function that starts at a section offset. It is found by a binary search, whose looks count as those of
+    /// [`function_over`](Self::function_over) do.
+    pub fn function_at(
+        &self,
+        start: PdbInternalSectionOffset,
+        probes: &mut Probes,
+    ) -> Option<GlobalFunction<'a>>
+        ensures answer { option_map global_function result ≡ global_at start self.now }
+        ensures few { probes.new ≤ probes.old + digits (length self.now) }
     {
-        let next_to = self.neighbours(start, &mut Probes::new());
+        let next_to = self.neighbours(start, probes);
         starting_at(next_to.up_to, start)
     }
 
     /// The next function of a section behind an offset. It stands at `next_place` where the one ahead of that place
-    /// starts at the offset; else it is found by a binary search.
+    /// starts at the offset; else it is found by a binary search. Each function that is looked at is counted in
+    /// `probes`: at most two more than their number has binary digits.
     pub fn next_function(
         &self,
         section_offset: PdbInternalSectionOffset,
         next_place: usize,
+        probes: &mut Probes,
     ) -> Option<GlobalFunction<'a>>
-        ensures { option_map global_function result ≡ next_global section_offset self.now }
+        ensures answer { option_map global_function result ≡ next_global section_offset self.now }
+        ensures few { probes.new ≤ probes.old + digits (length self.now) + 2 }
     {
-        let mut next_to = neighbours_at(&self.functions, next_place);
+        let mut next_to = neighbours_at(&self.functions, next_place, probes);
         if starting_at(next_to.up_to, section_offset).is_none() {
-            next_to = self.neighbours(section_offset, &mut Probes::new());
+            next_to = self.neighbours(section_offset, probes);
         }
         in_section(next_to.above, section_offset.section)
     }

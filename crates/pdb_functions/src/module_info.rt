@@ -1,9 +1,10 @@
 //! The records of a module together with the procedures that its symbols show.
 
-ghost use Rattle.std.specs.Prelude.{◌≡◌, ◌≢◌, None, Some, map, option_map, IfOk, MatchResult};
+ghost use Rattle.std.specs.Prelude.{◌≡◌, ◌≢◌, ◌+◌, ◌≤◌, None, Some, map, length, option_map, IfOk, MatchResult};
 ghost use Rattle.pdb_records.specs.declared.error.Error.TheVariants.{Stream};
 ghost use Rattle.pdb_errors.specs.declared.error.Error.TheVariants.{PdbError, OutOfMemory};
 ghost use Rattle.pdb_tables.specs.Pick.{pick};
+ghost use Rattle.pdb_tables.specs.Probes.{digits};
 ghost use Rattle.pdb_functions.specs.Procedures.{module_procedure, info_procedures};
 ghost use Rattle.pdb_functions.specs.Spans.{procedure_covers};
 
@@ -11,6 +12,7 @@ use crate::procedure_table::ProcedureTable;
 use crate::procedures::{ProcedureSymbolFunction, compute_procedures};
 use pdb_errors::{Error, Result};
 use pdb_records::{ModuleInfo, PdbInternalSectionOffset};
+use pdb_tables::Probes;
 use std::alloc::Global;
 use std::marker::Model;
 
@@ -67,27 +69,37 @@ impl<'a> BasicModuleInfo<'a> {
 
     // Of the module's procedures over a section offset the one that starts last. Where a position is given, the
     // procedure there is tried first, and then the next one; else it is found by a binary search. Afterwards it is the
-    // position of what was found.
+    // position of what was found. All looks count.
     pub(crate) fn procedure_near(
         &self,
         section_offset: PdbInternalSectionOffset,
         position: &mut Option<usize>,
+        probes: &mut Probes,
     ) -> Option<ProcedureSymbolFunction<'a>>
-        ensures { option_map module_procedure result
+        ensures answer { option_map module_procedure result
             ≡ pick (procedure_covers section_offset) (λ p. p.offset.offset) (info_procedures self.now) }
+        ensures few { probes.new ≤ probes.old + digits (length (info_procedures self.now)) + 5 }
+        ensures few_without_position { position.old ≡ None
+            → probes.new ≤ probes.old + digits (length (info_procedures self.now)) + 1 }
     {
-        self.procedures.procedure_near(section_offset, position)
+        self.procedures
+            .procedure_near(section_offset, position, probes)
     }
 
-    /// Of the module's procedures over a section offset the one that starts last. It is found by a binary search.
+    /// Of the module's procedures over a section offset the one that starts last.
+    ///
+    /// It is found by a binary search. Each entry of the table that is looked at is counted in `probes`: at most one
+    /// more than the number of procedures has binary digits.
     pub fn procedure_over(
         &self,
         section_offset: PdbInternalSectionOffset,
+        probes: &mut Probes,
     ) -> Option<ProcedureSymbolFunction<'a>>
-        ensures { option_map module_procedure result
+        ensures answer { option_map module_procedure result
             ≡ pick (procedure_covers section_offset) (λ p. p.offset.offset) (info_procedures self.now) }
+        ensures few { probes.new ≤ probes.old + digits (length (info_procedures self.now)) + 1 }
     {
-        self.procedure_near(section_offset, &mut None)
+        self.procedure_near(section_offset, &mut None, probes)
     }
 
     /// The records that were read.

@@ -1,10 +1,12 @@
 //! The cache of modules' records and procedures by module index, each read once from the provider.
 
-ghost use Rattle.std.specs.Prelude.{◌≡◌, ◌<◌, [], true, Some, IfSome, IfOk, OnOk, length, option_map, slice_get};
+ghost use Rattle.std.specs.Prelude.{◌≡◌, ◌+◌, ◌<◌, ◌≤◌, [], true, Some, IfSome, IfOk, OnOk};
+ghost use Rattle.std.specs.Prelude.{length, option_map, slice_get};
 ghost use Rattle.std.specs.Borrow.{sem};
 ghost use Rattle.std.specs.Io.BufRead.{Rests};
 ghost use Rattle.std.specs.Option.{option_copied, option_map_or};
 ghost use Rattle.pdb_tables.specs.Pick.{pick};
+ghost use Rattle.pdb_tables.specs.Probes.{digits};
 ghost use Rattle.pdb_tables.specs.Slots.{held};
 ghost use Rattle.pdb_errors.specs.Provided.{ProviderInfos};
 ghost use Rattle.pdb_functions.specs.FoundFunctions.{procedures_of_module};
@@ -18,7 +20,7 @@ use crate::named_info::NamedInfo;
 use crate::procedures::ProcedureSymbolFunction;
 use pdb_errors::ModuleProvider;
 use pdb_records::{Module, PdbInternalSectionOffset, RawString};
-use pdb_tables::make_slot;
+use pdb_tables::{Probes, make_slot};
 use std::alloc::{AllocError, Global};
 use std::marker::Model;
 
@@ -248,23 +250,28 @@ impl<'a, P: ModuleProvider> BasicModuleInfoCache<'a, P> {
     /// `None` also where [`get_basic_module_info`](Self::get_basic_module_info) has none.
     ///
     /// Where the procedure lies over it that was found last, or the next one, it is found at once; else by a binary
-    /// search. Answers `AllocError` where memory runs out; the same question may find an answer afterwards.
+    /// search. Each entry that is looked at is counted in `probes`: at most five more than the number of the module's
+    /// procedures has binary digits. Reading a module that isn't cached is not counted. Answers `AllocError` where
+    /// memory runs out; the same question may find an answer afterwards.
     pub fn procedure_over(
         &mut self,
         modules: &[Module],
         module_index: usize,
         section_offset: PdbInternalSectionOffset,
+        probes: &mut Probes,
     ) -> Result<Option<ProcedureSymbolFunction<'a>>, AllocError>
         ensures answer { IfOk result (λ found. option_map module_procedure found
             ≡ pick (procedure_covers section_offset) (λ p. p.offset.offset)
             (procedures_of_module (P.info self.old.provider) modules.now module_index)) }
+        ensures few { probes.new ≤ probes.old
+            + digits (length (procedures_of_module (P.info self.old.provider) modules.now module_index)) + 5 }
         ensures provider { self.new.provider ≡ self.old.provider }
     {
         let mut position = self.last.position_in(module_index);
         let Some(info) = self.get_basic_module_info(modules, module_index)? else {
             return Ok(None);
         };
-        let found = info.procedure_near(section_offset, &mut position);
+        let found = info.procedure_near(section_offset, &mut position, probes);
         self.last = LastProcedure {
             module_index,
             position,

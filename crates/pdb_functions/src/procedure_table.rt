@@ -1,6 +1,6 @@
 //! A table of a module's procedures: of those over a section offset the one that starts last.
 
-ghost use Rattle.std.specs.Prelude.{◌≡◌, ◌+◌, ◌*◌, ◌≤◌, true, Some, map, option_map, length, IfOk, IfSome};
+ghost use Rattle.std.specs.Prelude.{◌≡◌, ◌+◌, ◌*◌, ◌≤◌, true, None, Some, map, option_map, length, IfOk, IfSome};
 ghost use Rattle.std.specs.Option.{option_copied};
 ghost use Rattle.pdb_tables.specs.Pick.{pick};
 ghost use Rattle.pdb_tables.specs.Probes.{digits};
@@ -117,7 +117,7 @@ impl<'a> ProcedureTable<'a> {
     ) -> Option<ProcedureSymbolFunction<'a>>
         ensures answer { option_map module_procedure result
             ≡ pick (procedure_covers section_offset) (λ p. p.offset.offset) self.now }
-        ensures few { probes.new ≤ probes.old + digits (2 * length self.now) }
+        ensures few { probes.new ≤ probes.old + digits (length self.now) + 1 }
     {
         find(
             &self.procedures,
@@ -128,18 +128,23 @@ impl<'a> ProcedureTable<'a> {
         )
     }
 
-    // The procedure at a position, where it is the one over a section offset that starts last.
+    // The procedure at a position, where it is the one over a section offset that starts last. It counts as two looks:
+    // at this procedure, and at the next one.
     fn procedure_at(
         &self,
         position: usize,
         section_offset: PdbInternalSectionOffset,
+        probes: &mut Probes,
     ) -> Option<ProcedureSymbolFunction<'a>>
-        ensures { IfSome result (λ p. Some (module_procedure p)
+        ensures answer { IfSome result (λ p. Some (module_procedure p)
             ≡ pick (procedure_covers section_offset) (λ p. p.offset.offset) self.now) }
+        ensures few { probes.new ≤ probes.old + 2 }
     {
         if position >= self.procedures.len() {
             return None;
         }
+        probes.tick();
+        probes.tick();
         let procedure = self.procedures[position];
         if covers(procedure, section_offset)
             && starts_behind(self.procedures.get(position + 1), section_offset)
@@ -151,25 +156,28 @@ impl<'a> ProcedureTable<'a> {
     }
 
     // Of the procedures over a section offset the one that starts last. Where a position is given, the procedure there
-    // is tried first, and then the next one. Afterwards it is the position of what was found.
+    // is tried first, and then the next one. Afterwards it is the position of what was found. All looks count.
     pub(crate) fn procedure_near(
         &self,
         section_offset: PdbInternalSectionOffset,
         position: &mut Option<usize>,
+        probes: &mut Probes,
     ) -> Option<ProcedureSymbolFunction<'a>>
-        ensures { option_map module_procedure result
+        ensures answer { option_map module_procedure result
             ≡ pick (procedure_covers section_offset) (λ p. p.offset.offset) self.now }
+        ensures few { probes.new ≤ probes.old + digits (length self.now) + 5 }
+        ensures few_without_position { position.old ≡ None → probes.new ≤ probes.old + digits (length self.now) + 1 }
     {
         if let Some(last) = *position {
-            if let Some(procedure) = self.procedure_at(last, section_offset) {
+            if let Some(procedure) = self.procedure_at(last, section_offset, probes) {
                 return Some(procedure);
             }
             let next = last.saturating_add(1);
-            if let Some(procedure) = self.procedure_at(next, section_offset) {
+            if let Some(procedure) = self.procedure_at(next, section_offset, probes) {
                 *position = Some(next);
                 return Some(procedure);
             }
         }
-        self.search(section_offset, position, &mut Probes::new())
+        self.search(section_offset, position, probes)
     }
 }

@@ -92,22 +92,20 @@ impl<'a> SectionTable<'a> {
         })
     }
 
-    // The section offset of an address in the first section that holds it. Each entry of the table that is looked
-    // at counts.
-    fn search(&self, address: Rva, probes: &mut Probes) -> Option<PdbInternalSectionOffset>
+    /// The section offset of an address: the first section in order that holds it, and the bytes from that section's
+    /// start. `None` where no section holds it, or the first that does has a number past 65535.
+    ///
+    /// It is found by a binary search. Each entry of the table that is looked at is counted in `probes`: at most one
+    /// more than the number of sections has binary digits.
+    pub fn section_offset_of(
+        &self,
+        address: Rva,
+        probes: &mut Probes,
+    ) -> Option<PdbInternalSectionOffset>
         ensures answer { result ≡ internal_offset self.now address }
-        ensures few { probes.new ≤ probes.old + digits (2 * length self.now) }
+        ensures few { probes.new ≤ probes.old + digits (length self.now) + 1 }
     {
         let section = self.segments.find(u64::from(address.0), probes)?;
         section_offset_in(address.0, section)
-    }
-
-    /// The section offset of an address: the first section in order that holds it, and the bytes from that section's
-    /// start. `None` where no section holds it, or the first that does has a number past 65535. It is found
-    /// by a binary search.
-    pub fn section_offset_of(&self, address: Rva) -> Option<PdbInternalSectionOffset>
-        ensures { result ≡ internal_offset self.now address }
-    {
-        self.search(address, &mut Probes::new())
     }
 }

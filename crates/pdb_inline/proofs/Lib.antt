@@ -15,3 +15,4 @@ pub mod DepthTableLemmas
 pub mod RangeBoundLemmas
 pub mod StackLemmas
 pub mod StackTableLemmas
+mod ProcedureStackLemmas

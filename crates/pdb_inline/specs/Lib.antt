@@ -9,3 +9,4 @@ pub mod ListedRanges
 pub mod DepthTables
 pub mod RangeBounds
 pub mod StackTable
+pub mod ProcedureStacks

@@ -1,8 +1,11 @@
 //! The stacks of a procedure's inline ranges: from a table where that is small, else from the list.
 
-ghost use Rattle.std.specs.Prelude.{◌≡◌, ◌+◌, ◌*◌, ◌≤◌, map, length, slice_get, Some, IfOk, IfSome};
+ghost use Rattle.std.specs.Prelude.{◌≡◌, ◌+◌, ◌≤◌, true, map, length, slice_get, is_some, Some, IfOk, IfSome};
+ghost use Rattle.std.specs.List.Sorted.{IsSorted};
+ghost use Rattle.std.specs.Ordering.{nat_cmp};
 ghost use Rattle.pdb_tables.specs.Probes.{digits};
 ghost use Rattle.pdb_inline.specs.InlineStacks.{inline_stack};
+ghost use Rattle.pdb_inline.specs.ProcedureStacks.{bounds_below, are_stacks_small};
 ghost use Rattle.pdb_inline.specs.StackTable.{ranges_at};
 
 use crate::inline_ranges::InlineRange;
@@ -19,13 +22,23 @@ use std::marker::Model;
 // whose stacks grow with the square of its length, and these must not fill the memory.
 const POSITIONS_FOR_EACH: usize = 64;
 
+// How many of these bounds, which ascend, are below a number.
+fn bounds_below(bounds: &[u64], number: u64) -> usize
+    requires { IsSorted nat_cmp bounds.now }
+    ensures { result ≡ bounds_below bounds.now number }
+{
+    bounds.partition_point(|bound| *bound < number)
+}
+
 // Whether the stacks of ranges take little enough memory to be held.
-fn are_stacks_small(alloc: Global, ranges: &[InlineRange]) -> Result<bool, AllocError> {
+fn are_stacks_small(alloc: Global, ranges: &[InlineRange]) -> Result<bool, AllocError>
+    ensures { IfOk result (λ small. small ≡ are_stacks_small ranges.now) }
+{
     let bounds = sorted_bounds(alloc, ranges)?;
     let mut count: usize = 0;
     for range in ranges {
-        let start = bounds.partition_point(|bound| *bound < range.start_offset);
-        let end = bounds.partition_point(|bound| *bound < range.end_offset);
+        let start = bounds_below(&bounds, range.start_offset);
+        let end = bounds_below(&bounds, range.end_offset);
         count = count.saturating_add(end.saturating_sub(start));
     }
     Ok(count <= ranges.len().saturating_mul(POSITIONS_FOR_EACH))
@@ -50,7 +63,8 @@ fn ranges_at(
 
 /// A list of inline ranges, with a table of the inlined bodies over each offset.
 ///
-/// The table is left out where its stacks would be far greater than those of genuine programs. Answers are the same.
+/// The table is left out where its stacks would be far greater than those of genuine programs: more than 64 positions
+/// for each range. Answers are the same.
 #[derive(Drop)]
 pub struct ProcedureStacks {
     ranges: Vec<InlineRange>,
@@ -59,15 +73,19 @@ pub struct ProcedureStacks {
 
 // Clauses see it as the list of the ranges.
 impl Model for ProcedureStacks {
-    ghost use Rattle.std.specs.Prelude.{List, IfSome};
+    ghost use Rattle.std.specs.Prelude.{◌≡◌, List, is_some, IfSome};
     ghost use Rattle.pdb_inline.specs.declared.inline_ranges.InlineRange.{InlineRange};
+    ghost use Rattle.pdb_inline.specs.ProcedureStacks.{are_stacks_small};
     ghost use Rattle.pdb_inline.specs.StackTable.{IsTableOf};
 
     ghost Value = { List InlineRange };
 
     ghost view = { λ s. s.ranges.items };
 
-    ghost invariant = { λ s. IfSome s.table (λ table. IsTableOf s.ranges.items table) };
+    ghost invariant = { λ s. record {
+      is_table : IfSome s.table (λ table. IsTableOf s.ranges.items table);
+      is_held : is_some s.table ≡ are_stacks_small s.ranges.items;
+    } };
 }
 
 impl ProcedureStacks {
@@ -91,7 +109,8 @@ impl ProcedureStacks {
     fn search(&self, offset: u64, probes: &mut Probes) -> Option<&[usize]>
         ensures answer { IfSome result (λ positions.
             map (slice_get self.now) positions.now ≡ map Some (inline_stack self.now offset)) }
-        ensures few { probes.new ≤ probes.old + digits (4 * length self.now) }
+        ensures found { is_some result ≡ are_stacks_small self.now }
+        ensures few { probes.new ≤ probes.old + digits (length self.now) + 2 }
     {
         match &self.table {
             Some(table) => Some(table.find(offset, probes)),
@@ -101,12 +120,20 @@ impl ProcedureStacks {
 
     /// The inlined bodies over an offset, the outermost first, as [`inline_stack`] has them.
     ///
-    /// Answers `AllocError` where memory runs out.
+    /// Where there is a table, they are found by one binary search. Each entry of the table that is looked at is
+    /// counted in `probes`: at most two more than the number of ranges has binary digits. Answers `AllocError` where
+    /// memory runs out.
     #[tactic(auto, using(crate::proofs::StackLemmas::ranges_at_are))]
-    pub fn stack(&self, alloc: Global, offset: u64) -> Result<Vec<InlineRange>, AllocError>
-        ensures { IfOk result (λ v. v.items ≡ inline_stack self.now offset) }
+    pub fn stack(
+        &self,
+        alloc: Global,
+        offset: u64,
+        probes: &mut Probes,
+    ) -> Result<Vec<InlineRange>, AllocError>
+        ensures answer { IfOk result (λ v. v.items ≡ inline_stack self.now offset) }
+        ensures few { probes.new ≤ probes.old + digits (length self.now) + 2 }
     {
-        match self.search(offset, &mut Probes::new()) {
+        match self.search(offset, probes) {
             Some(positions) => ranges_at(alloc, &self.ranges, positions),
             None => inline_stack(alloc, &self.ranges, offset),
         }

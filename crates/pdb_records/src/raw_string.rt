@@ -1,8 +1,9 @@
 //! Names as they stand in the records, as bytes, and how they become text.
 
-ghost use Rattle.std.specs.Prelude.{◌≡◌, IfOk};
+ghost use Rattle.std.specs.Prelude.{◌≡◌, true, IfOk, IsOk};
 ghost use Rattle.std.specs.Cow.{cow_str_bytes};
-ghost use Rattle.pdb_records.specs.Names.{lossy};
+ghost use Rattle.std.specs.Str.{is_utf8};
+ghost use Rattle.pdb_records.specs.Names.{lossy, is_borrowed};
 
 use bstr::ByteSlice;
 use std::alloc::{AllocError, Global};
@@ -30,10 +31,20 @@ impl Model for RawString {
 impl RawString {
     /// The name as text. Each ill-formed sequence of bytes in it becomes one U+FFFD.
     ///
-    /// A well-formed name is lent and takes no memory.
+    /// A name in UTF-8 is borrowed and takes no memory. Another one is copied; answers `AllocError` where memory runs
+    /// out.
+    #[tactic(auto, using(crate::proofs::NameLemmas::by_utf8))]
     pub fn to_string_lossy(&self, alloc: Global) -> Result<CowStr<'_>, AllocError>
-        ensures { IfOk result (λ text. cow_str_bytes text ≡ lossy self.now) }
+        ensures answer { IfOk result (λ text. cow_str_bytes text ≡ lossy self.now) }
+        ensures borrowed { IfOk result (λ text. is_borrowed text ≡ is_utf8 self.now) }
+        ensures memory { is_utf8 self.now ≡ true → IsOk result }
     {
-        self.0.as_slice().to_str_lossy(alloc)
+        match str::from_utf8(self.0.as_slice()) {
+            Ok(text) => Ok(CowStr::Borrowed(text)),
+            Err(_) => {
+                let text = self.0.as_slice().to_str_lossy(alloc)?;
+                Ok(CowStr::Owned(text.into_owned(alloc)?))
+            }
+        }
     }
 }

@@ -2,12 +2,13 @@
 use Rattle.std.specs.Prelude.{ℕ, List, [], ◌∷◌, ◌++◌, codes, Option, Some, None, length}
 use Rattle.std.specs.Fmt.{decimal}
 use Rattle.pdb_frames.specs.Frame.{FrameInfo, FramesInfo}
+use Rattle.pdb_frames.specs.SourceFiles.{FileName}
 use Rattle.pdb_report_lib.specs.PrintedLines.{hex, name_text, unknown}
 
 -- the name of a file, where it is known
-abbrev pub file_text : Option (List ℕ) → List ℕ
+abbrev pub file_text : Option FileName → List ℕ
 file_text None = unknown
-file_text (Some file) = file
+file_text (Some name) = name.text
 
 -- the number of a line in a file, where it is known
 abbrev pub line_number_text : Option ℕ → List ℕ

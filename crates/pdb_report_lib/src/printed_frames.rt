@@ -1,7 +1,7 @@
 //! The lines that are written of the frames over an address.
 
 ghost use Rattle.std.specs.Prelude.{◌≡◌, ◌++◌, length, string_bytes, IfOk, OnOk, option_map};
-ghost use Rattle.std.specs.Cow.{cow_str_bytes};
+ghost use Rattle.pdb_frames.specs.SourceFiles.{file_name_of};
 ghost use Rattle.pdb_report_lib.specs.PrintedFrames.{file_text, line_number_text, frame_line};
 ghost use Rattle.pdb_report_lib.specs.PrintedFrames.{frame_lines, frames_heading, frames_text};
 
@@ -12,7 +12,7 @@ use std::borrow::CowStr;
 
 // The name of a file, where it is known.
 fn file_text<'f>(file: &'f Option<CowStr<'_>>) -> &'f str
-    ensures { result.now ≡ file_text (option_map cow_str_bytes file.now) }
+    ensures { result.now ≡ file_text (option_map file_name_of file.now) }
 {
     match file {
         Some(file) => file.as_str(),

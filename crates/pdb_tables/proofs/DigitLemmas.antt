@@ -1,5 +1,5 @@
 -- How the number of binary digits grows.
-use Rattle.std.proofs.Common.{ℕ, ◌+◌, ◌/◌, ◌^◌, ◌<◌, ◌≤◌, length, subst, arith}
+use Rattle.std.proofs.Common.{◌≡◌, ℕ, zero, suc, ◌+◌, ◌*◌, ◌/◌, ◌^◌, ◌<◌, ◌≤◌, length, subst, ap, arith}
 use Rattle.std.specs.Int.Digits.{digits_of}
 use Rattle.std.proofs.lemmas.Int.Digits.{number_lt, number_digits_of, all_below_base_digits_of, length-digits_of-le}
 use Rattle.std.proofs.lemmas.Int.Digits.{length-digits_of_step}
@@ -24,3 +24,15 @@ unfolding digits
 digits_half m n some half =
     let fewer : digits m ≤ digits (n / 2) = digits_mono m (n / 2) half in
     omega (arith, fewer, length-digits_of_step 2 n (omega arith) some)
+
+-- twice a number has at most one digit more
+pub digits_double : (n : ℕ) → digits (2 * n) ≤ digits n + 1
+unfolding digits
+digits_double zero = omega arith
+digits_double (suc n) =
+    let half : 2 * suc n / 2 ≡ suc n = omega arith in
+    omega (
+      arith,
+      length-digits_of_step 2 (2 * suc n) (omega arith) (omega arith),
+      ap (λ k. length (digits_of 2 k)) half,
+    )

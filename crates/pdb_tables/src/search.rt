@@ -21,13 +21,13 @@ pub struct Neighbours<T> {
 }
 
 // The entry at a place, which counts as one more probe.
-fn look<'e, T: Keyed>(entries: &'e [T], at: usize, probes: &mut Probes) -> &'e T
+fn look<'e, T: Keyed>(entries: &'e [T], at: usize, looks: &mut Probes) -> &'e T
     requires { at < length entries.now }
     ensures answer { slice_get entries.now at ≡ Some result.now }
-    ensures one_more { probes.new ≡ one_more probes.old }
-    ensures no_fewer { probes.old ≤ probes.new }
+    ensures one_more { looks.new ≡ one_more looks.old }
+    ensures no_fewer { looks.old ≤ looks.new }
 {
-    probes.tick();
+    looks.tick();
     &entries[at]
 }
 
@@ -41,8 +41,22 @@ fn entry_ahead_of<T: Copy>(entries: &[T], place: usize) -> Option<T>
     }
 }
 
-/// The entries next to a place in a list: the one ahead of it, and the one that stands there.
-pub fn neighbours_at<T: Copy>(entries: &[T], place: usize) -> Neighbours<T>
+/// The entries next to a place in a list: the one ahead of it, and the one that stands there. Both are counted in
+/// `probes`.
+pub fn neighbours_at<T: Copy>(entries: &[T], place: usize, probes: &mut Probes) -> Neighbours<T>
+    ensures up_to { result.up_to ≡ ahead_of None entries.now place }
+    ensures above { result.above ≡ slice_get entries.now place }
+    ensures place { result.place ≡ place }
+    ensures no_fewer { probes.old ≤ probes.new }
+    ensures few { probes.new ≤ probes.old + 2 }
+{
+    probes.tick();
+    probes.tick();
+    entries_next_to(entries, place)
+}
+
+// The entries next to a place in a list, which aren't counted.
+fn entries_next_to<T: Copy>(entries: &[T], place: usize) -> Neighbours<T>
     ensures up_to { result.up_to ≡ ahead_of None entries.now place }
     ensures above { result.above ≡ slice_get entries.now place }
     ensures place { result.place ≡ place }
@@ -76,5 +90,6 @@ pub fn neighbours_of<T: Keyed>(entries: &[T], key: T::Key, probes: &mut Probes) 
             from = middle + 1;
         }
     }
-    neighbours_at(entries, from)
+    // The search looked at both of them.
+    entries_next_to(entries, from)
 }

@@ -11,6 +11,7 @@ use pdb_records::{
     DebugInformation, ImageSectionHeader, MachineType, PdbInternalSectionOffset, PublicSymbol,
     RawString, Reading, S_PUB32, SectionContribution, StreamError, Symbol, SymbolData,
 };
+use pdb_tables::Probes;
 use std::alloc::{AllocError, Global};
 
 /// A contribution: its section, its offset, its size and its module.
@@ -186,11 +187,16 @@ fn side_by_side(alloc: Global) -> Result<Vec<Given>, AllocError> {
     Ok(given)
 }
 
+/// The contribution over an offset of a section.
+fn over(table: &ContributionTable, section: u16, offset: u32) -> Option<ModuleSectionContribution> {
+    table.contribution_over(section_offset(section, offset), &mut Probes::new())
+}
+
 /// Whether a table of those contributions finds the ones over some section offsets.
 fn is_table_of_thousands(table: &ContributionTable) -> bool {
-    table.contribution_over(section_offset(1, 0)) == Some(run(1, 0, 0x10, 0))
-        && table.contribution_over(section_offset(1, 0x7fff)) == Some(run(1, 0x7ff0, 0x8000, 0x7ff))
-        && table.contribution_over(section_offset(2, 0)).is_none()
+    over(table, 1, 0) == Some(run(1, 0, 0x10, 0))
+        && over(table, 1, 0x7fff) == Some(run(1, 0x7ff0, 0x8000, 0x7ff))
+        && over(table, 2, 0).is_none()
 }
 
 /// Whether those contributions all start something, and are found in their table.
@@ -217,9 +223,10 @@ fn publics(alloc: Global) -> Result<Vec<Symbol>, AllocError> {
 
 /// Whether a function is found over, at and behind a section offset.
 fn finds_functions(functions: &GlobalFunctionTable<'_>) -> bool {
-    let over = functions.function_over(section_offset(1, 0x1f), &mut 0);
-    let at = functions.function_at(section_offset(1, 8));
-    let next = functions.next_function(section_offset(1, 0xbb70), 0);
+    let probes = &mut Probes::new();
+    let over = functions.function_over(section_offset(1, 0x1f), &mut 0, probes);
+    let at = functions.function_at(section_offset(1, 8), probes);
+    let next = functions.next_function(section_offset(1, 0xbb70), 0, probes);
     let (Some(over), Some(at), Some(next)) = (over, at, next) else {
         return false;
     };

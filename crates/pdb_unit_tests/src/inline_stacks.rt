@@ -120,7 +120,7 @@ fn table_finds(alloc: Global, ranges: &[InlineRange], offset: u64, wanted: &[usi
 /// The ranges over an offset, as the stacks of ranges have them.
 fn stack(alloc: Global, shown: &[Range], offset: u64) -> Result<Vec<InlineRange>, AllocError> {
     let stacks = ProcedureStacks::new(alloc, ranges_of(alloc, shown)?)?;
-    stacks.stack(alloc, offset)
+    stacks.stack(alloc, offset, &mut Probes::new())
 }
 
 /// Whether the stacks of ranges have these positions over an offset.
@@ -169,7 +169,7 @@ fn answer_alike(
     ranges: &[InlineRange],
     offset: u64,
 ) -> Result<bool, AllocError> {
-    let found = stacks.stack(alloc, offset)?;
+    let found = stacks.stack(alloc, offset, &mut Probes::new())?;
     let scanned = inline_stack(alloc, ranges, offset)?;
     Ok(are_alike(&found, &scanned))
 }
@@ -200,7 +200,7 @@ fn answers_nested(alloc: Global) -> Result<bool, AllocError> {
     let stacks = ProcedureStacks::new(alloc, nested_ranges(alloc)?)?;
     Ok(
         all_answer_alike(alloc, &stacks, &ranges, &OFFSETS)?
-            && stacks.stack(alloc, 999)?.len() == 1000,
+            && stacks.stack(alloc, 999, &mut Probes::new())?.len() == 1000,
     )
 }
 

@@ -12,6 +12,7 @@ use pdb_records::{
     S_SEPCODE, S_THUNK32, SeparatedCodeSymbol, StreamError, Symbol, SymbolData, SymbolIndex,
     ThunkSymbol, TypeIndex,
 };
+use pdb_tables::Probes;
 use std::alloc::{AllocError, Global};
 
 /// A procedure: its offset, its length, its name, the positions of its symbol and its end, and its type.
@@ -163,11 +164,14 @@ fn found_from(offset: u32) -> Option<FoundFunction<'static>> {
 fn finds_thousands(alloc: Global) -> Result<bool> {
     let info = module_of(alloc, symbols(alloc, &descending(alloc)?)?, None);
     let basic = BasicModuleInfo::try_from_module_info(alloc, &info)?;
-    let over = basic.procedure_over(section_offset(0x104));
+    let probes = &mut Probes::new();
+    let over = basic.procedure_over(section_offset(0x104), probes);
     Ok(
         over.is_some_and(|over| over.offset.offset == 0x100)
             && basic.procedures().len() == 3000
-            && basic.procedure_over(section_offset(0x1_0000)).is_none(),
+            && basic
+                .procedure_over(section_offset(0x1_0000), probes)
+                .is_none(),
     )
 }
 

@@ -46,7 +46,7 @@ returns-in_err-cache_signature-clause-is_cache g c =
     let d = document_of w (signature w c.as_str.result.now c.args.procedure.type_index.0) in
     let printed = printed_now d c.args.formatter.now.failed c.signature_of.new.formatter.failed _
     c.in_ok-text-2.ensures.answer c.in_ok-text-2.ensures.failed in
-    let name = c.as_str.ensures.value ∙ c.in_ok-name.ensures in
+    let name = c.as_str.ensures.value ∙ c.in_ok-name.ensures.answer in
     let by_symbol = printed_by_symbol info infos c.signature_of.new.formatter c.signature_key-key.result
     c.args.procedure.name.now _ (rw (c.signature_key-key.ensures, c.signature_of.ensures.type_inputs)
     c.requires.named) (rw (c.signature_key-key.ensures, ← name, c.signature_of.ensures.type_inputs) printed) in
@@ -65,7 +65,7 @@ returns-clause-is_cache g c =
     let d = document_of w (signature w c.as_str.result.now c.args.procedure.type_index.0) in
     let printed = printed_now d c.args.formatter.now.failed c.signature_of.new.formatter.failed _
     c.in_ok-text-2.ensures.answer c.in_ok-text-2.ensures.failed in
-    let name = c.as_str.ensures.value ∙ c.in_ok-name.ensures in
+    let name = c.as_str.ensures.value ∙ c.in_ok-name.ensures.answer in
     let by_symbol = printed_by_symbol info infos c.signature_of.new.formatter c.signature_key-key.result
     c.args.procedure.name.now _ (rw (c.signature_key-key.ensures, c.signature_of.ensures.type_inputs)
     c.requires.named) (rw (c.signature_key-key.ensures, ← name, c.signature_of.ensures.type_inputs) printed) in

@@ -72,7 +72,7 @@ returns-clause-up_to g c =
     let above = is_above g.T.Key.Ord.cmp g.T.Keyed.key_of c.args.key in
     let at : c.loop-from.from ≡ position_or_len above entries =
     omega (arith, c.loop-from.invariant.from_on, c.loop-from.invariant.up_to) in
-    c.neighbours_at.ensures.up_to ∙ ap (ahead_of None entries) at
+    c.entries_next_to.ensures.up_to ∙ ap (ahead_of None entries) at
     ∙ sym (last_ahead above None entries
     (ascend_goes_on g.met.T.Key.Ord.total g.T.Keyed.key_of c.args.key entries c.requires))
 
@@ -82,8 +82,8 @@ returns-clause-above g c =
     let above = is_above g.T.Key.Ord.cmp g.T.Keyed.key_of c.args.key in
     let at : c.loop-from.from ≡ position_or_len above entries =
     omega (arith, c.loop-from.invariant.from_on, c.loop-from.invariant.up_to) in
-    c.neighbours_at.ensures.above ∙ ap (slice_get entries) at ∙ sym (find_at above entries)
+    c.entries_next_to.ensures.above ∙ ap (slice_get entries) at ∙ sym (find_at above entries)
 
 pub returns-clause-place : goal.returns-clause-place
 returns-clause-place g c =
-    c.neighbours_at.ensures.place ∙ omega (arith, c.loop-from.invariant.from_on, c.loop-from.invariant.up_to)
+    c.entries_next_to.ensures.place ∙ omega (arith, c.loop-from.invariant.from_on, c.loop-from.invariant.up_to)

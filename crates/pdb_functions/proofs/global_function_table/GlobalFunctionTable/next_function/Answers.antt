@@ -8,8 +8,8 @@ use Rattle.pdb_functions.proofs.NeighbourLemmas.{behind_from_place, next_from_fi
 use Rattle.pdb_functions.proofs.global_function_table.GlobalFunctionTable.next_function.Goals as goal
 use Rattle.pdb_functions.proofs.global_function_table.GlobalFunctionTable.next_function.Goals.{then-is_none, else-is_none}
 
-pub returns : goal.returns
-returns c =
+pub returns-clause-answer : goal.returns-clause-answer
+returns-clause-answer c =
     let section_offset = c.args.section_offset in
     let functions = c.self.inside.functions.items in
     let ascend = map-KeysAscend global_function section_offset_cmp (λ f. f.start) functions c.self.invariant in

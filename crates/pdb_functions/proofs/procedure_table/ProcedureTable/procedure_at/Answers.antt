@@ -6,8 +6,8 @@ use Rattle.pdb_functions.specs.Procedures.{module_procedure}
 use Rattle.pdb_functions.proofs.TableLemmas.{last_at_position, last_procedure}
 use Rattle.pdb_functions.proofs.procedure_table.ProcedureTable.procedure_at.Goals as goal
 
-pub returns-then-starts_behind : goal.returns-then-starts_behind
-returns-then-starts_behind c =
+pub returns-then-starts_behind-clause-answer : goal.returns-then-starts_behind-clause-answer
+returns-then-starts_behind-clause-answer c =
     let procedures = c.self.inside.procedures.items in
     let procedure = c.index-procedure.result.now in
     let got = slice_get_read procedures (length procedures) c.args.position procedure refl
