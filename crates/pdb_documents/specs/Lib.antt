@@ -17,3 +17,4 @@ pub mod Printed
 pub mod BrokenParts
 pub mod PrintedTexts
 pub mod Seen
+pub mod Levels

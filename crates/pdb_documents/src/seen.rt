@@ -2,7 +2,9 @@
 
 ghost use Rattle.std.specs.Prelude.{◌≡◌, ℕ, Bool, false, not, ◌&&◌, ◌||◌, ◌==◌};
 ghost use Rattle.std.specs.Prelude.{[], ◌∷◌, ◌++◌, OnOk, OnErr, IfOk, IfErr};
+ghost use Rattle.std.specs.Borrow.{sem, RestsIfErr};
 ghost use Rattle.pdb_documents.specs.Seen.{has, base, IsRefusal};
+ghost use Rattle.pdb_documents.specs.Levels.{LendsSet, set_row};
 
 use pdb_errors::Error;
 use pdb_records::TypeIndex;
@@ -85,6 +87,33 @@ impl Inserted for Vec<TypeIndex> {
     }
 }
 
+// Puts an index into a set, and into what a level has put in. Where it is refused both are as they were.
+fn put(
+    set: &mut BTreeSet<TypeIndex>,
+    inserted: &mut Vec<TypeIndex>,
+    index: TypeIndex,
+) -> Result<(), SeenError>
+    ensures state { OnOk result ((q : ℕ) → has set.new q ≡ (has set.old q || q == index.0)) }
+    ensures absent { OnOk result (has set.old index.0 ≡ false) }
+    ensures refused { IfErr result (λ e. IsRefusal e index (has set.old index.0)) }
+    ensures inserted_unchanged { OnErr result (inserted.new.items ≡ inserted.old.items) }
+    ensures unchanged_if_refused { OnErr result ((q : ℕ) → has set.new q ≡ has set.old q) }
+    ensures inserted { OnOk result (inserted.new.items ≡ inserted.old.items ++ index ∷ []) }
+    ensures base_unchanged { (q : ℕ) → base set.new inserted.new.items q ≡ base set.old inserted.old.items q }
+{
+    if set.contains(&index) {
+        return Err(SeenError::Already(AlreadySeenError(index)));
+    }
+    inserted.push(index)?;
+    match set.insert(index) {
+        Ok(_) => Ok(()),
+        Err(_) => {
+            let _ = inserted.pop();
+            Err(SeenError::OutOfMemory)
+        }
+    }
+}
+
 /// A level of indices that are open: those that it puts into a set are taken out when it is dropped.
 pub struct Seen<'a, I: Inserted = Vec<TypeIndex>> {
     /// All that are open.
@@ -134,23 +163,35 @@ impl<'a> Seen<'a> {
         ensures base_unchanged { (q : ℕ) → base self.new.set.now self.new.inserted.items q
             ≡ base self.old.set.now self.old.inserted.items q }
     {
-        if self.set.contains(&index) {
-            return Err(SeenError::Already(AlreadySeenError(index)));
-        }
-        self.inserted.push(index)?;
-        match self.set.insert(index) {
-            Ok(_) => Ok(()),
-            Err(_) => {
-                let _ = self.inserted.pop();
-                Err(SeenError::OutOfMemory)
-            }
-        }
+        put(self.set, &mut self.inserted, index)
     }
 
-    /// A level above this one: what it puts in is taken out when it is dropped, and this one stays.
+    // A level over a set, with one index put in. Where it is refused the set is as it was.
+    fn with_one(
+        set: &'a mut BTreeSet<TypeIndex>,
+        alloc: Global,
+        index: TypeIndex,
+    ) -> Result<Seen<'a>, SeenError>
+        ensures same_reference { IfOk result (λ level. level.set.ghost_name ≡ set.entry.ghost_name) }
+        ensures answer { IfOk result (λ level. (q : ℕ)
+            → has level.set.now q ≡ (has set.entry.now q || q == index.0)) }
+        ensures absent { OnOk result (has set.entry.now index.0 ≡ false) }
+        ensures one { IfOk result (λ level. level.inserted.items ≡ index ∷ []) }
+        ensures refused { IfErr result (λ e. IsRefusal e index (has set.entry.now index.0)) }
+        ensures* unchanged_if_refused { sem 𝓛 (RestsIfErr set_row set.entry (λ level. level.set.ghost_name) result
+            (λ end. (q : ℕ) → has end q ≡ has set.entry.now q)) }
+    {
+        let mut inserted = Vec::new(alloc);
+        put(set, &mut inserted, index)?;
+        Ok(Seen { set, inserted })
+    }
+
+    /// A level above this one: what it puts in is taken out when it is dropped, and this one stays. The set of this one
+    /// then is what the set of that one ended as.
     pub fn new_level(&mut self) -> Seen<'_>
         ensures same_set { (q : ℕ) → has result.set.now q ≡ has self.entry.now.set.now q }
         ensures nothing { result.inserted.items ≡ [] }
+        ensures* below { sem 𝓛 (LendsSet self.entry result.set) }
     {
         let alloc = *self.inserted.allocator();
         Seen::new(alloc, self.set)
@@ -168,8 +209,7 @@ impl<'a> Seen<'a> {
         ensures one { IfOk result (λ level. level.inserted.items ≡ index ∷ []) }
         ensures refused { IfErr result (λ e. IsRefusal e index (has self.entry.now.set.now index.0)) }
     {
-        let mut level = self.new_level();
-        level.insert(index)?;
-        Ok(level)
+        let alloc = *self.inserted.allocator();
+        Seen::with_one(self.set, alloc, index)
     }
 }
