@@ -6,6 +6,12 @@ use Rattle.pdb_records.specs.declared.error.StreamError.{StreamError}
 use Rattle.pdb_msf.specs.declared.faults.TheConstants.{APART, BAD_NUMBER}
 use Rattle.pdb_msf.specs.Faults.{◌>>=◌}
 use Rattle.pdb_msf.specs.ItemLists.{all_items}
+use Rattle.pdb_codeview.specs.AnnotationKinds.{ba_op_change_code_length, ba_op_change_code_length_and_code_offset}
+use Rattle.pdb_codeview.specs.AnnotationKinds.{ba_op_change_code_offset, ba_op_change_code_offset_and_line_offset}
+use Rattle.pdb_codeview.specs.AnnotationKinds.{ba_op_change_code_offset_base, ba_op_change_column_end}
+use Rattle.pdb_codeview.specs.AnnotationKinds.{ba_op_change_column_end_delta, ba_op_change_file}
+use Rattle.pdb_codeview.specs.AnnotationKinds.{ba_op_change_line_end_delta, ba_op_change_line_offset}
+use Rattle.pdb_codeview.specs.AnnotationKinds.{ba_op_code_offset, ba_op_invalid}
 use Rattle.pdb_codeview.specs.Compressed.{compressed, width}
 use Rattle.pdb_codeview.specs.declared.annotations.Annotation.{Annotation}
 use Rattle.pdb_codeview.specs.declared.annotations.Annotation.TheVariants.{Advance, AdvanceAndLine, File, Length}
@@ -19,25 +25,23 @@ first_number bytes = ok_or (compressed bytes) BAD_NUMBER
 abbrev pub behind_number : List ℕ → List ℕ
 behind_number bytes = drop (width bytes) bytes
 
--- an annotation of one number by its kind: CodeOffset (1), ChangeCodeOffsetBase (2), which names the chunk of code that
--- follows and is taken for the main one alone, 0, ChangeCodeOffset (3), ChangeCodeLength (4), ChangeFile (5),
--- ChangeLineOffset (6), and ChangeCodeOffsetAndLineOffset (11), whose lowest four bits are the code's offset and whose
--- others the line's; of ChangeLineEndDelta (7), ChangeRangeKind (8), ChangeColumnStart (9), ChangeColumnEndDelta (10)
--- and ChangeColumnEnd (13) rows show nothing
+-- an annotation of one number by its kind: a chunk of code is taken for the main one alone, 0; where code and line
+-- change together, the lowest four bits are the code's offset and the others the line's; of the kinds from
+-- ChangeLineEndDelta to ChangeColumnEndDelta, and of ChangeColumnEnd, rows show nothing
 abbrev pub of_one_number : ℕ → ℕ → Result Annotation StreamError
 of_one_number kind number =
-    if kind == 1 then Ok (Start number) else
-    if kind == 2 then (if number == 0 then Ok Other else Err APART) else
-    if kind == 3 then Ok (Advance number) else
-    if kind == 4 then Ok (Length number) else
-    if kind == 5 then Ok (File number) else
-    if kind == 6 then Ok (Line number) else
-    if kind == 11 then Ok (AdvanceAndLine (number % 16) (number / 16)) else
-    if nat_le 7 kind && nat_le kind 10 then Ok Other else
-    if kind == 13 then Ok Other else
+    if kind == ba_op_code_offset then Ok (Start number) else
+    if kind == ba_op_change_code_offset_base then (if number == 0 then Ok Other else Err APART) else
+    if kind == ba_op_change_code_offset then Ok (Advance number) else
+    if kind == ba_op_change_code_length then Ok (Length number) else
+    if kind == ba_op_change_file then Ok (File number) else
+    if kind == ba_op_change_line_offset then Ok (Line number) else
+    if kind == ba_op_change_code_offset_and_line_offset then Ok (AdvanceAndLine (number % 16) (number / 16)) else
+    if nat_le ba_op_change_line_end_delta kind && nat_le kind ba_op_change_column_end_delta then Ok Other else
+    if kind == ba_op_change_column_end then Ok Other else
     Err BAD_NUMBER
 
--- an annotation of two numbers, ChangeCodeLengthAndCodeOffset (12), by the first of them, the length, and the bytes
+-- an annotation of two numbers, ChangeCodeLengthAndCodeOffset, by the first of them, the length, and the bytes
 -- behind it, which begin with the offset; and what stands behind it
 abbrev pub of_two_numbers : ℕ → List ℕ → Result (Annotation × List ℕ) StreamError
 of_two_numbers length bytes = do
@@ -48,16 +52,16 @@ of_two_numbers length bytes = do
 abbrev pub annotation_of : ℕ → List ℕ → Result (Annotation × List ℕ) StreamError
 annotation_of kind bytes = do
   number ← first_number bytes
-  if kind == 12 then of_two_numbers number (behind_number bytes) else (do
+  if kind == ba_op_change_code_length_and_code_offset then of_two_numbers number (behind_number bytes) else (do
     annotation ← of_one_number kind number
     Ok (annotation, behind_number bytes))
 
--- the annotation that stands first, and what stands behind it: its kind, and its numbers behind that; one of the kind 0
--- (Invalid) ends the list, so that nothing stands behind it, and rows show nothing of it
+-- the annotation that stands first, and what stands behind it: its kind, and its numbers behind that; one of the kind
+-- Invalid ends the list, so that nothing stands behind it, and rows show nothing of it
 abbrev pub first_annotation : List ℕ → Result (Annotation × List ℕ) StreamError
 first_annotation bytes = do
   kind ← first_number bytes
-  if kind == 0 then Ok (Other, []) else annotation_of kind (behind_number bytes)
+  if kind == ba_op_invalid then Ok (Other, []) else annotation_of kind (behind_number bytes)
 
 -- all annotations of these bytes
 abbrev pub annotations : List ℕ → Read Annotation

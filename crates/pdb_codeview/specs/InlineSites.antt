@@ -1,5 +1,5 @@
 -- Inline sites: the rows of an inlined body, from the line and the file on where its function starts.
-use Rattle.std.specs.Prelude.{ℕ, List, map, Option, Some, None}
+use Rattle.std.specs.Prelude.{ℕ, ◌-◌, ◌^◌, List, map, Option, Some, None}
 use Rattle.std.specs.BTreeMap.{get}
 use Rattle.std.specs.Option.{unwrap_or}
 use Rattle.std.specs.Ordering.{nat_cmp}
@@ -11,7 +11,6 @@ use Rattle.pdb_codeview.specs.declared.files.FileEntry.{FileEntry}
 use Rattle.pdb_codeview.specs.declared.inline_rows.RowPosition.{RowPosition}
 use Rattle.pdb_codeview.specs.declared.inline_sites.CodeRecords.{CodeRecords}
 use Rattle.pdb_codeview.specs.declared.inlinees.InlineeSource.{InlineeSource}
-use Rattle.pdb_codeview.specs.declared.lines.TheConstants.{NO_FILE}
 use Rattle.pdb_codeview.specs.Annotations.{annotations}
 use Rattle.pdb_codeview.specs.Files.{named_file}
 use Rattle.pdb_codeview.specs.InlineRows.{rows_from}
@@ -25,9 +24,13 @@ pub record ModuleCode : Type 0 where
 abbrev pub code_of : CodeRecords → ModuleCode
 code_of code = record { files = code.files.entries.items; sources = λ id. get nat_cmp code.inlinees.sources id }
 
--- the position of the file whose entry starts there, or one that no file has
+-- the position that no file has, the greatest number of four bytes
+abbrev pub no_file : FileIndex
+no_file = record { 0 = 2 ^ 32 - 1 }
+
+-- the position of the file whose entry starts there, or the one that no file has
 abbrev pub file_at : List FileEntry → ℕ → FileIndex
-file_at entries start = unwrap_or (named_file start entries) NO_FILE
+file_at entries start = unwrap_or (named_file start entries) no_file
 
 -- a row with the position of its file in the place of where that one's entry starts
 abbrev pub named_row : List FileEntry → InlineRow → InlineRow

@@ -8,7 +8,9 @@ pub mod ProcedureSpans
 pub mod LineEntries
 pub mod Files
 pub mod Inlinees
+pub mod SymbolKinds
 pub mod SymbolRecords
 pub mod Symbols
+pub mod AnnotationKinds
 pub mod Annotations
 pub mod InlineSites

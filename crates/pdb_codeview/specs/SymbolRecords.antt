@@ -11,7 +11,7 @@ use Rattle.pdb_msf.specs.Bytes.{counted_text_in, text_in}
 use Rattle.pdb_msf.specs.Faults.{◌>>=◌}
 use Rattle.pdb_msf.specs.ItemLists.{all_items}
 use Rattle.pdb_msf.specs.NumberLists.{two_byte_number}
-use Rattle.pdb_codeview.specs.declared.symbol_records.TheConstants.{S_ALIGN, S_SKIP}
+use Rattle.pdb_codeview.specs.SymbolKinds.{s_align, s_skip}
 
 -- a symbol record: where it starts in its stream, in bytes; its kind; and what stands behind the kind
 pub record SymbolBytes : Type 0 where
@@ -48,7 +48,7 @@ all_records start bytes = all_items (first_record (start + length bytes)) bytes
 
 -- records that fill the space up to a place (S_ALIGN) or hold one free (S_SKIP) are no symbols
 abbrev pub is_filler : SymbolBytes → Bool
-is_filler read = (read.raw_kind == S_ALIGN) || (read.raw_kind == S_SKIP)
+is_filler read = (read.raw_kind == s_align) || (read.raw_kind == s_skip)
 
 -- the symbols among records
 abbrev pub symbols_among : Read SymbolBytes → Read SymbolBytes

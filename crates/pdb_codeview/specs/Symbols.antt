@@ -2,17 +2,16 @@
 use Rattle.std.specs.Prelude.{ℕ, ◌==◌, nat_lt, List, [], ◌∷◌, drop, length, map, Option, Some, None, option_map}
 use Rattle.std.specs.Prelude.{if◌then◌else◌}
 use Rattle.pdb_records.specs.Readings.{Read}
-use Rattle.pdb_records.specs.SymbolKinds.{is_procedure_kind, is_public_kind}
+use Rattle.pdb_records.specs.SymbolKinds.{is_procedure_kind, is_public_kind, s_inlinesite, s_inlinesite2, s_sepcode}
+use Rattle.pdb_records.specs.SymbolKinds.{s_thunk32, s_thunk32_st}
 use Rattle.pdb_records.specs.declared.addresses.PdbInternalSectionOffset.{PdbInternalSectionOffset}
 use Rattle.pdb_records.specs.declared.symbols.Symbol.{Symbol}
 use Rattle.pdb_records.specs.declared.symbols.SymbolData.{SymbolData}
 use Rattle.pdb_records.specs.declared.symbols.SymbolData.TheVariants.{InlineSite, Other, Procedure, Public}
 use Rattle.pdb_records.specs.declared.symbols.SymbolData.TheVariants.{SeparatedCode, Thunk}
-use Rattle.pdb_records.specs.declared.symbol_kinds.TheConstants.{S_INLINESITE, S_INLINESITE2, S_SEPCODE, S_THUNK32}
-use Rattle.pdb_records.specs.declared.symbol_kinds.TheConstants.{S_THUNK32_ST}
 use Rattle.pdb_msf.specs.NumberLists.{number, two_byte_number}
-use Rattle.pdb_codeview.specs.declared.symbols.TheConstants.{S_TRAMPOLINE}
 use Rattle.pdb_codeview.specs.InlineSites.{ModuleCode, site_rows}
+use Rattle.pdb_codeview.specs.SymbolKinds.{s_trampoline}
 use Rattle.pdb_codeview.specs.SymbolRecords.{SymbolBytes, name_behind, position_at, symbol_records}
 
 -- the section offset whose offset stands at one place of a symbol's content, and its section at another
@@ -104,12 +103,12 @@ global_symbols stream = record {
 abbrev pub module_content : ModuleCode → List SymbolBytes → ℕ → SymbolBytes → Option SymbolData
 module_content code symbols start symbol =
     if is_procedure_kind symbol.raw_kind then procedure symbols symbol else
-    if symbol.raw_kind == S_THUNK32 then thunk symbols symbol else
-    if symbol.raw_kind == S_THUNK32_ST then thunk symbols symbol else
-    if symbol.raw_kind == S_SEPCODE then separated_code symbols symbol else
-    if symbol.raw_kind == S_TRAMPOLINE then trampoline symbol else
-    if symbol.raw_kind == S_INLINESITE then inline_site code symbols 12 start symbol else
-    if symbol.raw_kind == S_INLINESITE2 then inline_site code symbols 16 start symbol else
+    if symbol.raw_kind == s_thunk32 then thunk symbols symbol else
+    if symbol.raw_kind == s_thunk32_st then thunk symbols symbol else
+    if symbol.raw_kind == s_sepcode then separated_code symbols symbol else
+    if symbol.raw_kind == s_trampoline then trampoline symbol else
+    if symbol.raw_kind == s_inlinesite then inline_site code symbols 12 start symbol else
+    if symbol.raw_kind == s_inlinesite2 then inline_site code symbols 16 start symbol else
     global_content symbol
 
 -- where the code starts that sites behind a symbol stand in: the symbol's, where it is a procedure or separated code

@@ -1,6 +1,7 @@
 mod DebugExamples
 pub mod DebugLemmas
 pub mod FeatureLemmas
+pub mod FrontStreamLemmas
 mod InfoExamples
 pub mod InfoLemmas
 mod ModuleExamples

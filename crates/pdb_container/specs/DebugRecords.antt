@@ -19,6 +19,7 @@ use Rattle.pdb_dbi.specs.Contributions.{contributions}
 use Rattle.pdb_dbi.specs.Header.{header}
 use Rattle.pdb_dbi.specs.ModuleList.{module_streams, modules}
 use Rattle.pdb_dbi.specs.OptionalStreams.{optional_stream}
+use Rattle.pdb_dbi.specs.PublishedNumbers.{sn_nil}
 use Rattle.pdb_dbi.specs.Sections.{loaded_at, section_headers}
 use Rattle.pdb_container.specs.ModulePlaces.{ModuleOrFault, modules_read}
 use Rattle.pdb_container.specs.UnnamedCode.{named_modules}
@@ -74,9 +75,9 @@ address_map_of msf front =
     if rearranges msf (optional_stream front.optional_streams.bytes 4) then Err REARRANGED else
     (sections_of msf front >>= addresses_of)
 
--- the symbols of the whole program, in the stream of this number: 65535 stands for none
+-- the symbols of the whole program, in the stream of this number, if that is one
 unfoldable pub symbols_in : Msf → ℕ → Result (Read Symbol) StreamError
-symbols_in msf number = if number == 65535 then Err NO_STREAM else (do
+symbols_in msf number = if number == sn_nil then Err NO_STREAM else (do
   stream ← stream_of msf number
   Ok (symbols_of stream))
 

@@ -7,6 +7,8 @@ pub mod ModuleSource
 pub mod Modules
 pub mod Reader
 pub mod Records
+pub mod Refusals
 pub mod Strings
+pub mod SubsectionKinds
 pub mod TypeRecords
 pub mod UnnamedCode

@@ -10,6 +10,7 @@ use Rattle.pdb_msf.specs.Faults.{◌>>=◌}
 use Rattle.pdb_msf.specs.Msf.{Msf, size_of, stream_of}
 use Rattle.pdb_dbi.specs.declared.module_list.ModuleStream.{ModuleStream}
 use Rattle.pdb_container.specs.Modules.{module_in}
+use Rattle.pdb_dbi.specs.PublishedNumbers.{sn_nil}
 
 -- where the records of a module stand, `None` of a module without records, or why they aren't read
 abbrev pub PlaceOrFault : Type 0
@@ -23,18 +24,18 @@ ModuleOrFault = Result (Option ModuleInfo) StreamError
 abbrev pub bytes_read : Msf → ℕ → ℕ
 bytes_read msf number = unwrap_or (result_ok (size_of msf number)) 0
 
--- where the records of a module stand, where so many bytes may still be read: the number 65535 stands for no stream,
--- and a stream that is longer than what may be read isn't read
+-- where the records of a module stand, if it has a stream, where so many bytes may still be read: a stream that is
+-- longer than that isn't read
 abbrev pub place_within : Msf → ℕ → ModuleStream → PlaceOrFault
 place_within msf left place =
-    if place.stream == 65535 then Ok None else
+    if place.stream == sn_nil then Ok None else
     if nat_lt left (bytes_read msf place.stream) then Err TOO_LONG else
     Ok (Some place)
 
 -- how many bytes may still be read behind a module: a stream that isn't read takes none
 abbrev pub left_behind : Msf → ℕ → ModuleStream → ℕ
 left_behind msf left place =
-    if place.stream == 65535 then left else
+    if place.stream == sn_nil then left else
     if nat_lt left (bytes_read msf place.stream) then left else
     left - bytes_read msf place.stream
 

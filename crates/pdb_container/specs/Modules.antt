@@ -26,6 +26,8 @@ use Rattle.pdb_codeview.specs.ProcedureSpans.{symbol_spans}
 use Rattle.pdb_codeview.specs.Symbols.{module_symbols}
 use Rattle.pdb_dbi.specs.declared.module_list.ModuleStream.{ModuleStream}
 use Rattle.pdb_dbi.specs.Substreams.{SubstreamBytes, substream}
+use Rattle.pdb_container.specs.SubsectionKinds.{debug_s_crossscopeexports, debug_s_crossscopeimports}
+use Rattle.pdb_container.specs.SubsectionKinds.{debug_s_filechksms, debug_s_inlineelines, debug_s_lines}
 
 -- a subsection: its kind, and its content
 pub record SubsectionBytes : Type 0 where
@@ -68,22 +70,22 @@ found_or_empty (Some error) None = Err error
 abbrev pub first_or_empty : ℕ → Read SubsectionBytes → Result (List ℕ) StreamError
 first_or_empty kind list = found_or_empty list.fault (first_of_kind kind list.items)
 
--- the files of a module, by its subsections of files (DEBUG_S_FILECHKSMS, 0xf4)
+-- the files of a module, by its subsections of files
 abbrev pub files_of : Read SubsectionBytes → Read FileEntry
-files_of list = all_entries (all_of_kind 0xf4 list.items)
+files_of list = all_entries (all_of_kind debug_s_filechksms list.items)
 
--- the functions whose bodies stand in a module's code, by its subsections of inlinees (DEBUG_S_INLINEELINES, 0xf6)
+-- the functions whose bodies stand in a module's code, by its subsections of inlinees
 abbrev pub inlinees_of : Read SubsectionBytes → Read Inlinee
 inlinees_of list = ending list.fault (record {
-  items = map inlinee (all_inlinees (all_of_kind 0xf6 list.items)).items;
-  fault = (all_inlinees (all_of_kind 0xf6 list.items)).fault;
+  items = map inlinee (all_inlinees (all_of_kind debug_s_inlineelines list.items)).items;
+  fault = (all_inlinees (all_of_kind debug_s_inlineelines list.items)).fault;
 })
 
 -- what a module's sites refer to
 abbrev pub code_in : Read SubsectionBytes → ModuleCode
 code_in list = record {
   files = (files_of list).items;
-  sources = λ id. inlinee_source id (all_inlinees (all_of_kind 0xf6 list.items)).items;
+  sources = λ id. inlinee_source id (all_inlinees (all_of_kind debug_s_inlineelines list.items)).items;
 }
 
 -- the symbols of a module by their substream: without bytes there are none; else the number 4 (CV_SIGNATURE_C13), the
@@ -110,20 +112,20 @@ program_of files symbols lines = record {
   files = map (λ entry. entry.info) files;
 }
 
--- the line program of a module, by its subsections of lines (DEBUG_S_LINES, 0xf2), its files and its symbols: it fails
+-- the line program of a module, by its subsections of lines, its files and its symbols: it fails
 -- with the list of subsections, with a subsection of files, and with the header of a subsection of lines
 abbrev pub line_program : Read SubsectionBytes → List Symbol → Result Lines StreamError
 line_program list symbols = option_map_or (λ error. Err error) (option_or list.fault (files_of list).fault) (do
-  lines ← line_subsections (files_of list).items (all_of_kind 0xf2 list.items)
+  lines ← line_subsections (files_of list).items (all_of_kind debug_s_lines list.items)
   Ok (program_of (files_of list).items symbols lines))
 
--- what a module takes from others: by its first subsection of imports (DEBUG_S_CROSSSCOPEIMPORTS, 0xf7)
+-- what a module takes from others: by its first subsection of imports
 abbrev pub imports_of : Read SubsectionBytes → Result (List Imported) StreamError
-imports_of list = first_or_empty 0xf7 list >>= imports
+imports_of list = first_or_empty debug_s_crossscopeimports list >>= imports
 
--- what a module offers to others: by its first subsection of exports (DEBUG_S_CROSSSCOPEEXPORTS, 0xf8)
+-- what a module offers to others: by its first subsection of exports
 abbrev pub exports_of : Read SubsectionBytes → Result (List (ℕ × ℕ)) StreamError
-exports_of list = first_or_empty 0xf8 list >>= exports
+exports_of list = first_or_empty debug_s_crossscopeexports list >>= exports
 
 -- what the symbols of a module and its subsections say
 abbrev pub module_by : Read Symbol → Read SubsectionBytes → ModuleInfo

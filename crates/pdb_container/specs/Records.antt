@@ -1,14 +1,16 @@
 -- All records of a file.
-use Rattle.std.specs.Prelude.{ℕ, List, Result, Ok, Err}
+use Rattle.std.specs.Prelude.{ℕ, Bool, List, Option, Result, Ok, Err}
 use Rattle.pdb_records.specs.Readings.{Read}
 use Rattle.pdb_records.specs.Records.{Records}
 use Rattle.pdb_records.specs.declared.error.StreamError.{StreamError}
 use Rattle.pdb_records.specs.declared.symbols.Symbol.{Symbol}
 use Rattle.pdb_records.specs.declared.symbols.SymbolTable.{SymbolTable}
 use Rattle.pdb_msf.specs.declared.container_fault.ContainerFault.{ContainerFault}
-use Rattle.pdb_msf.specs.Msf.{Msf}
+use Rattle.pdb_msf.specs.Msf.{Msf, stream_of}
 use Rattle.pdb_container.specs.DebugRecords.{address_map, debug_information, global_symbols, module_infos, of_file}
 use Rattle.pdb_container.specs.DebugRecords.{sections}
+use Rattle.pdb_container.specs.Info.{features, version}
+use Rattle.pdb_container.specs.Refusals.{Reason, refusal_of}
 use Rattle.pdb_container.specs.Strings.{string_table}
 use Rattle.pdb_container.specs.TypeRecords.{id_information, type_information}
 
@@ -33,3 +35,11 @@ records msf = record {
 -- the records of a file, or why it is no container
 abbrev pub records_of : List ℕ → Result Records ContainerFault
 records_of file = of_file records file
+
+-- why nothing can be answered over the records of a container, if so
+abbrev pub refusal_in : Msf → Option Reason
+refusal_in msf = refusal_of (version (stream_of msf 1)) (records msf)
+
+-- whether a container lists that it has names alone
+abbrev pub has_names_only : Msf → Bool
+has_names_only msf = (features (stream_of msf 1)).names_only

@@ -3,6 +3,7 @@ use Rattle.std.specs.Prelude.{ℕ, ◌+◌, ◌-◌, ◌==◌, nat_le, List, [],
 use Rattle.std.specs.Prelude.{Option, Some, None, option_map, option_to_list, Result, Ok, if◌then◌else◌}
 use Rattle.std.specs.Option.{option_or}
 use Rattle.pdb_records.specs.Readings.{Read}
+use Rattle.pdb_records.specs.SymbolKinds.{s_sepcode, s_thunk32}
 use Rattle.pdb_records.specs.declared.error.StreamError.{StreamError}
 use Rattle.pdb_records.specs.declared.modules.ModuleInfo.{ModuleInfo}
 use Rattle.pdb_records.specs.declared.symbols.ProcedureSymbol.{ProcedureSymbol}
@@ -10,12 +11,11 @@ use Rattle.pdb_records.specs.declared.symbols.SeparatedCodeSymbol.{SeparatedCode
 use Rattle.pdb_records.specs.declared.symbols.Symbol.{Symbol}
 use Rattle.pdb_records.specs.declared.symbols.SymbolData.{SymbolData}
 use Rattle.pdb_records.specs.declared.symbols.SymbolData.TheVariants.{Procedure, SeparatedCode}
-use Rattle.pdb_records.specs.declared.symbol_kinds.TheConstants.{S_SEPCODE, S_THUNK32}
 use Rattle.pdb_records.specs.declared.types.TypeIndex.{TypeIndex}
 use Rattle.pdb_codeview.specs.declared.procedure_spans.ProcedureSpan.{ProcedureSpan}
-use Rattle.pdb_codeview.specs.declared.symbols.TheConstants.{S_TRAMPOLINE}
 use Rattle.pdb_codeview.specs.Places.{is_at, place}
 use Rattle.pdb_codeview.specs.ProcedureSpans.{span_of}
+use Rattle.pdb_codeview.specs.SymbolKinds.{s_trampoline}
 use Rattle.pdb_container.specs.declared.unnamed_code.Naming.{Naming}
 use Rattle.pdb_container.specs.Functions.{FunctionStart, any_function, function_at, symbols_of}
 use Rattle.pdb_container.specs.ModulePlaces.{ModuleOrFault}
@@ -38,8 +38,8 @@ pub record CodeOfModule : Type 0 where
 -- its function does
 abbrev pub apart : ℕ → Option ℕ → SeparatedCodeSymbol → Option SeparatedCodeSymbol
 apart raw_kind before code =
-    if raw_kind == S_TRAMPOLINE then Some code else
-    if raw_kind == S_SEPCODE then (if is_at before (place code.parent_offset) then None else Some code) else
+    if raw_kind == s_trampoline then Some code else
+    if raw_kind == s_sepcode then (if is_at before (place code.parent_offset) then None else Some code) else
     None
 
 -- the code that a symbol of this kind and content shows apart from its function, behind code that starts at a place
@@ -64,7 +64,7 @@ apart_from position before (symbol ∷ symbols) =
 -- function starts
 abbrev pub own_function : List Symbol → ℕ → SeparatedCodeSymbol → Option FunctionStart
 own_function symbols raw_kind code =
-    if raw_kind == S_SEPCODE then function_at (place code.parent_offset) symbols else None
+    if raw_kind == s_sepcode then function_at (place code.parent_offset) symbols else None
 
 -- code apart, in the module with this index and these symbols
 abbrev pub code_in_module : ℕ → List Symbol → CodeApart → CodeOfModule
@@ -118,7 +118,7 @@ namings function_there room (code ∷ codes) =
 -- a symbol that becomes this procedure: a jump has the kind of a thunk then, which has code
 abbrev pub named_symbol : ProcedureSymbol → Symbol → Symbol
 named_symbol procedure symbol = record {
-  raw_kind = if symbol.raw_kind == S_TRAMPOLINE then S_THUNK32 else symbol.raw_kind;
+  raw_kind = if symbol.raw_kind == s_trampoline then s_thunk32 else symbol.raw_kind;
   content = Some (Procedure procedure);
 }
 

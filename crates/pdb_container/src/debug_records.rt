@@ -3,7 +3,8 @@
 ghost use Rattle.std.specs.Prelude.{◌≡◌, ◌++◌, Ok, Err, IfErr, IfOk, OnOk, option_map};
 ghost use Rattle.pdb_container.specs.DebugRecords.{address_map, address_map_of, debug_header, debug_information};
 ghost use Rattle.pdb_container.specs.DebugRecords.{debug_stream, global_symbols};
-ghost use Rattle.pdb_container.specs.DebugRecords.{information_of, rearranges, sections, sections_of, streams_of_modules};
+ghost use Rattle.pdb_container.specs.DebugRecords.{information_of, rearranges, sections, sections_of};
+ghost use Rattle.pdb_container.specs.DebugRecords.{streams_of_modules};
 ghost use Rattle.pdb_container.specs.DebugRecords.{symbols_in, tabled};
 ghost use Rattle.pdb_dbi.specs.ModuleList.{module_streams};
 ghost use Rattle.pdb_msf.specs.Faults.{Gives};

@@ -1,5 +1,7 @@
 //! The streams of a file that is read range by range, as far as they are read before any of its modules.
 
+ghost use Rattle.std.specs.Prelude.{◌≡◌, ◌≤◌, IfErr};
+
 use crate::debug_records::{DEBUG, SECTIONS, debug_stream};
 use crate::front::{IDS, TYPES};
 use crate::info::{INFO, InfoStream};
@@ -24,11 +26,16 @@ pub struct FrontStreams {
 
 impl FrontStreams {
     /// Reads these streams of a file.
+    #[tactic(auto, using(crate::proofs::FrontStreamLemmas::blocks_within))]
     pub fn read<S: Source>(
         alloc: Global,
         map: &StreamMap,
         source: &mut S,
-    ) -> Result<Self, SourceFault> {
+    ) -> Result<Self, SourceFault>
+        ensures refused { IfErr result (λ fault. fault ≡ SourceFault.Unreadable
+            → S.refuses_from source.old ≤ map.now.file_length) }
+        ensures refusals { S.refuses_from source.new ≡ S.refuses_from source.old }
+    {
         let mut excerpt = Excerpt::new(alloc, map)?;
         excerpt.add(alloc, map, source, INFO)?;
         excerpt.add(alloc, map, source, DEBUG)?;
@@ -59,7 +66,9 @@ struct NamedByFront {
     has_ids: bool,
 }
 
-fn named_by_front(alloc: Global, excerpt: &Excerpt) -> Result<NamedByFront, SourceFault> {
+fn named_by_front(alloc: Global, excerpt: &Excerpt) -> Result<NamedByFront, SourceFault>
+    ensures memory { IfErr result (λ fault. fault ≡ SourceFault.OutOfMemory) }
+{
     match named_in_excerpt(alloc, excerpt) {
         Ok(named) => Ok(named),
         Err(_) => Err(SourceFault::OutOfMemory),

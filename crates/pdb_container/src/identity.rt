@@ -1,6 +1,6 @@
 //! Which build a PDB file is of: its GUID, its age, when it was made, and for which processor.
 
-ghost use Rattle.std.specs.Prelude.{◌≡◌, IfErr, IfOk, option_map};
+ghost use Rattle.std.specs.Prelude.{◌≡◌, ◌≤◌, IfErr, IfOk, option_map};
 ghost use Rattle.std.specs.Result.{result_ok};
 ghost use Rattle.pdb_container.specs.DebugRecords.{of_file};
 ghost use Rattle.pdb_container.specs.Identity.{build_of, debug_build, identity, identity_by};
@@ -43,7 +43,9 @@ pub fn read_identity_of<S: Source>(
 ) -> Result<Option<PdbIdentity>, OpenFault>
     ensures answer { IfFile (S.bytes source.old) file_length (λ file.
         Reads (λ found. found) result (of_file identity file)) }
+    ensures refused { IfErr result (λ fault. fault ≡ OpenFault.Unreadable → S.refuses_from source.old ≤ file_length) }
     ensures inputs { S.bytes source.new ≡ S.bytes source.old }
+    ensures refusals { S.refuses_from source.new ≡ S.refuses_from source.old }
 {
     let map = StreamMap::read(alloc, source, file_length)?;
     Ok(load_identity(alloc, &map, source)?)
@@ -57,7 +59,10 @@ fn load_identity<S: Source>(
 ) -> Result<Option<PdbIdentity>, SourceFault>
     ensures answer { IfOk result (λ found. IfFile (S.bytes source.old) map.now.file_length (λ file.
         found ≡ identity (with_bytes file map.now))) }
+    ensures refused { IfErr result (λ fault. fault ≡ SourceFault.Unreadable
+        → S.refuses_from source.old ≤ map.now.file_length) }
     ensures inputs { S.bytes source.new ≡ S.bytes source.old }
+    ensures refusals { S.refuses_from source.new ≡ S.refuses_from source.old }
 {
     let Ok(info) = map.load(alloc, source, INFO)? else {
         return Ok(None);

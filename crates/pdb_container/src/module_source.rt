@@ -1,6 +1,6 @@
 //! What reads the streams of modules: a container in memory, or a file that is read range by range.
 
-ghost use Rattle.std.specs.Prelude.{◌≡◌, IfOk};
+ghost use Rattle.std.specs.Prelude.{◌≡◌, ◌≤◌, IfErr, IfOk};
 ghost use Rattle.pdb_container.specs.ModulePlaces.{ModuleOrFault, PlaceOrFault, module_of};
 ghost use Rattle.pdb_container.specs.ModuleSource.{KeepsModules};
 ghost use Rattle.pdb_msf.specs.StreamMap.{IfFile, with_bytes};
@@ -14,6 +14,9 @@ pub trait ModuleSource {
     /// Whether this is known of a module with this place.
     ghost says: { Self → PlaceOrFault → ModuleOrFault → Type 0 };
 
+    /// Whether a range of the file may be refused. None is where all of the file is in memory.
+    ghost may_refuse: { Self → Type 0 };
+
     /// What is known of a module with this place, or why it can't be read.
     fn module_info(
         &mut self,
@@ -21,6 +24,7 @@ pub trait ModuleSource {
         place: ModulePlace,
     ) -> Result<ModuleInfoResult, SourceFault>
         ensures answer { IfOk result (λ read. says self.old place read) }
+        ensures refused { IfErr result (λ fault. fault ≡ SourceFault.Unreadable → may_refuse self.old) }
         ensures inputs { KeepsModules says self.old self.new };
 }
 
@@ -29,6 +33,8 @@ impl<'a> ModuleSource for Container<'a> {
     ghost use Rattle.pdb_container.specs.ModulePlaces.{module_of};
 
     ghost says = { λ container place read. read ≡ module_of container place };
+
+    ghost may_refuse = { λ _. ⊥ };
 
     fn module_info(
         &mut self,
@@ -50,12 +56,14 @@ pub struct SourceModules<S> {
 }
 
 impl<S: Source + Drop> ModuleSource for SourceModules<S> {
-    ghost use Rattle.std.specs.Prelude.{◌≡◌};
+    ghost use Rattle.std.specs.Prelude.{◌≡◌, ◌≤◌};
     ghost use Rattle.pdb_container.specs.ModulePlaces.{module_of};
     ghost use Rattle.pdb_msf.specs.StreamMap.{IfFile, with_bytes};
 
     ghost says = { λ modules place read. IfFile (S.bytes modules.source) modules.map.file_length (λ file.
         read ≡ module_of (with_bytes file modules.map) place) };
+
+    ghost may_refuse = { λ modules. S.refuses_from modules.source ≤ modules.map.file_length };
 
     fn module_info(
         &mut self,
@@ -68,6 +76,8 @@ impl<S: Source + Drop> ModuleSource for SourceModules<S> {
 
 impl<S: Source + Drop> Source for SourceModules<S> {
     ghost bytes = { λ modules. S.bytes modules.source };
+
+    ghost refuses_from = { λ modules. S.refuses_from modules.source };
 
     fn read_exact_at(&mut self, buffer: &mut [u8], place: usize) -> Result<(), Unreadable> {
         self.source.read_exact_at(buffer, place)
@@ -83,7 +93,10 @@ fn load_module<S: Source>(
 ) -> Result<ModuleInfoResult, SourceFault>
     ensures answer { IfOk result (λ read. IfFile (S.bytes source.old) map.now.file_length (λ file.
         read ≡ module_of (with_bytes file map.now) place)) }
+    ensures refused { IfErr result (λ fault. fault ≡ SourceFault.Unreadable
+        → S.refuses_from source.old ≤ map.now.file_length) }
     ensures inputs { S.bytes source.new ≡ S.bytes source.old }
+    ensures refusals { S.refuses_from source.new ≡ S.refuses_from source.old }
 {
     match place {
         Ok(Some(place)) => match map.load(alloc, source, u32::from(place.stream))? {

@@ -1,10 +1,14 @@
 //! A PDB file that is read as it is asked: of modules, types and ids what answers depend on.
 
-ghost use Rattle.std.specs.Prelude.{◌≡◌, length, IfErr, IfOk, OnOk};
+ghost use Rattle.std.specs.Prelude.{◌≡◌, length, option_map, IfErr, IfOk, OnOk};
 ghost use Rattle.pdb_container.specs.DebugRecords.{streams_of_modules};
+ghost use Rattle.pdb_container.specs.Info.{features, version};
 ghost use Rattle.pdb_container.specs.ModulePlaces.{module_places, place_at, places_within};
 ghost use Rattle.pdb_container.specs.ModuleSource.{KeepsModules};
 ghost use Rattle.pdb_container.specs.Reader.{HasFront, SameFront};
+ghost use Rattle.pdb_container.specs.Records.{has_names_only};
+ghost use Rattle.pdb_container.specs.Refusals.{reason_of, refusal_of};
+ghost use Rattle.pdb_msf.specs.Msf.{stream_of};
 
 use crate::front::{Front, first_lists, ids_of, read_front, types_of, unread};
 use crate::front_streams::FrontStreams;
@@ -56,6 +60,9 @@ impl PdbReader {
         ensures places { IfOk result (λ opened. opened.0
             ≡ module_places container.now (streams_of_modules container.now)) }
         ensures front { IfOk result (λ opened. HasFront container.now opened.1.records) }
+        ensures refusal { IfOk result (λ opened. option_map reason_of opened.1.refusal
+            ≡ refusal_of (version (stream_of container.now 1)) opened.1.records) }
+        ensures names_only { IfOk result (λ opened. opened.1.names_only ≡ has_names_only container.now) }
         ensures memory { IfErr result (λ fault. fault ≡ Fault.OutOfMemory) }
     {
         let info = InfoStream::read(alloc, container)?;
@@ -71,6 +78,9 @@ impl PdbReader {
         ensures places { IfOk result (λ opened. opened.0
             ≡ places_within streams.excerpt streams.file_length (streams_of_modules streams.excerpt)) }
         ensures front { IfOk result (λ opened. HasFront streams.excerpt opened.1.records) }
+        ensures refusal { IfOk result (λ opened. option_map reason_of opened.1.refusal
+            ≡ refusal_of (version (stream_of streams.excerpt 1)) opened.1.records) }
+        ensures names_only { IfOk result (λ opened. opened.1.names_only ≡ has_names_only streams.excerpt) }
         ensures memory { IfErr result (λ fault. fault ≡ Fault.OutOfMemory) }
     {
         let FrontStreams {
@@ -96,6 +106,9 @@ impl PdbReader {
     ) -> Result<(Self, PdbFile), Fault>
         ensures places { IfOk result (λ opened. opened.0 ≡ front.places.items) }
         ensures front { IfOk result (λ opened. SameFront front.records opened.1.records) }
+        ensures refusal { IfOk result (λ opened. option_map reason_of opened.1.refusal
+            ≡ refusal_of (version info.now) opened.1.records) }
+        ensures names_only { IfOk result (λ opened. opened.1.names_only ≡ (features info.now).names_only) }
         ensures memory { IfErr result (λ fault. fault ≡ Fault.OutOfMemory) }
     {
         let Front {
@@ -142,6 +155,7 @@ impl PdbReader {
         position: usize,
     ) -> Result<ModuleInfoResult, SourceFault>
         ensures answer { IfOk result (λ read. M.says modules.old (place_at self.now position) read) }
+        ensures refused { IfErr result (λ fault. fault ≡ SourceFault.Unreadable → M.may_refuse modules.old) }
         ensures inputs { KeepsModules M.says modules.old modules.new }
     {
         let place = self.places.get(position).copied().unwrap_or(Ok(None));
@@ -149,9 +163,9 @@ impl PdbReader {
     }
 
     /// Reads what is known of the modules at these positions into the records that [`open`](PdbReader::open) answered,
-    /// and the types and the ids that answers over their code depend on. Answers the positions of the modules that this
-    /// call read, ascending. These are all that are left where one of them has code without a name, as chunks and jumps,
-    /// which any module may list.
+    /// and the types and the ids that answers over their code depend on. Answers the positions of the modules that
+    /// this call read, ascending. These are all that are left where one of them has code without a name, as chunks and
+    /// jumps, which any module may list.
     ///
     /// Where there is no memory, or a range of the file can't be read, none of them counts as read.
     pub fn read_modules<M: ModuleSource + Source>(

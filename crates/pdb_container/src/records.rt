@@ -1,7 +1,9 @@
 //! All records of a PDB file: which streams are read, and which failed.
 
-ghost use Rattle.std.specs.Prelude.{◌≡◌, IfErr, IfOk};
-ghost use Rattle.pdb_container.specs.Records.{records, records_of};
+ghost use Rattle.std.specs.Prelude.{◌≡◌, IfErr, IfOk, option_map};
+ghost use Rattle.pdb_container.specs.DebugRecords.{of_file};
+ghost use Rattle.pdb_container.specs.Records.{has_names_only, records, records_of, refusal_in};
+ghost use Rattle.pdb_container.specs.Refusals.{reason_of};
 ghost use Rattle.pdb_container.specs.Strings.{string_table};
 ghost use Rattle.pdb_container.specs.TypeRecords.{id_information, type_information};
 ghost use Rattle.pdb_msf.specs.Faults.{Gives, Opens};
@@ -47,7 +49,9 @@ pub fn read_pdb(alloc: Global, bytes: &[u8]) -> Result<PDB, ContainerFault>
 
 /// The records of a PDB file, and what a reader of them wants to be told. The errors are those of [`read_pdb`].
 pub fn read_pdb_file(alloc: Global, bytes: &[u8]) -> Result<PdbFile, ContainerFault>
-    ensures { Opens (λ file. file.records) result (records_of bytes.now) }
+    ensures answer { Opens (λ file. file.records) result (records_of bytes.now) }
+    ensures refusal { Opens (λ file. option_map reason_of file.refusal) result (of_file refusal_in bytes.now) }
+    ensures names_only { Opens (λ file. file.names_only) result (of_file has_names_only bytes.now) }
 {
     let container = Container::open(alloc, bytes)?;
     let info = InfoStream::read(alloc, &container)?;

@@ -1,5 +1,8 @@
 //! Why nothing can be answered over the records of a PDB file, in words.
 
+ghost use Rattle.std.specs.Prelude.{◌≡◌, option_map};
+ghost use Rattle.pdb_container.specs.Refusals.{debug_reason, reason_of, refusal_of, types_reason};
+
 use pdb_msf::faults::{NO_STREAM, REARRANGED, UNKNOWN_VERSION, fault_text};
 use pdb_records::{PDB, StreamError};
 use thiserror::Error;
@@ -26,7 +29,9 @@ pub enum Refusal {
 
 /// Why nothing can be answered over the records of a file of this version, if so. Of several reasons the first counts,
 /// in the order debug information, global symbols, types, ids, sections, address map.
-pub fn refusal_of(version: u32, records: &PDB) -> Option<Refusal> {
+pub fn refusal_of(version: u32, records: &PDB) -> Option<Refusal>
+    ensures { option_map reason_of result ≡ refusal_of version records.now }
+{
     if let Err(error) = &records.debug_information {
         return Some(debug_refusal(*error));
     }
@@ -50,14 +55,18 @@ pub fn refusal_of(version: u32, records: &PDB) -> Option<Refusal> {
 }
 
 // Without debug information a file is of no program.
-fn debug_refusal(error: StreamError) -> Refusal {
+fn debug_refusal(error: StreamError) -> Refusal
+    ensures { reason_of result ≡ debug_reason error }
+{
     match error {
         NO_STREAM => Refusal::OfObjects,
         _ => Refusal::Broken("debug information", fault_text(error)),
     }
 }
 
-fn types_refusal(version: u32, error: StreamError) -> Refusal {
+fn types_refusal(version: u32, error: StreamError) -> Refusal
+    ensures { reason_of result ≡ types_reason version error }
+{
     match error {
         UNKNOWN_VERSION => Refusal::OldTypes(version),
         _ => Refusal::Broken("types", fault_text(error)),

@@ -1,6 +1,6 @@
 //! The lists of types and of ids of a PDB file, and marks of their records.
 
-ghost use Rattle.std.specs.Prelude.{◌≡◌, Ok, IfErr, IfOk};
+ghost use Rattle.std.specs.Prelude.{◌≡◌, ◌≤◌, Ok, IfErr, IfOk, IsOkAnd};
 ghost use Rattle.pdb_container.specs.Reader.{SameFront};
 
 use pdb_msf::faults::{Fault, NO_STREAM};
@@ -73,7 +73,11 @@ pub fn type_list<S: Source>(
     alloc: Global,
     source: &mut S,
     blocks: Result<StreamBlocks, StreamError>,
-) -> Result<PlacesOrFault, SourceFault> {
+) -> Result<PlacesOrFault, SourceFault>
+    ensures refused { IfErr result (λ fault. fault ≡ SourceFault.Unreadable
+        → IsOkAnd blocks (λ blocks. S.refuses_from source.old ≤ blocks.file_length)) }
+    ensures refusals { S.refuses_from source.new ≡ S.refuses_from source.old }
+{
     match blocks {
         Ok(blocks) => match TypePlaces::read(alloc, source, blocks)? {
             Ok(places) => Ok(Ok(Some(places))),
@@ -83,13 +87,17 @@ pub fn type_list<S: Source>(
     }
 }
 
-/// The list of ids that the stream in these blocks is. A file whose stream of ids is empty has none, as one without that
-/// stream.
+/// The list of ids that the stream in these blocks is. A file whose stream of ids is empty has none, as one without
+/// that stream.
 pub fn id_list<S: Source>(
     alloc: Global,
     source: &mut S,
     blocks: Result<StreamBlocks, StreamError>,
-) -> Result<PlacesOrFault, SourceFault> {
+) -> Result<PlacesOrFault, SourceFault>
+    ensures refused { IfErr result (λ fault. fault ≡ SourceFault.Unreadable
+        → IsOkAnd blocks (λ blocks. S.refuses_from source.old ≤ blocks.file_length)) }
+    ensures refusals { S.refuses_from source.new ≡ S.refuses_from source.old }
+{
     match blocks {
         Ok(blocks) if blocks.len() == 0 => Ok(Ok(None)),
         Err(NO_STREAM) => Ok(Ok(None)),

@@ -577,5 +577,6 @@ def whole():
         id_information=item_list(IDS),
         module_infos=[{"symbols": symbols.wanted, **info}, None, other_info, {"error": 2}, {"error": 2}])
     broken = ["GlobalSymbols(StreamError(1))", "Lines { module_index: 0, fault: StreamError(1) }",
+              f"InlineRows {{ module_index: 0, fault: StreamError({APART}), sites: 2 }}",
               "Module { module_index: 3, fault: StreamError(2) }", "Module { module_index: 4, fault: StreamError(2) }"]
     return container(streams), [wanted, *broken]

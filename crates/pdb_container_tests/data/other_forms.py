@@ -49,18 +49,31 @@ def first_with_ids():
     return container(streams, 4096), [wanted]
 
 
+def on_machine(machine):
+    """The debug information of a program without modules, for a machine."""
+    return {"machine_type": machine, "modules": [], "section_contributions": []}
+
+
 def many_streams():
-    """A file whose directory is so long that the list of its blocks takes two blocks, which don't lie side by side."""
-    streams = [b"", info_stream(), item_stream([]), debug_stream(b"", b""), item_stream([]), string_stream(), b"", None,
-               b"", SECTIONS] + [None] * 17000
-    return container(streams, 512, between=1), [records()]
+    """A file for Itanium whose directory is so long that the list of its blocks takes two blocks, which don't lie side by
+    side."""
+    streams = [b"", info_stream(), item_stream([]), debug_stream(b"", b"", machine=0x0200), item_stream([]),
+               string_stream(), b"", None, b"", SECTIONS] + [None] * 17000
+    return container(streams, 512, between=1), [records(debug_information=on_machine("Ia64"))]
 
 
 def names_only():
-    """A file that has names alone: its lines and types are in objects."""
-    streams = [b"", info_stream(u32(20140508, 0x494E494D)), item_stream([]), debug_stream(b"", b""), item_stream([]),
+    """A file for RISC-V that has names alone: its lines and types are in objects."""
+    streams = [b"", info_stream(u32(20140508, 0x494E494D)), item_stream([]), debug_stream(b"", b"", machine=0x5064),
+               item_stream([]), string_stream(), b"", None, b"", SECTIONS]
+    return container(streams, 16384), ["names only", records(debug_information=on_machine("RiscV64"))]
+
+
+def other_machine(machine, name):
+    """A file for another machine, without modules."""
+    streams = [b"", info_stream(), item_stream([]), debug_stream(b"", b"", machine=machine), item_stream([]),
                string_stream(), b"", None, b"", SECTIONS]
-    return container(streams, 16384), ["names only", records()]
+    return container(streams), [records(debug_information=on_machine(name))]
 
 
 def chunks_of_two_modules():
@@ -148,4 +161,6 @@ def parts_of_other_modules():
 
 FILES = [("more_kinds.pdb", more_kinds.whole), ("before_ids.pdb", before_ids), ("first_with_ids.pdb", first_with_ids), ("many_streams.pdb", many_streams),
          ("names_only.pdb", names_only), ("chunks_of_two_modules.pdb", chunks_of_two_modules),
-         ("parts_of_other_modules.pdb", parts_of_other_modules)]
+         ("parts_of_other_modules.pdb", parts_of_other_modules),
+         ("risc_v_128.pdb", lambda: other_machine(0x5128, "RiscV128")),
+         ("arm.pdb", lambda: other_machine(0x01C4, "Other"))]

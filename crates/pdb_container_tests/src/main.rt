@@ -1,7 +1,7 @@
 //! Reads the PDB files that its words name, and writes the records of each, or why nothing can be answered.
 //!
-//! What of a file is broken is written too, and whether a reader of single modules that reads all of them comes to other
-//! records. `data/write_files.py` writes the files, by their bytes, and what is wanted of them. A records file in the
+//! What of a file is broken is written too, and whether a reader of single modules that reads all of them comes to
+//! other records. `data/write_files.py` writes the files, by their bytes, and what is wanted of them. A records file in the
 //! writer's own form comes out as it went in.
 #![tactic(auto)]
 

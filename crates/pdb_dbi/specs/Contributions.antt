@@ -6,6 +6,7 @@ use Rattle.pdb_msf.specs.declared.faults.TheConstants.{CUT, UNKNOWN_VERSION}
 use Rattle.pdb_msf.specs.NumberLists.{number, two_byte_number}
 use Rattle.pdb_msf.specs.ItemLists.{entry_list}
 use Rattle.pdb_msf.specs.Readings.{ending, nothing_read}
+use Rattle.pdb_dbi.specs.PublishedNumbers.{dbi_sc_version_2, dbi_sc_version_60}
 use Rattle.pdb_dbi.specs.Substreams.{SubstreamBytes}
 
 -- a contribution: its section (ISect) at 0, its Offset at 4, its Size at 8, and its module (ModuleIndex) at 16
@@ -19,8 +20,8 @@ contribution bytes = record {
 -- how many bytes a contribution has: 28 in a list of the version V60, 32 in one of V2, which has one more number
 abbrev pub contribution_size : ℕ → Option ℕ
 contribution_size version =
-    if version == 0xf12e_ba2d then Some 28 else
-    if version == 0xf131_51e4 then Some 32 else None
+    if version == dbi_sc_version_60 then Some 28 else
+    if version == dbi_sc_version_2 then Some 32 else None
 
 -- contributions of this size, none where no version has one
 abbrev pub sized_contributions : Option ℕ → List ℕ → Read SectionContribution

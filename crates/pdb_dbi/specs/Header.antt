@@ -6,6 +6,9 @@ use Rattle.pdb_records.specs.declared.debug_information.MachineType.TheVariants 
 use Rattle.pdb_msf.specs.declared.faults.TheConstants.{CUT, UNKNOWN_VERSION}
 use Rattle.pdb_msf.specs.NumberLists.{number, two_byte_number}
 use Rattle.pdb_dbi.specs.declared.header.DebugHeader.{DebugHeader}
+use Rattle.pdb_dbi.specs.PublishedNumbers.{image_file_machine_amd64, image_file_machine_arm64}
+use Rattle.pdb_dbi.specs.PublishedNumbers.{image_file_machine_arm64ec, image_file_machine_ia64}
+use Rattle.pdb_dbi.specs.PublishedNumbers.{image_file_machine_riscv128, image_file_machine_riscv64}
 use Rattle.pdb_dbi.specs.Substreams.{substream}
 
 -- VersionSignature, the header's first number: -1 in four bytes
@@ -58,12 +61,12 @@ optional_place stream =
 -- the machines that have names in the records: x64, Arm64 and its form beside code of x64, Itanium, RISC-V
 abbrev pub machine_type : ℕ → MachineType
 machine_type code =
-    if code == 0x8664 then kind.Amd64 else
-    if code == 0xaa64 then kind.Arm64 else
-    if code == 0xa641 then kind.Arm64 else
-    if code == 0x0200 then kind.Ia64 else
-    if code == 0x5064 then kind.RiscV64 else
-    if code == 0x5128 then kind.RiscV128 else
+    if code == image_file_machine_amd64 then kind.Amd64 else
+    if code == image_file_machine_arm64 then kind.Arm64 else
+    if code == image_file_machine_arm64ec then kind.Arm64 else
+    if code == image_file_machine_ia64 then kind.Ia64 else
+    if code == image_file_machine_riscv64 then kind.RiscV64 else
+    if code == image_file_machine_riscv128 then kind.RiscV128 else
     kind.Other
 
 -- what is read of the header: Age at 8, SymRecordStream at 20, Machine at 58, and three of the substreams

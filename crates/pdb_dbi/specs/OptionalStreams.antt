@@ -1,10 +1,11 @@
 -- The optional debug header: the numbers of streams that not every file has.
 use Rattle.std.specs.Prelude.{ℕ, ◌+◌, ◌*◌, ◌==◌, nat_lt, List, drop, length, Option, Some, None, if◌then◌else◌}
 use Rattle.pdb_msf.specs.NumberLists.{two_byte_number}
+use Rattle.pdb_dbi.specs.PublishedNumbers.{sn_nil}
 
--- the number of a stream that is there: 65535 stands for none
+-- the number of a stream that is there
 abbrev pub stream_number : ℕ → Option ℕ
-stream_number code = if code == 65535 then None else Some code
+stream_number code = if code == sn_nil then None else Some code
 
 -- the stream at this position of the optional debug header, two bytes each; none where the header ends before
 unfoldable pub optional_stream : List ℕ → ℕ → Option ℕ

@@ -6,13 +6,14 @@ use Rattle.pdb_records.specs.declared.addresses.ImageSectionHeader.{ImageSection
 use Rattle.pdb_msf.specs.NumberLists.{number}
 use Rattle.pdb_msf.specs.ItemLists.{entry_list}
 use Rattle.pdb_msf.specs.Readings.{whole}
+use Rattle.pdb_dbi.specs.PublishedNumbers.{image_scn_mem_execute}
 
 -- a section header: VirtualSize at 8, VirtualAddress at 12, and the flag of code that is run in Characteristics, at 36
 abbrev pub section_header : List ℕ → ImageSectionHeader
 section_header bytes = record {
   virtual_address = number (drop 12 bytes);
   virtual_size = number (drop 8 bytes);
-  execute = not (bit_and (number (drop 36 bytes)) 0x2000_0000 == 0);
+  execute = not (bit_and (number (drop 36 bytes)) image_scn_mem_execute == 0);
 }
 
 -- the section headers of a stream, 40 bytes each; a stream that ends within one is broken as a whole

@@ -4,8 +4,8 @@ use Rattle.byteorder.specs.Endian.{little_number}
 use Rattle.uuid.specs.Parts.{swap_fields}
 use Rattle.pdb_identity.specs.declared.info_front.InfoFront.{InfoFront}
 
--- version, time stamp and age, four bytes each, and the sixteen bytes of the GUID, the first three fields of which stand
--- with their lowest byte first
+-- version, time stamp and age, four bytes each, and the sixteen bytes of the GUID, the first three fields of which
+-- stand with their lowest byte first
 abbrev pub info_front : List ℕ → Option InfoFront
 info_front bytes =
     if nat_lt (length bytes) 28 then None

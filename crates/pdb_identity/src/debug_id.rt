@@ -13,7 +13,8 @@ pub struct DebugId {
     pub age: u32,
 }
 
-/// A debug id as symbol servers and Breakpad have it: 32 digits, and behind them the age, `3844DBB920174967BE7AA4A2C20430FA2`.
+/// A debug id as symbol servers and Breakpad have it: 32 digits, and behind them the age, as
+/// `3844DBB920174967BE7AA4A2C20430FA2`.
 #[derive(Debug, Clone, Copy, PartialEq, Eq)]
 pub struct CompactDebugId(pub DebugId);
 

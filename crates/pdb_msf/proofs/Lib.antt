@@ -1,5 +1,6 @@
 mod ContainerExamples
 pub mod BlockLemmas
+pub mod EndLemmas
 pub mod ExcerptLemmas
 pub mod ExtentLemmas
 pub mod FrontLemmas

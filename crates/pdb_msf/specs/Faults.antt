@@ -1,7 +1,9 @@
 -- Values and faults by definition, and what a call answers of them.
-use Rattle.std.specs.Prelude.{◌≡◌, ◌≢◌, Result, Ok, Err}
+use Rattle.std.specs.Prelude.{◌≡◌, ◌≢◌, ◌==◌, ℕ, List, codes, Result, Ok, Err, if◌then◌else◌}
 use Rattle.pdb_records.specs.declared.error.StreamError.{StreamError}
 use Rattle.pdb_msf.specs.declared.faults.Fault.{Fault}
+use Rattle.pdb_msf.specs.declared.faults.TheConstants.{APART, BAD_LENGTH, BAD_NUMBER, BLOCK_OUTSIDE, CUT, NO_STREAM}
+use Rattle.pdb_msf.specs.declared.faults.TheConstants.{POINTS_NOWHERE, REARRANGED, TOO_LONG, UNKNOWN_VERSION}
 use Rattle.pdb_msf.specs.declared.faults.Fault.TheVariants.{Broken, OutOfMemory}
 use Rattle.pdb_msf.specs.declared.container_fault.ContainerFault.{ContainerFault}
 use Rattle.pdb_msf.specs.declared.container_fault.ContainerFault.TheVariants as file
@@ -46,3 +48,18 @@ part_of (Err OutOfMemory) = Err OutOfMemory
 abbrev pub Opens : {X Y : Type 0} → (X → Y) → Result X ContainerFault → Result Y ContainerFault → Type 0
 Opens seen (Ok answer) defined = defined ≡ Ok (seen answer)
 Opens seen (Err fault) defined = fault ≢ file.OutOfMemory → defined ≡ Err fault
+
+-- what a fault says in words
+abbrev pub fault_text : StreamError → List ℕ
+fault_text error =
+    if error.0 == CUT.0 then codes "the bytes end before what is said to stand there" else
+    if error.0 == NO_STREAM.0 then codes "the file has no such stream" else
+    if error.0 == BLOCK_OUTSIDE.0 then codes "a block lies outside of the file" else
+    if error.0 == TOO_LONG.0 then codes "the streams are longer than the file together" else
+    if error.0 == UNKNOWN_VERSION.0 then codes "a signature or a version that isn't known" else
+    if error.0 == BAD_LENGTH.0 then codes "a length that can't stand there" else
+    if error.0 == POINTS_NOWHERE.0 then codes "it begins behind its own end" else
+    if error.0 == REARRANGED.0 then codes "addresses were rearranged after linking" else
+    if error.0 == BAD_NUMBER.0 then codes "a number or a kind that can't stand there" else
+    if error.0 == APART.0 then codes "code of an inlined body in a separated chunk" else
+    codes "it can't be read"

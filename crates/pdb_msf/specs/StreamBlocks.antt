@@ -3,8 +3,8 @@ use Rattle.std.specs.Prelude.{ℕ, ◌==◌, List, length, Option, Some, None, R
 use Rattle.pdb_records.specs.declared.error.StreamError.{StreamError}
 use Rattle.pdb_msf.specs.Streams.{stream}
 
--- the blocks of a stream: how long the file is, and each of its blocks, the numbers of the blocks in order, and how many
--- bytes the stream has
+-- the blocks of a stream: how long the file is, and each of its blocks, the numbers of the blocks in order, and how
+-- many bytes the stream has
 pub record BlockList : Type 0 where
   pub file_length : ℕ
   pub block_size : ℕ

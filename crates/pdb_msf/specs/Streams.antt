@@ -1,5 +1,5 @@
 -- Streams: what stands in a file as a list of blocks.
-use Rattle.std.specs.Prelude.{ℕ, ◌+◌, ◌*◌, nat_lt, Bool, true, false, List, [], ◌∷◌, ◌++◌, take, drop, length}
+use Rattle.std.specs.Prelude.{ℕ, ◌+◌, ◌*◌, max, nat_lt, Bool, true, false, List, [], ◌∷◌, ◌++◌, take, drop, length}
 use Rattle.std.specs.Prelude.{Result, Ok, Err, if◌then◌else◌}
 use Rattle.pdb_records.specs.declared.error.StreamError.{StreamError}
 use Rattle.pdb_msf.specs.declared.faults.TheConstants.{BLOCK_OUTSIDE}
@@ -24,6 +24,11 @@ abbrev pub all_inside : ℕ → List ℕ → List ℕ → Bool
 all_inside size file [] = true
 all_inside size file (number ∷ numbers) =
     if nat_lt (length file) (number * size + size) then false else all_inside size file numbers
+
+-- where the last of these blocks ends in the file
+abbrev pub blocks_end : ℕ → List ℕ → ℕ
+blocks_end size [] = 0
+blocks_end size (number ∷ numbers) = max (number * size + size) (blocks_end size numbers)
 
 -- the bytes of a stream, where the file has the whole of each of its blocks
 unfoldable pub stream_inside : ℕ → List ℕ → ℕ → List ℕ → Result (List ℕ) StreamError

@@ -1,9 +1,9 @@
 //! The blocks of a file that is read range by range: neighbours are read together.
 
 ghost use Rattle.std.specs.Prelude.{◌≡◌, ◌≤◌, ◌<◌, ◌+◌, ◌*◌, ◌^◌, ◌++◌, List, ℕ};
-ghost use Rattle.std.specs.Prelude.{length, take, drop, IfOk, IfSome, OnOk};
+ghost use Rattle.std.specs.Prelude.{length, take, drop, IfErr, IfOk, IfSome, OnOk};
 ghost use Rattle.pdb_msf.specs.StreamMap.{IfFile, bytes_read};
-ghost use Rattle.pdb_msf.specs.Streams.{all_inside, in_order, stream_inside};
+ghost use Rattle.pdb_msf.specs.Streams.{all_inside, blocks_end, in_order, stream_inside};
 
 use crate::faults::BLOCK_OUTSIDE;
 use crate::source::Source;
@@ -68,7 +68,10 @@ pub fn read_blocks<S: Source>(
     requires { grid.block_size ≤ 32768 }
     ensures answer { IfOk result (λ answer. IfFile (S.bytes source.old) grid.file_length (λ file.
         stream_inside grid.block_size file length blocks.now ≡ bytes_read answer)) }
+    ensures refused { IfErr result (λ fault. fault ≡ SourceFault.Unreadable
+        → S.refuses_from source.old ≤ grid.file_length) }
     ensures inputs { S.bytes source.new ≡ S.bytes source.old }
+    ensures refusals { S.refuses_from source.new ≡ S.refuses_from source.old }
 {
     if !grid.has_all(blocks) {
         return Ok(Err(BLOCK_OUTSIDE));
@@ -89,7 +92,10 @@ pub fn append_blocks<S: Source>(
     requires { grid.block_size ≤ 32768 }
     ensures answer { OnOk result (IfSome (S.bytes source.old) (λ file.
         bytes.new.items ≡ bytes.old.items ++ in_order grid.block_size file blocks.now)) }
+    ensures refused { IfErr result (λ fault. fault ≡ SourceFault.Unreadable
+        → S.refuses_from source.old ≤ blocks_end grid.block_size blocks.now) }
     ensures inputs { S.bytes source.new ≡ S.bytes source.old }
+    ensures refusals { S.refuses_from source.new ≡ S.refuses_from source.old }
 {
     let mut run = Run {
         start: 0,
@@ -114,7 +120,10 @@ pub(crate) fn append_run<S: Source>(
 ) -> Result<(), SourceFault>
     ensures answer { OnOk result (IfSome (S.bytes source.old) (λ file.
         bytes.new.items ≡ bytes.old.items ++ take run.length (drop run.start file))) }
+    ensures refused { IfErr result (λ fault. fault ≡ SourceFault.Unreadable
+        → S.refuses_from source.old ≤ run.start + run.length) }
     ensures inputs { S.bytes source.new ≡ S.bytes source.old }
+    ensures refusals { S.refuses_from source.new ≡ S.refuses_from source.old }
 {
     let front = bytes.len();
     bytes.resize(front.saturating_add(run.length), 0)?;

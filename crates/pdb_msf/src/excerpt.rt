@@ -1,6 +1,7 @@
 //! Some streams of a file that is read range by range, in memory as a container of their own.
 
-ghost use Rattle.std.specs.Prelude.{◌≡◌, ◌≤◌, ◌<◌, ◌+◌, ◌-◌, ◌*◌, ◌^◌, ◌++◌, ℕ, drop, length, IfOk, OnOk};
+ghost use Rattle.std.specs.Prelude.{◌≡◌, ◌≤◌, ◌<◌, ◌+◌, ◌-◌, ◌*◌, ◌^◌, ◌++◌, ℕ, drop, length, IfErr};
+ghost use Rattle.std.specs.Prelude.{IfOk, OnOk};
 ghost use Rattle.byteorder.specs.Endian.{little_bytes};
 ghost use Rattle.pdb_msf.specs.Msf.{stream_of};
 ghost use Rattle.pdb_msf.specs.NumberLists.{numbers};
@@ -82,7 +83,10 @@ impl Excerpt {
             → IfFile (S.bytes source.old) map.now.file_length (λ file.
             stream_of self.new number ≡ stream_of (with_bytes file map.now) number)) }
         ensures kept { IsExcerptOf self.old map.now → IsExcerptOf self.new map.now }
+        ensures refused { IfErr result (λ fault. fault ≡ SourceFault.Unreadable
+            → S.refuses_from source.old ≤ map.now.file_length) }
         ensures inputs { S.bytes source.new ≡ S.bytes source.old }
+        ensures refusals { S.refuses_from source.new ≡ S.refuses_from source.old }
     {
         let Some(extent) = map.extent(number) else {
             return Ok(());
@@ -133,7 +137,10 @@ fn append_numbered<S: Source>(
         → stream_at grid.block_size blocks.new.items directory.new place (length numbers.now) size
         ≡ stream_inside grid.block_size file size numbers.now)) }
     ensures length { length directory.new ≡ length directory.old }
+    ensures refused { IfErr result (λ fault. fault ≡ SourceFault.Unreadable
+        → S.refuses_from source.old ≤ grid.file_length) }
     ensures inputs { S.bytes source.new ≡ S.bytes source.old }
+    ensures refusals { S.refuses_from source.new ≡ S.refuses_from source.old }
 {
     let count = numbers.len();
     if directory.len().saturating_sub(place) / 4 < count {
@@ -156,6 +163,7 @@ fn fill_up(blocks: &mut Vec<u8>, block_size: usize, count: usize) -> Result<usiz
     requires most { block_size ≤ 32768 }
     ensures whole { IfOk result (λ first. length blocks.new.items ≡ first * block_size) }
     ensures few { IfOk result (λ first. first + count < 2 ^ 32) }
+    ensures memory { IfErr result (λ fault. fault ≡ SourceFault.OutOfMemory) }
 {
     let first = blocks.len().div_ceil(block_size);
     if first.saturating_add(count) > u32::MAX as usize {

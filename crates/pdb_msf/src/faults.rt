@@ -1,7 +1,7 @@
 //! Why a part of a file could not be read, by number, and the two ways in which reading a part ends early.
 
 ghost use Rattle.std.specs.Prelude.{◌≡◌, IfErr};
-ghost use Rattle.pdb_msf.specs.Faults.{part_of};
+ghost use Rattle.pdb_msf.specs.Faults.{fault_text, part_of};
 
 use pdb_records::StreamError;
 use std::alloc::{AllocError, AllocFailed};
@@ -29,7 +29,9 @@ pub const BAD_NUMBER: StreamError = StreamError(9);
 pub const APART: StreamError = StreamError(10);
 
 /// What a number says in words.
-pub fn fault_text(error: StreamError) -> &'static str {
+pub fn fault_text(error: StreamError) -> &'static str
+    ensures { result.now ≡ fault_text error }
+{
     match error {
         CUT => "the bytes end before what is said to stand there",
         NO_STREAM => "the file has no such stream",

@@ -150,9 +150,11 @@ impl<'a> Container<'a> {
 }
 
 impl<'a> Source for Container<'a> {
-    ghost use Rattle.std.specs.Prelude.{Some};
+    ghost use Rattle.std.specs.Prelude.{Some, ◌+◌, length};
 
     ghost bytes = { λ container. Some container.file };
+
+    ghost refuses_from = { λ container. length container.file + 1 };
 
     fn read_exact_at(&mut self, buffer: &mut [u8], place: usize) -> Result<(), Unreadable> {
         self.file.read_exact_at(buffer, place)

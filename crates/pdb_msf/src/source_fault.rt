@@ -1,6 +1,6 @@
 //! Why a file that is read range by range can't be read further, or not at all.
 
-ghost use Rattle.std.specs.Prelude.{◌≡◌, IfOk, MatchResult};
+ghost use Rattle.std.specs.Prelude.{◌≡◌, IfErr, IfOk, MatchResult};
 
 use crate::container_fault::ContainerFault;
 use crate::faults::Fault;
@@ -27,18 +27,33 @@ pub enum OpenFault {
 }
 
 impl From<Unreadable> for SourceFault {
+    ghost use Rattle.std.specs.Prelude.{◌≡◌};
+    ghost use Rattle.pdb_msf.specs.declared.source_fault.SourceFault.TheVariants as fault;
+
+    ghost from_gives = { λ _ given. given ≡ fault.Unreadable };
+
     fn from(_range: Unreadable) -> SourceFault {
         SourceFault::Unreadable
     }
 }
 
 impl From<AllocError> for SourceFault {
+    ghost use Rattle.std.specs.Prelude.{◌≡◌};
+    ghost use Rattle.pdb_msf.specs.declared.source_fault.SourceFault.TheVariants as fault;
+
+    ghost from_gives = { λ _ given. given ≡ fault.OutOfMemory };
+
     fn from(_error: AllocError) -> SourceFault {
         SourceFault::OutOfMemory
     }
 }
 
 impl<T: Drop> From<AllocFailed<T>> for SourceFault {
+    ghost use Rattle.std.specs.Prelude.{◌≡◌};
+    ghost use Rattle.pdb_msf.specs.declared.source_fault.SourceFault.TheVariants as fault;
+
+    ghost from_gives = { λ _ given. given ≡ fault.OutOfMemory };
+
     fn from(_error: AllocFailed<T>) -> SourceFault {
         SourceFault::OutOfMemory
     }
@@ -79,8 +94,9 @@ impl From<SourceFault> for OpenFault {
 
 /// The part, or why it alone is broken.
 pub fn part_of_source<T>(outcome: Result<T, Fault>) -> Result<Result<T, StreamError>, SourceFault>
-    ensures { IfOk result (λ part. MatchResult part (λ value. outcome ≡ Ok value)
+    ensures answer { IfOk result (λ part. MatchResult part (λ value. outcome ≡ Ok value)
         (λ error. outcome ≡ Err (Fault.Broken error))) }
+    ensures memory { IfErr result (λ fault. fault ≡ SourceFault.OutOfMemory) }
 {
     match outcome {
         Ok(part) => Ok(Ok(part)),

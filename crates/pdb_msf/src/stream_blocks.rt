@@ -1,6 +1,7 @@
 //! A stream of a file that is read range by range: the blocks that it stands in, and ranges of its bytes.
 
-ghost use Rattle.std.specs.Prelude.{◌≡◌, ◌≤◌, ◌<◌, ◌*◌, ◌^◌, ℕ, List, Option, length, take, drop, IfOk, IfSome, OnOk};
+ghost use Rattle.std.specs.Prelude.{◌≡◌, ◌≤◌, ◌<◌, ◌*◌, ◌^◌, ℕ, List, Option, length, take, drop};
+ghost use Rattle.std.specs.Prelude.{IfErr, IfOk, IfSome, OnOk};
 ghost use Rattle.pdb_msf.specs.StreamBlocks.{blocks_read, said_in};
 ghost use Rattle.pdb_msf.specs.Streams.{stream_inside};
 
@@ -82,7 +83,10 @@ impl StreamBlocks {
     ) -> Result<(), SourceFault>
         ensures answer { OnOk result (IfSome (said_in (S.bytes source.old) self.now) (λ stream.
             bytes.new.items ≡ take count (drop place stream))) }
+        ensures refused { IfErr result (λ fault. fault ≡ SourceFault.Unreadable
+            → S.refuses_from source.old ≤ self.now.file_length) }
         ensures inputs { S.bytes source.new ≡ S.bytes source.old }
+        ensures refusals { S.refuses_from source.new ≡ S.refuses_from source.old }
     {
         bytes.clear();
         let count = count.min(self.len().saturating_sub(place));

@@ -1,6 +1,7 @@
 //! Where the streams of a file stand that is read range by range.
 
-ghost use Rattle.std.specs.Prelude.{◌≡◌, ◌≤◌, List, ℕ, drop, length, take, IfOk, IfSome, MatchOption};
+ghost use Rattle.std.specs.Prelude.{◌≡◌, ◌≤◌, ◌+◌, List, ℕ, drop, length, take, IfErr, IfOk, IfSome, MatchOption};
+ghost use Rattle.std.specs.Prelude.{OnOk};
 ghost use Rattle.std.specs.Int.{div_ceil};
 ghost use Rattle.pdb_msf.specs.Directory.{block_map, directory};
 ghost use Rattle.pdb_msf.specs.Faults.{Gives, cut_short};
@@ -69,7 +70,10 @@ impl StreamMap {
         ensures answer { IfFile (S.bytes source.old) file_length (λ file.
             Reads (λ map. with_bytes file map) result (container file)) }
         ensures length { IfOk result (λ map. map.file_length ≡ file_length) }
+        ensures refused { IfErr result (λ fault. fault ≡ OpenFault.Unreadable
+            → S.refuses_from source.old ≤ file_length) }
         ensures inputs { S.bytes source.new ≡ S.bytes source.old }
+        ensures refusals { S.refuses_from source.new ≡ S.refuses_from source.old }
     {
         let superblock = read_front(alloc, source, file_length)?;
         let grid = BlockGrid {
@@ -106,7 +110,10 @@ impl StreamMap {
     ) -> Result<Result<Vec<u8>, StreamError>, SourceFault>
         ensures answer { IfOk result (λ answer. IfFile (S.bytes source.old) self.now.file_length (λ file.
             stream_of (with_bytes file self.now) number ≡ bytes_read answer)) }
+        ensures refused { IfErr result (λ fault. fault ≡ SourceFault.Unreadable
+            → S.refuses_from source.old ≤ self.now.file_length) }
         ensures inputs { S.bytes source.new ≡ S.bytes source.old }
+        ensures refusals { S.refuses_from source.new ≡ S.refuses_from source.old }
     {
         let Some(extent) = self.extent(number) else {
             return Ok(Err(NO_STREAM));
@@ -127,6 +134,7 @@ impl StreamMap {
         ensures answer { IfOk result (λ answer. (file : List ℕ) → length file ≡ self.now.file_length
             → stream_of (with_bytes file self.now) number ≡ blocks_read file answer) }
         ensures length { IfOk result (λ answer. IfOk answer (λ blocks. blocks.file_length ≡ self.now.file_length)) }
+        ensures memory { IfErr result (λ fault. fault ≡ SourceFault.OutOfMemory) }
     {
         match self.extent(number) {
             Some(extent) => match part_of_source(self.numbers(alloc, extent))? {
@@ -172,9 +180,13 @@ fn read_front<S: Source>(
 ) -> Result<Superblock, OpenFault>
     ensures answer { IfFile (S.bytes source.old) file_length (λ file.
         Reads (λ front. front) result (superblock file)) }
+    ensures refused { IfErr result (λ fault. fault ≡ OpenFault.Unreadable
+        → S.refuses_from source.old ≤ file_length) }
     ensures inputs { S.bytes source.new ≡ S.bytes source.old }
+    ensures refusals { S.refuses_from source.new ≡ S.refuses_from source.old }
     ensures least { IfOk result (λ front. 512 ≤ front.block_size) }
     ensures most { IfOk result (λ front. front.block_size ≤ 32768) }
+    ensures long { OnOk result (56 ≤ file_length) }
 {
     let front = read_range(alloc, source, 0, file_length.min(SUPERBLOCK))?;
     Ok(read_superblock(&front)?)
@@ -189,7 +201,11 @@ fn read_range<S: Source>(
 ) -> Result<Vec<u8>, SourceFault>
     ensures answer { IfOk result (λ bytes. IfSome (S.bytes source.old) (λ file.
         bytes.items ≡ take count (drop place file))) }
+    ensures length { IfOk result (λ bytes. length bytes.items ≡ count) }
+    ensures refused { IfErr result (λ fault. fault ≡ SourceFault.Unreadable
+        → S.refuses_from source.old ≤ place + count) }
     ensures inputs { S.bytes source.new ≡ S.bytes source.old }
+    ensures refusals { S.refuses_from source.new ≡ S.refuses_from source.old }
 {
     let mut bytes = Vec::new(alloc);
     bytes.resize(count, 0)?;
@@ -208,9 +224,13 @@ fn read_directory<S: Source>(
     requires least { 512 ≤ grid.block_size }
     requires most { grid.block_size ≤ 32768 }
     requires same { grid.block_size ≡ superblock.block_size }
+    requires long { 52 ≤ grid.file_length }
     ensures answer { IfFile (S.bytes source.old) grid.file_length (λ file.
         Reads (λ bytes. bytes.items) result (cut_short (directory superblock file))) }
+    ensures refused { IfErr result (λ fault. fault ≡ OpenFault.Unreadable
+        → S.refuses_from source.old ≤ grid.file_length) }
     ensures inputs { S.bytes source.new ≡ S.bytes source.old }
+    ensures refusals { S.refuses_from source.new ≡ S.refuses_from source.old }
 {
     let size = superblock.directory_size as usize;
     if grid.file_length < size {
@@ -232,9 +252,13 @@ fn read_block_map<S: Source>(
     requires least { 512 ≤ grid.block_size }
     requires most { grid.block_size ≤ 32768 }
     requires same { grid.block_size ≡ superblock.block_size }
+    requires long { 52 ≤ grid.file_length }
     ensures answer { IfFile (S.bytes source.old) grid.file_length (λ file.
         Reads (λ numbers. numbers.items) result (cut_short (block_map superblock file))) }
+    ensures refused { IfErr result (λ fault. fault ≡ OpenFault.Unreadable
+        → S.refuses_from source.old ≤ grid.file_length) }
     ensures inputs { S.bytes source.new ≡ S.bytes source.old }
+    ensures refusals { S.refuses_from source.new ≡ S.refuses_from source.old }
 {
     let count = blocks_over(superblock.directory_size, grid.block_size);
     let size = 4 * count;
@@ -251,10 +275,14 @@ fn read_map_blocks<S: Source>(
     grid: BlockGrid,
     count: usize,
 ) -> Result<Vec<u32>, OpenFault>
-    requires { count ≤ 33554432 }
+    requires few { count ≤ 33554432 }
+    requires long { 52 ≤ grid.file_length }
     ensures answer { IfFile (S.bytes source.old) grid.file_length (λ file.
         Reads (λ numbers. numbers.items) result (cut_short (listed count (drop 52 file)))) }
+    ensures refused { IfErr result (λ fault. fault ≡ OpenFault.Unreadable
+        → S.refuses_from source.old ≤ grid.file_length) }
     ensures inputs { S.bytes source.new ≡ S.bytes source.old }
+    ensures refusals { S.refuses_from source.new ≡ S.refuses_from source.old }
 {
     if grid.file_length.saturating_sub(BLOCK_MAP) < 4 * count {
         return Err(OpenFault::Container(ContainerFault::CutShort));

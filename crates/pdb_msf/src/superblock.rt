@@ -1,6 +1,6 @@
 //! The superblock, which a file begins with: the size of its blocks, and how long its directory is.
 
-ghost use Rattle.std.specs.Prelude.{◌≡◌, ◌≤◌, IsTrue, IfOk};
+ghost use Rattle.std.specs.Prelude.{◌≡◌, ◌≤◌, IsTrue, IfOk, OnOk, length};
 ghost use Rattle.pdb_msf.specs.Superblock.{is_msf, is_block_size, superblock};
 
 use crate::container_fault::{ContainerFault, other_file};
@@ -31,6 +31,7 @@ pub fn read_superblock(file: &[u8]) -> Result<Superblock, ContainerFault>
     ensures answer { result ≡ superblock file.now }
     ensures least { IfOk result (λ front. 512 ≤ front.block_size) }
     ensures most { IfOk result (λ front. front.block_size ≤ 32768) }
+    ensures long { OnOk result (56 ≤ length file.now) }
 {
     if !is_msf(file) {
         return Err(other_file(file));

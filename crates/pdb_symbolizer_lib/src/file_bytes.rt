@@ -22,6 +22,8 @@ impl<F: Read + Seek + Drop> Source for FileBytes<F> {
 
     ghost bytes = { λ bytes. None };
 
+    ghost refuses_from = { λ bytes. 0 };
+
     fn read_exact_at(&mut self, buffer: &mut [u8], place: usize) -> Result<(), Unreadable> {
         match self {
             FileBytes::InMemory(bytes) => bytes.as_slice().read_exact_at(buffer, place),

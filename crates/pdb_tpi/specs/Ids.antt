@@ -16,19 +16,20 @@ use Rattle.pdb_tpi.specs.declared.ids.IdKind.TheVariants as leaf
 use Rattle.pdb_tpi.specs.Contents.{content_by}
 use Rattle.pdb_tpi.specs.IndexLists.{index_list}
 use Rattle.pdb_tpi.specs.Items.{ItemMeaning, stream_items}
+use Rattle.pdb_tpi.specs.Leaves.{lf_buildinfo, lf_func_id, lf_mfunc_id, lf_string_id, lf_substr_list}
+use Rattle.pdb_tpi.specs.Leaves.{lf_udt_mod_src_line, lf_udt_src_line}
 use Rattle.pdb_tpi.specs.TypeNames.{name_in}
 
--- the kinds that have a name in the records, by the numbers of their leaves: LF_FUNC_ID, LF_MFUNC_ID, LF_BUILDINFO,
--- LF_SUBSTR_LIST, LF_STRING_ID, LF_UDT_SRC_LINE and LF_UDT_MOD_SRC_LINE
+-- the kinds of ids that have a name in the records, by their leaves
 abbrev pub id_kind : ℕ → Option IdKind
 id_kind number =
-    if number == 0x1601 then Some leaf.Function else
-    if number == 0x1602 then Some leaf.MemberFunction else
-    if number == 0x1603 then Some leaf.BuildInfo else
-    if number == 0x1604 then Some leaf.StringList else
-    if number == 0x1605 then Some leaf.String else
-    if number == 0x1606 then Some leaf.UserDefinedTypeSource else
-    if number == 0x1607 then Some leaf.UserDefinedTypeSource else
+    if number == lf_func_id then Some leaf.Function else
+    if number == lf_mfunc_id then Some leaf.MemberFunction else
+    if number == lf_buildinfo then Some leaf.BuildInfo else
+    if number == lf_substr_list then Some leaf.StringList else
+    if number == lf_string_id then Some leaf.String else
+    if number == lf_udt_src_line then Some leaf.UserDefinedTypeSource else
+    if number == lf_udt_mod_src_line then Some leaf.UserDefinedTypeSource else
     None
 
 -- an index that names a scope: 0 names none

@@ -6,6 +6,7 @@ pub mod IndexLists
 pub mod Items
 pub mod RecordWindows
 pub mod TypeNames
+pub mod Leaves
 pub mod Numbers
 pub mod Primitives
 pub mod TypePlaces

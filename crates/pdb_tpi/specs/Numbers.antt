@@ -9,6 +9,8 @@ use Rattle.pdb_records.specs.declared.types.Variant.TheVariants.{I8, I16, I32, I
 use Rattle.pdb_msf.specs.declared.faults.TheConstants.{BAD_NUMBER, CUT}
 use Rattle.pdb_msf.specs.Faults.{◌>>=◌}
 use Rattle.pdb_msf.specs.NumberLists.{number, two_byte_number}
+use Rattle.pdb_tpi.specs.Leaves.{lf_char, lf_long, lf_numeric, lf_quadword, lf_short, lf_ulong, lf_uquadword}
+use Rattle.pdb_tpi.specs.Leaves.{lf_ushort}
 
 -- the number that the first eight bytes are, the lowest byte first
 abbrev pub eight_byte_number : List ℕ → ℕ
@@ -22,21 +24,21 @@ number_of size made bytes = if nat_lt (length bytes) size then Err CUT else Ok (
 -- bytes; LF_USHORT, LF_ULONG and LF_UQUADWORD are unsigned and have two, four and eight
 abbrev pub wide_number : ℕ → List ℕ → Result (Variant × List ℕ) StreamError
 wide_number leaf bytes =
-    if leaf == 0x8000 then number_of 1 (λ bytes. I8 (cast_signed w8 (slice_index bytes 0))) bytes else
-    if leaf == 0x8001 then number_of 2 (λ bytes. I16 (cast_signed w16 (two_byte_number bytes))) bytes else
-    if leaf == 0x8002 then number_of 2 (λ bytes. U16 (two_byte_number bytes)) bytes else
-    if leaf == 0x8003 then number_of 4 (λ bytes. I32 (cast_signed w32 (number bytes))) bytes else
-    if leaf == 0x8004 then number_of 4 (λ bytes. U32 (number bytes)) bytes else
-    if leaf == 0x8009 then number_of 8 (λ bytes. I64 (cast_signed w64 (eight_byte_number bytes))) bytes else
-    if leaf == 0x800a then number_of 8 (λ bytes. U64 (eight_byte_number bytes)) bytes else
+    if leaf == lf_char then number_of 1 (λ bytes. I8 (cast_signed w8 (slice_index bytes 0))) bytes else
+    if leaf == lf_short then number_of 2 (λ bytes. I16 (cast_signed w16 (two_byte_number bytes))) bytes else
+    if leaf == lf_ushort then number_of 2 (λ bytes. U16 (two_byte_number bytes)) bytes else
+    if leaf == lf_long then number_of 4 (λ bytes. I32 (cast_signed w32 (number bytes))) bytes else
+    if leaf == lf_ulong then number_of 4 (λ bytes. U32 (number bytes)) bytes else
+    if leaf == lf_quadword then number_of 8 (λ bytes. I64 (cast_signed w64 (eight_byte_number bytes))) bytes else
+    if leaf == lf_uquadword then number_of 8 (λ bytes. U64 (eight_byte_number bytes)) bytes else
     Err BAD_NUMBER
 
 -- the number that these bytes begin with, and what stands behind it: the first two bytes are a number below LF_NUMERIC,
--- which is 0x8000, or the leaf of the number behind them
+-- or the leaf of the number behind them
 unfoldable pub numeric_leaf : List ℕ → Result (Variant × List ℕ) StreamError
 numeric_leaf bytes =
     if nat_lt (length bytes) 2 then Err CUT else
-    if nat_lt (two_byte_number bytes) 0x8000 then Ok (U16 (two_byte_number bytes), drop 2 bytes) else
+    if nat_lt (two_byte_number bytes) lf_numeric then Ok (U16 (two_byte_number bytes), drop 2 bytes) else
     wide_number (two_byte_number bytes) (drop 2 bytes)
 
 -- a signed number as a size, which is none below zero

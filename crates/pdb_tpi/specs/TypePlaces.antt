@@ -1,11 +1,13 @@
 -- A stream of types or of ids that is read range by range: where its records start.
-use Rattle.std.specs.Prelude.{◌≡◌, ℕ, nat_lt, List, Option, Some, None, slice_get, Result, Ok, Err, if◌then◌else◌}
+use Rattle.std.specs.Prelude.{◌≡◌, ℕ, nat_lt, Bool, false, List, Option, Some, None, slice_get, Result, Ok, Err}
+use Rattle.std.specs.Prelude.{if◌then◌else◌}
 use Rattle.std.specs.Option.{option_and_then, option_map_or}
 use Rattle.pdb_records.specs.declared.error.StreamError.{StreamError}
 use Rattle.pdb_msf.specs.declared.faults.TheConstants.{CUT}
 use Rattle.pdb_tpi.specs.RecordWindows.{records_in, shown_at}
 use Rattle.pdb_tpi.specs.TypeRecords.{AreStarts, TypeBytes, first_record, record_fault, records_at}
 use Rattle.pdb_tpi.specs.Items.{TypeList, type_list}
+use Rattle.pdb_tpi.specs.Types.{is_definition}
 use Rattle.pdb_tpi.specs.declared.record_window.RecordWindow.{RecordWindow}
 use Rattle.pdb_tpi.specs.declared.type_places.TypePlaces.{TypePlaces}
 
@@ -39,3 +41,8 @@ record_shown window place =
 abbrev pub position_shown : TypePlaces → RecordWindow → ℕ → Option TypeBytes
 position_shown places window position =
     option_and_then (record_shown window) (slice_get places.starts.items position)
+
+-- whether the record at a position of a list is of a class or a union, and no forward reference to one
+abbrev pub defines_at : TypeList → ℕ → Bool
+defines_at list position =
+    option_map_or (λ bytes. is_definition bytes.kind bytes.content) (slice_get list.records position) false

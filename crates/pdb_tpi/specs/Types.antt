@@ -1,6 +1,7 @@
 -- Types: what the content of each kind that is read says. Places are counted from behind the kind.
-use Rattle.std.specs.Prelude.{ℕ, ◌/◌, ◌%◌, ◌^◌, ◌==◌, nat_lt, bit_and, not, Bool, List, [], drop, length, slice_index}
-use Rattle.std.specs.Prelude.{codes, Option, Some, None, Result, Ok, Err, if◌then◌else◌}
+use Rattle.std.specs.Prelude.{ℕ, ◌+◌, ◌/◌, ◌%◌, ◌^◌, ◌==◌, nat_lt, bit_and, not, Bool, List, [], drop, length}
+use Rattle.std.specs.Prelude.{codes, false, slice_index, Option, Some, None, Result, Ok, Err, if◌then◌else◌}
+use Rattle.std.specs.Option.{option_and_then, option_map_or}
 use Rattle.pdb_records.specs.declared.error.Error.{Error}
 use Rattle.pdb_records.specs.declared.error.StreamError.{StreamError}
 use Rattle.pdb_records.specs.declared.types.ClassKind.TheVariants as word
@@ -15,39 +16,62 @@ use Rattle.pdb_msf.specs.Faults.{◌>>=◌}
 use Rattle.pdb_msf.specs.NumberLists.{number, two_byte_number}
 use Rattle.pdb_tpi.specs.declared.types.TypeKind.{TypeKind}
 use Rattle.pdb_tpi.specs.declared.types.TypeKind.TheVariants as leaf
-use Rattle.pdb_tpi.specs.Aggregates.{class, enumerate, enumeration, newer_class, newer_union, union}
+use Rattle.pdb_tpi.specs.Aggregates.{class, enumerate, enumeration, is_forward_reference, newer_class, newer_union}
+use Rattle.pdb_tpi.specs.Aggregates.{union}
 use Rattle.pdb_tpi.specs.Contents.{content_by}
 use Rattle.pdb_tpi.specs.IndexLists.{index_list}
 use Rattle.pdb_tpi.specs.Items.{ItemMeaning, stream_items}
+use Rattle.pdb_tpi.specs.Leaves.{cv_ptr_64, cv_ptr_mode_lvref, cv_ptr_mode_pmem, cv_ptr_mode_pmfunc, cv_ptr_mode_ptr}
+use Rattle.pdb_tpi.specs.Leaves.{cv_ptr_mode_rvref, cv_ptr_near32, lf_arglist, lf_array, lf_bitfield, lf_class}
+use Rattle.pdb_tpi.specs.Leaves.{lf_class2, lf_enum, lf_enumerate, lf_fieldlist, lf_interface, lf_interface2}
+use Rattle.pdb_tpi.specs.Leaves.{lf_methodlist, lf_mfunction, lf_modifier, lf_pointer, lf_procedure, lf_structure}
+use Rattle.pdb_tpi.specs.Leaves.{lf_structure2, lf_union, lf_union2, lf_vftable}
 use Rattle.pdb_tpi.specs.Numbers.{size_in}
 use Rattle.pdb_tpi.specs.Primitives.{primitives}
 
--- the kinds that have a name in the records, by the numbers of their leaves: LF_MODIFIER, LF_POINTER, LF_PROCEDURE,
--- LF_MFUNCTION, LF_ARGLIST, LF_ENUMERATE, LF_ARRAY, LF_CLASS, LF_STRUCTURE, LF_INTERFACE, LF_UNION, LF_ENUM, the newer
--- layouts of classes, structures, interfaces and unions, LF_FIELDLIST, LF_BITFIELD, LF_METHODLIST and LF_VFTABLE
+-- the kinds of types that have a name in the records, by their leaves
 abbrev pub type_kind : ℕ → Option TypeKind
 type_kind number =
-    if number == 0x1001 then Some leaf.Modifier else
-    if number == 0x1002 then Some leaf.Pointer else
-    if number == 0x1008 then Some leaf.Procedure else
-    if number == 0x1009 then Some leaf.MemberFunction else
-    if number == 0x1201 then Some leaf.ArgumentList else
-    if number == 0x1502 then Some leaf.Enumerate else
-    if number == 0x1503 then Some leaf.Array else
-    if number == 0x1504 then Some (leaf.Class word.Class) else
-    if number == 0x1505 then Some (leaf.Class word.Struct) else
-    if number == 0x1519 then Some (leaf.Class word.Interface) else
-    if number == 0x1506 then Some leaf.Union else
-    if number == 0x1507 then Some leaf.Enumeration else
-    if number == 0x1608 then Some (leaf.NewerClass word.Class) else
-    if number == 0x1609 then Some (leaf.NewerClass word.Struct) else
-    if number == 0x160b then Some (leaf.NewerClass word.Interface) else
-    if number == 0x160a then Some leaf.NewerUnion else
-    if number == 0x1203 then Some leaf.FieldList else
-    if number == 0x1205 then Some leaf.Bitfield else
-    if number == 0x1206 then Some leaf.MethodList else
-    if number == 0x151d then Some leaf.VirtualFunctionTable else
+    if number == lf_modifier then Some leaf.Modifier else
+    if number == lf_pointer then Some leaf.Pointer else
+    if number == lf_procedure then Some leaf.Procedure else
+    if number == lf_mfunction then Some leaf.MemberFunction else
+    if number == lf_arglist then Some leaf.ArgumentList else
+    if number == lf_enumerate then Some leaf.Enumerate else
+    if number == lf_array then Some leaf.Array else
+    if number == lf_class then Some (leaf.Class word.Class) else
+    if number == lf_structure then Some (leaf.Class word.Struct) else
+    if number == lf_interface then Some (leaf.Class word.Interface) else
+    if number == lf_union then Some leaf.Union else
+    if number == lf_enum then Some leaf.Enumeration else
+    if number == lf_class2 then Some (leaf.NewerClass word.Class) else
+    if number == lf_structure2 then Some (leaf.NewerClass word.Struct) else
+    if number == lf_interface2 then Some (leaf.NewerClass word.Interface) else
+    if number == lf_union2 then Some leaf.NewerUnion else
+    if number == lf_fieldlist then Some leaf.FieldList else
+    if number == lf_bitfield then Some leaf.Bitfield else
+    if number == lf_methodlist then Some leaf.MethodList else
+    if number == lf_vftable then Some leaf.VirtualFunctionTable else
     None
+
+-- where the properties of a class or a union stand, in both layouts; another kind has none
+abbrev pub properties_place : TypeKind → Option ℕ
+properties_place (leaf.Class kind) = Some 2
+properties_place leaf.Union = Some 2
+properties_place (leaf.NewerClass kind) = Some 0
+properties_place leaf.NewerUnion = Some 0
+properties_place _ = None
+
+-- whether the content has properties at this place, and they are of no forward reference
+abbrev pub defines : List ℕ → ℕ → Bool
+defines content place =
+    if nat_lt (length content) (place + 2) then false else
+    not (is_forward_reference (two_byte_number (drop place content)))
+
+-- whether a record of this kind is of a class or a union, and no forward reference to one
+abbrev pub is_definition : ℕ → List ℕ → Bool
+is_definition kind content =
+    option_map_or (defines content) (option_and_then properties_place (type_kind kind)) false
 
 -- the index of a type that stands at a place
 abbrev pub type_index : ℕ → List ℕ → TypeIndex
@@ -71,17 +95,17 @@ modifier bytes =
 abbrev pub pointer_mode : ℕ → Result PointerMode StreamError
 pointer_mode attributes =
     let ptrmode = attributes / 2 ^ 5 % 8 in
-    if ptrmode == 0 then Ok mode.Pointer else
-    if ptrmode == 1 then Ok mode.LValueReference else
-    if ptrmode == 2 then Ok mode.Member else
-    if ptrmode == 3 then Ok mode.MemberFunction else
-    if ptrmode == 4 then Ok mode.RValueReference else
+    if ptrmode == cv_ptr_mode_ptr then Ok mode.Pointer else
+    if ptrmode == cv_ptr_mode_lvref then Ok mode.LValueReference else
+    if ptrmode == cv_ptr_mode_pmem then Ok mode.Member else
+    if ptrmode == cv_ptr_mode_pmfunc then Ok mode.MemberFunction else
+    if ptrmode == cv_ptr_mode_rvref then Ok mode.RValueReference else
     Err BAD_NUMBER
 
 -- the size of a pointer that says none, by ptrtype, the attributes' lowest five bits: CV_PTR_64 has 8 bytes, and
 -- CV_PTR_NEAR32 has 4
 abbrev pub near_size : ℕ → ℕ
-near_size ptrtype = if ptrtype == 0x0c then 8 else if ptrtype == 0x0a then 4 else 0
+near_size ptrtype = if ptrtype == cv_ptr_64 then 8 else if ptrtype == cv_ptr_near32 then 4 else 0
 
 -- size, six bits of the attributes from bit 13 on: 0 where the pointer has that of its ptrtype
 abbrev pub pointer_size : ℕ → ℕ

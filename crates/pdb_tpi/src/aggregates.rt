@@ -1,9 +1,10 @@
 //! Type records of classes, structs, interfaces, unions and enumerations, in both layouts.
 
-ghost use Rattle.std.specs.Prelude.{◌≡◌, ◌≤◌, IfSome};
+ghost use Rattle.std.specs.Prelude.{◌≡◌, ◌≤◌, IfSome, option_and_then};
 ghost use Rattle.pdb_msf.specs.Faults.{Gives};
 ghost use Rattle.pdb_tpi.specs.Aggregates.{class, class_by, enumerate, enumeration, newer_class, newer_union};
 ghost use Rattle.pdb_tpi.specs.Aggregates.{sized_names, union, union_by, unique_name};
+ghost use Rattle.pdb_tpi.specs.Types.{is_definition, properties_place, type_kind};
 
 use crate::numbers::{take_size, take_variant};
 use crate::type_names::take_name;
@@ -124,7 +125,9 @@ fn union_by(properties: u16, named: SizedNames) -> TypeData
 }
 
 /// Whether a record of this kind with this content is of a class or a union, and no forward reference to one.
-pub(crate) fn is_definition(kind: u16, content: &[u8]) -> bool {
+pub(crate) fn is_definition(kind: u16, content: &[u8]) -> bool
+    ensures { result ≡ is_definition kind content.now }
+{
     match properties_place(kind) {
         Some(place) if content.len() >= place + 2 => {
             u16_at(content, place) & FORWARD_REFERENCE == 0
@@ -135,7 +138,8 @@ pub(crate) fn is_definition(kind: u16, content: &[u8]) -> bool {
 
 // Where the properties stand in the record of a class or a union of this kind.
 fn properties_place(kind: u16) -> Option<usize>
-    ensures { IfSome result (λ place. place ≤ 2) }
+    ensures answer { result ≡ option_and_then properties_place (type_kind kind) }
+    ensures least { IfSome result (λ place. place ≤ 2) }
 {
     match type_kind(kind)? {
         TypeKind::Class(_) | TypeKind::Union => Some(PROPERTIES),

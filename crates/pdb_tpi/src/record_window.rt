@@ -1,6 +1,6 @@
 //! Bytes of the records of a stream that is read range by range: some of them at a time.
 
-ghost use Rattle.std.specs.Prelude.{◌≡◌, ◌≤◌, ◌+◌, List, ℕ, drop, length, take, true, IfSome, OnErr, OnOk, []};
+ghost use Rattle.std.specs.Prelude.{◌≡◌, ◌≤◌, ◌+◌, List, ℕ, drop, length, take, true, IfErr, IfSome, OnErr, OnOk, []};
 ghost use Rattle.pdb_msf.specs.StreamBlocks.{said_in};
 ghost use Rattle.pdb_tpi.specs.RecordWindows.{SameRecord, Shows, records_in, shown_at};
 ghost use Rattle.pdb_tpi.specs.TypeRecords.{record_len};
@@ -77,7 +77,10 @@ impl RecordWindow {
         ensures same { OnOk result (IfSome (said_in (S.bytes source.old) records.now.blocks) (λ stream.
             Shows (records_in records.now stream) self.old
             → SameRecord (shown_at self.new place) (drop place (records_in records.now stream)))) }
+        ensures refused { IfErr result (λ fault. fault ≡ SourceFault.Unreadable
+            → S.refuses_from source.old ≤ records.now.blocks.file_length) }
         ensures inputs { S.bytes source.new ≡ S.bytes source.old }
+        ensures refusals { S.refuses_from source.new ≡ S.refuses_from source.old }
     {
         if self.has_whole(place) {
             return Ok(());
@@ -112,7 +115,10 @@ impl RecordWindow {
             self.new.bytes.items ≡ take count (drop place (records_in records.now stream)))) }
         ensures early { OnErr result (self.new.bytes.items ≡ []) }
         ensures place { self.new.from ≡ place }
+        ensures refused { IfErr result (λ fault. fault ≡ SourceFault.Unreadable
+            → S.refuses_from source.old ≤ records.now.blocks.file_length) }
         ensures inputs { S.bytes source.new ≡ S.bytes source.old }
+        ensures refusals { S.refuses_from source.new ≡ S.refuses_from source.old }
     {
         self.from = place;
         let count = count.min((records.length as usize).saturating_sub(place));

@@ -1,12 +1,12 @@
 //! A stream of types or of ids that is read range by range: where each of its records starts.
 
-ghost use Rattle.std.specs.Prelude.{◌≡◌, length, slice_get, IfOk, IfSome, OnOk};
+ghost use Rattle.std.specs.Prelude.{◌≡◌, ◌≤◌, length, slice_get, IfErr, IfOk, IfSome, OnOk};
 ghost use Rattle.pdb_msf.specs.ItemLists.{all_items};
 ghost use Rattle.pdb_msf.specs.StreamBlocks.{said_in};
 ghost use Rattle.pdb_tpi.specs.Header.{type_header};
 ghost use Rattle.pdb_tpi.specs.Items.{index_at, item_at, list_items, stream_items};
 ghost use Rattle.pdb_tpi.specs.RecordWindows.{Shows, records_in};
-ghost use Rattle.pdb_tpi.specs.TypePlaces.{IsListIn, LieIn, early_end, list_at, position_shown};
+ghost use Rattle.pdb_tpi.specs.TypePlaces.{IsListIn, LieIn, defines_at, early_end, list_at, position_shown};
 ghost use Rattle.pdb_tpi.specs.TypeRecords.{next_start};
 
 use crate::aggregates::is_definition;
@@ -43,7 +43,10 @@ impl TypePlaces {
         ensures answer { IfOk result (λ answer. IfSome (said_in (S.bytes source.old) blocks) (λ stream.
             IsListIn stream answer)) }
         ensures blocks { IfOk result (λ answer. IfOk answer (λ places. places.records.blocks ≡ blocks)) }
+        ensures refused { IfErr result (λ fault. fault ≡ SourceFault.Unreadable
+            → S.refuses_from source.old ≤ blocks.file_length) }
         ensures inputs { S.bytes source.new ≡ S.bytes source.old }
+        ensures refusals { S.refuses_from source.new ≡ S.refuses_from source.old }
     {
         let header = match read_front(alloc, source, &blocks)? {
             Ok(header) => header,
@@ -94,7 +97,16 @@ impl TypePlaces {
         window: &mut RecordWindow,
         position: usize,
     ) -> Result<bool, SourceFault>
+        ensures answer { IfOk result (λ answer. IfSome (said_in (S.bytes source.old) self.now.records.blocks) (λ stream.
+            LieIn self.now stream → Shows (records_in self.now.records stream) window.old
+            → answer ≡ defines_at (list_at self.now stream) position)) }
+        ensures shows { IfSome (said_in (S.bytes source.old) self.now.records.blocks) (λ stream.
+            Shows (records_in self.now.records stream) window.old
+            → Shows (records_in self.now.records stream) window.new) }
+        ensures refused { IfErr result (λ fault. fault ≡ SourceFault.Unreadable
+            → S.refuses_from source.old ≤ self.now.records.blocks.file_length) }
         ensures inputs { S.bytes source.new ≡ S.bytes source.old }
+        ensures refusals { S.refuses_from source.new ≡ S.refuses_from source.old }
     {
         self.show(source, window, position)?;
         match self.shown(window, position) {
@@ -111,7 +123,10 @@ impl TypePlaces {
     ) -> Result<ItemInformation<I, I::Data>, SourceFault>
         ensures answer { IfOk result (λ items. IfSome (said_in (S.bytes source.old) self.now.records.blocks) (λ stream.
             LieIn self.now stream → items ≡ list_items I.meaning (list_at self.now stream))) }
+        ensures refused { IfErr result (λ fault. fault ≡ SourceFault.Unreadable
+            → S.refuses_from source.old ≤ self.now.records.blocks.file_length) }
         ensures inputs { S.bytes source.new ≡ S.bytes source.old }
+        ensures refusals { S.refuses_from source.new ≡ S.refuses_from source.old }
     {
         let mut window = RecordWindow::of_many(alloc);
         let mut items = I::first_items(alloc)?;
@@ -144,7 +159,10 @@ impl TypePlaces {
         ensures shows { IfSome (said_in (S.bytes source.old) self.now.records.blocks) (λ stream.
             Shows (records_in self.now.records stream) window.old
             → Shows (records_in self.now.records stream) window.new) }
+        ensures refused { IfErr result (λ fault. fault ≡ SourceFault.Unreadable
+            → S.refuses_from source.old ≤ self.now.records.blocks.file_length) }
         ensures inputs { S.bytes source.new ≡ S.bytes source.old }
+        ensures refusals { S.refuses_from source.new ≡ S.refuses_from source.old }
     {
         self.show(source, window, position)?;
         let Some(record) = self.shown(window, position) else {
@@ -178,7 +196,10 @@ impl TypePlaces {
             LieIn self.now stream → Shows (records_in self.now.records stream) window.old
             → position_shown self.now window.new position
             ≡ slice_get (list_at self.now stream).records position)) }
+        ensures refused { IfErr result (λ fault. fault ≡ SourceFault.Unreadable
+            → S.refuses_from source.old ≤ self.now.records.blocks.file_length) }
         ensures inputs { S.bytes source.new ≡ S.bytes source.old }
+        ensures refusals { S.refuses_from source.new ≡ S.refuses_from source.old }
     {
         match self.start_of(position) {
             Some(start) => window.show(source, &self.records, start as usize),
@@ -208,8 +229,10 @@ pub fn read_items<I: ItemIndex, S: Source>(
     source: &mut S,
     blocks: StreamBlocks,
 ) -> Result<Result<ItemInformation<I, I::Data>, StreamError>, SourceFault>
-    ensures { IfOk result (λ items. IfSome (said_in (S.bytes source.old) blocks) (λ stream.
+    ensures answer { IfOk result (λ items. IfSome (said_in (S.bytes source.old) blocks) (λ stream.
         items ≡ stream_items I.meaning stream)) }
+    ensures refused { IfErr result (λ fault. fault ≡ SourceFault.Unreadable
+        → S.refuses_from source.old ≤ blocks.file_length) }
 {
     match TypePlaces::read(alloc, source, blocks)? {
         Ok(places) => Ok(Ok(places.all_items(alloc, source)?)),
@@ -225,7 +248,10 @@ fn read_front<S: Source>(
 ) -> Result<Result<TypeHeader, StreamError>, SourceFault>
     ensures answer { IfOk result (λ answer. IfSome (said_in (S.bytes source.old) blocks.now) (λ stream.
         answer ≡ type_header stream)) }
+    ensures refused { IfErr result (λ fault. fault ≡ SourceFault.Unreadable
+        → S.refuses_from source.old ≤ blocks.now.file_length) }
     ensures inputs { S.bytes source.new ≡ S.bytes source.old }
+    ensures refusals { S.refuses_from source.new ≡ S.refuses_from source.old }
 {
     let mut front = Vec::new(alloc);
     blocks.read_range(source, 0, HEADER, &mut front)?;
@@ -241,7 +267,10 @@ fn read_starts<S: Source>(
     ensures answer { IfOk result (λ starts. IfSome (said_in (S.bytes source.old) records.now.blocks) (λ stream.
         length (records_in records.now stream) ≡ records.now.length
         → starts ≡ all_items (next_start (length (records_in records.now stream))) (records_in records.now stream))) }
+    ensures refused { IfErr result (λ fault. fault ≡ SourceFault.Unreadable
+        → S.refuses_from source.old ≤ records.now.blocks.file_length) }
     ensures inputs { S.bytes source.new ≡ S.bytes source.old }
+    ensures refusals { S.refuses_from source.new ≡ S.refuses_from source.old }
 {
     let mut window = RecordWindow::of_many(alloc);
     let mut starts = Vec::new(alloc);

@@ -9,11 +9,11 @@ returns-in_err-branch-in-Ok-2 c =
     let all : id_information c.args.container.now ≡ Err c.in_err-branch-in-Ok-2.field-0.0
     = ids_read c.args.container.now c.file.result.now c.in-Ok.blocks c.len.result c.in_ok-from_memory-in-Ok-2.field-0
     (search rules) c.file.ensures (search rules) (search rules) c.len.ensures.said c.if-len-eq0.false
-    (rw c.in_ok-from_memory-in-Ok-2.ensures.answer at c.read_items.ensures) ∙ c.in_err-branch-in-Ok-2.was in
+    (rw c.in_ok-from_memory-in-Ok-2.ensures.answer at c.read_items.ensures.answer) ∙ c.in_err-branch-in-Ok-2.was in
     search rules
 
 pub returns-in_ok-branch-in-Ok-2 : goal.returns-in_ok-branch-in-Ok-2
 returns-in_ok-branch-in-Ok-2 c =
     ids_read c.args.container.now c.file.result.now c.in-Ok.blocks c.len.result c.in_ok-from_memory-in-Ok-2.field-0
     (search rules) c.file.ensures (search rules) (search rules) c.len.ensures.said c.if-len-eq0.false
-    (rw c.in_ok-from_memory-in-Ok-2.ensures.answer at c.read_items.ensures) ∙ c.in_ok-branch-in-Ok-2.was
+    (rw c.in_ok-from_memory-in-Ok-2.ensures.answer at c.read_items.ensures.answer) ∙ c.in_ok-branch-in-Ok-2.was

@@ -1,6 +1,7 @@
 -- One block more: it joins the run before it, or that one is read and the block begins the next.
 use Rattle.std.proofs.Common.{◌∙◌, sym, ap, arith}
 use Rattle.pdb_msf.proofs.BlockLemmas.{begun, longer}
+use Rattle.pdb_msf.proofs.EndLemmas.{block_ends}
 use Rattle.pdb_msf.proofs.block_reads.append_blocks.Goals as goal
 use Rattle.pdb_msf.proofs.block_reads.append_blocks.Goals.{then-start-run+in_ok-append_run}
 use Rattle.pdb_msf.proofs.block_reads.append_blocks.Goals.{else-start-run+else-run-ge-LONGEST}
@@ -12,6 +13,13 @@ loop-number-preserved g c = elim c.if-start-run.branch [
         c.loop-number-test.true c.start-start.ensures.answer c.loop-number.invariant.answer
         w.in_ok-append_run.ensures.answer);
     inputs = ap g.S.Source.bytes w.source-is ∙ w.append_run.ensures.inputs ∙ c.loop-number.invariant.inputs;
+    refusals = ap g.S.Source.refuses_from w.source-is ∙ w.append_run.ensures.refusals
+        ∙ c.loop-number.invariant.refusals;
+    within = rw w.run-is (omega (
+      arith,
+      c.start-start.ensures.answer,
+      block_ends c.args.grid.block_size c.args.blocks.now c.loop-number.number-index (omega arith),
+    ));
     starts = rw w.run-is (omega arith);
     short = rw w.run-is (omega arith);
   }
@@ -19,6 +27,12 @@ loop-number-preserved g c = elim c.if-start-run.branch [
     answer = rw (w.bytes-is, w.run-is) (longer _ _ _ _ _ _ _ _ c.loop-number-test.true
         (sym c.start-start.ensures.answer ∙ w.if-start-run.false) c.loop-number.invariant.answer);
     inputs = ap g.S.Source.bytes w.source-is ∙ c.loop-number.invariant.inputs;
+    refusals = ap g.S.Source.refuses_from w.source-is ∙ c.loop-number.invariant.refusals;
+    within = rw w.run-is (omega (
+      arith,
+      c.start-start.ensures.answer,
+      block_ends c.args.grid.block_size c.args.blocks.now c.loop-number.number-index (omega arith),
+    ));
     starts = rw w.run-is (omega arith);
     short = rw w.run-is (omega arith);
   }

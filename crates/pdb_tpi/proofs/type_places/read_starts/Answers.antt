@@ -14,6 +14,7 @@ loop-init g c = record {
       (records_in c.args.records.now stream) (records_in c.args.records.now stream) [] c.new-starts.result.items
       c.new-starts.ensures.items refl;
   shows = λ stream said. c.of_many-window.ensures (records_in c.args.records.now stream);
+  refusals = refl;
   inputs = refl;
 }
 
@@ -53,5 +54,6 @@ loop-preserved g c = record {
       c.in_ok-push-in-Ok.ensures.items (c.loop.invariant.answer stream said long);
   shows = λ stream said. of_said _ _ stream (ap (λ k. said_in k c.args.records.now.blocks) c.loop.invariant.inputs
       ∙ said) c.show.ensures.shows (c.loop.invariant.shows stream said);
+  refusals = c.show.ensures.refusals ∙ c.loop.invariant.refusals;
   inputs = c.show.ensures.inputs ∙ c.loop.invariant.inputs;
 }

@@ -12,5 +12,6 @@ invariant-loop g l = record {
       → Scanned (records_in l.records stream) l.counter l.place l.starts.items;
   shows : (stream : List ℕ) → said_in (g.S.Source.bytes l.fn.source) l.records.blocks ≡ Some stream
       → Shows (records_in l.records stream) l.window;
+  refusals : g.S.Source.refuses_from l.source ≡ g.S.Source.refuses_from l.fn.source;
   inputs : g.S.Source.bytes l.source ≡ g.S.Source.bytes l.fn.source;
 }

@@ -14,13 +14,13 @@ returns-in_default-clause-answer g c = λ is.
 pub returns-in_default-2-clause-answer : goal.returns-in_default-2-clause-answer
 returns-in_default-2-clause-answer g c = λ is.
     let cut : c.numbers.result ≡ Err (Broken c.in_default-2.field-0)
-    = rw c.in_default-2.is at c.in_ok-numbers.ensures in
+    = rw c.in_default-2.is at c.in_ok-numbers.ensures.answer in
     if_file _ _ _ (λ file _ _. both_cut _ c.args.map.now _ _ _ file _ is (c.in-Some.ensures.size file)
     (c.in-Some.ensures.place file) (rw cut at c.numbers.ensures.answer))
 
 pub returns-clause-answer : goal.returns-clause-answer
 returns-clause-answer g c = λ is.
-    let found : c.numbers.result ≡ Ok c.in-Ok.numbers = rw c.in-Ok.is at c.in_ok-numbers.ensures in
+    let found : c.numbers.result ≡ Ok c.in-Ok.numbers = rw c.in-Ok.is at c.in_ok-numbers.ensures.answer in
     let long : length c.append_numbered.new.directory ≡ length c.self.inside.directory.items
     = c.append_numbered.ensures.length ∙ ap length c.deref_mut.ensures.value in
     let wrote = take_at c.append_numbered.new.directory _ _ (long ∙ sym c.self.inside.directory.ok.0) in

@@ -30,6 +30,7 @@ loop-position-preserved g c = record {
       ];
   shows = λ stream said. of_said _ _ stream (ap (λ k. said_in k c.args.self.now.records.blocks)
       c.loop-position.invariant.inputs ∙ said) c.item_at.ensures.shows (c.loop-position.invariant.shows stream said);
+  refusals = c.item_at.ensures.refusals ∙ c.loop-position.invariant.refusals;
   inputs = c.item_at.ensures.inputs ∙ c.loop-position.invariant.inputs;
 }
 

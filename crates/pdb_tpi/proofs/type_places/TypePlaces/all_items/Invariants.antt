@@ -16,5 +16,6 @@ invariant-loop-position g l = record {
       (drop l.position (list_at l.self stream).records);
   shows : (stream : List ℕ) → said_in (g.S.Source.bytes l.fn.source) l.self.records.blocks ≡ Some stream
       → Shows (records_in l.self.records stream) l.window;
+  refusals : g.S.Source.refuses_from l.source ≡ g.S.Source.refuses_from l.fn.source;
   inputs : g.S.Source.bytes l.source ≡ g.S.Source.bytes l.fn.source;
 }
