@@ -1,4 +1,4 @@
-//! Prints the functions, files and lines that addresses of a Windows program come from: a first program over the library.
+//! A first program over the library: prints the functions, files and lines that addresses of a program come from.
 //!
 //! `pdb_examples PDB ADDRESS..` prints the stack of each address, which are hexadecimal digits. `pdb_examples PDB type
 //! NAME INDEX` prints the signature of a function for its name and the index of its type, in hexadecimal digits.

@@ -1,1 +1,2 @@
 pub mod Repairs
+pub mod InlineRows

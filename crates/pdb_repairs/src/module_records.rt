@@ -1,13 +1,15 @@
 //! What is broken among the records of one module.
 
-ghost use Rattle.std.specs.Prelude.{◌≡◌, OnOk};
+ghost use Rattle.std.specs.Prelude.{◌≡◌, ◌++◌, OnOk, option_to_list};
 ghost use Rattle.pdb_repairs.specs.Repairs.{without_fault};
+ghost use Rattle.pdb_repairs.specs.InlineRows.{row_faults, inline_rows, EndsWith};
 
+use crate::inline_rows::faults_of_rows;
 use crate::repairs::{Repair, take_fault};
-use pdb_records::{LineProgram, ModuleInfo, StreamError};
+use pdb_records::{LineProgram, ModuleInfo, StreamError, Symbol};
 use std::alloc::{AllocError, Global};
 
-/// Takes out of the records of a module what is broken.
+/// Takes out of the records of a module what is broken, and tells of rows of inline sites that end early.
 pub fn repair_module(
     alloc: Global,
     module_index: usize,
@@ -18,6 +20,8 @@ pub fn repair_module(
     ensures inlinees { OnOk result (info.new.inlinees ≡ without_fault info.old.inlinees) }
     ensures imports { OnOk result (info.new.imports ≡ info.old.imports) }
     ensures exports { OnOk result (info.new.exports ≡ info.old.exports) }
+    ensures inline_rows { OnOk result (EndsWith repairs.new.items
+        (option_to_list (inline_rows module_index (row_faults info.old.symbols.items)))) }
 {
     if let Some(fault) = take_fault(&mut info.symbols) {
         repairs.push(Repair::Symbols {
@@ -35,6 +39,26 @@ pub fn repair_module(
         repairs.push(Repair::Inlinees {
             module_index,
             fault,
+        })?;
+    }
+    tell_inline_rows(module_index, &info.symbols.items, repairs)
+}
+
+// Tells of the inline sites whose rows end early. Nothing is taken out: rows are answered up to the fault.
+fn tell_inline_rows(
+    module_index: usize,
+    symbols: &[Symbol],
+    repairs: &mut Vec<Repair>,
+) -> Result<(), AllocError>
+    ensures { OnOk result (repairs.new.items ≡ repairs.old.items ++ option_to_list (inline_rows module_index
+        (row_faults symbols.now))) }
+{
+    let faults = faults_of_rows(symbols);
+    if let Some(fault) = faults.first {
+        repairs.push(Repair::InlineRows {
+            module_index,
+            fault,
+            sites: faults.count,
         })?;
     }
     Ok(())

@@ -42,6 +42,14 @@ pub enum Repair {
         module_index: usize,
         fault: StreamError,
     },
+    /// The rows of some inline sites of a module end early. Those before are answered.
+    InlineRows {
+        module_index: usize,
+        /// Why those of the first such site do.
+        fault: StreamError,
+        /// How many such sites there are.
+        sites: usize,
+    },
 }
 
 /// Takes out of the records what is broken, and answers what that was, at most once for each module and kind.

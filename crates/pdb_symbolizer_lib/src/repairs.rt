@@ -80,7 +80,25 @@ fn repair_text(alloc: Global, records: &PDB, repair: Repair) -> Result<String, A
             "inlined functions end early",
             fault,
         ),
+        Repair::InlineRows {
+            module_index,
+            fault,
+            sites,
+        } => inline_rows_text(alloc, records, module_index, sites, fault),
     }
+}
+
+// How many inline sites of a module have rows that end early, and why those of the first do.
+fn inline_rows_text(
+    alloc: Global,
+    records: &PDB,
+    module_index: usize,
+    sites: usize,
+    fault: StreamError,
+) -> Result<String, AllocError> {
+    let plural = if sites == 1 { "" } else { "s" };
+    let what = format!(in alloc; "rows of {sites} inline site{plural} end early")?;
+    module_text(alloc, records, module_index, what.as_str(), fault)
 }
 
 fn module_text(
