@@ -14,7 +14,7 @@ use Rattle.pdb_c.specs.declared.refusals.Refusal.TheVariants as refusal
 use Rattle.pdb_c.specs.Refusals.{code}
 use Rattle.pdb_c.specs.Texts.{records_in, text_of_context, text_over, asked_text}
 use Rattle.pdb_c.specs.Openings.{unless_refused, accepted_records, fresh_context, context_over}
-use Rattle.pdb_c.specs.Openings.{context_to_open, held_by, LeavesOpened, LeavesSome, LeavesFile, Opens}
+use Rattle.pdb_c.specs.Openings.{context_to_open, held_by, LeavesOpened, LeavesOver, LeavesFile, Opens}
 use Rattle.pdb_c.specs.Questions.{text_of_handle}
 
 -- the text of a context over records of which no part has failed is that over the records
@@ -94,10 +94,10 @@ not_held (Err other) why is =
     ap (λ r. Err r) same
 
 -- the opening of a PDB file that was answered
-pub file_left : {A : Type 0} (answer : A) (held held' : Option (ContextState Records))
-    → LeavesSome (Ok answer) held held' → LeavesFile held' (pos 0)
-file_left answer held (Some context) left = (left, refl)
-file_left answer held None left = absurd left
+pub file_left : {A : Type 0} (bytes : List ℕ) (answer : A) (held held' : Option (ContextState Records))
+    → LeavesOver bytes (Ok answer) held held' → LeavesFile bytes held' (pos 0)
+file_left bytes answer held (Some context) left = (left, refl)
+file_left bytes answer held None left = absurd left
 
 -- an opening that was answered
 pub opens : (wanted : Result (ContextState Records) Refusal) (held : Option (ContextState Records)) (answer : ℤ)

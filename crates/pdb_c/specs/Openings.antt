@@ -1,11 +1,15 @@
 -- What an opening reads, the context that it makes, and how it ends.
 use Rattle.std.specs.Prelude.{◌≡◌, ◌≢◌, ℕ, ℤ, pos, List, Option, None, Some, Result, Ok, Err}
+use Rattle.std.specs.Result.{result_map_both}
 use Rattle.pdb_records.specs.Records.{Records}
+use Rattle.pdb_msf.specs.declared.container_fault.ContainerFault.{ContainerFault}
 use Rattle.pdb_errors.specs.declared.error.Error.{Error}
 use Rattle.pdb_errors.specs.Outcomes.{and_then}
 use Rattle.pdb_addr2line.specs.ContextInputs.{ContextInputs, ContextState}
 use Rattle.pdb_addr2line.specs.ContextData.{records_refusal, default_flags, context_of}
 use Rattle.pdb_addr2line.specs.Calls.{fresh}
+use Rattle.pdb_container.specs.Records.{records_of}
+use Rattle.pdb_repairs.specs.Repaired.{repaired}
 use Rattle.pdb_c.specs.declared.refusals.Refusal.{Refusal}
 use Rattle.pdb_c.specs.declared.refusals.Refusal.TheVariants.{RecordsRefused, OutOfMemory}
 use Rattle.pdb_c.specs.Refusals.{code}
@@ -60,23 +64,28 @@ pub record Opens (wanted : Result (ContextState Records) Refusal) (held : Option
   pub agrees : Agrees (λ context. context) found wanted
   pub left : Leaves found held answer
 
--- a context over some records, of which no part has failed
-pub record OverRecords (context : ContextState Records) : Type 0 where
+-- the records of a PDB file, of which what is broken is taken out
+abbrev pub repaired_file : List ℕ → Result Records ContainerFault
+repaired_file bytes = result_map_both repaired (λ fault. fault) (records_of bytes)
+
+-- a context over the records of a PDB file, of which what is broken is taken out, and no part has failed
+pub record OverFile (bytes : List ℕ) (context : ContextState Records) : Type 0 where
   pub records : Records
+  pub read : repaired_file bytes ≡ Ok records
   pub made : context_over records ≡ Ok context
 
--- what a handle holds once the records of some PDB file were put into it: a context over them, or else what it held
-abbrev pub LeavesSome : {A : Type 0} → Result A Refusal → (held held' : Option (ContextState Records)) → Type 0
-LeavesSome (Ok answer) held (Some context) = OverRecords context
-LeavesSome (Ok answer) held None = ⊥
-LeavesSome (Err refusal) held held' = held' ≡ held
+-- what a handle holds once a PDB file was put into it: a context over its records, or else what it held
+abbrev pub LeavesOver : {A : Type 0} → List ℕ → Result A Refusal → (held held' : Option (ContextState Records)) → Type 0
+LeavesOver bytes (Ok answer) held (Some context) = OverFile bytes context
+LeavesOver bytes (Ok answer) held None = ⊥
+LeavesOver bytes (Err refusal) held held' = held' ≡ held
 
 -- an answer that is the number of a refusal
 pub record RefusedBy (answer : ℤ) : Type 0 where
   pub why : Refusal
   pub is : answer ≡ code why
 
--- what the opening of a PDB file leaves: a context of which no part has failed, and 0; or none, and why
-abbrev pub LeavesFile : Option (ContextState Records) → ℤ → Type 0
-LeavesFile (Some context) answer = OverRecords context × (answer ≡ pos 0)
-LeavesFile None answer = RefusedBy answer
+-- what the opening of a PDB file leaves: a context over its records, and 0; or none, and why
+abbrev pub LeavesFile : List ℕ → Option (ContextState Records) → ℤ → Type 0
+LeavesFile bytes (Some context) answer = OverFile bytes context × (answer ≡ pos 0)
+LeavesFile bytes None answer = RefusedBy answer

@@ -15,7 +15,7 @@ pub extern "C" fn limberlime_open_pdb_unchecked(
     pdb: &[u8],
     handle: &mut Handle,
 ) -> i64
-    ensures { LeavesFile handle.new.held result }
+    ensures { LeavesFile pdb.now handle.new.held result }
 {
     handle.close(alloc);
     match open_pdb(alloc, pdb, handle) {

@@ -1,5 +1,7 @@
 //! PDB files that are read once, for many questions, and which build one is of.
-ghost use Rattle.pdb_c.specs.Openings.{LeavesSome};
+ghost use Rattle.std.specs.Prelude.{◌≡◌, Ok, IfOk};
+ghost use Rattle.pdb_container.specs.Records.{records_of};
+ghost use Rattle.pdb_c.specs.Openings.{repaired_file, LeavesOver};
 
 use crate::handle::Handle;
 use crate::openings::accepted_records;
@@ -11,7 +13,9 @@ use pdb_repairs::repair_records;
 use std::alloc::{AllocError, Global};
 
 // The records of a PDB file over which something can be answered, as they stand in the file.
-fn records_of_file(alloc: Global, bytes: &[u8]) -> Result<PDB, Refusal> {
+fn records_of_file(alloc: Global, bytes: &[u8]) -> Result<PDB, Refusal>
+    ensures { IfOk result (λ records. records_of bytes.now ≡ Ok records) }
+{
     let PdbFile {
         records,
         refusal,
@@ -24,7 +28,9 @@ fn records_of_file(alloc: Global, bytes: &[u8]) -> Result<PDB, Refusal> {
 }
 
 // The records of a PDB file, of which what is broken is taken out.
-fn repaired_records(alloc: Global, bytes: &[u8]) -> Result<PDB, Refusal> {
+fn repaired_records(alloc: Global, bytes: &[u8]) -> Result<PDB, Refusal>
+    ensures { IfOk result (λ records. repaired_file bytes.now ≡ Ok records) }
+{
     let mut records = records_of_file(alloc, bytes)?;
     repair_records(alloc, &mut records)?;
     Ok(records)
@@ -32,7 +38,7 @@ fn repaired_records(alloc: Global, bytes: &[u8]) -> Result<PDB, Refusal> {
 
 // Puts the records of a PDB file into a closed handle.
 pub(crate) fn open_pdb(alloc: Global, bytes: &[u8], handle: &mut Handle) -> Result<(), Refusal>
-    ensures { LeavesSome result handle.old.held handle.new.held }
+    ensures { LeavesOver bytes.now result handle.old.held handle.new.held }
 {
     let records = repaired_records(alloc, bytes)?;
     let records = accepted_records(alloc, records)?;

@@ -1,5 +1,5 @@
 -- Inline sites whose rows end early.
-use Rattle.std.specs.Prelude.{◌≡◌, ℕ, List, [], ◌∷◌, ◌++◌, length, Option, Some, None, if◌then◌else◌}
+use Rattle.std.specs.Prelude.{ℕ, List, [], ◌∷◌, length, Option, Some, None, if◌then◌else◌}
 use Rattle.std.specs.List.{filter_map}
 use Rattle.pdb_records.specs.SymbolKinds.{is_site_kind}
 use Rattle.pdb_records.specs.declared.error.StreamError.{StreamError}
@@ -26,7 +26,3 @@ row_faults symbols = filter_map row_fault symbols
 abbrev pub inline_rows : ℕ → List StreamError → Option Repair
 inline_rows module_index [] = None
 inline_rows module_index (fault ∷ faults) = Some (InlineRows module_index fault (length (fault ∷ faults)))
-
--- these are the last ones of what was told
-abbrev pub EndsWith : List Repair → List Repair → Type 0
-EndsWith told last = (before : List Repair) × (told ≡ before ++ last)

@@ -4,11 +4,17 @@
 //! broken it has no answer at all. Who only wants to know as much as can be known calls [`repair_records`] before: it
 //! answers what was broken, part by part, so that somebody can be told, and leaves records of which all can be read.
 //! Rows of inline sites that end early are told too, and stay.
+//!
+//! What records become and what is told of them are definitions, `repaired` and `repairs_of` in specs/Repaired.antt.
+//! Each call is proved to do as they say, unless memory runs out.
 #![tactic(auto)]
 
 mod claims;
 mod inline_rows;
+mod intervals;
 mod module_records;
+mod overlaps;
 mod repairs;
+mod retained;
 
 pub use repairs::{Repair, repair_modules, repair_records};

@@ -1,12 +1,13 @@
 //! What is broken among the records of one module.
 
 ghost use Rattle.std.specs.Prelude.{◌≡◌, ◌++◌, OnOk, option_to_list};
-ghost use Rattle.pdb_repairs.specs.Repairs.{without_fault};
-ghost use Rattle.pdb_repairs.specs.InlineRows.{row_faults, inline_rows, EndsWith};
+ghost use Rattle.pdb_repairs.specs.InlineRows.{row_faults, inline_rows};
+ghost use Rattle.pdb_repairs.specs.Repaired.{first_fault, line_fault, repaired_entry, repaired_lines, repaired_module};
+ghost use Rattle.pdb_repairs.specs.Repaired.{repaired_program, repairs_of_module};
 
 use crate::inline_rows::faults_of_rows;
 use crate::repairs::{Repair, take_fault};
-use pdb_records::{LineProgram, ModuleInfo, StreamError, Symbol};
+use pdb_records::{LineProgram, ModuleInfo, StreamError, Symbol, SymbolLines};
 use std::alloc::{AllocError, Global};
 
 /// Takes out of the records of a module what is broken, and tells of rows of inline sites that end early.
@@ -16,12 +17,8 @@ pub fn repair_module(
     info: &mut ModuleInfo,
     repairs: &mut Vec<Repair>,
 ) -> Result<(), AllocError>
-    ensures symbols { OnOk result (info.new.symbols ≡ without_fault info.old.symbols) }
-    ensures inlinees { OnOk result (info.new.inlinees ≡ without_fault info.old.inlinees) }
-    ensures imports { OnOk result (info.new.imports ≡ info.old.imports) }
-    ensures exports { OnOk result (info.new.exports ≡ info.old.exports) }
-    ensures inline_rows { OnOk result (EndsWith repairs.new.items
-        (option_to_list (inline_rows module_index (row_faults info.old.symbols.items)))) }
+    ensures state { OnOk result (info.new ≡ repaired_module info.old) }
+    ensures told { OnOk result (repairs.new.items ≡ repairs.old.items ++ repairs_of_module module_index info.old) }
 {
     if let Some(fault) = take_fault(&mut info.symbols) {
         repairs.push(Repair::Symbols {
@@ -68,7 +65,10 @@ fn tell_inline_rows(
 fn repair_lines(
     alloc: Global,
     line_program: &mut Result<LineProgram, StreamError>,
-) -> Option<StreamError> {
+) -> Option<StreamError>
+    ensures state { line_program.new ≡ repaired_lines line_program.old }
+    ensures answer { result ≡ line_fault line_program.old }
+{
     match line_program {
         Ok(program) => repair_entries(program),
         Err(fault) => {
@@ -82,14 +82,26 @@ fn repair_lines(
     }
 }
 
-// Takes the rows out of each entry whose rows can't all be read: a row reaches to the next one, which is lost.
-fn repair_entries(program: &mut LineProgram) -> Option<StreamError> {
+// Takes the rows out of each entry whose rows can't all be read. Answers why those of the first can't be.
+fn repair_entries(program: &mut LineProgram) -> Option<StreamError>
+    ensures state { program.new ≡ repaired_program program.old }
+    ensures answer { result ≡ first_fault program.old.entries }
+{
     let mut first = None;
     for entry in program.entries.iter_mut() {
-        if let Some(fault) = take_fault(&mut entry.lines) {
-            entry.lines.items.clear();
-            first = first.or(Some(fault));
-        }
+        first = first.or(repair_entry(entry));
     }
     first
+}
+
+// Takes the rows out of an entry whose rows can't all be read: a row reaches to the next one, which is lost.
+fn repair_entry(entry: &mut SymbolLines) -> Option<StreamError>
+    ensures state { entry.new ≡ repaired_entry entry.old }
+    ensures answer { result ≡ entry.old.lines.fault }
+{
+    let fault = take_fault(&mut entry.lines);
+    if fault.is_some() {
+        entry.lines.items.clear();
+    }
+    fault
 }

@@ -1,11 +1,20 @@
 //! What is taken out of the records of a program, each with its fault.
 
-ghost use Rattle.std.specs.Prelude.{◌≡◌};
+ghost use Rattle.std.specs.Prelude.{◌≡◌, ℕ, ◌++◌, map, slice_get, IfOk, OnOk};
+ghost use Rattle.pdb_records.specs.Sections.{listed};
+ghost use Rattle.pdb_repairs.specs.Repaired.{repaired, repaired_at, repaired_debug, repaired_debug_information};
+ghost use Rattle.pdb_repairs.specs.Repaired.{repaired_each, repaired_lists, repaired_modules, repaired_read};
+ghost use Rattle.pdb_repairs.specs.Repaired.{repaired_symbols, repairs_at, repairs_from, repairs_of, repairs_of_debug};
+ghost use Rattle.pdb_repairs.specs.Repaired.{repairs_of_debug_information, repairs_of_each, repairs_of_lists};
+ghost use Rattle.pdb_repairs.specs.Repaired.{repairs_of_contributions, repairs_of_read, repairs_of_symbols, told};
+ghost use Rattle.pdb_repairs.specs.Repaired.{repaired_where, with_kept};
 ghost use Rattle.pdb_repairs.specs.Repairs.{without_fault};
 
-use crate::claims::retain_claims;
 use crate::module_records::repair_module;
-use pdb_records::{DebugInformation, ModuleInfo, PDB, Reading, StreamError, SymbolTable};
+use crate::retained::retain_claims;
+use pdb_records::{
+    DebugInformation, ImageSectionHeader, ModuleInfo, PDB, Reading, StreamError, SymbolTable,
+};
 use std::alloc::{AllocError, Global};
 
 /// A part of a program's records that was broken.
@@ -53,50 +62,165 @@ pub enum Repair {
 }
 
 /// Takes out of the records what is broken, and answers what that was, at most once for each module and kind.
-pub fn repair_records(alloc: Global, records: &mut PDB) -> Result<Vec<Repair>, AllocError> {
+pub fn repair_records(alloc: Global, records: &mut PDB) -> Result<Vec<Repair>, AllocError>
+    ensures state { OnOk result (records.new ≡ repaired records.old) }
+    ensures answer { IfOk result (λ v. v.items ≡ repairs_of records.old) }
+{
     let mut repairs = Vec::new(alloc);
-    if let Ok(table) = &mut records.global_symbols {
-        repair_global_symbols(table, &mut repairs)?;
-    }
-    if let Ok(debug) = &mut records.debug_information {
-        repair_debug(debug, &mut repairs)?;
-        if let Ok(Some(sections)) = &records.sections {
-            retain_claims(alloc, sections, debug, &mut repairs)?;
-        }
-    }
-    for (module_index, info) in records.module_infos.iter_mut().enumerate() {
-        repair_read_module(alloc, module_index, info, &mut repairs)?;
-    }
+    repair_global_symbols(&mut records.global_symbols, &mut repairs)?;
+    repair_debug_information(
+        alloc,
+        &records.sections,
+        &mut records.debug_information,
+        &mut repairs,
+    )?;
+    repair_all(alloc, &mut records.module_infos, &mut repairs)?;
     Ok(repairs)
 }
 
 /// Takes out of the records what is broken of the modules at these positions, and answers what that was, as
-/// [`repair_records`] does: for modules whose records were read later than the others.
+/// [`repair_records`] does: for modules whose records were read later than the others. A position past the last module
+/// changes nothing.
 pub fn repair_modules(
     alloc: Global,
     records: &mut PDB,
     positions: &[usize],
-) -> Result<Vec<Repair>, AllocError> {
+) -> Result<Vec<Repair>, AllocError>
+    ensures state { OnOk result (records.new ≡ repaired_modules positions.now records.old) }
+    ensures modules { OnOk result ((position : ℕ) → slice_get records.new.module_infos position
+        ≡ repaired_where positions.now records.old.module_infos position) }
+    ensures answer { IfOk result (λ v. v.items ≡ repairs_of_each positions.now records.old.module_infos) }
+{
     let mut repairs = Vec::new(alloc);
-    for &position in positions {
-        if let Some(info) = records.module_infos.get_mut(position) {
-            repair_read_module(alloc, position, info, &mut repairs)?;
-        }
-    }
+    repair_each(alloc, &mut records.module_infos, positions, &mut repairs)?;
     Ok(repairs)
 }
 
-fn repair_global_symbols(
-    table: &mut SymbolTable,
+// Repairs the modules at these positions, one after the other.
+fn repair_each(
+    alloc: Global,
+    modules: &mut Vec<Result<Option<ModuleInfo>, StreamError>>,
+    positions: &[usize],
     repairs: &mut Vec<Repair>,
-) -> Result<(), AllocError> {
-    if let Some(fault) = take_fault(&mut table.symbols) {
+) -> Result<(), AllocError>
+    ensures state { OnOk result (modules.new.items ≡ repaired_each positions.now modules.old.items) }
+    ensures told { OnOk result
+        (repairs.new.items ≡ repairs.old.items ++ repairs_of_each positions.now modules.old.items) }
+{
+    for &position in positions {
+        repair_at(alloc, modules, position, repairs)?;
+    }
+    Ok(())
+}
+
+// Repairs the module at a position, if there is one.
+fn repair_at(
+    alloc: Global,
+    modules: &mut Vec<Result<Option<ModuleInfo>, StreamError>>,
+    position: usize,
+    repairs: &mut Vec<Repair>,
+) -> Result<(), AllocError>
+    ensures state { OnOk result (modules.new.items ≡ repaired_at position modules.old.items) }
+    ensures told { OnOk result (repairs.new.items ≡ repairs.old.items ++ repairs_at position modules.old.items) }
+{
+    match modules.get_mut(position) {
+        Some(info) => repair_read_module(alloc, position, info, repairs),
+        None => Ok(()),
+    }
+}
+
+// Repairs each module.
+fn repair_all(
+    alloc: Global,
+    modules: &mut Vec<Result<Option<ModuleInfo>, StreamError>>,
+    repairs: &mut Vec<Repair>,
+) -> Result<(), AllocError>
+    ensures state { OnOk result (modules.new.items ≡ map repaired_read modules.old.items) }
+    ensures told { OnOk result (repairs.new.items ≡ repairs.old.items ++ repairs_from 0 modules.old.items) }
+{
+    for (module_index, info) in modules.iter_mut().enumerate() {
+        repair_read_module(alloc, module_index, info, repairs)?;
+    }
+    Ok(())
+}
+
+// Repairs the public symbols, where they were read.
+fn repair_global_symbols(
+    read: &mut Result<SymbolTable, StreamError>,
+    repairs: &mut Vec<Repair>,
+) -> Result<(), AllocError>
+    ensures state { OnOk result (read.new ≡ repaired_symbols read.old) }
+    ensures told { OnOk result (repairs.new.items ≡ repairs.old.items ++ repairs_of_symbols read.old) }
+{
+    match read {
+        Ok(table) => tell_symbols(take_fault(&mut table.symbols), repairs),
+        Err(_) => Ok(()),
+    }
+}
+
+// Tells why the public symbols end early, if they do.
+fn tell_symbols(fault: Option<StreamError>, repairs: &mut Vec<Repair>) -> Result<(), AllocError>
+    ensures { OnOk result (repairs.new.items ≡ repairs.old.items ++ told Repair.GlobalSymbols fault) }
+{
+    if let Some(fault) = fault {
         repairs.push(Repair::GlobalSymbols(fault))?;
     }
     Ok(())
 }
 
-fn repair_debug(debug: &mut DebugInformation, repairs: &mut Vec<Repair>) -> Result<(), AllocError> {
+// Repairs what was compiled into the program, where it was read.
+fn repair_debug_information(
+    alloc: Global,
+    sections: &Result<Option<Vec<ImageSectionHeader>>, StreamError>,
+    read: &mut Result<DebugInformation, StreamError>,
+    repairs: &mut Vec<Repair>,
+) -> Result<(), AllocError>
+    ensures state { OnOk result (read.new ≡ repaired_debug_information (listed sections.now) read.old) }
+    ensures told { OnOk result
+        (repairs.new.items ≡ repairs.old.items ++ repairs_of_debug_information (listed sections.now) read.old) }
+{
+    match read {
+        Ok(debug) => repair_debug(alloc, sections, debug, repairs),
+        Err(_) => Ok(()),
+    }
+}
+
+fn repair_debug(
+    alloc: Global,
+    sections: &Result<Option<Vec<ImageSectionHeader>>, StreamError>,
+    debug: &mut DebugInformation,
+    repairs: &mut Vec<Repair>,
+) -> Result<(), AllocError>
+    ensures state { OnOk result (debug.new ≡ repaired_debug (listed sections.now) debug.old) }
+    ensures told { OnOk result
+        (repairs.new.items ≡ repairs.old.items ++ repairs_of_debug (listed sections.now) debug.old) }
+{
+    repair_lists(debug, repairs)?;
+    repair_contributions(alloc, sections, debug, repairs)
+}
+
+// Leaves out contributions that claim bytes of another module's, where there are sections.
+fn repair_contributions(
+    alloc: Global,
+    sections: &Result<Option<Vec<ImageSectionHeader>>, StreamError>,
+    debug: &mut DebugInformation,
+    repairs: &mut Vec<Repair>,
+) -> Result<(), AllocError>
+    ensures state { OnOk result (debug.new ≡ with_kept (listed sections.now) debug.old) }
+    ensures told { OnOk result
+        (repairs.new.items ≡ repairs.old.items ++ repairs_of_contributions (listed sections.now) debug.old) }
+{
+    match sections {
+        Ok(Some(sections)) => retain_claims(alloc, sections, debug, repairs),
+        _ => Ok(()),
+    }
+}
+
+// Repairs the lists of modules and of contributions.
+fn repair_lists(debug: &mut DebugInformation, repairs: &mut Vec<Repair>) -> Result<(), AllocError>
+    ensures state { OnOk result (debug.new ≡ repaired_lists debug.old) }
+    ensures told { OnOk result (repairs.new.items ≡ repairs.old.items ++ repairs_of_lists debug.old) }
+{
     if let Some(fault) = take_fault(&mut debug.modules) {
         repairs.push(Repair::Modules(fault))?;
     }
@@ -111,7 +235,10 @@ fn repair_read_module(
     module_index: usize,
     info: &mut Result<Option<ModuleInfo>, StreamError>,
     repairs: &mut Vec<Repair>,
-) -> Result<(), AllocError> {
+) -> Result<(), AllocError>
+    ensures state { OnOk result (info.new ≡ repaired_read info.old) }
+    ensures told { OnOk result (repairs.new.items ≡ repairs.old.items ++ repairs_of_read module_index info.old) }
+{
     match info {
         Ok(Some(info)) => repair_module(alloc, module_index, info, repairs),
         Ok(None) => Ok(()),

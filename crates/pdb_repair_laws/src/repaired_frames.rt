@@ -1,0 +1,15 @@
+//! Frames over records that were repaired.
+
+ghost use Rattle.std.specs.Prelude.{◌≡◌, ℕ, IsOk};
+ghost use Rattle.pdb_records.specs.Records.{Records};
+ghost use Rattle.pdb_repairs.specs.Repaired.{repaired};
+ghost use Rattle.pdb_addr2line.specs.ContextInputs.{ContextInputs};
+ghost use Rattle.pdb_addr2line.specs.Lookups.{frames_at};
+ghost use Rattle.pdb_repair_laws.specs.RecordInfos.{infos_of};
+
+/// No frames are refused by a context over repaired records, at whichever address.
+#[tactic(auto, using(crate::proofs::FrameLemmas::no_frames_refused))]
+pub fn repaired_records_refuse_no_frames()
+    ensures frames { (whole : Records) (inputs : ContextInputs Records) (address : ℕ)
+        → inputs.provider ≡ repaired whole → IsOk (frames_at infos_of inputs address) }
+{}

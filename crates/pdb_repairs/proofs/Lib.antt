@@ -1,0 +1,8 @@
+pub mod ChangedLemmas
+pub mod OwnerLemmas
+pub mod EdgeLemmas
+pub mod IntervalLemmas
+pub mod OwnsLemmas
+pub mod ApartLemmas
+pub mod RetainedLemmas
+pub mod RepeatedLemmas
