@@ -1,1 +1,4 @@
+pub mod AskedLemmas
+pub mod SamePlans
+pub mod SameDocuments
 pub mod ChainLemmas

@@ -3,4 +3,5 @@
 //! Each function here does nothing. Its contract is a law, for all records, and the check proves it.
 #![tactic(auto)]
 
+pub mod printing;
 pub mod type_chains;
