@@ -1,5 +1,5 @@
 #!/usr/bin/env python3
-"""Times the built pdb_symbolizer beside llvm-symbolizer over a PDB file.
+"""Times the built pdb_symbolizer beside llvm-symbolizer of LLVM 22 over a PDB file.
 
 Usage: symbolizer.py PROGRAM PDB EXE ADDRESSES RUNS
 
@@ -21,7 +21,7 @@ KINDS = ["ms to the first answer", "ms for all", "MB"]
 def commands(program, pdb, exe):
     """How each program is asked, by its name."""
     return {"pdb_symbolizer": [program, pdb],
-            "llvm-symbolizer": ["llvm-symbolizer", f"--obj={exe}", "--relative-address"]}
+            "llvm-symbolizer": ["llvm-symbolizer-22", f"--obj={exe}", "--relative-address"]}
 
 
 def run(words, path):

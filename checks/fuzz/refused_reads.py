@@ -22,6 +22,8 @@ SHORT = (1, 7, 512, 4097)
 # How many seconds a run may take whose reads are short.
 MINUTE = 60
 AS_WANTED, AS_SHORT, REFUSED = "as wanted", "as wanted by short reads", "refused behind whole answers"
+# What stands behind the refusal where the file is opened
+REASON = b": Input/output error (os error 5)\n"
 CUT_SHORT = b": the file is cut short before the end of its directory\n"
 
 
@@ -36,7 +38,7 @@ def is_refusal(case, mode, run, wanted):
     """Whether a run was refused for a read, behind whole answers."""
     last = run.stderr.splitlines(keepends=True)[-1:]
     refusal = f"pdb_symbolizer: cannot read {file_of(case)}\n".encode()
-    refused = last and (last[0] == refusal or mode == "END_AT" and last[0].endswith(CUT_SHORT))
+    refused = last and (last[0] in (refusal, refusal[:-1] + REASON) or mode == "END_AT" and last[0].endswith(CUT_SHORT))
     return refused and run.status == 2 and is_begin_of_answers(run.stdout, wanted.stdout)
 
 

@@ -1,13 +1,14 @@
 #!/usr/bin/env python3
-"""Compares what the built pdb_symbolizer and llvm-symbolizer print, in each style and with each option.
+"""Compares what the built pdb_symbolizer and llvm-symbolizer of LLVM 22 print, in each style and with each option.
 
 Usage: symbolizer.py PROGRAM EXE ADDRESSES [SHOWN [OPTION..]]
 
 EXE is a program with its PDB file beside it, and both are asked with the same words, `--obj=EXE --relative-address` and
 the options. ADDRESSES is a file with an address a line, relative to where the program is loaded. Each style (LLVM, GNU, JSON) is
-asked for with each set of options over all of them, and the answers are compared address by address. A line is printed
-for each run, with how many answers are the same and how many differ by kind, and the first SHOWN of each kind. With
-OPTIONs this one set of options is tried.
+asked for with each set of options over all of them, and with each other option by itself, and the answers are compared
+address by address. A line is printed for each run, with how many answers are the same and how many differ by kind, and the
+first SHOWN of each kind. With OPTIONs this one set of options is tried. LLVM in the environment names another program to
+compare with. Both are run in the folder of EXE, where source files are looked for.
 
 lines    another number of lines
 name     a function's name
@@ -21,14 +22,20 @@ form     anything else, as an empty line that one of them has
 import collections
 import itertools
 import json
+import os
 import re
 import subprocess
 import sys
 
+LLVM = os.environ.get("LLVM", "llvm-symbolizer-22")
 STYLES = ["LLVM", "GNU", "JSON"]
 NAMES = ["--functions=short", "--functions=none"]
 INLINES = ["--inlines", "--no-inlines"]
 FLAGS = ["--addresses", "--pretty-print", "--basenames"]
+ADJUST = "--adjust-vma=4096"
+SINGLE = ["--verbose", "--demangle", "--no-demangle", ADJUST, "--inlining", "--inlining=true", "--inlining=false",
+          "--print-source-context-lines=3", "--cache-size=4096", "--default-arch=x86_64", "--dwp=none.dwp", "--skip-line-zero",
+          "--debug-file-directory=.", "--no-untag-addresses"]
 PLACE = re.compile(r"(.*?):(\d+)(:\d+)?$")
 FRONT = re.compile(r"^(0x[0-9a-f]+: )?( \(inlined by\) )?")
 SPACE = re.compile(r"\s*")
@@ -41,12 +48,14 @@ def option_sets():
         for count in range(len(FLAGS) + 1):
             for flags in itertools.combinations(FLAGS, count):
                 yield [names, inlines, *flags]
+    for option in SINGLE:
+        yield ["--functions=short", option]
 
 
-def asked(words, addresses):
+def asked(words, addresses, folder):
     """What a program prints where it reads these addresses."""
-    done = subprocess.run(words, input="".join(f"{address}\n" for address in addresses), capture_output=True, text=True)
-    return done.stdout
+    text = "".join(f"{address}\n" for address in addresses)
+    return subprocess.run(words, input=text, capture_output=True, text=True, cwd=folder).stdout
 
 
 def json_answers(text):
@@ -127,13 +136,20 @@ class Comparison:
     """Two programs, asked the same."""
 
     def __init__(self, program, exe, addresses):
+        self.plain_addresses = addresses
         self.addresses = addresses
-        self.programs = [program, "llvm-symbolizer"]
-        self.words = [f"--obj={exe}", "--relative-address"]
+        self.programs = [os.path.abspath(program), LLVM]
+        self.folder, name = os.path.split(os.path.abspath(exe))
+        self.words = [f"--obj={name}", "--relative-address"]
+
+    def adjust(self, options):
+        """Has the addresses be such that the options leave those that are meant."""
+        offset = 4096 if ADJUST in options else 0
+        self.addresses = [f"0x{int(address, 16) + offset:x}" for address in self.plain_addresses]
 
     def texts(self, options, addresses):
         """What both print."""
-        return [asked([program, *self.words, *options], addresses) for program in self.programs]
+        return [asked([program, *self.words, *options], addresses, self.folder) for program in self.programs]
 
     def json(self, options):
         """The answers of both in JSON."""
@@ -179,6 +195,7 @@ def main(program, exe, path, shown, *only):
     for style in STYLES:
         for options in [only] if only else option_sets():
             options = [f"--output-style={style}", *options]
+            comparison.adjust(options)
             kinds, pairs = comparison.json(options) if style == "JSON" else comparison.plain(options)
             counts = collections.Counter(kind or "same" for kind in kinds)
             if not whole(comparison, options):

@@ -2,13 +2,10 @@
 
 use crate::options::{Base, Digits};
 
-/// The number of these hexadecimal digits, with `0x` before them or without.
+/// The number of these hexadecimal digits, with `0x` or `0X` before them or without.
 pub fn parse_number(text: &str) -> Option<u64> {
-    let digits = match text.strip_prefix("0x") {
-        Some(digits) => digits,
-        None => text,
-    };
-    unsigned(digits, Radix::Hexadecimal)
+    let digits = text.strip_prefix("0x").or(text.strip_prefix("0X"));
+    unsigned(digits.unwrap_or(text), Radix::Hexadecimal)
 }
 
 /// The number of an address.
@@ -62,7 +59,8 @@ fn unsigned(digits: &str, radix: Radix) -> Option<u64> {
 /// What is taken from addresses, so that they are relative to where the program is loaded.
 #[derive(Clone, Copy)]
 pub struct Origin {
-    base: u64,
+    /// Where the program is loaded, where anything says that.
+    base: Option<u64>,
     adjust: u64,
 }
 
@@ -70,16 +68,22 @@ impl Origin {
     /// The origin for a file, which wants to be loaded at this address if it is a program.
     pub fn new(base: Base, preferred: Option<u64>, adjust: u64) -> Origin {
         let base = match base {
-            Base::Preferred => preferred.unwrap_or(0),
-            Base::Relative => 0,
-            Base::At(address) => address,
+            Base::Preferred => preferred,
+            Base::Relative => Some(0),
+            Base::At(address) => Some(address),
         };
         Origin { base, adjust }
     }
 
+    /// Whether it is known where the program is loaded.
+    pub fn is_known(self) -> bool {
+        self.base.is_some()
+    }
+
     /// The address relative to where the program is loaded, where it can lie in the program.
     pub fn relative(self, given: u64) -> Option<u32> {
-        let address = given.wrapping_sub(self.base).wrapping_sub(self.adjust);
+        let base = self.base.unwrap_or(0);
+        let address = given.wrapping_sub(base).wrapping_sub(self.adjust);
         match u32::try_from(address) {
             Ok(address) => Some(address),
             Err(_) => None,

@@ -1,8 +1,9 @@
-//! The text of an answer: frames with names, files and lines, in the styles of LLVM, GNU and JSON.
+//! The text of an answer: frames with names, files and lines, in the styles of LLVM and GNU, or a JSON object.
 
+use crate::json_answers::{write_json_frames, write_json_unknown};
 use crate::options::{Detail, NameStyle, Options, Style};
+use crate::requests::{Place, Request, Sort};
 use pdb_addr2line::Frame;
-use pdb_symbolication::write_quoted;
 use std::alloc::AllocError;
 
 /// What is printed of a name that isn't known.
@@ -11,87 +12,82 @@ const UNKNOWN: &str = "??";
 /// What is printed before a frame that others are inlined into, where it stands on one line.
 const INLINED_INTO: &str = " (inlined by) ";
 
-/// Appends the answer of an address: its frames, from inside to outside, or that there are none.
+/// Frames as they are printed, from inside to outside.
+#[derive(Clone, Copy)]
+pub struct ShownFrames<'f, 'a> {
+    pub frames: &'f [Frame<'a>],
+    /// The lines of the source file around each one's place, where they are asked for.
+    pub sources: &'f [String],
+}
+
+impl ShownFrames<'_, '_> {
+    /// The lines of the source file around the place of the frame at a position; empty where there are none.
+    pub fn source(&self, position: usize) -> &str {
+        match self.sources.get(position) {
+            Some(source) => source.as_str(),
+            None => "",
+        }
+    }
+}
+
+/// Appends the answer of an address of code: its frames, or that there are none.
 pub fn write_answer(
     out: &mut String,
     options: &Options<'_>,
-    file: &str,
-    given: u64,
-    frames: &[Frame<'_>],
-) -> Result<(), AllocError> {
-    match options.style {
-        Style::Json => write_json(out, options, file, given, frames),
-        _ => write_plain(out, options, given, frames),
-    }
-}
-
-/// Appends the answer of what is no request: the text as it is, or in JSON an error.
-pub fn write_no_answer(
-    out: &mut String,
-    options: &Options<'_>,
-    file: &str,
-    given: &str,
-) -> Result<(), AllocError> {
-    match options.style {
-        Style::Json => {
-            out.push_str("{\"Error\":{\"Message\":")?;
-            let message = format!(in *out.allocator(); "unable to parse arguments: {given}")?;
-            write_quoted(out, message.as_str())?;
-            out.push_str("},\"ModuleName\":")?;
-            write_quoted(out, file)?;
-            out.push('}')
-        }
-        _ => write!(out, "{given}\n"),
-    }
-}
-
-/// Appends the answer of an address of data, of which no name is known here.
-pub fn write_no_data(
-    out: &mut String,
-    options: &Options<'_>,
-    file: &str,
-    given: u64,
+    request: &Request<'_>,
+    shown: ShownFrames<'_, '_>,
 ) -> Result<(), AllocError> {
     if options.style == Style::Json {
-        write!(
-            out,
-            "{{\"Address\":\"0x{given:x}\",\"Data\":{{\"Name\":\"\",\"Size\":\"0x0\",\"Start\":\"0x0\"}},\"ModuleName\":"
-        )?;
-        write_quoted(out, file)?;
-        return out.push('}');
+        return write_json_frames(out, options, request, shown);
     }
-    write_address(out, options, given)?;
-    write!(out, "{UNKNOWN}\n0 0\n")?;
-    end_answer(out, options)
-}
-
-fn write_plain(
-    out: &mut String,
-    options: &Options<'_>,
-    given: u64,
-    frames: &[Frame<'_>],
-) -> Result<(), AllocError> {
-    write_address(out, options, given)?;
-    if frames.is_empty() {
-        write_unknown(out, options)?;
+    if shown.frames.is_empty() {
+        return write_unknown(out, options, request);
     }
-    for (position, frame) in frames.iter().enumerate() {
+    write_address(out, options, request)?;
+    for (position, frame) in shown.frames.iter().enumerate() {
         let start = if options.pretty && position > 0 {
             INLINED_INTO
         } else {
             ""
         };
         write_frame(out, options, start, frame)?;
+        out.push_str(shown.source(position))?;
     }
     end_answer(out, options)
 }
 
-fn write_address(out: &mut String, options: &Options<'_>, given: u64) -> Result<(), AllocError> {
-    if !options.address_shown {
-        return Ok(());
+/// Appends the answer of a request of which nothing is known: of data and of a frame's variables, of a symbol, of what
+/// is no request, and of an address in a file that can't be opened.
+pub fn write_unknown(
+    out: &mut String,
+    options: &Options<'_>,
+    request: &Request<'_>,
+) -> Result<(), AllocError> {
+    if options.style == Style::Json {
+        return write_json_unknown(out, request);
     }
-    let end = if options.pretty { ": " } else { "\n" };
-    write!(out, "0x{given:x}{end}")
+    write_address(out, options, request)?;
+    match request.sort {
+        _ if request.is_nowhere() => write_no_frame(out, options)?,
+        Sort::Code => write_no_frame(out, options)?,
+        Sort::Data => write!(out, "{UNKNOWN}\n0 0\n{UNKNOWN}:?\n")?,
+        Sort::Frame => write!(out, "{UNKNOWN}\n")?,
+    }
+    end_answer(out, options)
+}
+
+fn write_address(
+    out: &mut String,
+    options: &Options<'_>,
+    request: &Request<'_>,
+) -> Result<(), AllocError> {
+    match request.place {
+        Place::Address(given) if options.address_shown => {
+            let end = if options.pretty { ": " } else { "\n" };
+            write!(out, "0x{given:x}{end}")
+        }
+        _ => Ok(()),
+    }
 }
 
 // What stands behind an answer.
@@ -102,7 +98,7 @@ fn end_answer(out: &mut String, options: &Options<'_>) -> Result<(), AllocError>
     }
 }
 
-fn write_unknown(out: &mut String, options: &Options<'_>) -> Result<(), AllocError> {
+fn write_no_frame(out: &mut String, options: &Options<'_>) -> Result<(), AllocError> {
     write_name(out, options, "", UNKNOWN)?;
     write_location(out, options, UNKNOWN, 0)
 }
@@ -149,14 +145,16 @@ fn write_location(
     }
 }
 
-fn name_of<'f>(frame: &'f Frame<'_>, unknown: &'f str) -> &'f str {
+/// The name of a frame's function, or this text where it isn't known.
+pub fn name_of<'f>(frame: &'f Frame<'_>, unknown: &'f str) -> &'f str {
     match &frame.function {
         Some(name) => name.as_str(),
         None => unknown,
     }
 }
 
-fn file_of<'f>(options: &Options<'_>, frame: &'f Frame<'_>, unknown: &'f str) -> &'f str {
+/// The name of a frame's file as it is printed, or this text where it isn't known.
+pub fn file_of<'f>(options: &Options<'_>, frame: &'f Frame<'_>, unknown: &'f str) -> &'f str {
     match &frame.file {
         Some(file) if options.basenames => base_name(file.as_str()),
         Some(file) => file.as_str(),
@@ -173,64 +171,5 @@ fn base_name(file: &str) -> &str {
     match behind.rsplit_once('\\') {
         Some((_, name)) => name,
         None => behind,
-    }
-}
-
-fn write_json(
-    out: &mut String,
-    options: &Options<'_>,
-    file: &str,
-    given: u64,
-    frames: &[Frame<'_>],
-) -> Result<(), AllocError> {
-    write!(out, "{{\"Address\":\"0x{given:x}\",\"ModuleName\":")?;
-    write_quoted(out, file)?;
-    out.push_str(",\"Symbol\":[")?;
-    if frames.is_empty() {
-        write_json_location(out, "", "", 0)?;
-    }
-    for (position, frame) in frames.iter().enumerate() {
-        if position > 0 {
-            out.push(',')?;
-        }
-        write_json_frame(out, options, frame)?;
-    }
-    out.push_str("]}")
-}
-
-fn write_json_frame(
-    out: &mut String,
-    options: &Options<'_>,
-    frame: &Frame<'_>,
-) -> Result<(), AllocError> {
-    write_json_location(
-        out,
-        file_of(options, frame, ""),
-        json_name(options, frame),
-        frame.line.unwrap_or(0),
-    )
-}
-
-fn write_json_location(
-    out: &mut String,
-    file: &str,
-    name: &str,
-    line: u32,
-) -> Result<(), AllocError> {
-    out.push_str("{\"Column\":0,\"Discriminator\":0,\"FileName\":")?;
-    write_quoted(out, file)?;
-    out.push_str(",\"FunctionName\":")?;
-    write_quoted(out, name)?;
-    write!(
-        out,
-        ",\"Line\":{line},\"StartAddress\":\"\",\"StartFileName\":\"\",\"StartLine\":0}}"
-    )
-}
-
-fn json_name<'f>(options: &Options<'_>, frame: &'f Frame<'_>) -> &'f str {
-    if options.names == NameStyle::None {
-        ""
-    } else {
-        name_of(frame, "")
     }
 }

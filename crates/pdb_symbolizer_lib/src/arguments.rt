@@ -11,7 +11,9 @@ Examples:
   pdb_symbolizer -p --base 0x7ff6a0000000 app.pdb <addresses    of addresses in memory, a line each
   pdb_symbolizer --output-style=JSON --obj=app.exe 0x140001136  as llvm-symbolizer is asked
   pdb_symbolizer --dump-syms app.exe >app.sym  a Breakpad symbol file, without unwind records
-Addresses are hexadecimal, and come from standard input, a line each, where no word gives one. docs/CONTAINER.md says more.
+Addresses are hexadecimal, and come from standard input, a line each, where no word gives one.
+Each option may be said again, and the last counts. Options of llvm-symbolizer that change nothing: --cache-size,
+--default-arch, --dwp, --no-untag-addresses, --skip-line-zero. docs/CONTAINER.md says more.
 
 ";
 
@@ -32,7 +34,7 @@ struct Valued {
     help: &'static str,
 }
 
-static FLAGS: [Flag; 10] = [
+static FLAGS: [Flag; 11] = [
     Flag {
         name: "no-inlines",
         short: None,
@@ -73,7 +75,13 @@ static FLAGS: [Flag; 10] = [
         name: "demangle",
         short: Some('C'),
         alias: None,
-        help: "Changes nothing: names are printed as the records have them",
+        help: "Print names as the records of functions have them",
+    },
+    Flag {
+        name: "no-demangle",
+        short: None,
+        alias: None,
+        help: "Print a function as its public symbol, where it has one",
     },
     Flag {
         name: "show-id",
@@ -95,10 +103,12 @@ static FLAGS: [Flag; 10] = [
     },
 ];
 
-/// Options of `llvm-symbolizer` that are taken and change nothing, and are not in the help.
-static IGNORED: [&str; 3] = ["no-demangle", "no-untag-addresses", "skip-line-zero"];
+/// Options of `llvm-symbolizer` that are taken and change nothing, without a value and with one.
+static IGNORED_FLAGS: [&str; 2] = ["no-untag-addresses", "skip-line-zero"];
 
-static VALUED: [Valued; 3] = [
+static IGNORED_OPTIONS: [&str; 3] = ["cache-size", "default-arch", "dwp"];
+
+static VALUED: [Valued; 5] = [
     Valued {
         name: "output-style",
         value_name: "STYLE",
@@ -117,6 +127,18 @@ static VALUED: [Valued; 3] = [
         default: "0",
         help: "Take this from each address",
     },
+    Valued {
+        name: "adjust-vma",
+        value_name: "OFFSET",
+        default: "0",
+        help: "The same; bare digits are decimal",
+    },
+    Valued {
+        name: "print-source-context-lines",
+        value_name: "N",
+        default: "0",
+        help: "Print so many lines of the source file around each place",
+    },
 ];
 
 /// The command line with all that it takes.
@@ -129,34 +151,46 @@ pub fn command<'a>(alloc: Global) -> Result<Command<'a>, AllocError> {
 
 fn arguments<'a>(alloc: Global) -> Result<Vec<Arg<'a>>, AllocError> {
     let mut arguments = Vec::new(alloc);
-    arguments.push(functions(alloc))?;
+    arguments.push(functions(alloc)?)?;
     for flag in &FLAGS {
         arguments.push(flag_argument(alloc, flag)?)?;
     }
     for valued in &VALUED {
-        arguments.push(valued_argument(alloc, valued))?;
+        arguments.push(valued_argument(alloc, valued)?)?;
     }
-    for name in IGNORED {
-        arguments.push(hidden_flag(alloc, name))?;
+    for name in IGNORED_FLAGS {
+        arguments.push(hidden_flag(alloc, name)?)?;
     }
-    arguments.push(hidden_flag(alloc, "inlines").short('i'))?;
-    arguments.push(hidden_flag(alloc, "symbolicate-lines"))?;
-    arguments.push(inlining(alloc))?;
-    arguments.push(hidden_option(alloc, "adjust-vma").default_value("0"))?;
-    arguments.push(hidden_option(alloc, "default-arch"))?;
+    for name in IGNORED_OPTIONS {
+        arguments.push(hidden_option(alloc, name)?)?;
+    }
+    arguments.push(hidden_flag(alloc, "inlines")?.short('i'))?;
+    arguments.push(hidden_flag(alloc, "symbolicate-lines")?)?;
+    arguments.push(inlining(alloc)?)?;
     arguments.push(store(alloc)?)?;
-    arguments.push(export(alloc))?;
+    arguments.push(export(alloc)?)?;
     arguments.push(modules(alloc)?)?;
-    arguments.push(expected(alloc))?;
+    arguments.push(expected(alloc)?)?;
     arguments.push(object(alloc)?)?;
-    arguments.push(pdb_dirs(alloc))?;
+    arguments.push(pdb_dirs(alloc)?)?;
     arguments.push(words(alloc))?;
     Ok(arguments)
 }
 
+// An option of this name, of which the last one counts, and takes back one that says the contrary.
+fn option<'a>(alloc: Global, name: &'static str) -> Result<Arg<'a>, AllocError> {
+    let argument = Arg::new(alloc, name).long(name);
+    match name {
+        "inlines" | "no-inlines" | "inlining" => {
+            argument.overrides_with_all(&["inlines", "no-inlines", "inlining"])
+        }
+        "demangle" | "no-demangle" => argument.overrides_with_all(&["demangle", "no-demangle"]),
+        _ => argument.overrides_with(name),
+    }
+}
+
 fn flag_argument<'a>(alloc: Global, flag: &Flag) -> Result<Arg<'a>, AllocError> {
-    let argument = Arg::new(alloc, flag.name)
-        .long(flag.name)
+    let argument = option(alloc, flag.name)?
         .action(ArgAction::SetTrue)
         .help(flag.help);
     let argument = match flag.short {
@@ -170,94 +204,95 @@ fn flag_argument<'a>(alloc: Global, flag: &Flag) -> Result<Arg<'a>, AllocError> 
 }
 
 // A flag that is not in the help.
-fn hidden_flag<'a>(alloc: Global, name: &'static str) -> Arg<'a> {
-    Arg::new(alloc, name)
-        .long(name)
-        .action(ArgAction::SetTrue)
-        .hide(true)
+fn hidden_flag<'a>(alloc: Global, name: &'static str) -> Result<Arg<'a>, AllocError> {
+    Ok(option(alloc, name)?.action(ArgAction::SetTrue).hide(true))
 }
 
 // An option with a value that is not in the help.
-fn hidden_option<'a>(alloc: Global, name: &'static str) -> Arg<'a> {
-    Arg::new(alloc, name).long(name).hide(true)
+fn hidden_option<'a>(alloc: Global, name: &'static str) -> Result<Arg<'a>, AllocError> {
+    Ok(option(alloc, name)?.hide(true))
 }
 
 // `llvm-symbolizer`'s older word for `--inlines` and `--no-inlines`.
-fn inlining<'a>(alloc: Global) -> Arg<'a> {
-    hidden_option(alloc, "inlining")
-        .num_args(0..=1)
-        .require_equals(true)
-        .default_value("")
-        .default_missing_value("true")
+fn inlining<'a>(alloc: Global) -> Result<Arg<'a>, AllocError> {
+    Ok(
+        hidden_option(alloc, "inlining")?
+            .num_args(0..=1)
+            .require_equals(true)
+            .default_value("")
+            .default_missing_value("true"),
+    )
 }
 
-fn valued_argument<'a>(alloc: Global, valued: &Valued) -> Arg<'a> {
-    Arg::new(alloc, valued.name)
-        .long(valued.name)
-        .value_name(valued.value_name)
-        .default_value(valued.default)
-        .hide_default_value(true)
-        .help(valued.help)
+fn valued_argument<'a>(alloc: Global, valued: &Valued) -> Result<Arg<'a>, AllocError> {
+    Ok(
+        option(alloc, valued.name)?
+            .value_name(valued.value_name)
+            .default_value(valued.default)
+            .hide_default_value(true)
+            .help(valued.help),
+    )
 }
 
-fn functions<'a>(alloc: Global) -> Arg<'a> {
-    Arg::new(alloc, "functions")
-        .short('f')
-        .long("functions")
-        .value_name("STYLE")
-        .num_args(0..=1)
-        .require_equals(true)
-        .default_value("")
-        .hide_default_value(true)
-        .default_missing_value("signature")
-        .help("What to print of a name: none, short or signature")
+fn functions<'a>(alloc: Global) -> Result<Arg<'a>, AllocError> {
+    Ok(
+        option(alloc, "functions")?
+            .short('f')
+            .value_name("STYLE")
+            .num_args(0..=1)
+            .require_equals(true)
+            .default_value("")
+            .hide_default_value(true)
+            .default_missing_value("signature")
+            .help("What to print of a name: none, short or signature"),
+    )
 }
 
 fn store<'a>(alloc: Global) -> Result<Arg<'a>, AllocError> {
-    Arg::new(alloc, "store")
-        .long("store")
+    option(alloc, "store")?
         .value_name("DIR")
         .help("With --dump-syms: write it as DIR/app.pdb/ID/app.sym")
         .requires_arg("dump-syms")
 }
 
-fn export<'a>(alloc: Global) -> Arg<'a> {
-    Arg::new(alloc, "export")
-        .long("export")
-        .value_name("RECORDS")
-        .help("Write the records to this records file")
+fn export<'a>(alloc: Global) -> Result<Arg<'a>, AllocError> {
+    Ok(
+        option(alloc, "export")?
+            .value_name("RECORDS")
+            .help("Write the records to this records file"),
+    )
 }
 
 fn modules<'a>(alloc: Global) -> Result<Arg<'a>, AllocError> {
-    Arg::new(alloc, "modules")
-        .long("modules")
+    option(alloc, "modules")?
         .value_name("FOLDER")
         .help("With --export: a file for each module in this folder")
         .requires_arg("export")
 }
 
-fn expected<'a>(alloc: Global) -> Arg<'a> {
-    Arg::new(alloc, "expect-id")
-        .long("expect-id")
-        .value_name("ID")
-        .help("Refuse a file of another build")
+fn expected<'a>(alloc: Global) -> Result<Arg<'a>, AllocError> {
+    Ok(
+        option(alloc, "expect-id")?
+            .value_name("ID")
+            .help("Refuse a file of another build; any age of a GUID alone"),
+    )
 }
 
 fn object<'a>(alloc: Global) -> Result<Arg<'a>, AllocError> {
-    Arg::new(alloc, "obj")
+    option(alloc, "obj")?
         .short('e')
-        .long("obj")
         .value_name("FILE")
         .help("FILE, in place of the first word; bare digits are decimal")
         .alias("exe")
 }
 
-fn pdb_dirs<'a>(alloc: Global) -> Arg<'a> {
+fn pdb_dirs<'a>(alloc: Global) -> Result<Arg<'a>, AllocError> {
     Arg::new(alloc, "pdb-dir")
         .long("pdb-dir")
         .value_name("DIR")
         .action(ArgAction::Append)
-        .help("Look for a program's PDB file here too; may be repeated")
+        .help("Look for a program's PDB file here too; all of these count")
+        .alias("debug-file-directory")
 }
 
 fn words<'a>(alloc: Global) -> Arg<'a> {

@@ -6,7 +6,7 @@ use crate::symbol_names::SymbolNames;
 const BASES: [u64; 4] = [0x40_0000, 0x1000_0000, 0x1_4000_0000, 0x1_8000_0000];
 
 /// The lowest address that is taken for one with a base in it.
-const LOWEST: u64 = 0x1000_0000;
+const LOWEST: u64 = 0x40_0000;
 
 /// What stands before the option.
 const HINT: &str = "for addresses with the base in them say";

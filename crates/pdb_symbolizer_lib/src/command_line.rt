@@ -1,19 +1,22 @@
 //! What the words of a command line ask for: which file, which form, which defaults by the program's name.
 
-use crate::addresses::parse_number;
+use crate::addresses::{parse_address, parse_number};
 use crate::arguments::command;
+use crate::identities::ExpectedBuild;
 use crate::options::{
-    Base, Detail, Digits, Export, NameStyle, OpenFailure, Options, Purpose, RequestForm, Style,
+    Base, Detail, Digits, Export, FileNaming, NameStyle, Options, Purpose, RequestForm, Style,
     SymbolFilePlace,
 };
 use crate::stops::Stop;
 use clap::ArgMatches;
-use pdb_container::DebugId;
 use std::alloc::Global;
+
+/// The option for lines of source files.
+const SOURCE_LINES: &str = "print-source-context-lines";
 
 /// Whose defaults are meant, by the name that the program is called by.
 #[derive(Clone, Copy, PartialEq, Eq)]
-enum Habit {
+pub enum Habit {
     /// Its own.
     Own,
     /// Of `llvm-symbolizer`: digits go by what stands before them.
@@ -29,7 +32,8 @@ pub fn parse<'w>(alloc: Global, words: &'w [String]) -> Result<Options<'w>, Stop
     options_of(alloc, habit_of(words), &matches)
 }
 
-fn habit_of(words: &[String]) -> Habit {
+/// Whose defaults are meant by words, of which the first is the program's name.
+pub fn habit_of(words: &[String]) -> Habit {
     let Some(program) = words.first() else {
         return Habit::Own;
     };
@@ -53,12 +57,9 @@ fn options_of<'w>(
     let inlines = inlines(alloc, habit, matches)?;
     let style = style(alloc, habit, matches)?;
     let base = base(alloc, matches)?;
-    let adjust = number(alloc, matches, "adjust")?.wrapping_add(number(
-        alloc,
-        matches,
-        "adjust-vma",
-    )?);
-    let expected = expected_id(alloc, matches)?;
+    let adjust = adjustment(alloc, matches)?;
+    let source_lines = source_lines(alloc, matches)?;
+    let expected = expected_build(alloc, matches)?;
     let pdb_dirs = Vec::from_slice(alloc, matches.get_strs("pdb-dir").unwrap_or(&[]))?;
     let naming = file_naming(habit, matches);
     let words = matches.get_strs("WORD").unwrap_or(&[]);
@@ -71,27 +72,21 @@ fn options_of<'w>(
         pdb_dirs,
         addresses: Vec::from_slice(alloc, addresses)?,
         names,
+        decorated: matches.get_flag("no-demangle"),
         inlines,
         address_shown: matches.get_flag("addresses"),
         pretty: matches.get_flag("pretty-print"),
         basenames: matches.get_flag("basenames"),
         style,
         detail: detail(matches),
+        source_lines,
         digits: digits(habit, naming),
-        open_failure: open_failure(habit, naming),
+        naming,
         base,
         adjust,
         purpose: purpose_of(matches),
         expected,
     })
-}
-
-/// What names the file.
-#[derive(Clone, Copy, PartialEq, Eq)]
-enum FileNaming {
-    ByWord,
-    ByOption,
-    ByEachLine,
 }
 
 // What names the file: an option, the first word, or else each line.
@@ -122,12 +117,15 @@ fn digits(habit: Habit, naming: FileNaming) -> Digits {
     }
 }
 
-// A file that an option names is opened as `llvm-symbolizer` opens it.
-fn open_failure(habit: Habit, naming: FileNaming) -> OpenFailure {
-    match (habit, naming) {
-        (Habit::Addr2line, _) | (_, FileNaming::ByWord) => OpenFailure::Refusal,
-        _ => OpenFailure::UnknownAnswers,
-    }
+// What is taken from each address, by both options together. That of `llvm-symbolizer` has digits as it has them.
+fn adjustment(alloc: Global, matches: &ArgMatches<'_>) -> Result<u64, Stop> {
+    let own = number(alloc, matches, "adjust", Digits::Hexadecimal)?;
+    Ok(own.wrapping_add(number(alloc, matches, "adjust-vma", Digits::ByPrefix)?))
+}
+
+fn source_lines(alloc: Global, matches: &ArgMatches<'_>) -> Result<u32, Stop> {
+    let lines = number(alloc, matches, SOURCE_LINES, Digits::ByPrefix)?;
+    Ok(u32::try_from(lines).unwrap_or(u32::MAX))
 }
 
 // Whether functions that were inlined are answered: as `--inlining` says, else as the flags and the habit do.
@@ -170,12 +168,12 @@ fn symbol_file_place<'w>(matches: &ArgMatches<'w>) -> SymbolFilePlace<'w> {
     }
 }
 
-fn expected_id(alloc: Global, matches: &ArgMatches<'_>) -> Result<Option<DebugId>, Stop> {
+fn expected_build(alloc: Global, matches: &ArgMatches<'_>) -> Result<Option<ExpectedBuild>, Stop> {
     let Some(text) = matches.get_str("expect-id") else {
         return Ok(None);
     };
-    match DebugId::parse(text) {
-        Some(id) => Ok(Some(id)),
+    match ExpectedBuild::parse(text) {
+        Some(build) => Ok(Some(build)),
         None => Err(no_such_value(alloc, "expect-id", text)),
     }
 }
@@ -202,9 +200,15 @@ fn style(alloc: Global, habit: Habit, matches: &ArgMatches<'_>) -> Result<Style,
     }
 }
 
-fn number(alloc: Global, matches: &ArgMatches<'_>, name: &'static str) -> Result<u64, Stop> {
+// The number that is the value of an option.
+fn number(
+    alloc: Global,
+    matches: &ArgMatches<'_>,
+    name: &'static str,
+    digits: Digits,
+) -> Result<u64, Stop> {
     let value = matches.get_str(name).unwrap_or("0");
-    match parse_number(value) {
+    match parse_address(value, digits) {
         Some(number) => Ok(number),
         None => Err(no_such_value(alloc, name, value)),
     }

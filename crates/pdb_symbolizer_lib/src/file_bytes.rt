@@ -2,7 +2,7 @@
 
 use pdb_container::{ContainerFault, Source, Unreadable, other_file};
 use std::alloc::Global;
-use std::fs::{self, OpenFile};
+use std::fs::{self, Metadata, OpenFile};
 use std::io::{self, Read, Seek, SeekFrom};
 use std::rt::Files;
 
@@ -81,10 +81,34 @@ pub fn open_regular_bytes<R: Files + AllocGlobal>(
     rt: &R,
     path: &str,
 ) -> io::Result<FileBytes<R::File>> {
-    if fs::metadata(rt, path)?.is_file() {
-        open_bytes(rt, path)
+    check_regular(&fs::metadata(rt, path)?)?;
+    open_bytes(rt, path)
+}
+
+/// The bytes of a file that another file names. One that is longer than so many bytes is refused, as is a folder, a
+/// device or a pipe.
+pub fn read_regular_file<R: Files>(
+    rt: &R,
+    alloc: Global,
+    path: &str,
+    longest: u64,
+) -> io::Result<Vec<u8>> {
+    let metadata = fs::metadata(rt, path)?;
+    check_regular(&metadata)?;
+    if metadata.len() > longest {
+        return Err(io::Error::from(io::ErrorKind::FileTooLarge));
+    }
+    let mut file = fs::open(rt, path)?;
+    let mut bytes = Vec::new(alloc);
+    (&mut file).take(longest).read_to_end(&mut bytes)?;
+    Ok(bytes)
+}
+
+fn check_regular(metadata: &Metadata) -> io::Result<()> {
+    if metadata.is_file() {
+        Ok(())
     } else {
-        Err(io::Error::from(io::ErrorKind::InvalidInput))
+        Err(io::Error::new(io::ErrorKind::InvalidInput, "not a regular file"))
     }
 }
 

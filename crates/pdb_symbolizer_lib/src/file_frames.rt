@@ -1,6 +1,6 @@
 //! The frames at addresses of a file for its symbol file, with the names that answers have.
 
-use crate::file_answers::{FileContext, readable_frames};
+use crate::frame_answers::{FileContext, readable_frames};
 use crate::symbol_names::SymbolNames;
 use pdb_addr2line::{ContextPdbData, Error, FunctionFrames};
 use pdb_breakpad::FrameSource;

@@ -7,8 +7,51 @@ use crate::stops::Stop;
 use pdb_container::{DebugId, Machine, PdbIdentity, read_identity_of};
 use pdb_identity::{ProgramFile, read_program};
 use std::alloc::Global;
+use std::fmt;
 use std::io::{Read, Seek};
 use std::rt::Files;
+use uuid::Uuid;
+
+/// The build that a file has to be of.
+#[derive(Debug, Clone, Copy)]
+pub enum ExpectedBuild {
+    /// That of this GUID and this age.
+    Exact(DebugId),
+    /// Any of the GUID.
+    AnyAge(Uuid),
+}
+
+impl ExpectedBuild {
+    /// The build of a debug id in either form, or of a GUID alone.
+    pub fn parse(text: &str) -> Option<ExpectedBuild> {
+        if let Some(id) = DebugId::parse(text) {
+            return Some(ExpectedBuild::Exact(id));
+        }
+        match Uuid::parse_str(text) {
+            Ok(guid) => Some(ExpectedBuild::AnyAge(guid)),
+            Err(_) => None,
+        }
+    }
+
+    fn is_of(self, found: DebugId) -> bool {
+        match self {
+            ExpectedBuild::Exact(id) => found == id,
+            ExpectedBuild::AnyAge(guid) => found.guid == guid,
+        }
+    }
+}
+
+impl fmt::Display for ExpectedBuild {
+    fn fmt<W: fmt::Write>(&self, f: &mut fmt::Formatter<W>) -> fmt::Result {
+        match self {
+            ExpectedBuild::Exact(id) => write!(f, "{id}"),
+            ExpectedBuild::AnyAge(guid) => {
+                let mut buffer = Uuid::encode_buffer();
+                write!(f, "{}", guid.braced().encode_upper(&mut buffer))
+            }
+        }
+    }
+}
 
 /// Prints a line for each file that the words name, PDB files and programs: its path, its debug id, its age and its
 /// machine.
@@ -75,7 +118,7 @@ pub fn check_identity<F: Read + Seek + Drop>(
         return Ok(());
     };
     let found = identity_of(alloc, file, bytes)?.debug_id;
-    if found == expected {
+    if expected.is_of(found) {
         return Ok(());
     }
     Err(Stop::OtherBuild(String::from_str(alloc, file)?, found, expected))

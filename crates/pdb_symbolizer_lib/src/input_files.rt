@@ -1,6 +1,7 @@
 //! The file that the words name: its bytes, and the records of a PDB file or of a records file with its module files.
 
 use crate::file_bytes::{FileBytes, open_bytes};
+use crate::foreign_files::ForeignFile;
 use crate::identities::check_identity;
 use crate::options::Options;
 use crate::pdb_modules::PdbModules;
@@ -82,7 +83,7 @@ pub fn open_named_file<R: Files + AllocGlobal>(
 ) -> Result<FileBytes<R::File>, Stop> {
     match open_bytes(rt, path) {
         Ok(bytes) => Ok(bytes),
-        Err(error) => Err(cannot_read(rt.alloc(), path, &error)),
+        Err(error) => Err(cannot_read(rt.alloc(), path, error)),
     }
 }
 
@@ -163,7 +164,7 @@ impl<F: Read + Seek + Drop> SourceFile<F> {
         let SourceFile { file, bytes } = self;
         match bytes.into_memory(alloc) {
             Ok(bytes) => Ok((file, bytes)),
-            Err(error) => Err(cannot_read(alloc, file.path.as_str(), &error)),
+            Err(error) => Err(cannot_read(alloc, file.path.as_str(), error)),
         }
     }
 }
@@ -205,16 +206,15 @@ pub fn open_stop(alloc: Global, path: &str, fault: OpenFault) -> Stop {
 /// Why a run ends over a file that can't be read further.
 pub fn unreadable(alloc: Global, path: &str) -> Stop {
     match String::from_str(alloc, path) {
-        Ok(path) => Stop::CannotRead(path),
+        Ok(path) => Stop::Unreadable(path),
         Err(_) => Stop::Refused(Error::OutOfMemory),
     }
 }
 
-fn cannot_read(alloc: Global, path: &str, error: &io::Error) -> Stop {
-    if ran_out_of_memory(error) {
-        Stop::Refused(Error::OutOfMemory)
-    } else {
-        unreadable(alloc, path)
+fn cannot_read(alloc: Global, path: &str, error: io::Error) -> Stop {
+    match String::from_str(alloc, path) {
+        Ok(path) if !ran_out_of_memory(&error) => Stop::CannotRead(path, error),
+        _ => Stop::Refused(Error::OutOfMemory),
     }
 }
 
@@ -255,6 +255,9 @@ fn read_records_file<R: Files + AllocGlobal>(
     path: &str,
     bytes: &[u8],
 ) -> Result<InputFile, Stop> {
+    if let Some(foreign) = ForeignFile::of_bytes(bytes) {
+        return Err(Stop::Foreign(String::from_str(rt.alloc(), path)?, foreign));
+    }
     match RecordsFile::from_slice(rt.alloc(), bytes) {
         Ok(file) => read_module_records(rt, path, file),
         Err(fault) => Err(Stop::Records(String::from_str(rt.alloc(), path)?, fault)),
@@ -288,7 +291,7 @@ fn read_module_records<R: Files + AllocGlobal>(
 pub fn read_file<R: Files + AllocGlobal>(rt: &R, path: &str) -> Result<Vec<u8>, Stop> {
     match fs::read(rt, path) {
         Ok(bytes) => Ok(bytes),
-        Err(error) => Err(cannot_read(rt.alloc(), path, &error)),
+        Err(error) => Err(cannot_read(rt.alloc(), path, error)),
     }
 }
 
@@ -296,7 +299,7 @@ pub fn read_file<R: Files + AllocGlobal>(rt: &R, path: &str) -> Result<Vec<u8>, 
 fn module_file_stop(alloc: Global, path: &str, fault: ModuleFileFault) -> Stop {
     match fault {
         ModuleFileFault::OutOfMemory => Stop::Refused(Error::OutOfMemory),
-        ModuleFileFault::CannotRead(path) => Stop::CannotRead(path),
+        ModuleFileFault::CannotRead(path) => Stop::Unreadable(path),
         ModuleFileFault::Records(fault) => match String::from_str(alloc, path) {
             Ok(path) => Stop::Records(path, fault),
             Err(_) => Stop::Refused(Error::OutOfMemory),

@@ -1,8 +1,8 @@
 //! What a command line asks for: styles, names, bases of addresses, files to write.
 
+use crate::identities::ExpectedBuild;
 use bitflags::Flags;
 use pdb_addr2line::TypeFormatterFlags;
-use pdb_container::DebugId;
 
 /// What is printed of a function's name.
 #[derive(Clone, Copy, PartialEq, Eq)]
@@ -88,13 +88,15 @@ pub enum Digits {
     ByPrefix,
 }
 
-/// What comes of addresses in a file that can't be opened.
+/// What names the file that addresses are of.
 #[derive(Clone, Copy, PartialEq, Eq)]
-pub enum OpenFailure {
-    /// The run ends, and none is answered.
-    Refusal,
-    /// Each is answered as unknown, behind a line on standard error.
-    UnknownAnswers,
+pub enum FileNaming {
+    /// The first word. The run ends with why it can't be opened.
+    ByWord,
+    /// An option. The same, but in JSON with an object that says why.
+    ByOption,
+    /// Each line of standard input. Its address is answered as unknown where it can't be opened.
+    ByEachLine,
 }
 
 /// How much is printed of where a frame's code came from.
@@ -116,6 +118,8 @@ pub struct Options<'w> {
     /// The addresses, as they were given. Where there are none they come from standard input.
     pub addresses: Vec<&'w str>,
     pub names: NameStyle,
+    /// Whether a function goes by its public symbol's name, as the records have it.
+    pub decorated: bool,
     /// Whether the functions are printed that were inlined.
     pub inlines: bool,
     /// Whether the address is printed before its answer.
@@ -126,17 +130,33 @@ pub struct Options<'w> {
     pub basenames: bool,
     pub style: Style,
     pub detail: Detail,
+    /// How many lines of the source file are shown around the place of each frame.
+    pub source_lines: u32,
     pub digits: Digits,
-    pub open_failure: OpenFailure,
+    pub naming: FileNaming,
     pub base: Base,
     /// What else is taken from the addresses.
     pub adjust: u64,
     pub purpose: Purpose<'w>,
     /// The build that the file has to be of, if one is named.
-    pub expected: Option<DebugId>,
+    pub expected: Option<ExpectedBuild>,
 }
 
 impl Options<'_> {
+    /// Whether functions go by the names of their public symbols: not where a name is to be short, or none.
+    pub fn shows_decorated_names(&self) -> bool {
+        self.decorated && self.names == NameStyle::Signature
+    }
+
+    /// How many lines of the source file are shown around each place. None are shown where file, line and column have
+    /// lines of their own.
+    pub fn shown_source_lines(&self) -> u32 {
+        match (self.style, self.detail) {
+            (Style::Llvm | Style::Gnu, Detail::Verbose) => 0,
+            _ => self.source_lines,
+        }
+    }
+
     /// How names are printed.
     pub fn flags(&self) -> TypeFormatterFlags {
         let flags = TypeFormatterFlags::default();

@@ -68,7 +68,7 @@ fn look_at<R: Files + AllocGlobal>(
     match open_regular_bytes(rt, path) {
         Ok(bytes) => look_into(rt.alloc(), bytes, wanted),
         Err(error) if ran_out_of_memory(&error) => Err(Stop::Refused(Error::OutOfMemory)),
-        Err(_) => passed_over(rt.alloc(), "can't be read"),
+        Err(error) => Ok(Look::PassedOver(format!(in rt.alloc(); "{error}")?)),
     }
 }
 

@@ -42,18 +42,13 @@ fn print_all<R: Eprint + AllocGlobal>(
 
 fn repair_text(alloc: Global, records: &PDB, repair: Repair) -> Result<String, AllocError> {
     match repair {
-        Repair::GlobalSymbols(fault) => {
-            format!(in alloc; "public symbols end early: {}", fault_text(fault))
-        }
-        Repair::Modules(fault) => {
-            format!(in alloc; "the list of modules ends early: {}", fault_text(fault))
-        }
-        Repair::Contributions(fault) => {
-            format!(in alloc;
-                "the list of contributions ends early: {}",
-                fault_text(fault)
-            )
-        }
+        Repair::GlobalSymbols(fault) => list_text(alloc, "public symbols end early", fault),
+        Repair::Modules(fault) => list_text(alloc, "the list of modules ends early", fault),
+        Repair::Contributions(fault) => list_text(
+            alloc,
+            "the list of contributions ends early",
+            fault,
+        ),
         Repair::ModuleContributions { module_index } => {
             let name = module_name(alloc, records, module_index)?;
             format!(in alloc; "module {name}: code that another module claims too is left out")
@@ -86,6 +81,10 @@ fn repair_text(alloc: Global, records: &PDB, repair: Repair) -> Result<String, A
             sites,
         } => inline_rows_text(alloc, records, module_index, sites, fault),
     }
+}
+
+fn list_text(alloc: Global, what: &str, fault: StreamError) -> Result<String, AllocError> {
+    format!(in alloc; "{what}: {}", fault_text(fault))
 }
 
 // How many inline sites of a module have rows that end early, and why those of the first do.

@@ -8,17 +8,20 @@ use std::rt::Files;
 /// What stands before the name of a response file.
 const RESPONSE_FILE: char = '@';
 
-/// The words, with those of a file in the place of each word that names one.
-pub fn expand_words<R: Files + AllocGlobal>(rt: &R, words: &[String]) -> Result<Vec<String>, Stop> {
+/// Appends words, with those of a file in the place of each word that names one.
+pub fn expand_words<R: Files + AllocGlobal>(
+    rt: &R,
+    words: &[String],
+    expanded: &mut Vec<String>,
+) -> Result<(), Stop> {
     let alloc = rt.alloc();
-    let mut expanded = Vec::new(alloc);
     for word in words {
         match word.as_str().strip_prefix(RESPONSE_FILE) {
-            Some(path) => push_words_of(alloc, &read_file(rt, path)?, &mut expanded)?,
+            Some(path) => push_words_of(alloc, &read_file(rt, path)?, expanded)?,
             None => expanded.push(String::from_str(alloc, word.as_str())?)?,
         }
     }
-    Ok(expanded)
+    Ok(())
 }
 
 // Appends the words in the bytes of a file.
@@ -36,8 +39,8 @@ enum Place {
     Quoted(char),
 }
 
-// Appends the words of a text, between which white space stands.
-fn push_words(alloc: Global, text: &str, words: &mut Vec<String>) -> Result<(), AllocError> {
+/// Appends the words of a text, between which white space stands. Quotation marks hold a word together.
+pub fn push_words(alloc: Global, text: &str, words: &mut Vec<String>) -> Result<(), AllocError> {
     let mut word = String::new(alloc);
     let mut place = Place::BetweenWords;
     for character in text.chars() {

@@ -1,6 +1,8 @@
 //! Why a run ended early, in words, and the exit status that goes with it.
 
 use crate::arguments::EXAMPLES;
+use crate::foreign_files::ForeignFile;
+use crate::identities::ExpectedBuild;
 use clap::error::ErrorKind;
 use pdb_addr2line::Error;
 use pdb_breakpad::SymbolFileFault;
@@ -11,75 +13,89 @@ use pdb_records_files::ran_out_of_memory;
 use std::alloc::{AllocError, AllocFailed};
 use std::io;
 
-/// Why a run of the program ended early. Its text is the line that the program prints.
+/// Why a run of the program ended early. Its text is the line that the program prints behind its name.
 #[derive(Debug, Drop, thiserror::Error)]
 pub enum Stop {
     /// The words ask for help or for the version, or for nothing that is known.
     #[error("{0}")]
     Words(clap::Error),
     /// The words of the command line are no text.
-    #[error("pdb_symbolizer: the command line is no text")]
+    #[error("the command line is no text")]
     NoText,
     /// The value of an option is none that it takes.
-    #[error("pdb_symbolizer: --{0} can't be {1}")]
+    #[error("--{0} can't be {1}")]
     NoSuchValue(&'static str, String),
-    /// The file could not be read.
-    #[error("pdb_symbolizer: cannot read {0}")]
-    CannotRead(String),
+    /// The file could not be read, and why.
+    #[error("cannot read {0}: {1}")]
+    CannotRead(String, io::Error),
+    /// A range of the file, or another file that it names, could not be read.
+    #[error("cannot read {0}")]
+    Unreadable(String),
+    /// The file is none of those that are read.
+    #[error("{0}: {1}")]
+    Foreign(String, ForeignFile),
+    /// Files could not be opened, of which was said why.
+    #[error("a file can't be opened")]
+    Unopened,
     /// No file is named.
-    #[error("pdb_symbolizer: no FILE")]
+    #[error("no FILE")]
     NoFile,
     /// Something is written by this option, and addresses asked for at once.
-    #[error("pdb_symbolizer: --{0} answers no address")]
+    #[error("--{0} answers no address")]
     AnswersNone(&'static str),
     /// Requests are read by this option, and something else is named.
-    #[error("pdb_symbolizer: --{0} takes no FILE and no address")]
+    #[error("--{0} takes no FILE and no address")]
     TakesNone(&'static str),
     /// Standard input is no request.
-    #[error("pdb_symbolizer: no request: {0}")]
+    #[error("no request: {0}")]
     NoRequest(String),
     /// So many lines of standard input were no requests.
-    #[error("pdb_symbolizer: lines that are no requests: {0}")]
+    #[error("lines that are no requests: {0}")]
     NoRequests(u64),
     /// The PDB file of a program was not found: where it was looked for.
-    #[error("pdb_symbolizer: {0}")]
+    #[error("{0}")]
     NoPdbFile(String),
     /// The file is a PDB file that can't be read.
-    #[error("pdb_symbolizer: {0}: {1}")]
+    #[error("{0}: {1}")]
     Container(String, ContainerFault),
     /// The file is a PDB file over which nothing can be answered.
-    #[error("pdb_symbolizer: {0}: {1}")]
+    #[error("{0}: {1}")]
     PdbFile(String, Refusal),
     /// The file is of another build than is expected: first the file's, then the expected one.
-    #[error("pdb_symbolizer: {0}: its id is {1}, not {2}")]
-    OtherBuild(String, DebugId, DebugId),
+    #[error("{0}: its id is {1}, not {2}")]
+    OtherBuild(String, DebugId, ExpectedBuild),
     /// The file doesn't say which build it is of.
-    #[error("pdb_symbolizer: {0}: no id")]
+    #[error("{0}: no id")]
     NoIdentity(String),
     /// The file is a records file that holds no records.
-    #[error("pdb_symbolizer: {0}: {1}")]
+    #[error("{0}: {1}")]
     Records(String, RecordFault),
     /// The file at this path could not be written.
-    #[error("pdb_symbolizer: {0}: {1}")]
+    #[error("{0}: {1}")]
     Export(String, ExportFault),
     /// The symbol file at this path could not be written.
-    #[error("pdb_symbolizer: {0}: {1}")]
+    #[error("{0}: {1}")]
     SymbolFile(String, SymbolFileFault),
     /// The records were refused, or there was no memory.
-    #[error("pdb_symbolizer: {0}")]
+    #[error("{0}")]
     Refused(Error),
     /// Standard input could not be read.
-    #[error("pdb_symbolizer: cannot read standard input")]
+    #[error("cannot read standard input")]
     CannotReadInput,
     /// An answer could not be written.
-    #[error("pdb_symbolizer: cannot write")]
+    #[error("cannot write")]
     CannotWrite,
     /// Nobody reads the answers any more.
-    #[error("pdb_symbolizer: nobody reads")]
+    #[error("nobody reads")]
     ClosedPipe,
 }
 
 impl Stop {
+    /// There was no memory.
+    pub fn want_of_memory() -> Stop {
+        Stop::Refused(Error::OutOfMemory)
+    }
+
     /// Why a run ends whose words can't be had.
     pub fn without_words(error: &io::Error) -> Stop {
         if ran_out_of_memory(error) {
@@ -90,20 +106,26 @@ impl Stop {
     }
 
     /// Prints why the run ended, which is on standard error but for the help and the version, and answers its status.
-    pub fn print<R: Print + Eprint>(&self, rt: &R) -> u8 {
+    pub fn print<R: Print + Eprint + AllocGlobal>(&self, rt: &R) -> u8 {
         match self {
+            Stop::Words(error) if error.use_stderr() => print_wrong_words(rt, error),
             Stop::Words(error) => {
                 if error.kind() == ErrorKind::DisplayHelp {
                     let _ = rt.print(EXAMPLES);
                 }
                 let _ = error.print(rt);
             }
-            Stop::ClosedPipe => {}
+            Stop::ClosedPipe | Stop::Unopened => {}
             _ => {
-                let _ = eprintln!(rt; "{self}");
+                let _ = eprintln!(rt; "pdb_symbolizer: {self}");
             }
         }
         self.status()
+    }
+
+    /// Whether memory ran out, so that nothing can be answered at all.
+    pub fn is_want_of_memory(&self) -> bool {
+        matches!(self, Stop::Refused(Error::OutOfMemory))
     }
 
     /// The exit status that goes with it.
@@ -115,9 +137,32 @@ impl Stop {
             | Stop::PdbFile(..)
             | Stop::NoPdbFile(_)
             | Stop::OtherBuild(..)
-            | Stop::NoIdentity(_) => 1,
+            | Stop::NoIdentity(_)
+            | Stop::Unopened => 1,
             _ => 2,
         }
+    }
+}
+
+/// What the advice begins with to write an option that isn't known behind `--`, which would have it taken for a file.
+const ADVICE: &str = "tip: to pass ";
+
+// Prints what is wrong with the words, without that advice and the empty line behind it.
+fn print_wrong_words<R: Print + Eprint + AllocGlobal>(rt: &R, error: &clap::Error) {
+    let Ok(text) = format!(in rt.alloc(); "{error}") else {
+        let _ = error.print(rt);
+        return;
+    };
+    let mut behind_advice = false;
+    for line in text.as_str().lines() {
+        if line.trim_start().starts_with(ADVICE) {
+            behind_advice = true;
+            continue;
+        }
+        if !behind_advice || !line.is_empty() {
+            let _ = eprintln!(rt; "{line}");
+        }
+        behind_advice = false;
     }
 }
 

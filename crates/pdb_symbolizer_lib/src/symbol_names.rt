@@ -1,5 +1,7 @@
-//! Names of procedures as their symbols have them, for those whose type can't be printed.
+//! Names of functions as symbols have them: of procedures whose type can't be printed, and for `--no-demangle`.
 
+use crate::options::Options;
+use crate::public_names::PublicNames;
 use crate::repairs::text_of;
 use pdb_addr2line::pdb::{
     AddressMap, Module, ModuleInfo, PDB, PdbInternalSectionOffset, RawString, Rva,
@@ -8,11 +10,12 @@ use pdb_addr2line::pdb::{
 use pdb_addr2line::{FunctionFrames, ModuleProvider};
 use std::alloc::{AllocError, Global};
 
-/// Where the code of each module lies, for names of procedures as their symbols have them.
+/// Where the code of each module lies, for names of procedures as their symbols have them, and names of public symbols.
 #[derive(Drop)]
 pub struct SymbolNames {
     address_map: AddressMap,
     contributions: Vec<SectionContribution>,
+    public: PublicNames,
 }
 
 impl SymbolNames {
@@ -29,13 +32,32 @@ impl SymbolNames {
         Ok(SymbolNames {
             address_map: AddressMap { sections },
             contributions,
+            public: PublicNames::none(alloc),
         })
+    }
+
+    /// The same, with the names of public symbols where the options want functions to go by them.
+    pub fn for_answers(
+        alloc: Global,
+        options: &Options<'_>,
+        records: &PDB,
+    ) -> Result<Self, AllocError> {
+        let mut names = SymbolNames::new(alloc, records)?;
+        if options.shows_decorated_names() {
+            names.public = PublicNames::new(alloc, records)?;
+        }
+        Ok(names)
+    }
+
+    // The section offset of an address that is relative to where the program is loaded.
+    fn section_offset(&self, address: u32) -> Option<PdbInternalSectionOffset> {
+        Rva(address).to_internal_offset(&self.address_map)
     }
 
     /// Whether an address that is relative to where the program is loaded lies in a section.
     pub fn lies_in_section(&self, address: u64) -> bool {
         match u32::try_from(address) {
-            Ok(address) => Rva(address).to_internal_offset(&self.address_map).is_some(),
+            Ok(address) => self.section_offset(address).is_some(),
             Err(_) => false,
         }
     }
@@ -56,6 +78,21 @@ impl SymbolNames {
         Ok(())
     }
 
+    /// Has the function of these frames go by the public symbol at its start, if there is one whose name is known here.
+    pub fn decorate(
+        &self,
+        alloc: Global,
+        found: &mut FunctionFrames<'_>,
+    ) -> Result<(), AllocError> {
+        if let Some(start) = self.section_offset(found.start_rva)
+            && let Some(frame) = found.frames.last_mut()
+            && let Some(name) = self.public.name_at(alloc, start)?
+        {
+            frame.function = Some(name);
+        }
+        Ok(())
+    }
+
     /// The name of the symbol of the procedure that starts at an address.
     pub fn name_at<P: ModuleProvider>(
         &self,
@@ -63,7 +100,7 @@ impl SymbolNames {
         provider: &P,
         address: u32,
     ) -> Result<Option<String>, AllocError> {
-        let Some(start) = Rva(address).to_internal_offset(&self.address_map) else {
+        let Some(start) = self.section_offset(address) else {
             return Ok(None);
         };
         let nameless = Module {

@@ -1,22 +1,22 @@
 //! A run of `pdb_symbolizer`: reads the file, and answers each address of the words or of standard input.
 
 use crate::command_line::parse;
+use crate::environment::words_of_run;
 use crate::export_files::write_files;
 use crate::file_answers::answer_file;
 use crate::identities::print_identities;
 use crate::input_files::read_input_file;
 use crate::named_files::answer_named_files;
 use crate::options::{Export, Options, Purpose};
-use crate::response_files::expand_words;
 use crate::status_line::StatusLine;
 use crate::stops::Stop;
 use crate::symbol_files::dump_symbols;
 use crate::symbolication::symbolicate;
-use std::rt::Files;
+use std::rt::{Env, Files};
 use std::time::Clock;
 
 /// Does what the words of a command line ask for, prints why where that ends early, and answers the exit status.
-pub fn run_words<R: Files + Input + Print + Eprint + Clock + AllocGlobal>(
+pub fn run_words<R: Env + Files + Input + Print + Eprint + Clock + AllocGlobal>(
     rt: &R,
     status_line: &mut StatusLine,
     words: &[String],
@@ -27,12 +27,12 @@ pub fn run_words<R: Files + Input + Print + Eprint + Clock + AllocGlobal>(
     }
 }
 
-fn run<R: Files + Input + Print + Eprint + Clock + AllocGlobal>(
+fn run<R: Env + Files + Input + Print + Eprint + Clock + AllocGlobal>(
     rt: &R,
     status_line: &mut StatusLine,
     words: &[String],
 ) -> Result<(), Stop> {
-    let words = expand_words(rt, words)?;
+    let words = words_of_run(rt, words)?;
     let options = parse(rt.alloc(), &words)?;
     run_over(rt, status_line, &options)
 }

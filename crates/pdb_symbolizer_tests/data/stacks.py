@@ -1,6 +1,5 @@
-"""The stacks of all addresses of shapes.exe, for write_cases.py: those of llvm-symbolizer, but for lines that it has
+"""The stacks of all addresses of shapes.exe, for write_cases.py: those of llvm-symbolizer, but for one line that it has
 otherwise."""
-import itertools
 import json
 import pathlib
 import subprocess
@@ -22,28 +21,19 @@ ARGUMENTS = {"Framed::Framed": "()", "Picture::Picture": "()", "Picture::draw": 
 BETWEEN = [(0x101d, 0x1020, "?count@Picture@@SAHPEBD@Z", "main.cpp", 44), (0x10da, 0x10e0, "entry", "main.cpp", 57),
            (0x1103, 0x1110, "entry", "main.cpp", 57), (0x114e, 0x1150, "?draw@Framed@@UEAAHH@Z", "main.cpp", 36),
            (0x1256, 0x1260, "?area@shapes@@YAHPEBUPoint@1@H@Z", "shapes.cpp", 31)]
-# Where LLVM answers another line, and why: docs/CONTAINER.md, "Against LLVM"
-DIFFERENCES = HERE.parents[1] / "pdb_symbolizer" / "data" / "program" / "differences.txt"
+# Where two rows stand: LLVM answers the first there, and here the second has all bytes from there on
 TWO_ROWS = 0x10e0
 
 
 def stacks(folder):
-    """The stack of each address of shapes.exe, the function itself first: that of LLVM, but for the lines that it has
-    otherwise. Inside of a row of an inlined body it answers the line of the row behind it, where here a body that goes on
-    has the line of the address before; and of two rows at one offset the first, where here the second has all bytes."""
+    """The stack of each address of shapes.exe, the function itself first: that of LLVM, but for the line at TWO_ROWS."""
     addresses = [address for start, (length, _) in PROCEDURES.items() for address in range(start, start + length)]
     words = ["--obj=shapes.exe", "--relative-address", "--functions=short", "--output-style=JSON"]
-    printed = subprocess.run(["llvm-symbolizer", *words], input="".join(f"{address}\n" for address in addresses),
+    printed = subprocess.run(["llvm-symbolizer-22", *words], input="".join(f"{address}\n" for address in addresses),
                              capture_output=True, text=True, check=True, cwd=folder).stdout
     found = {address: [(frame["FunctionName"], frame["FileName"], frame["Line"]) for frame in reversed(json.loads(line)["Symbol"])]
              for address, line in zip(addresses, printed.splitlines(), strict=True)}
-    for address in sorted(int(line, 16) for line in DIFFERENCES.read_text(encoding="utf-8").split()):
-        own, *inlined = found[address]
-        if address == TWO_ROWS:
-            own = found[address + 1][0]
-        before = found[address - 1][1:] if inlined else []
-        going_on = [old for old, new in itertools.takewhile(lambda pair: pair[0][0] == pair[1][0], zip(before, inlined))]
-        found[address] = [own, *going_on, *inlined[len(going_on):]]
+    found[TWO_ROWS][0] = found[TWO_ROWS + 1][0]
     for start, end, name, file, line in BETWEEN:
         found.update({address: [(name, f"C:\\shapes\\{file}", line)] for address in range(start, end)})
     return dict(sorted(found.items()))

@@ -15,6 +15,7 @@ pdb_container_tests. inline_faults.py writes inline_faults.pdb.
 """
 import itertools
 import json
+import os
 import pathlib
 import struct
 import subprocess
@@ -40,16 +41,25 @@ def sets_of_options():
                 yield [f"--output-style={style}", *options]
 
 
-# What llvm-symbolizer takes for an address, and what it doesn't
-LINES = ["0x1136", "4406", "0X1136", "0o10466", "010466", "0b1000100110110", "CODE 0x1136", "DATA 0x1136", "0x1136 tail",
-         "zz", "", "CODE zz", "-5", "0x", "+4406", "CODE", "08"]
+LLVM = "llvm-symbolizer-22"
+# What llvm-symbolizer takes for an address or a symbol, and what it takes for neither
+LINES = ["0x1136", "4406", "0X1136", "0o10466", "010466", "0b1000100110110", "CODE 0x1136", "DATA 0x1136", "FRAME 0x1136",
+         "0x1136 tail", "zz", "", "CODE zz", "DATA zz", "FRAME zz", "-5", "+4406", "entry+0x4", "foo bar", "CODE", "DATA", "FRAME"]
+NUMBERS = ["0x", "08", "1000000000000000000000", "0x1136+3"]
 
 
-def of_llvm(folder, words, lines=None):
-    """What llvm-symbolizer prints for these words, and these lines of standard input."""
+def of_llvm(folder, words, lines=None, status=0, variable=None):
+    """What llvm-symbolizer prints for these words, these lines of standard input and this environment variable."""
     text = None if lines is None else "".join(f"{line}\n" for line in lines)
-    printed = subprocess.run(["llvm-symbolizer", *words], input=text, capture_output=True, text=True, check=True, cwd=folder)
-    return printed.stdout + "status 0\n"
+    environment = {**os.environ, **({} if variable is None else {"LLVM_SYMBOLIZER_OPTS": variable})}
+    printed = subprocess.run([LLVM, *words], input=text, capture_output=True, text=True, cwd=folder, env=environment)
+    return printed.stdout + f"status {status}\n"
+
+
+def case(words, lines=None, variable=None):
+    """The line of a case."""
+    text = "" if lines is None else " < " + "|".join(lines)
+    return ("" if variable is None else f'LLVM_SYMBOLIZER_OPTS="{variable}" ') + " ".join(["pdb_symbolizer", *words]) + text
 
 
 def llvm_cases(folder):
@@ -66,18 +76,78 @@ def llvm_cases(folder):
                         ["--functions=short", "-C"], ["--functions=short", "--no-demangle"]):
             words = ["--obj=shapes.exe", "--relative-address", f"--output-style={style}", *options, *ADDRESSES]
             yield " ".join(["pdb_symbolizer", *words]), of_llvm(folder, words)
-    for style in STYLES:
-        words = ["--relative-address", "--functions=short", f"--output-style={style}", "-e", "shapes.exe"]
-        yield " ".join(["pdb_symbolizer", *words]) + " < " + "|".join(LINES), of_llvm(folder, words, LINES)
+    for style, shown in itertools.product(STYLES, ([], ["-a", "-p"])):
+        words = ["--relative-address", "--functions=short", f"--output-style={style}", *shown, "-e", "shapes.exe"]
+        if "-p" not in shown or style != "JSON":
+            # where nothing has an address LLVM shows that of the request before
+            lines = [line for line in LINES if not shown or line not in ("DATA zz", "FRAME zz")]
+            yield case(words, lines), of_llvm(folder, words, lines)
+            wrong = "".join(error(f"{line}: no number") + of_llvm(folder, words, [line]).replace(ENDED, "") for line in NUMBERS)
+            yield case(words, NUMBERS), wrong + ENDED
+            yield case([*words, "DATA", "zz"]), of_llvm(folder, [*words, "DATA", "zz"])
     for option in ("--inlining", "--inlining=true", "--inlining=false"):
         words = ["--obj=shapes.exe", "--relative-address", "--functions=short", option, *ADDRESSES]
         yield " ".join(["pdb_symbolizer", *words]), of_llvm(folder, words)
     high = ["0x140001136", "5368713526"]
     for options in (["--obj", "shapes.exe"], ["--exe=shapes.exe"], ["-e", "shapes.exe", "--default-arch=x86_64"],
-                    ["--obj=shapes.exe", "--adjust-vma=0x1000"]):
-        words = ["--functions=short", *options, *([address.replace("1136", "2136") for address in high[:1]]
-                                                  if "--adjust-vma=0x1000" in options else high)]
-        yield " ".join(["pdb_symbolizer", *words]), of_llvm(folder, words)
+                    ["--obj=shapes.exe", "--cache-size=100", "--dwp=none.dwp", "--debug-file-directory=."]):
+        words = ["--functions=short", *options, *high]
+        yield case(words), of_llvm(folder, words)
+    for offset in ("4096", "0x1000", "0X1000", "0b1000000000000", "0o10000", "010000"):
+        words = ["--functions=short", "--obj=shapes.exe", "--adjust-vma", offset, "0x140002136"]
+        yield case(words), of_llvm(folder, words)
+    yield from repeated_cases(folder)
+    yield from source_cases(folder)
+    yield from decorated_cases(folder)
+
+
+def repeated_cases(folder):
+    """Options that are said more than once, and those of the environment."""
+    front = ["--relative-address", "--obj=shapes.exe"]
+    for options in (["-p", "-p"], ["-a", "--addresses", "-a"], ["-s", "--basenames"], ["--verbose", "--verbose"], ["-C", "-C"],
+                    ["--no-inlines", "--inlines"], ["--inlines", "--no-inlines"], ["--inlining=false", "--inlining"],
+                    ["--no-inlines", "--inlining=true"], ["--inlining=true", "--no-inlines"], ["--obj=nowhere.exe", "-e", "shapes.exe"],
+                    ["--functions=none", "--functions=short"], ["--output-style=JSON", "--output-style=GNU"],
+                    ["--adjust-vma=1", "--adjust-vma=0"], ["--relative-address"], ["--print-source-context-lines=3", "--print-source-context-lines=0"]):
+        # with `-s` LLVM on Linux leaves the folders of Windows, so an address is asked for that has no file
+        words = ["--functions=none", *front, *options, "0x10"] if "-s" in options else ["--functions=short", *front, *options, "0x1136"]
+        yield case(words), of_llvm(folder, words)
+    for variable, words in (("-p --functions=short '--obj=shapes.exe'", ["--relative-address", "0x1136"]),
+                            ("-p --functions=none", ["--functions=short", *front, "0x1136"]), ("", ["--functions=short", *front, "0x1136"])):
+        yield case(words, None, variable), of_llvm(folder, words, None, 0, variable)
+
+
+def source_cases(folder):
+    """Lines of source files: one whose lines end as on Windows, the last without an end, and one that is too short."""
+    lines = {"shapes.h": "\r\n".join(f"line {number} of \"shapes.h\"" for number in range(1, 12)),
+             "main.cpp": "".join(f"\tline {number}\n" if number % 3 else "\n" for number in range(1, 37))}
+    for place in (pathlib.Path(folder), HERE):
+        (place / "shapes.cpp").unlink(missing_ok=True)
+        for name, text in lines.items():
+            (place / name).write_text(text, encoding="utf-8", newline="")
+        for name, old, new in (("exe", b"shapes.pdb", b"source.pdb"), ("pdb", b"C:\\shapes\\", b"./././././")):
+            (place / f"source.{name}").write_bytes((place / f"shapes.{name}").read_bytes().replace(old, new))
+    for style, count in itertools.product(STYLES, ("1", "2", "3", "5", "21", "100", "0x10")):
+        words = ["--functions=short", "--relative-address", "--obj=source.exe", f"--output-style={style}",
+                 f"--print-source-context-lines={count}", *ADDRESSES]
+        yield case(words), of_llvm(folder, words)
+    for options in (["-p"], ["--verbose"], ["--no-inlines", "-a"]):
+        words = ["--functions=short", "--relative-address", "--obj=source.exe", "--print-source-context-lines=4", *options, *ADDRESSES]
+        yield case(words), of_llvm(folder, words)
+    yield "pdb_symbolizer -p --print-source-context-lines=3 names.json 1010", "typed at C:\\b/c.h:7:0\n\n" + ENDED
+    yield "pdb_symbolizer --print-source-context-lines=-1 shapes.pdb 1136", error("--print-source-context-lines can't be -1") + "status 2\n"
+
+
+def decorated_cases(folder):
+    """Functions by the names of their public symbols."""
+    for style, options in (*itertools.product(STYLES, (["--functions=short"],)), ("LLVM", ["--no-inlines"]), ("JSON", ["--no-inlines"]),
+                           ("LLVM", ["--functions=none"]), ("GNU", ["--functions=none"])):
+        words = ["--no-demangle", *options, "--relative-address", "--obj=shapes.exe", f"--output-style={style}", *ADDRESSES]
+        yield case(words), of_llvm(folder, words)
+    # names of inlined functions have their arguments here
+    yield "pdb_symbolizer -p --no-demangle shapes.pdb 0x1136", STACK.replace("Framed::draw(int)", "?draw@Framed@@UEAAHH@Z")
+    yield "pdb_symbolizer -p --no-demangle -C shapes.pdb 0x1136", STACK
+    yield "pdb_symbolizer -p --no-demangle names.json 1010", "typed at C:\\b/c.h:7:0\n\n" + ENDED
 
 
 INNER = r"shapes::Point::length() const at C:\shapes\shapes.h:10:0"
@@ -85,6 +155,8 @@ MIDDLE = r" (inlined by) Picture::draw(int) at C:\shapes\main.cpp:29:0"
 OUTER = r" (inlined by) Framed::draw(int) at C:\shapes\main.cpp:36:0"
 STACK = "\n".join([INNER, MIDDLE, OUTER, "", "status 0", ""])
 NO_NAME = "??\n??:0:0\n\n"
+# What the system says of a file that isn't there, and of one that is a folder
+MISSING, FOLDER = "No such file or directory (os error 2)", "Is a directory (os error 21)"
 ENDED = "status 0\n"
 
 
@@ -128,7 +200,7 @@ def name_cases():
 def address_cases():
     """Addresses with a base and an offset, in no function, and words that are none."""
     for words, address in (("--base 0x140000000", "0x140001136"), ("--base 140000000", "140001136"), ("--adjust 1", "1137"),
-                           ("--adjust-vma 1", "1137"), ("--adjust 0x100 --adjust-vma 0x30", "0x1266"),
+                           ("--adjust-vma 1", "1137"), ("--adjust 0x100 --adjust-vma 48", "0x1266"),
                            ("--base 400000 --adjust 1", "0x401137"), ("--base 0xffffffffffff0000", "0xffffffffffff1136")):
         yield f"pdb_symbolizer -p {words} shapes.pdb {address}", STACK
     yield "pdb_symbolizer -a --base 0x140000000 shapes.pdb 0x140000010", "0x140000010\n" + NO_NAME + ENDED
@@ -139,17 +211,20 @@ def address_cases():
     yield "pdb_symbolizer --output-style=GNU shapes.pdb 0x10", "??\n??:0\n" + ENDED
     yield "pdb_symbolizer --output-style=JSON shapes.pdb 0x10", \
         f"[{json_answer('0x10', 'shapes.pdb', [json_frame('', '', 0)])}]\n" + ENDED
-    for style in ("LLVM", "GNU"):
-        yield f"pdb_symbolizer --output-style={style} shapes.pdb zz", "zz\n" + ENDED
+    yield "pdb_symbolizer shapes.pdb zz", NO_NAME + ENDED
+    yield "pdb_symbolizer --output-style=GNU shapes.pdb zz", "??\n??:0\n" + ENDED
     yield "pdb_symbolizer --output-style=JSON shapes.pdb z\"\\z", \
-        '[{"Error":{"Message":"unable to parse arguments: z\\"\\\\z"},"ModuleName":"shapes.pdb"}]\n' + ENDED
-    words = ["0X1136", "+1136", "0x", "0x0x1", "1_0", "10000000000000000", "-1", "CODE", "FILE 0x1136"]
-    yield "pdb_symbolizer shapes.pdb < " + "|".join(words), "".join(word + "\n" for word in words) + ENDED
-    for line in ("CODE 0x1136", "0x1136 0x1000", "  1136"):
+        '[{"Loc":[],"ModuleName":"shapes.pdb","SymName":"z\\"\\\\z"}]\n' + ENDED
+    words = ["+1136", "-1", "CODE", "FILE 0x1136"]
+    yield "pdb_symbolizer shapes.pdb < " + "|".join(words), 4 * NO_NAME + ENDED
+    words = ["0x", "0x0x1", "1_0", "10000000000000000"]
+    yield "pdb_symbolizer shapes.pdb < " + "|".join(words), "".join(error(f"{word}: no number") + NO_NAME for word in words) + ENDED
+    for line in ("CODE 0x1136", "0x1136 0x1000", "  1136", "0X1136"):
         yield f"pdb_symbolizer -p shapes.pdb < {line}", STACK
     yield "pdb_symbolizer -p shapes.pdb <  0x1136 ", STACK
-    yield "pdb_symbolizer --output-style=GNU -p shapes.pdb < |1000000000000136", \
-        "\n?? at ??:0\n" + ENDED
+    yield "pdb_symbolizer --output-style=GNU -p shapes.pdb < |1000000000000136", 2 * "?? at ??:0\n" + ENDED
+    for offset in ("-4096", "+1", "zz", "08"):
+        yield f"pdb_symbolizer --adjust-vma={offset} shapes.pdb 0x1136", error(f"--adjust-vma can't be {offset}") + "status 2\n"
 
 
 def program_cases():
@@ -166,52 +241,93 @@ def program_cases():
         f"\n    {place}: its id is {shapes}" for place in places)) + "status 1\n"
     yield "pdb_symbolizer -p --pdb-dir symbols other.exe 0x140001136", STACK
     yield "pdb_symbolizer -p --pdb-dir nowhere --pdb-dir symbols other.exe 0x140001136", STACK
+    yield "pdb_symbolizer -p --debug-file-directory=nowhere --debug-file-directory=symbols other.exe 0x140001136", STACK
     places = [f"nowhere/{name}" for name in ("shapes.pdb", "shapes.pdb/A9D98A29E7C186D04C4C44205044422E1/shapes.pdb")]
     yield "pdb_symbolizer --pdb-dir nowhere other.exe 0x140001136", error(f"other.exe: no PDB file of {other}" + "".join(
         f"\n    shapes.pdb: its id is {shapes}" for _ in range(2)) + "".join(
-        f"\n    {place}: can't be read" for place in places)) + "status 1\n"
-    for program, path, name in (("device.exe", "/dev/zero", "zero"), ("folder.exe", "symbols", "symbols")):
+        f"\n    {place}: {MISSING}" for place in places)) + "status 1\n"
+    for program, path, name, beside in (("device.exe", "/dev/zero", "zero", MISSING),
+                                        ("folder.exe", "symbols", "symbols", "not a regular file")):
         (HERE / program).write_bytes(replaced("other.exe", (b"shapes.pdb\0", path.encode().ljust(11, b"\0"))))
         yield f"pdb_symbolizer {program} 0x140001136", error(f"{program}: no PDB file of {other}" + "".join(
-            f"\n    {place}: can't be read" for place in (path, name))) + "status 1\n"
+            f"\n    {place}: {why}" for place, why in ((path, "not a regular file"), (name, beside)))) + "status 1\n"
     yield "pdb_symbolizer --show-id shapes.exe other.exe", "shapes.exe 6B32B94164959A524C4C44205044422E1 1 x86_64\n" \
         "other.exe A9D98A29E7C186D04C4C44205044422E1 1 x86_64\n" + ENDED
     yield "pdb_symbolizer --pdb-dir symbols --expect-id 6B32B94164959A524C4C44205044422E1 other.exe 0x140001136", \
         error("symbols/shapes.pdb/A9D98A29E7C186D04C4C44205044422E1/shapes.pdb: "
               f"its id is {other}, not {shapes}") + "status 1\n"
-    hint = error("shapes.pdb: 0x140001136 lies in no section: for addresses with the base in them say --base 0x140000000")
-    yield "pdb_symbolizer shapes.pdb 0x140001136 0x140001137 0x1c0000000", hint + 3 * NO_NAME + ENDED
+    for address, base in (("0x140001136", "0x140000000"), ("0x401136", "0x400000"), ("0x180001136", "0x180000000")):
+        hint = error(f"shapes.pdb: {address} lies in no section: for addresses with the base in them say --base {base}")
+        yield f"pdb_symbolizer shapes.pdb {address} 0x140001137 0x401137 0x1c0000000", hint + 4 * NO_NAME + ENDED
+    yield "pdb_symbolizer < shapes.pdb 0x401136|source.pdb 0x401136|shapes.pdb 0x401136", error(
+        "shapes.pdb: 0x401136 lies in no section: for addresses with the base in them say --base 0x400000") + 3 * NO_NAME + ENDED
+    yield "pdb_symbolizer shapes.pdb 0x3fffff", NO_NAME + ENDED
     yield "pdb_symbolizer --base 0 shapes.pdb 0x140001136", NO_NAME + ENDED
 
 
 def habit_cases(folder):
     """Lines that name their files, and the program under other names."""
     lines = ["shapes.exe 0x140001136", '"shapes.exe" 0x140001136', "CODE shapes.exe 5368713526", "'shapes.exe' 0x140001000",
-             "DATA shapes.exe 0x140001136", "zz", "CODE zz", "", "shapes.exe zz", "shapes.exe"]
-    for style in STYLES:
-        words = ["--functions=short", f"--output-style={style}"]
-        wanted = of_llvm(folder, words, lines)
-        # LLVM's names the file in an error, too, if there is one
-        yield " ".join(["pdb_symbolizer", *words]) + " < " + "|".join(lines[:5]), of_llvm(folder, words, lines[:5])
-        if style != "JSON":
-            yield " ".join(["pdb_symbolizer", *words]) + " < " + "|".join(lines), wanted
+             "DATA shapes.exe 0x140001136", "FRAME shapes.exe 0x140001136", "FILE:shapes.exe 0x140001136", "CODE FILE: 'shapes.exe' 0x140001136",
+             "shapes.exe zz", "DATA shapes.exe zz", "", "shapes.exe 0x140001136"]
+    wrong = [("zz", "no address"), ("CODE zz", "no address"), ("shapes.exe", "no address"), ("shapes.exe 9x", "no number"),
+             ("FILE:", "no file is named"), ("'shapes.exe 0x1", "no file is named")]
+    for style, shown in itertools.product(STYLES, ([], ["-a"])):
+        words = ["--functions=short", f"--output-style={style}", *shown]
+        asked = [line for line in lines if not shown or line != "DATA shapes.exe zz"]
+        yield case(words, asked), of_llvm(folder, words, asked)
+        yield case(words, [line for line, _ in wrong]), "".join(
+            error(f"{line}: {why}") + of_llvm(folder, words, [line]).replace(ENDED, "") for line, why in wrong) + ENDED
     yield "pdb_symbolizer -p < shapes.pdb 0x1136|shapes.exe 0x140001136|names.json 0x1010|nowhere.pdb 0x1|shapes.pdb 4406", \
-        2 * STACK.replace(ENDED, "") + "typed at C:\\b/c.h:7:0\n\n" + error("cannot read nowhere.pdb") + \
-        "?? at ??:0:0\n\n" + STACK
+        2 * STACK.replace(ENDED, "") + "typed at C:\\b/c.h:7:0\n\n" + error(f"cannot read nowhere.pdb: {MISSING}") + \
+        "?? at ??:0:0\n\n" + STACK.replace(ENDED, "status 1\n")
+    yield from unopened_cases(folder)
     stack = STACK.replace(":0\n", "\n").replace("\n\n", "\n").replace("\nstatus", "\nstatus")
     yield "addr2line -e shapes.exe 140001136", "C:\\shapes\\shapes.h:10\n" + ENDED
     yield "addr2line -e shapes.exe -i 140001136", "C:\\shapes\\shapes.h:10\nC:\\shapes\\main.cpp:29\nC:\\shapes\\main.cpp:36\n" + ENDED
     yield "llvm-addr2line -e shapes.exe -fipC 0x140001136", stack
     yield "addr2line -e shapes.exe -f -s -a < 140001136|zz", \
-        "0x140001136\nshapes::Point::length() const\nshapes.h:10\nzz\n" + ENDED
+        "0x140001136\nshapes::Point::length() const\nshapes.h:10\n??\n??:0\n" + ENDED
     yield "llvm-symbolizer -p --obj=shapes.exe 5368713526", STACK
     yield "pdb_symbolizer -p @words.txt 0x140001136", STACK
-    yield "pdb_symbolizer @nowhere.txt", error("cannot read nowhere.txt") + "status 2\n"
+    yield "pdb_symbolizer @nowhere.txt", error(f"cannot read nowhere.txt: {MISSING}") + "status 2\n"
+    yield 'LLVM_ADDR2LINE_OPTS="-f -s" addr2line -e shapes.exe 140001136', "shapes::Point::length() const\nshapes.h:10\n" + ENDED
+    yield 'LLVM_SYMBOLIZER_OPTS="-f -s" addr2line -e shapes.exe 140001136', "C:\\shapes\\shapes.h:10\n" + ENDED
     yield "llvm-symbolizer --functions=short -piC --obj=shapes.exe 0x140001136", of_llvm(
         folder, ["--functions=short", "-piC", "--obj=shapes.exe", "0x140001136"])
     yield "llvm-symbolizer -p < shapes.exe 5368713526", STACK
     yield "llvm-symbolizer --obj shapes.exe --pretty-print --print-address 0x140001136", \
         "0x140001136: " + STACK
+
+
+NO_FILE = "no program (EXE or DLL), PDB file or records file"
+
+
+def unopened_cases(folder):
+    """Files that can't be opened. Statuses are as by LLVM where an option names one; where a line does, LLVM's is 0."""
+    (HERE / "elf").write_bytes(b"\x7fELF" + bytes(60))
+    files = [("nowhere.exe", f"cannot read nowhere.exe: {MISSING}"), ("symbols", f"cannot read symbols: {FOLDER}"),
+             ("cases.txt", f"cases.txt: {NO_FILE}"), ("elf", "elf: an ELF file, not a program of Windows"),
+             ("stripped.pdb", "stripped.pdb: no section headers (stripped)"),
+             ("program.exe", "program.exe: a program (EXE or DLL), not its PDB file"),
+             ("other.exe", "other.exe: no PDB file of {A9D98A29-E7C1-86D0-4C4C-44205044422E}/1"
+              + 2 * "\n    shapes.pdb: its id is {6B32B941-6495-9A52-4C4C-44205044422E}/1")]
+    for file, why in files:
+        def answer(address, file=file, why=why):
+            return f'{{{address}"Error":{{"Message":{json.dumps(why)}}},"ModuleName":"{file}"'
+        for style, lines in itertools.product(STYLES, (None, ["0x1136", "zz"])):
+            words = [f"--output-style={style}", f"--obj={file}", *([] if lines else ["0x1136"])]
+            yield case(words, lines), (answer('"Address":"0x0",') + "}\n" if style == "JSON" else error(why)) + "status 1\n"
+        lines = [f"{file} 0x1136", f"DATA {file} 0x1136", f"{file} zz", f"FRAME {file} zz"]
+        for style in ("LLVM", "GNU"):
+            told = of_llvm(folder, [f"--output-style={style}"], [line.replace(file, "nowhere.exe") for line in lines])
+            ends = {"LLVM": [3, 7, 10, 12], "GNU": [2, 5, 7, 8]}[style]
+            answers = told.splitlines(keepends=True)
+            yield case([f"--output-style={style}"], lines), "".join(
+                error(why) + "".join(answers[start:end]) for start, end in zip([0, *ends], ends)) + "status 1\n"
+        yield case(["--output-style=JSON"], [*lines, "shapes.exe zz"]), "".join(
+            answer(address) + f"{symbol}}}\n" for address, symbol in 2 * [('"Address":"0x1136",', "")] + 2 * [("", ',"SymName":"zz"')]) + \
+            '{"Loc":[],"ModuleName":"shapes.exe","SymName":"zz"}\nstatus 1\n'
 
 
 CUT, LENGTH = "the bytes end before what is said to stand there", "a length that can't stand there"
@@ -239,23 +355,24 @@ ASKED_ROWS = FRONT_ROWS + MODULE_ROWS[:1]
 
 def broken_cases():
     """Files that can't be read, of which nothing is answered, or in which something is broken."""
-    yield "pdb_symbolizer nowhere.pdb 0x1136", error("cannot read nowhere.pdb") + "status 2\n"
-    # one that an option names is answered as unknown, but by addr2line, or where it is of another build than is said
-    unread = error("cannot read nowhere.exe")
-    yield "pdb_symbolizer --obj=nowhere.exe 0x401000 0x401001", unread + of_llvm(".", ["--obj=nowhere.exe", "0x401000", "0x401001"])
-    yield "pdb_symbolizer --obj=nowhere.exe < 0x401000|zz|DATA 0x1", unread + of_llvm(
-        ".", ["--obj=nowhere.exe"], ["0x401000", "zz", "DATA 0x1"])
-    yield "llvm-symbolizer --output-style=GNU --obj nowhere.exe < 0x401000|1ffffffff", unread + of_llvm(
-        ".", ["--output-style=GNU", "--obj=nowhere.exe"], ["0x401000", "1ffffffff"])
-    yield "pdb_symbolizer --obj=stripped.pdb 0x1136", error("stripped.pdb: no section headers (stripped)") + NO_NAME + ENDED
-    yield "pdb_symbolizer --obj=cases.txt 0x1136", error("cases.txt: not a JSON text") + NO_NAME + ENDED
-    yield "addr2line -e nowhere.exe 0x401000", unread + "status 2\n"
+    (HERE / "words.json").write_text("{words\n", encoding="utf-8")
+    yield "pdb_symbolizer nowhere.pdb 0x1136", error(f"cannot read nowhere.pdb: {MISSING}") + "status 2\n"
+    yield "pdb_symbolizer symbols 0x1136", error(f"cannot read symbols: {FOLDER}") + "status 2\n"
+    yield "pdb_symbolizer elf 0x1136", error("elf: an ELF file, not a program of Windows") + "status 2\n"
+    unread = error(f"cannot read nowhere.exe: {MISSING}")
+    yield "llvm-symbolizer --output-style=GNU --obj nowhere.exe < 0x401000|1ffffffff", unread + "status 1\n"
+    yield "addr2line -e nowhere.exe 0x401000", unread + "status 1\n"
     yield "pdb_symbolizer --expect-id 6B32B94164959A524C4C44205044422E2 --obj=shapes.pdb 0x1136", error(
         "shapes.pdb: its id is {6B32B941-6495-9A52-4C4C-44205044422E}/1, not {6B32B941-6495-9A52-4C4C-44205044422E}/2") + "status 1\n"
     yield "pdb_symbolizer --dump-syms --obj=nowhere.exe", unread + "status 2\n"
     yield "pdb_symbolizer program.exe 0x1136", error("program.exe: a program (EXE or DLL), not its PDB file") + "status 2\n"
     yield "pdb_symbolizer stripped.pdb 0x1136", error("stripped.pdb: no section headers (stripped)") + "status 1\n"
-    yield "pdb_symbolizer cases.txt 0x1136", error("cases.txt: not a JSON text") + "status 2\n"
+    yield "pdb_symbolizer cases.txt 0x1136", error(f"cases.txt: {NO_FILE}") + "status 2\n"
+    yield "pdb_symbolizer words.json 0x1136", error("words.json: not a JSON text") + "status 2\n"
+    for option, shown, tip in (("--cach-size=3", "--cach-size", ["  tip: a similar argument exists: '--cache-size'", ""]), ("-Z", "-Z", [])):
+        yield f"pdb_symbolizer {option} shapes.pdb", "".join(f"standard error: {line}\n" for line in (
+            f"error: unexpected argument '{shown}' found", "", *tip, "Usage: pdb_symbolizer [OPTIONS] [WORD]...", "",
+            "For more information, try '--help'.")) + "status 2\n"
     yield "pdb_symbolizer --output-style=XML shapes.pdb 0x1136", error("--output-style can't be XML") + "status 2\n"
     yield "pdb_symbolizer --functions=long shapes.pdb 0x1136", error("--functions can't be long") + "status 2\n"
     yield "pdb_symbolizer --inlining=no shapes.pdb 0x1136", error("--inlining can't be no") + "status 2\n"
@@ -291,12 +408,15 @@ def identity_cases():
         f"shapes.pdb {guid}1 1 x86_64\nbroken_parts.pdb 030201000504070608090A0B0C0D0E0F1 1 x86_64\n" + ENDED
     yield "pdb_symbolizer --show-id shapes.pdb program.exe", \
         f"shapes.pdb {guid}1 1 x86_64\n" + error("program.exe: a program (EXE or DLL), not its PDB file") + "status 2\n"
-    for same in (guid + "1", guid.lower() + "01", other + "/1", other.lower() + "/1"):
+    for same in (guid + "1", guid.lower() + "01", other + "/1", other.lower() + "/1", guid, other, guid.lower(), other[1:-1]):
         yield f"pdb_symbolizer -p --expect-id {same} shapes.pdb 0x1136", STACK
     for text, shown in ((guid + "10", other + "/16"), (other + "/2", other + "/2"), ("0" + guid[1:] + "1", "{0B" + other[3:] + "/1")):
         yield f"pdb_symbolizer --expect-id {text} shapes.pdb 0x1136", \
             error(f"shapes.pdb: its id is {other}/1, not {shown}") + "status 1\n"
-    for text in ("zz", guid, guid + "+1", other, other + "/x", guid + "100000000"):
+    for wrong in ("0" + guid[1:], "{0B" + other[3:]):
+        yield f"pdb_symbolizer --expect-id {wrong} shapes.pdb 0x1136", \
+            error(f"shapes.pdb: its id is {other}/1, not " + "{0B" + other[3:]) + "status 1\n"
+    for text in ("zz", guid[1:], guid + "+1", other + "1", other + "/x", guid + "100000000"):
         yield f"pdb_symbolizer --expect-id {text} shapes.pdb 0x1136", error(f"--expect-id can't be {text}") + "status 2\n"
     yield f"pdb_symbolizer --expect-id {guid}1 names.json 1010", error("names.json: not a PDB file") + "status 2\n"
 

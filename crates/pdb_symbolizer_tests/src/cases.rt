@@ -1,13 +1,26 @@
-//! A case: the words of a command line, and the text of standard input.
+//! A case: the words of a command line, an environment variable and the text of standard input.
 
 use std::alloc::{AllocError, Global};
 
 /// What a run is made with.
 #[derive(Drop)]
 pub(crate) struct Case {
+    pub variable: Variable,
     pub words: Vec<String>,
     pub input: String,
 }
+
+/// An environment variable. Without a name it is none.
+#[derive(Drop)]
+pub(crate) struct Variable {
+    pub name: String,
+    pub text: String,
+}
+
+/// What stands between the name of the variable and its text, and behind the text.
+const VARIABLE: &str = "=\"";
+
+const VARIABLE_END: &str = "\" ";
 
 /// What stands between the words and the input of a case.
 const INPUT: &str = " < ";
@@ -18,7 +31,13 @@ const LINE_END: &str = "|";
 /// The case of a line.
 pub(crate) fn case_of(alloc: Global, line: &str) -> Result<Case, AllocError> {
     let (words, input) = line.split_once(INPUT).unwrap_or((line, ""));
+    let (name, rest) = words.split_once(VARIABLE).unwrap_or(("", words));
+    let (text, words) = rest.split_once(VARIABLE_END).unwrap_or(("", rest));
     Ok(Case {
+        variable: Variable {
+            name: String::from_str(alloc, name)?,
+            text: String::from_str(alloc, text)?,
+        },
         words: words_of(alloc, words)?,
         input: input.replace(alloc, LINE_END, "\n")?,
     })

@@ -1,7 +1,8 @@
 //! Runs what `pdb_symbolizer` does over the lines of `cases.txt`, and prints what each run writes.
 //!
-//! A line of `cases.txt` has the words of a command line, and behind ` < ` the lines of standard input, with `|`
-//! between them; or it is `cat FILE`, of a file that a run wrote. Printed are the line behind `$ `, what the run writes
+//! A line of `cases.txt` has the words of a command line, in front of them as `NAME="TEXT"` an environment variable, if
+//! any, and behind ` < ` the lines of standard input, with `|` between them; or it is `cat FILE`, of a file that a run
+//! wrote. Printed are the line behind `$ `, what the run writes
 //! on standard output and, each line behind `standard error: `, on standard error, and a line `status N`.
 //! `write_cases.py` beside the cases says where the wanted texts come from.
 #![tactic(auto)]
@@ -38,6 +39,7 @@ fn main(rt: HostRuntime) -> anyhow::Result<()> {
 fn run_case<R: Files + Print + Clock + AllocGlobal>(rt: &R, case: &Case) -> anyhow::Result<()> {
     let terminal = Terminal {
         rt,
+        variable: &case.variable,
         input: case.input.as_bytes(),
     };
     let status = run_words(&terminal, &mut StatusLine::new(rt, false), &case.words);

@@ -1,19 +1,22 @@
-//! A runtime of which standard error is marked lines of standard output, and standard input is a text.
+//! A runtime with a text as standard input, one environment variable, and standard error as marked lines of output.
 
+use crate::cases::Variable;
 use std::alloc::{Allocator, Global};
+use std::env::FillError;
 use std::fmt::Display;
 use std::fs::{Metadata, OpenOptions};
 use std::io::{self, BufRead, Lines};
-use std::rt::{Clock, Files};
+use std::rt::{Clock, Env, Files};
 use std::time::Duration;
 
 /// What stands before a line of standard error.
 const STANDARD_ERROR: &str = "standard error: ";
 
-/// A runtime, with a text as its standard input.
+/// A runtime, with a text as its standard input and an environment variable.
 #[derive(Clone, Copy)]
 pub(crate) struct Terminal<'a, R> {
     pub rt: &'a R,
+    pub variable: &'a Variable,
     pub input: &'a [u8],
 }
 
@@ -64,6 +67,28 @@ impl<'a, R> Input for Terminal<'a, R> {
 
     fn reader(&self) -> &'a [u8] {
         self.input
+    }
+}
+
+impl<R> Env for Terminal<'_, R> {
+    fn arg(&self, _position: usize, _buffer: &mut [u8]) -> Result<usize, FillError> {
+        Err(FillError::NotPresent)
+    }
+
+    fn var(&self, name: &str, buffer: &mut [u8]) -> Result<usize, FillError> {
+        if name != self.variable.name.as_str() {
+            return Err(FillError::NotPresent);
+        }
+        let text = self.variable.text.as_bytes();
+        if text.len() > buffer.len() {
+            return Err(FillError::TooLong);
+        }
+        buffer[..text.len()].copy_from_slice(text);
+        Ok(text.len())
+    }
+
+    fn var_at(&self, _position: usize, _buffer: &mut [u8]) -> Result<usize, FillError> {
+        Err(FillError::NotPresent)
     }
 }
 

@@ -1,6 +1,6 @@
 #!/bin/sh
 # Builds the program of this folder by clang and lld, with its PDB file, in a scratch folder, and copies
-# the PDB file and what llvm-symbolizer prints of addresses beside this script. No gate runs this.
+# the PDB file and what llvm-symbolizer of LLVM 22 prints of addresses beside this script. No gate runs this.
 set -e
 here=$(cd "$(dirname "$0")" && pwd)
 work=$(mktemp -d)

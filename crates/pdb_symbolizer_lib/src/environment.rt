@@ -1,0 +1,47 @@
+//! The words of a run: those of the environment in front of those of the command line.
+
+use crate::command_line::{Habit, habit_of};
+use crate::response_files::{expand_words, push_words};
+use crate::stops::Stop;
+use std::alloc::Global;
+use std::env::{self, VarError};
+use std::rt::{Env, Files};
+
+/// The words that a run is made with: the program's name, the words of the environment variable that goes with that
+/// name, and those of the command line, with the words of each file that one names.
+pub fn words_of_run<R: Env + Files + AllocGlobal>(
+    rt: &R,
+    words: &[String],
+) -> Result<Vec<String>, Stop> {
+    let mut all = Vec::new(rt.alloc());
+    let (program, words) = words.split_at_checked(1).unwrap_or((&[], words));
+    for name in program {
+        all.push(String::from_str(rt.alloc(), name.as_str())?)?;
+    }
+    push_variable(rt, rt.alloc(), variable_of(program), &mut all)?;
+    expand_words(rt, words, &mut all)?;
+    Ok(all)
+}
+
+// The name of the environment variable for a program of this name.
+fn variable_of(program: &[String]) -> &'static str {
+    match habit_of(program) {
+        Habit::Addr2line => "LLVM_ADDR2LINE_OPTS",
+        _ => "LLVM_SYMBOLIZER_OPTS",
+    }
+}
+
+// Appends the words of an environment variable, if it is there.
+fn push_variable<R: Env + Alloc<A = Global>>(
+    rt: &R,
+    alloc: Global,
+    name: &str,
+    words: &mut Vec<String>,
+) -> Result<(), Stop> {
+    match env::var(rt, name) {
+        Ok(text) => Ok(push_words(alloc, text.as_str(), words)?),
+        Err(VarError::NotPresent) => Ok(()),
+        Err(VarError::OutOfMemory) => Err(Stop::want_of_memory()),
+        Err(VarError::NotUnicode) => Err(Stop::NoText),
+    }
+}

@@ -1,0 +1,37 @@
+//! Files that are none of those that are read, by what they begin with.
+
+use std::fmt;
+
+/// What a file is that is no program of Windows, no PDB file and no records file.
+#[derive(Debug, Clone, Copy, PartialEq, Eq)]
+pub enum ForeignFile {
+    Elf,
+    MachO,
+    Unknown,
+}
+
+impl ForeignFile {
+    /// What a file with these bytes is, unless it begins as a records file does.
+    pub fn of_bytes(bytes: &[u8]) -> Option<ForeignFile> {
+        if bytes.starts_with(b"\x7fELF") {
+            return Some(ForeignFile::Elf);
+        }
+        if bytes.starts_with(b"\xcf\xfa\xed\xfe") || bytes.starts_with(b"\xce\xfa\xed\xfe") {
+            return Some(ForeignFile::MachO);
+        }
+        match bytes.trim_ascii_start().first() {
+            Some(b'{') => None,
+            _ => Some(ForeignFile::Unknown),
+        }
+    }
+}
+
+impl fmt::Display for ForeignFile {
+    fn fmt<W: fmt::Write>(&self, f: &mut fmt::Formatter<W>) -> fmt::Result {
+        f.write_str(match self {
+            ForeignFile::Elf => "an ELF file, not a program of Windows",
+            ForeignFile::MachO => "a Mach-O file, not a program of Windows",
+            ForeignFile::Unknown => "no program (EXE or DLL), PDB file or records file",
+        })
+    }
+}

@@ -1,0 +1,67 @@
+//! What is asked of a file, and what its answers have from beside the context.
+
+use crate::addresses::Origin;
+use crate::input_files::InputFile;
+use crate::module_reader::ModuleReader;
+use crate::options::{FileNaming, Options};
+use crate::requests::{Place, Request, Sort, parse_request};
+use crate::symbol_names::SymbolNames;
+use std::io::{Read, Seek};
+
+/// What is asked, of which file, and what is had from beside the context.
+#[derive(Clone, Copy)]
+pub struct Questions<'q, 'w> {
+    pub options: &'q Options<'w>,
+    /// The file as it was named.
+    pub file: &'q str,
+    pub origin: Origin,
+    pub names: &'q SymbolNames,
+}
+
+impl<'q, 'w> Questions<'q, 'w> {
+    /// What is asked of a file that was opened.
+    pub fn new(
+        options: &'q Options<'w>,
+        file: &'q str,
+        input: &InputFile,
+        names: &'q SymbolNames,
+    ) -> Self {
+        Questions {
+            options,
+            file,
+            origin: Origin::new(options.base, input.image_base, options.adjust),
+            names,
+        }
+    }
+}
+
+impl Questions<'_, '_> {
+    /// The request of a text, which names its file where the command line names none.
+    pub fn request<'t>(&'t self, text: &'t str) -> Request<'t> {
+        let file = match self.options.naming {
+            FileNaming::ByEachLine => None,
+            _ => Some(self.file),
+        };
+        parse_request(text, file, self.options.digits)
+    }
+
+    /// The address of code that a text asks for in the file, relative to where the program is loaded, where it can lie
+    /// there.
+    pub fn address_in(&self, text: &str) -> Option<u32> {
+        let request = self.request(text.trim());
+        match (request.sort, request.place) {
+            (Sort::Code, Place::Address(given)) if request.file == self.file => {
+                self.origin.relative(given)
+            }
+            _ => None,
+        }
+    }
+
+    /// Whether a text asks for code of a module that was not read.
+    pub fn lacks<F: Read + Seek + Drop>(&self, modules: &ModuleReader<F>, text: &str) -> bool {
+        match self.address_in(text) {
+            Some(address) => modules.lacks(address),
+            None => false,
+        }
+    }
+}
