@@ -18,7 +18,7 @@ use Rattle.pdb_addr2line.specs.ContextInputs.{ContextInputs}
 use Rattle.pdb_addr2line.specs.Lookups.{frames_at, frames_of, found_at, records_of}
 use Rattle.pdb_repairs.specs.Repaired.{ModuleOrFault, repaired, repaired_module, repaired_read}
 use Rattle.pdb_repair_laws.proofs.OriginLemmas.{IsAnswer, origin_answered}
-use Rattle.pdb_repair_laws.specs.RecordInfos.{infos_of}
+use Rattle.pdb_known.specs.Known.{infos_of}
 
 -- an answer is one
 is_ok : {A E : Type 0} (result : Result A E) → IsAnswer result → IsOk result

@@ -5,7 +5,7 @@ ghost use Rattle.pdb_records.specs.Records.{Records};
 ghost use Rattle.pdb_repairs.specs.Repaired.{repaired};
 ghost use Rattle.pdb_addr2line.specs.ContextInputs.{ContextInputs};
 ghost use Rattle.pdb_addr2line.specs.Lookups.{frames_at};
-ghost use Rattle.pdb_repair_laws.specs.RecordInfos.{infos_of};
+ghost use Rattle.pdb_known.specs.Known.{infos_of};
 
 /// No frames are refused by a context over repaired records, at whichever address.
 #[tactic(auto, using(crate::proofs::FrameLemmas::no_frames_refused))]

@@ -1,0 +1,12 @@
+pub mod ReadingLemmas
+pub mod EntryLemmas
+pub mod NameLemmas
+pub mod BodyLemmas
+pub mod FoundLemmas
+pub mod AnswerLemmas
+pub mod FailedLemmas
+pub mod ContextLemmas
+pub mod ClosedLemmas
+pub mod KnownLemmas
+pub mod RefusalLemmas
+pub mod AllReadLemmas

@@ -1,0 +1,3 @@
+pub mod SameEntries
+pub mod SameModules
+pub mod Known
