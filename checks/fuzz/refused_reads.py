@@ -5,8 +5,8 @@ and reports every run that ends otherwise than it may.
 Usage: refused_reads.py PROGRAM
 
 The Nth read of a file fails, or finds its end; N goes over all reads of a run. A run may end as wanted, where what was
-refused wasn't needed; or with the status 2 and `cannot read FILE` as the last line on standard error, behind whole
-answers of the first addresses. A file that ends early may also be refused as cut short. Where each read gives few bytes,
+refused wasn't needed; or with the status 2 and `cannot read FILE` as the last line on standard error, with the reason
+where the file is opened, behind whole answers of the first addresses. A file that ends early may also be refused as cut short. Where each read gives few bytes,
 a run has to end as wanted. Behind each case the same questions are asked again.
 """
 import pathlib
@@ -23,7 +23,7 @@ SHORT = (1, 7, 512, 4097)
 MINUTE = 60
 AS_WANTED, AS_SHORT, REFUSED = "as wanted", "as wanted by short reads", "refused behind whole answers"
 # What stands behind the refusal where the file is opened
-REASON = b": Input/output error (os error 5)\n"
+REASONS = (b": Input/output error (os error 5)\n", b": failed to fill whole buffer\n")
 CUT_SHORT = b": the file is cut short before the end of its directory\n"
 
 
@@ -38,13 +38,19 @@ def is_refusal(case, mode, run, wanted):
     """Whether a run was refused for a read, behind whole answers."""
     last = run.stderr.splitlines(keepends=True)[-1:]
     refusal = f"pdb_symbolizer: cannot read {file_of(case)}\n".encode()
-    refused = last and (last[0] in (refusal, refusal[:-1] + REASON) or mode == "END_AT" and last[0].endswith(CUT_SHORT))
+    refusals = (refusal, *(refusal[:-1] + reason for reason in REASONS))
+    refused = last and (last[0] in refusals or mode == "END_AT" and last[0].endswith(CUT_SHORT))
     return refused and run.status == 2 and is_begin_of_answers(run.stdout, wanted.stdout)
 
 
 def file_of(case):
     """The PDB file that the words of a case name, or `None`. Where lines name it, it may be one that can't be opened."""
     return next((word for word in case[1] if word.endswith(".pdb")), None)
+
+
+def shows_sources(case):
+    """Whether lines of source files are wanted, which are left out where they can't be read."""
+    return any(word.startswith("--print-source-context-lines") for word in case[1])
 
 
 def over_case(program, case, library, folder):
@@ -74,7 +80,7 @@ def over_case(program, case, library, folder):
 
 
 def main(program):
-    return sweep(program, [case for case in CASES if file_of(case)], compiled, over_case, (AS_WANTED, AS_SHORT, REFUSED))
+    return sweep(program, [case for case in CASES if file_of(case) and not shows_sources(case)], compiled, over_case, (AS_WANTED, AS_SHORT, REFUSED))
 
 
 if __name__ == "__main__":
