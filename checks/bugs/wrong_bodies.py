@@ -5,8 +5,8 @@ Usage: wrong_bodies.py [CRATE ..]     in the repository; needs `rt`. With no cra
        wrong_bodies.py --count        counts the wrong bodies of each crate, and those that the gate tries
 
 In a copy of the repository the edits in crates/CRATE/wrong-bodies take the place of those in must-fail, and
-`rt must-fail CRATE ..` tries them. It begins with what `rt check` kept on this machine of these crates and of those
-below; where that is nothing, it proves them first. Each edit has a line: whether it was refused at an open goal, at a
+`rt ci CRATE ..` tries them. Proofs of these crates and of those below that an earlier `rt ci` passed on this machine are
+kept, and so are answers to edits; what is missing is proved first. Each edit has a line: whether it was refused at an open goal, at a
 written answer that no longer fits, for a name that a proof file lost, or by a limit of the prover; or was proved; or
 can't be applied or compiled; or wasn't tried. Only the first of these says that the contract catches the wrong body.
 The script fails where an edit was proved, or couldn't be tried.
@@ -21,7 +21,7 @@ import tempfile
 
 ROOT = pathlib.Path(__file__).resolve().parents[2]
 TRIED = re.compile(r"rt: must-fail (\w+/\S+\.edit): (.*)")
-# What `rt must-fail` says of an edit, and what that comes to. The first that fits counts.
+# What `rt ci` says of an edit, and what that comes to. The first that fits counts.
 OUTCOMES = [
     (r"NOT REFUSED", "proved"),
     (r"BAD EDIT", "can't be applied or compiled"),
@@ -70,7 +70,7 @@ def try_all(names):
     counts = collections.Counter()
     with tempfile.TemporaryDirectory(prefix="wrong-bodies-") as room:
         copy_with_wrong_bodies(pathlib.Path(room), names)
-        run = subprocess.Popen(["rt", "must-fail", *names], cwd=room, stdout=subprocess.PIPE, stderr=subprocess.STDOUT,
+        run = subprocess.Popen(["rt", "ci", *names], cwd=room, stdout=subprocess.PIPE, stderr=subprocess.STDOUT,
                                text=True, errors="replace")
         for line in run.stdout:
             tried = TRIED.match(line)
