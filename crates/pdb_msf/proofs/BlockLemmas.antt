@@ -35,3 +35,17 @@ begun known here size blocks before index bytes after start count next same belo
     let none : 0 + size ≡ size = omega arith in
     both_hold _ _ _ known here same is read (λ file pending found.
     rw (found, none, at, append_assoc) (rw (drop_more blocks index 0 below) at pending))
+
+-- with one block more that isn't read yet, the bytes and the run are as many as those before and the blocks so far
+pub one_longer : (size index before bytes run : ℕ) → bytes + run ≡ before + index * size
+    → bytes + (run + size) ≡ before + (index + 1) * size
+one_longer size index before bytes run is =
+    let more : (index + 1) * size ≡ index * size + size = grind arith in
+    omega (arith, more)
+
+-- the same where the run was read
+pub one_begun : (size index before bytes run after : ℕ) → bytes + run ≡ before + index * size → after ≡ bytes + run
+    → after + (0 + size) ≡ before + (index + 1) * size
+one_begun size index before bytes run after is read =
+    let more : (index + 1) * size ≡ index * size + size = grind arith in
+    omega (arith, more)

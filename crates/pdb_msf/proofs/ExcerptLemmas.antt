@@ -63,7 +63,7 @@ stepped count position place first before after some within small so_far wrote =
     rw (more, wrote, head, drop-drop 4 (place + 4 * (position - 1)) before, next, after_x, so_far) refl
 
 -- numbers are listed where there are bytes for them
-listed_all : (count place : ℕ) (bytes : List ℕ) → 4 * count ≤ length bytes - place
+pub listed_all : (count place : ℕ) (bytes : List ℕ) → 4 * count ≤ length bytes - place
     → listed count (drop place bytes) ≡ Ok (numbers count (drop place bytes))
 unfolding listed
 listed_all count place bytes room =

@@ -75,7 +75,7 @@ listed_of_taken count bytes =
     rw (few_of_front (4 * count) bytes, numbers_of_taken count bytes) refl
 
 -- numbers aren't listed where the file ends before so many
-listed_of_few : (place count file_length : ℕ) (file : List ℕ) → length file ≡ file_length
+pub listed_of_few : (place count file_length : ℕ) (file : List ℕ) → length file ≡ file_length
     → file_length - place < 4 * count → listed count (drop place file) ≡ Err CUT
 unfolding listed
 listed_of_few place count file_length file long few =

@@ -1,6 +1,7 @@
 pub mod Bytes
 pub mod ContainerFault
 pub mod Directory
+pub mod Excerpts
 pub mod Faults
 pub mod ItemLists
 pub mod Msf

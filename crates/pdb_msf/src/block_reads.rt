@@ -92,6 +92,10 @@ pub fn append_blocks<S: Source>(
     requires { grid.block_size ≤ 32768 }
     ensures answer { OnOk result (IfSome (S.bytes source.old) (λ file.
         bytes.new.items ≡ bytes.old.items ++ in_order grid.block_size file blocks.now)) }
+    ensures begins { take (length bytes.old.items) bytes.new.items ≡ bytes.old.items }
+    ensures length { OnOk result (length bytes.new.items
+        ≡ length bytes.old.items + length blocks.now * grid.block_size) }
+    ensures most { length bytes.new.items ≤ length bytes.old.items + length blocks.now * grid.block_size }
     ensures refused { IfErr result (λ fault. fault ≡ SourceFault.Unreadable
         → S.refuses_from source.old ≤ blocks_end grid.block_size blocks.now) }
     ensures inputs { S.bytes source.new ≡ S.bytes source.old }
@@ -120,6 +124,9 @@ pub(crate) fn append_run<S: Source>(
 ) -> Result<(), SourceFault>
     ensures answer { OnOk result (IfSome (S.bytes source.old) (λ file.
         bytes.new.items ≡ bytes.old.items ++ take run.length (drop run.start file))) }
+    ensures begins { take (length bytes.old.items) bytes.new.items ≡ bytes.old.items }
+    ensures length { OnOk result (length bytes.new.items ≡ length bytes.old.items + run.length) }
+    ensures most { length bytes.new.items ≤ length bytes.old.items + run.length }
     ensures refused { IfErr result (λ fault. fault ≡ SourceFault.Unreadable
         → S.refuses_from source.old ≤ run.start + run.length) }
     ensures inputs { S.bytes source.new ≡ S.bytes source.old }

@@ -1,8 +1,9 @@
 //! Some streams of a file that is read range by range, in memory as a container of their own.
 
-ghost use Rattle.std.specs.Prelude.{◌≡◌, ◌≤◌, ◌<◌, ◌+◌, ◌-◌, ◌*◌, ◌^◌, ◌++◌, ℕ, drop, length, IfErr};
-ghost use Rattle.std.specs.Prelude.{IfOk, OnOk};
+ghost use Rattle.std.specs.Prelude.{◌≡◌, ◌≢◌, ◌≤◌, ◌<◌, ◌+◌, ◌-◌, ◌*◌, ◌^◌, ◌++◌, ℕ, drop, length, take};
+ghost use Rattle.std.specs.Prelude.{IfErr, IfOk, OnErr, OnOk};
 ghost use Rattle.byteorder.specs.Endian.{little_bytes};
+ghost use Rattle.pdb_msf.specs.Excerpts.{HoldsBlocks, no_block, number_at};
 ghost use Rattle.pdb_msf.specs.Msf.{stream_of};
 ghost use Rattle.pdb_msf.specs.NumberLists.{numbers};
 ghost use Rattle.pdb_msf.specs.StreamMap.{IfFile, IsExcerptOf, following, stream_at, with_bytes};
@@ -33,6 +34,7 @@ pub struct Excerpt {
 impl Model for Excerpt {
     ghost use Rattle.std.specs.Prelude.{◌≡◌, ◌≤◌, ◌+◌, ◌*◌, length, map};
     ghost use Rattle.pdb_msf.specs.Directory.{extents};
+    ghost use Rattle.pdb_msf.specs.Excerpts.{HoldsBlocks};
     ghost use Rattle.pdb_msf.specs.Msf.{Msf};
 
     ghost Value = { Msf };
@@ -49,6 +51,7 @@ impl Model for Excerpt {
       most : e.block_size ≤ 32768;
       listed : e.streams.items ≡ extents e.block_size (4 + 4 * length e.streams.items)
           (map (λ stream. stream.size) e.streams.items);
+      held : HoldsBlocks e.block_size e.blocks.items e.directory.items (1 + length e.streams.items);
     } };
 }
 
@@ -59,10 +62,7 @@ impl Excerpt {
     {
         let streams = Vec::from_slice(alloc, &map.streams)?;
         let mut directory = Vec::from_slice(alloc, &map.directory)?;
-        let front = 4_usize.saturating_add(4_usize.saturating_mul(streams.len()));
-        if front < directory.len() {
-            directory[front..].fill(0xff);
-        }
+        number_none(&mut directory, streams.len());
         Ok(Excerpt {
             blocks: Vec::new(alloc),
             block_size: map.grid.block_size,
@@ -71,7 +71,8 @@ impl Excerpt {
         })
     }
 
-    /// Adds the bytes of the stream of this number. One that can't be read is broken in the excerpt as in the file.
+    /// Adds the bytes of the stream of this number. One that can't be read is broken in the excerpt as in the file. All
+    /// other streams stay as they were.
     pub fn add<S: Source>(
         &mut self,
         alloc: Global,
@@ -82,6 +83,8 @@ impl Excerpt {
         ensures answer { OnOk result (IsExcerptOf self.old map.now
             → IfFile (S.bytes source.old) map.now.file_length (λ file.
             stream_of self.new number ≡ stream_of (with_bytes file map.now) number)) }
+        ensures others { OnOk result (IsExcerptOf self.old map.now → (other : ℕ) → other ≢ number
+            → stream_of self.new other ≡ stream_of self.old other) }
         ensures kept { IsExcerptOf self.old map.now → IsExcerptOf self.new map.now }
         ensures refused { IfErr result (λ fault. fault ≡ SourceFault.Unreadable
             → S.refuses_from source.old ≤ map.now.file_length) }
@@ -94,15 +97,13 @@ impl Excerpt {
         let Ok(numbers) = part_of_source(map.numbers(alloc, extent))? else {
             return Ok(());
         };
+        // The blocks of the excerpt's file have its own size.
+        let grid = BlockGrid {
+            block_size: self.block_size,
+            ..map.grid
+        };
         let (blocks, directory) = (&mut self.blocks, &mut self.directory);
-        append_numbered(
-            source,
-            map.grid,
-            &numbers,
-            blocks,
-            directory,
-            extent.numbers,
-        )?;
+        append_numbered(source, grid, &numbers, blocks, directory, extent.numbers)?;
         Ok(())
     }
 
@@ -117,6 +118,18 @@ impl Excerpt {
             directory: StreamBytes::InPlace(&self.directory),
             streams,
         })
+    }
+}
+
+// Numbers no block behind the sizes of so many streams.
+fn number_none(directory: &mut [u8], streams: usize)
+    ensures none { (place : ℕ) → streams < place → 4 * place + 4 ≤ length directory.new
+        → number_at directory.new place ≡ no_block }
+    ensures length { length directory.new ≡ length directory.old }
+{
+    let front = 4_usize.saturating_add(4_usize.saturating_mul(streams));
+    if front < directory.len() {
+        directory[front..].fill(0xff);
     }
 }
 
@@ -136,6 +149,13 @@ fn append_numbered<S: Source>(
         → IfFile (S.bytes source.old) grid.file_length (λ file. (size : ℕ)
         → stream_at grid.block_size blocks.new.items directory.new place (length numbers.now) size
         ≡ stream_inside grid.block_size file size numbers.now)) }
+    ensures held { (row front : ℕ) → place ≡ 4 * row
+        → HoldsBlocks grid.block_size blocks.old.items directory.old front
+        → HoldsBlocks grid.block_size blocks.new.items directory.new front }
+    ensures begins { take (length blocks.old.items) blocks.new.items ≡ blocks.old.items }
+    ensures before { take place directory.new ≡ take place directory.old }
+    ensures behind { drop (place + 4 * length numbers.now) directory.new
+        ≡ drop (place + 4 * length numbers.now) directory.old }
     ensures length { length directory.new ≡ length directory.old }
     ensures refused { IfErr result (λ fault. fault ≡ SourceFault.Unreadable
         → S.refuses_from source.old ≤ grid.file_length) }
@@ -163,6 +183,8 @@ fn fill_up(blocks: &mut Vec<u8>, block_size: usize, count: usize) -> Result<usiz
     requires most { block_size ≤ 32768 }
     ensures whole { IfOk result (λ first. length blocks.new.items ≡ first * block_size) }
     ensures few { IfOk result (λ first. first + count < 2 ^ 32) }
+    ensures begins { take (length blocks.old.items) blocks.new.items ≡ blocks.old.items }
+    ensures unchanged { OnErr result (blocks.new.items ≡ blocks.old.items) }
     ensures memory { IfErr result (λ fault. fault ≡ SourceFault.OutOfMemory) }
 {
     let first = blocks.len().div_ceil(block_size);
@@ -178,6 +200,8 @@ fn write_numbers(directory: &mut [u8], place: usize, first: usize, count: usize)
     requires room { 4 * count ≤ length directory.old - place }
     requires small { first + count ≤ 2 ^ 32 }
     ensures answer { numbers count (drop place directory.new) ≡ following first count }
+    ensures before { take place directory.new ≡ take place directory.old }
+    ensures behind { drop (place + 4 * count) directory.new ≡ drop (place + 4 * count) directory.old }
     ensures length { length directory.new ≡ length directory.old }
 {
     for position in (0..count).rev() {
@@ -189,6 +213,7 @@ fn write_numbers(directory: &mut [u8], place: usize, first: usize, count: usize)
 fn write_number(directory: &mut [u8], place: usize, number: u32)
     requires { place + 4 ≤ length directory.old }
     ensures answer { drop place directory.new ≡ little_bytes 4 number ++ drop 4 (drop place directory.old) }
+    ensures before { take place directory.new ≡ take place directory.old }
     ensures length { length directory.new ≡ length directory.old }
 {
     LittleEndian::write_u32(&mut directory[place..], number);
