@@ -48,7 +48,8 @@ def definitions(path):
         name = name_of(line)
         if name and name not in found:
             found[name] = comment_above(lines, at)
-    return lines[0][3:] if lines[0].startswith("-- ") else "", found
+    first_code = next((at for at, line in enumerate(lines) if not line.startswith("-- ")), len(lines))
+    return comment_above(lines, first_code), found
 
 
 def order_of(folder):

@@ -105,11 +105,11 @@ impl<'p> ContextPdbData<'p> {
         ensures answer { IfOk result (λ d. d ≡ pdb.old) }
         ensures refused { Refuses result (records_refusal pdb.old) }
     {
-        ContextPdbData::over(alloc, shared(pdb))
+        ContextPdbData::try_from_shared_pdb(alloc, shared(pdb))
     }
 
-    // Holds a reference to records that are only read.
-    fn over(alloc: Global, pdb: &'p PDB) -> Result<Self>
+    /// Holds a shared reference to these records, under the conditions of [`ContextPdbData::try_from_pdb`].
+    pub fn try_from_shared_pdb(alloc: Global, pdb: &'p PDB) -> Result<Self>
         ensures answer { IfOk result (λ d. d ≡ pdb.now) }
         ensures refused { Refuses result (records_refusal pdb.now) }
     {

@@ -1,7 +1,6 @@
 mod DebugExamples
 pub mod DebugLemmas
 pub mod FeatureLemmas
-pub mod FrontStreamLemmas
 mod InfoExamples
 pub mod InfoLemmas
 mod ModuleExamples

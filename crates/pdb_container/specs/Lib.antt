@@ -1,11 +1,10 @@
 pub mod DebugRecords
+pub mod Front
 pub mod Functions
 pub mod Identity
 pub mod Info
 pub mod ModulePlaces
-pub mod ModuleSource
 pub mod Modules
-pub mod Reader
 pub mod Records
 pub mod Refusals
 pub mod Strings

@@ -4,7 +4,7 @@ ghost use Rattle.std.specs.Prelude.{◌≡◌, IfErr, IfOk};
 ghost use Rattle.pdb_container.specs.DebugRecords.{address_map, debug_information, global_symbols, sections};
 ghost use Rattle.pdb_container.specs.DebugRecords.{streams_of_modules, tabled};
 ghost use Rattle.pdb_container.specs.ModulePlaces.{places_within};
-ghost use Rattle.pdb_container.specs.Reader.{HasFront, SameFront};
+ghost use Rattle.pdb_container.specs.Front.{HasFront};
 ghost use Rattle.pdb_msf.specs.Msf.{stream_of};
 ghost use Rattle.pdb_records.specs.Sections.{listed};
 
@@ -12,9 +12,6 @@ use crate::debug_records::{DebugRecords, debug_records};
 use crate::info::InfoStream;
 use crate::module_places::{ModuleInfoResult, ModulePlace, module_places};
 use crate::records::read_texts;
-use crate::type_lists::{
-    ItemList, PlacesOrFault, TypeLists, first_items, from_memory, id_list, type_list,
-};
 use pdb_msf::faults::{Fault, part_or_fault};
 use pdb_msf::{Container, nothing_read};
 use pdb_records::{ItemInformation, PDB};
@@ -84,54 +81,6 @@ fn records_without_modules(
         string_table,
         module_infos,
     })
-}
-
-/// These lists of types and ids of a file. Puts into the records what they have without any of a stream.
-pub fn first_lists(
-    alloc: Global,
-    records: &mut PDB,
-    types: PlacesOrFault,
-    ids: PlacesOrFault,
-) -> Result<TypeLists, Fault>
-    ensures front { SameFront records.old records.new }
-    ensures memory { IfErr result (λ fault. fault ≡ Fault.OutOfMemory) }
-{
-    records.type_information = first_items(alloc, &types)?;
-    records.id_information = first_items(alloc, &ids)?;
-    Ok(TypeLists {
-        types: ItemList::new(alloc, types),
-        ids: ItemList::new(alloc, ids),
-    })
-}
-
-/// The types of a container.
-pub fn types_of(alloc: Global, container: &Container<'_>) -> Result<PlacesOrFault, Fault>
-    ensures memory { IfErr result (λ fault. fault ≡ Fault.OutOfMemory) }
-{
-    let blocks = part_or_fault(container.blocks(alloc, TYPES))?;
-    from_memory(type_list(alloc, &mut container.file(), blocks))
-}
-
-/// The ids of a container, where the file lists that it has ids.
-pub fn ids_of(
-    alloc: Global,
-    container: &Container<'_>,
-    info: &InfoStream<'_>,
-) -> Result<PlacesOrFault, Fault>
-    ensures memory { IfErr result (λ fault. fault ≡ Fault.OutOfMemory) }
-{
-    if !info.features().ids {
-        return Ok(Ok(None));
-    }
-    let blocks = part_or_fault(container.blocks(alloc, IDS))?;
-    from_memory(id_list(alloc, &mut container.file(), blocks))
-}
-
-/// Of so many modules that none was read.
-pub fn unread(alloc: Global, count: usize) -> Result<Vec<bool>, AllocError> {
-    let mut read = Vec::new(alloc);
-    read.resize(count, false)?;
-    Ok(read)
 }
 
 // So many modules of which nothing is known.

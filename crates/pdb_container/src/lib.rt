@@ -7,31 +7,23 @@
 
 mod debug_records;
 mod front;
-mod front_streams;
 mod functions;
 mod identity;
-mod imports;
 mod info;
 mod module_infos;
 mod module_places;
-mod module_source;
 mod modules;
-mod reach;
-mod reader;
+pub mod parts;
 mod records;
 mod refusals;
 mod strings;
-mod type_lists;
 mod unnamed_code;
 
-pub use front_streams::FrontStreams;
 pub use identity::{PdbIdentity, read_identity, read_identity_of};
-pub use module_source::{ModuleSource, SourceModules};
 pub use pdb_identity::{CompactDebugId, DebugId, Machine};
 pub use pdb_msf::{
     Container, ContainerFault, Excerpt, OpenFault, Source, SourceFault, StreamMap, Unreadable,
     faults, other_file,
 };
-pub use reader::PdbReader;
 pub use records::{PdbFile, read_pdb, read_pdb_file};
 pub use refusals::Refusal;

@@ -1,17 +1,16 @@
 //! What is known of each module of a file, with names for code without one.
 
-ghost use Rattle.std.specs.Prelude.{◌≡◌, length, IfErr, IfOk, OnOk};
+ghost use Rattle.std.specs.Prelude.{◌≡◌, IfErr, IfOk};
 ghost use Rattle.pdb_container.specs.DebugRecords.{global_symbols, module_infos, streams_of_modules, tabled};
 ghost use Rattle.pdb_container.specs.ModulePlaces.{modules_read};
-ghost use Rattle.pdb_container.specs.Reader.{SameFront};
 
 use crate::module_places::{ModuleInfoResult, module_places, read_module_info};
-use crate::unnamed_code::{has_unnamed_code, name_unnamed_code};
+use crate::unnamed_code::name_unnamed_code;
 use pdb_dbi::ModuleStream;
 use pdb_msf::Container;
 use pdb_msf::faults::Fault;
-use pdb_records::{PDB, StreamError, SymbolTable};
-use std::alloc::{AllocError, Global};
+use pdb_records::{StreamError, SymbolTable};
+use std::alloc::Global;
 
 /// What is known of each module of a container, of which the symbols of the whole program were read.
 #[tactic(auto, unfolding(crate::specs::DebugRecords::module_infos))]
@@ -47,43 +46,4 @@ fn read_modules(
         infos.push(read_module_info(alloc, container, *place)?)?;
     }
     Ok(infos)
-}
-
-/// Names code without a name in modules that were all read, where names may take so many bytes.
-pub fn name_all(alloc: Global, records: &mut PDB, room: usize) -> Result<(), AllocError>
-    ensures front { SameFront records.old records.new }
-    ensures count { OnOk result (length records.new.module_infos ≡ length records.old.module_infos) }
-{
-    match name_unnamed_code(
-        alloc,
-        &mut records.module_infos,
-        &records.global_symbols,
-        room,
-    ) {
-        Ok(()) => Ok(()),
-        Err(_) => Err(AllocError),
-    }
-}
-
-/// Whether one of these modules has code without a name, whose function any module may list.
-pub fn any_has_unnamed_code(
-    alloc: Global,
-    infos: &[ModuleInfoResult],
-    positions: &[usize],
-) -> Result<bool, AllocError> {
-    for &position in positions {
-        if let Some(Ok(Some(info))) = infos.get(position)
-            && has_unnamed_code(alloc, &info.symbols.items)?
-        {
-            return Ok(true);
-        }
-    }
-    Ok(false)
-}
-
-/// Puts what is known of a module at its position.
-pub fn put_info(infos: &mut [ModuleInfoResult], position: usize, info: ModuleInfoResult) {
-    if position < infos.len() {
-        infos[position] = info;
-    }
 }

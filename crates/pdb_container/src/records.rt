@@ -1,6 +1,6 @@
 //! All records of a PDB file: which streams are read, and which failed.
 
-ghost use Rattle.std.specs.Prelude.{◌≡◌, IfErr, IfOk, option_map};
+ghost use Rattle.std.specs.Prelude.{◌≡◌, Ok, IfErr, IfOk, option_map};
 ghost use Rattle.pdb_container.specs.DebugRecords.{of_file};
 ghost use Rattle.pdb_container.specs.Records.{has_names_only, records, records_of, refusal_in};
 ghost use Rattle.pdb_container.specs.Refusals.{reason_of};
@@ -15,9 +15,8 @@ use crate::info::InfoStream;
 use crate::module_infos::module_infos;
 use crate::refusals::{Refusal, refusal_of};
 use crate::strings::read_strings;
-use crate::type_lists::from_memory;
 use pdb_msf::faults::{Fault, NO_STREAM, part_or_fault};
-use pdb_msf::{Container, ContainerFault};
+use pdb_msf::{Container, ContainerFault, SourceFault};
 use pdb_records::{IdInformation, PDB, StringTable, TypeInformation};
 use pdb_tpi::{no_ids, read_items};
 use std::alloc::Global;
@@ -136,5 +135,16 @@ fn id_information(
         Ok(blocks) => Ok(from_memory(read_items(alloc, &mut container.file(), blocks))??),
         Err(NO_STREAM) => Ok(no_ids(alloc)),
         Err(error) => Err(Fault::Broken(error)),
+    }
+}
+
+// What is read from memory, all of which can be read.
+fn from_memory<T>(outcome: Result<T, SourceFault>) -> Result<T, Fault>
+    ensures answer { IfOk result (λ value. outcome ≡ Ok value) }
+    ensures memory { IfErr result (λ fault. fault ≡ Fault.OutOfMemory) }
+{
+    match outcome {
+        Ok(value) => Ok(value),
+        Err(_) => Err(Fault::OutOfMemory),
     }
 }

@@ -3,7 +3,7 @@
 //! Further chunks of a function and the jumps of incremental links: each jump, and each chunk that the list has
 //! elsewhere than behind its function, becomes such a procedure.
 
-ghost use Rattle.std.specs.Prelude.{◌≡◌, ◌++◌, ℕ, List, None, IfErr, IfOk, OnOk};
+ghost use Rattle.std.specs.Prelude.{◌≡◌, ◌++◌, ◌==◌, not, ℕ, List, None, length, IfErr, IfOk, OnOk};
 ghost use Rattle.std.specs.BTreeMap.{get};
 ghost use Rattle.std.specs.Option.{option_copied, option_or};
 ghost use Rattle.std.specs.Ordering.{nat_cmp};
@@ -181,7 +181,9 @@ fn own_function<'m>(
 }
 
 /// Whether a module's symbols have code without a name, whose function other modules may list.
-pub fn has_unnamed_code(alloc: Global, symbols: &[Symbol]) -> Result<bool, AllocError> {
+pub fn has_unnamed_code(alloc: Global, symbols: &[Symbol]) -> Result<bool, AllocError>
+    ensures { IfOk result (λ has. has ≡ not (length (apart_from 0 None symbols.now) == 0)) }
+{
     let apart = list_apart_code(alloc, symbols)?;
     Ok(!apart.is_empty())
 }

@@ -1,17 +1,17 @@
 //! Reads the PDB files that its words name, and writes the records of each, or why nothing can be answered.
 //!
-//! What of a file is broken is written too, and whether a reader of single modules that reads all of them comes to
-//! other records. `data/write_files.py` writes the files, by their bytes, and what is wanted of them. A records file in the
-//! writer's own form comes out as it went in.
+//! What of a file is broken is written too, and whether a session that reads all of the file comes to other records.
+//! `data/write_files.py` writes the files, by their bytes, and what is wanted of them. A records file in the writer's
+//! own form comes out as it went in.
 #![tactic(auto)]
 
 use anyhow::Result;
-use pdb_container::{
-    Container, FrontStreams, PdbFile, PdbReader, SourceModules, StreamMap, read_pdb_file,
-};
+use pdb_container::{PdbFile, Refusal, read_pdb_file};
 use pdb_export::write_records;
 use pdb_json::read_records;
+use pdb_records::PDB;
 use pdb_repairs::repair_records;
+use pdb_session::{PdbSession, SessionFault};
 use std::alloc::Global;
 use std::rt::Files;
 use std::{env, fs, io};
@@ -40,16 +40,7 @@ fn show<R: Files + Print + AllocGlobal>(rt: &R, name: &str) -> Result<()> {
     println!(rt; "{name}")?;
     let bytes = fs::read(rt, name)?;
     match read_pdb_file(rt.alloc(), &bytes) {
-        Ok(mut file) => {
-            let text = Some(records_text(rt.alloc(), &file)?);
-            if read_in_memory(rt.alloc(), &bytes)? != text {
-                println!(rt; "other records by a reader of the bytes")?;
-            }
-            if read_by_ranges(rt.alloc(), &bytes)? != text {
-                println!(rt; "other records by a reader of ranges")?;
-            }
-            show_file(rt, &mut file)
-        }
+        Ok(mut file) => show_file(rt, &bytes, &mut file),
         Err(fault) => {
             println!(rt; "{fault}")?;
             Ok(())
@@ -57,14 +48,23 @@ fn show<R: Files + Print + AllocGlobal>(rt: &R, name: &str) -> Result<()> {
     }
 }
 
-/// Writes why nothing can be answered over a file, or what its records are.
-fn show_file<R: Print + AllocGlobal>(rt: &R, file: &mut PdbFile) -> Result<()> {
+/// Writes why nothing can be answered over a file, or what its records are, and whether a session says something else.
+fn show_file<R: Print + AllocGlobal>(rt: &R, bytes: &[u8], file: &mut PdbFile) -> Result<()> {
     if file.names_only {
         println!(rt; "names only")?;
     }
-    match file.refusal {
-        Some(refusal) => println!(rt; "{refusal}")?,
-        None => show_records(rt, file)?,
+    let alone = match file.refusal {
+        Some(refusal) => {
+            println!(rt; "{refusal}")?;
+            Reading::Refused(refusal)
+        }
+        None => {
+            show_records(rt, file)?;
+            Reading::Records(records_text(rt.alloc(), &file.records)?)
+        }
+    };
+    if read_by_session(rt.alloc(), bytes)? != Some(alone) {
+        println!(rt; "a session reads something else")?;
     }
     Ok(())
 }
@@ -78,42 +78,31 @@ fn show_records<R: Print + AllocGlobal>(rt: &R, file: &mut PdbFile) -> Result<()
     Ok(())
 }
 
+/// What a file has: records, as they are written, or why nothing can be answered over them.
+#[derive(PartialEq, Eq, Drop)]
+enum Reading {
+    Refused(Refusal),
+    Records(Vec<u8>),
+}
+
 /// The records as they are written.
-fn records_text(alloc: Global, file: &PdbFile) -> Result<Vec<u8>> {
+fn records_text(alloc: Global, records: &PDB) -> Result<Vec<u8>> {
     let mut text = Vec::new(alloc);
-    write_records(alloc, &mut text, &file.records, &[])?;
+    write_records(alloc, &mut text, records, &[])?;
     Ok(text)
 }
 
-/// The records by a reader that has the file's bytes, `None` where there are none.
-fn read_in_memory(alloc: Global, bytes: &[u8]) -> Result<Option<Vec<u8>>> {
-    let Ok(mut container) = Container::open(alloc, bytes) else {
-        return Ok(None);
-    };
-    let Ok((mut reader, mut file)) = PdbReader::open(alloc, &container) else {
-        return Ok(None);
-    };
-    match reader.read_all(alloc, &mut container, &mut file.records) {
-        Ok(_) => Ok(Some(records_text(alloc, &file)?)),
-        Err(_) => Ok(None),
-    }
-}
-
-/// The records by a reader that reads ranges of the file, `None` where there are none.
-fn read_by_ranges(alloc: Global, mut bytes: &[u8]) -> Result<Option<Vec<u8>>> {
-    let length = bytes.len();
-    let Ok(map) = StreamMap::read(alloc, &mut bytes, length) else {
-        return Ok(None);
-    };
-    let Ok(streams) = FrontStreams::read(alloc, &map, &mut bytes) else {
-        return Ok(None);
-    };
-    let Ok((mut reader, mut file)) = PdbReader::open_front(alloc, streams) else {
-        return Ok(None);
-    };
-    let mut modules = SourceModules { map, source: bytes };
-    match reader.read_all(alloc, &mut modules, &mut file.records) {
-        Ok(_) => Ok(Some(records_text(alloc, &file)?)),
+/// What a session has that read all of a file, range by range. `None` where the file can't be read.
+fn read_by_session(alloc: Global, bytes: &[u8]) -> Result<Option<Reading>> {
+    match PdbSession::open(alloc, bytes, bytes.len()) {
+        Ok(mut opened) => match opened.session.read_all() {
+            Ok(_) => {
+                let text = records_text(alloc, opened.session.records())?;
+                Ok(Some(Reading::Records(text)))
+            }
+            Err(_) => Ok(None),
+        },
+        Err(SessionFault::Refused(refusal)) => Ok(Some(Reading::Refused(refusal))),
         Err(_) => Ok(None),
     }
 }

@@ -1,4 +1,5 @@
 pub mod LongerFileLemmas
 pub mod ModuleLemmas
 pub mod MoreBytesLemmas
+pub mod SameFrontLemmas
 pub mod SameStreamLemmas

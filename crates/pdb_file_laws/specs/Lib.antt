@@ -1,2 +1,3 @@
 pub mod ModulesAlone
+pub mod SameFronts
 pub mod SameStreams

@@ -3,5 +3,6 @@
 //! Each function here does nothing. Its contract is a law, for all files, and the check proves it.
 #![tactic(auto)]
 
+pub mod fronts;
 pub mod modules;
 pub mod streams;

@@ -10,3 +10,4 @@ pub mod ClosedLemmas
 pub mod KnownLemmas
 pub mod RefusalLemmas
 pub mod AllReadLemmas
+pub mod StrictlyClosedLemmas

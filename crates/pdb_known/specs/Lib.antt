@@ -1,3 +1,4 @@
 pub mod SameEntries
 pub mod SameModules
 pub mod Known
+pub mod StrictlyClosed

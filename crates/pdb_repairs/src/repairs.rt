@@ -90,6 +90,7 @@ pub fn repair_modules(
     ensures modules { OnOk result ((position : ℕ) → slice_get records.new.module_infos position
         ≡ repaired_where positions.now records.old.module_infos position) }
     ensures answer { IfOk result (λ v. v.items ≡ repairs_of_each positions.now records.old.module_infos) }
+    ensures rest { record records.new { module_infos = records.old.module_infos } ≡ records.old }
 {
     let mut repairs = Vec::new(alloc);
     repair_each(alloc, &mut records.module_infos, positions, &mut repairs)?;

@@ -1,19 +1,16 @@
 //! Answers over a file: it is opened, and a context over its records answers words or lines.
 
-use crate::frame_answers::{FileContext, request_text};
-use crate::input_files::InputFile;
+use crate::frame_answers::request_text;
 use crate::line_queue::LineQueue;
-use crate::module_reader::ModuleReader;
+use crate::opened_files::{OpenedFile, open_file};
 use crate::options::{FileNaming, Options, Style};
-use crate::pdb_modules::PdbModules;
 use crate::questions::Questions;
-use crate::repaired_files::open_asked;
 use crate::run_state::RunState;
 use crate::status_line::StatusLine;
 use crate::stops::Stop;
 use crate::symbol_names::SymbolNames;
 use crate::unopened_files::end_unopened;
-use pdb_addr2line::ContextPdbData;
+use pdb_session::{SessionContext, SessionData};
 use std::alloc::{AllocError, Global};
 use std::io::{self, Read, Seek, Write};
 use std::rt::Files;
@@ -25,8 +22,8 @@ pub fn answer_file<R: Files + Input + Print + Eprint + AllocGlobal>(
     options: &Options<'_>,
     path: &str,
 ) -> Result<(), Stop> {
-    match open_asked(rt, status_line, options, path) {
-        Ok((mut input, reader)) => answer_over(rt, options, path, &mut input, reader),
+    match open_file(rt, status_line, options, path) {
+        Ok(mut input) => answer_over(rt, options, path, &mut input),
         Err(cause) if options.naming == FileNaming::ByOption && !cause.is_want_of_memory() => {
             end_unopened(rt, options, path, &cause)?;
             Err(Stop::Unopened)
@@ -39,17 +36,15 @@ fn answer_over<R: Files + Input + Print + Eprint + AllocGlobal, F: Read + Seek +
     rt: &R,
     options: &Options<'_>,
     path: &str,
-    input: &mut InputFile,
-    reader: Option<PdbModules<F>>,
+    input: &mut OpenedFile<F>,
 ) -> Result<(), Stop> {
-    let names = SymbolNames::for_answers(rt.alloc(), options, &input.records)?;
+    let names = SymbolNames::for_answers(rt.alloc(), options, input.records())?;
     let questions = Questions::new(options, path, input, &names);
     let mut state = RunState::new(rt.alloc());
-    let mut modules = ModuleReader::new(rt.alloc(), reader, &input.records)?;
     if options.addresses.is_empty() {
-        answer_input(rt, &questions, &mut state, input, &mut modules)
+        answer_input(rt, &questions, &mut state, input)
     } else {
-        answer_words(rt, &questions, &mut state, input, &mut modules)
+        answer_words(rt, &questions, &mut state, input)
     }
 }
 
@@ -58,13 +53,12 @@ fn answer_words<R: Files + Print + Eprint + AllocGlobal, F: Read + Seek + Drop>(
     rt: &R,
     questions: &Questions<'_, '_>,
     state: &mut RunState,
-    input: &mut InputFile,
-    modules: &mut ModuleReader<F>,
+    input: &mut OpenedFile<F>,
 ) -> Result<(), Stop> {
     let addresses = addresses_of_words(rt.alloc(), questions)?;
-    modules.read(rt, input.path.as_str(), &mut input.records, &addresses)?;
-    let data = ContextPdbData::try_from_pdb_ref(rt.alloc(), &mut input.records)?;
-    let mut context = data.make_context_with_formatter_flags(questions.options.flags())?;
+    input.read_for(rt, &addresses)?;
+    let data = input.session.data()?;
+    let mut context = data.context(questions.options.flags())?;
     print_words(rt, questions, &data, &mut context, state)
 }
 
@@ -85,8 +79,8 @@ fn addresses_of_words(
 fn print_words<R: Files + Print + Eprint + AllocGlobal>(
     rt: &R,
     questions: &Questions<'_, '_>,
-    data: &ContextPdbData<'_>,
-    context: &mut FileContext<'_, '_>,
+    data: &SessionData<'_>,
+    context: &mut SessionContext<'_, '_>,
     state: &mut RunState,
 ) -> Result<(), Stop> {
     let json = questions.options.style == Style::Json;
@@ -111,14 +105,13 @@ fn answer_input<R: Files + Input + Print + Eprint + AllocGlobal, F: Read + Seek 
     rt: &R,
     questions: &Questions<'_, '_>,
     state: &mut RunState,
-    input: &mut InputFile,
-    modules: &mut ModuleReader<F>,
+    input: &mut OpenedFile<F>,
 ) -> Result<(), Stop> {
     let mut queue = LineQueue::new(rt.alloc(), rt.reader())?;
     for _ in 0..u64::MAX {
         let addresses = addresses_of_lines(rt.alloc(), questions, &queue)?;
-        modules.read(rt, input.path.as_str(), &mut input.records, &addresses)?;
-        answer_lines(rt, questions, state, input, modules, &mut queue)?;
+        input.read_for(rt, &addresses)?;
+        answer_lines(rt, questions, state, input, &mut queue)?;
         if queue.first().is_none() {
             break;
         }
@@ -146,15 +139,14 @@ fn answer_lines<R: Files + Print + Eprint + AllocGlobal, F: Read + Seek + Drop, 
     rt: &R,
     questions: &Questions<'_, '_>,
     state: &mut RunState,
-    input: &mut InputFile,
-    modules: &ModuleReader<F>,
+    input: &OpenedFile<F>,
     queue: &mut LineQueue<T>,
 ) -> Result<(), Stop> {
-    let data = ContextPdbData::try_from_pdb_ref(rt.alloc(), &mut input.records)?;
-    let mut context = data.make_context_with_formatter_flags(questions.options.flags())?;
+    let data = input.session.data()?;
+    let mut context = data.context(questions.options.flags())?;
     for _ in 0..u64::MAX {
         match queue.first() {
-            Some(line) if !questions.lacks(modules, line) => {
+            Some(line) if !questions.needs_more(&context, line) => {
                 answer_line(rt, questions, &data, &mut context, state, line)?;
             }
             _ => break,
@@ -168,8 +160,8 @@ fn answer_lines<R: Files + Print + Eprint + AllocGlobal, F: Read + Seek + Drop, 
 pub fn answer_line<R: Files + Print + Eprint + AllocGlobal>(
     rt: &R,
     questions: &Questions<'_, '_>,
-    data: &ContextPdbData<'_>,
-    context: &mut FileContext<'_, '_>,
+    data: &SessionData<'_>,
+    context: &mut SessionContext<'_, '_>,
     state: &mut RunState,
     given: &str,
 ) -> Result<(), Stop> {

@@ -1,9 +1,10 @@
 //! The frames at addresses of a file for its symbol file, with the names that answers have.
 
-use crate::frame_answers::{FileContext, readable_frames};
+use crate::frame_answers::readable_frames;
 use crate::symbol_names::SymbolNames;
-use pdb_addr2line::{ContextPdbData, Error, FunctionFrames};
+use pdb_addr2line::{Error, FunctionFrames};
 use pdb_breakpad::FrameSource;
+use pdb_session::{QuestionFault, SessionContext, SessionData};
 use std::alloc::AllocError;
 
 /// A function that has no name by its records.
@@ -18,9 +19,9 @@ struct NamedFunction {
 #[derive(Drop)]
 pub struct FileFrames<'q, 'a, 'p, R> {
     rt: &'q R,
-    context: &'q mut FileContext<'a, 'p>,
+    context: &'q mut SessionContext<'a, 'p>,
     names: &'q SymbolNames,
-    data: &'q ContextPdbData<'p>,
+    data: &'q SessionData<'p>,
     /// The function that was named last, so that its name isn't looked for at each of its addresses.
     last_named: Option<NamedFunction>,
 }
@@ -29,9 +30,9 @@ impl<'q, 'a, 'p, R: AllocGlobal> FileFrames<'q, 'a, 'p, R> {
     /// The frames that a context answers, with the names that symbols have.
     pub fn new(
         rt: &'q R,
-        context: &'q mut FileContext<'a, 'p>,
+        context: &'q mut SessionContext<'a, 'p>,
         names: &'q SymbolNames,
-        data: &'q ContextPdbData<'p>,
+        data: &'q SessionData<'p>,
     ) -> Self {
         FileFrames {
             rt,
@@ -49,7 +50,9 @@ impl<'q, 'a, 'p, R: AllocGlobal> FileFrames<'q, 'a, 'p, R> {
         {
             return copy_of(&last.name);
         }
-        let name = self.names.name_at(self.rt.alloc(), self.data, start)?;
+        let name = self
+            .names
+            .name_at(self.rt.alloc(), self.data.provider(), start)?;
         self.last_named = Some(NamedFunction {
             start,
             name: copy_of(&name)?,
@@ -70,7 +73,11 @@ impl<'a, R: Eprint + AllocGlobal> FrameSource<'a> for FileFrames<'_, 'a, '_, R> 
     ghost answers = { λ source address answer. Unit {0} };
 
     fn start_addresses(&mut self) -> Result<Vec<u32>, Error> {
-        self.context.start_addresses()
+        match self.context.start_addresses() {
+            Ok(starts) => Ok(starts),
+            Err(QuestionFault::Records(error)) => Err(error),
+            Err(QuestionFault::NotRead) => Ok(Vec::new(self.rt.alloc())),
+        }
     }
 
     fn find_frames(&mut self, address: u32) -> Result<Option<FunctionFrames<'a>>, Error> {

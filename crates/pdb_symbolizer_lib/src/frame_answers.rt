@@ -6,19 +6,17 @@ use crate::questions::Questions;
 use crate::requests::{Place, Request, Sort};
 use crate::run_state::RunState;
 use crate::stops::Stop;
-use pdb_addr2line::{Context, ContextPdbData, Error, Frame, FunctionFrames};
+use pdb_addr2line::{Error, Frame, FunctionFrames};
+use pdb_session::{QuestionFault, SessionContext, SessionData};
 use std::alloc::AllocError;
 use std::rt::Files;
-
-/// A context over the records of a file.
-pub type FileContext<'a, 'p> = Context<'a, ContextPdbData<'p>>;
 
 /// The answer of a request, which this text was.
 pub fn request_text<R: Files + Eprint + AllocGlobal>(
     rt: &R,
     questions: &Questions<'_, '_>,
-    data: &ContextPdbData<'_>,
-    context: &mut FileContext<'_, '_>,
+    data: &SessionData<'_>,
+    context: &mut SessionContext<'_, '_>,
     state: &mut RunState,
     given: &str,
 ) -> Result<String, Stop> {
@@ -91,8 +89,8 @@ fn sources_of<R: Files + AllocGlobal>(
 fn frames_at<'a, R: Eprint + AllocGlobal>(
     rt: &R,
     questions: &Questions<'_, '_>,
-    data: &ContextPdbData<'_>,
-    context: &mut FileContext<'a, '_>,
+    data: &SessionData<'_>,
+    context: &mut SessionContext<'a, '_>,
     state: &mut RunState,
     given: u64,
 ) -> Result<Option<FunctionFrames<'a>>, Error> {
@@ -105,7 +103,7 @@ fn frames_at<'a, R: Eprint + AllocGlobal>(
     };
     let mut found = readable_frames(rt, context, given, address)?;
     if let Some(frames) = &mut found {
-        names.name_function(rt.alloc(), data, frames)?;
+        names.name_function(rt.alloc(), data.provider(), frames)?;
         names.decorate(rt.alloc(), frames)?;
     }
     Ok(found)
@@ -115,15 +113,19 @@ fn frames_at<'a, R: Eprint + AllocGlobal>(
 /// address as it was given.
 pub fn readable_frames<'a, R: Eprint>(
     rt: &R,
-    context: &mut FileContext<'a, '_>,
+    context: &mut SessionContext<'a, '_>,
     given: u64,
     address: u32,
 ) -> Result<Option<FunctionFrames<'a>>, Error> {
     match context.find_frames(address) {
         Ok(found) => Ok(found),
-        Err(error) => {
+        Err(QuestionFault::Records(error)) => {
             let error = error.unless_out_of_memory()?;
             let _ = eprintln!(rt; "pdb_symbolizer: 0x{given:x}: {error}");
+            Ok(None)
+        }
+        Err(QuestionFault::NotRead) => {
+            let _ = eprintln!(rt; "pdb_symbolizer: 0x{given:x}: its module was not read");
             Ok(None)
         }
     }

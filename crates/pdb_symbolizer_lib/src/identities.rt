@@ -129,10 +129,21 @@ fn identity_of<F: Read + Seek + Drop>(
     file: &str,
     bytes: &mut FileBytes<F>,
 ) -> Result<PdbIdentity, Stop> {
+    match identity_in(alloc, file, bytes)? {
+        Some(identity) => Ok(identity),
+        None => Err(Stop::NoIdentity(String::from_str(alloc, file)?)),
+    }
+}
+
+/// Which build a PDB file is of, if it says so.
+pub fn identity_in<F: Read + Seek + Drop>(
+    alloc: Global,
+    file: &str,
+    bytes: &mut FileBytes<F>,
+) -> Result<Option<PdbIdentity>, Stop> {
     let length = bytes.length();
     match read_identity_of(alloc, bytes, length) {
-        Ok(Some(identity)) => Ok(identity),
-        Ok(None) => Err(Stop::NoIdentity(String::from_str(alloc, file)?)),
+        Ok(identity) => Ok(identity),
         Err(fault) => Err(open_stop(alloc, file, fault)),
     }
 }

@@ -4,15 +4,12 @@ use crate::file_bytes::{FileBytes, open_bytes};
 use crate::foreign_files::ForeignFile;
 use crate::identities::check_identity;
 use crate::options::Options;
-use crate::pdb_modules::PdbModules;
 use crate::programs::find_pdb;
 use crate::status_line::StatusLine;
 use crate::stops::Stop;
 use pdb_addr2line::Error;
 use pdb_addr2line::pdb::PDB;
-use pdb_container::{
-    ContainerFault, OpenFault, PdbFile, PdbIdentity, Refusal, read_identity, read_pdb_file,
-};
+use pdb_container::{ContainerFault, OpenFault, read_pdb};
 use pdb_identity::{CodeId, ProgramFile, read_program};
 use pdb_json::RecordsFile;
 use pdb_records_files::{ModuleFileFault, ran_out_of_memory, read_module_files};
@@ -20,24 +17,6 @@ use std::alloc::Global;
 use std::fs;
 use std::io::{self, Read, Seek};
 use std::rt::Files;
-
-/// The records of a file, and what a reader of them wants to be told.
-#[derive(Drop)]
-pub struct InputFile {
-    /// The path of the file that the records are of: a PDB file that was found for a program, or the one that was
-    /// named.
-    pub path: String,
-    pub records: PDB,
-    /// Why nothing can be answered over the records, where the file is a PDB file that shows why.
-    pub refusal: Option<Refusal>,
-    /// Whether the file is a PDB file that has names alone.
-    pub names_only: bool,
-    /// Which build a PDB file is of, if it says so and was read all at once.
-    pub identity: Option<PdbIdentity>,
-    /// Where the program wants to be loaded, if one was named, and which build it is of.
-    pub image_base: Option<u64>,
-    pub code_id: Option<CodeId>,
-}
 
 /// What is known of a file beside its bytes.
 #[derive(Drop)]
@@ -118,33 +97,22 @@ fn check_source<F: Read + Seek + Drop>(
 
 /// The records of a file, all at once: of a PDB file, of a records file with its module files, or of a program, whose
 /// PDB file is looked for.
-pub fn read_input_file<R: Files + Eprint + AllocGlobal>(
+pub fn read_all_records<R: Files + Eprint + AllocGlobal>(
     rt: &R,
     status_line: &StatusLine,
     options: &Options<'_>,
     path: &str,
-) -> Result<InputFile, Stop> {
+) -> Result<PDB, Stop> {
     let source = find_file(rt, status_line, options, path)?;
     let is_pdb_file = source.bytes.is_pdb_file();
-    let (front, bytes) = source.read(rt.alloc())?;
+    let (file, bytes) = source.read(rt.alloc())?;
     if is_pdb_file {
-        read_container(rt.alloc(), front, &bytes)
+        match read_pdb(rt.alloc(), &bytes) {
+            Ok(records) => Ok(records),
+            Err(fault) => Err(container_stop(rt.alloc(), file.path.as_str(), fault)),
+        }
     } else {
-        read_records_file(rt, front.path.as_str(), &bytes)
-    }
-}
-
-/// The records of a file without what is read as it is asked, and what reads that: of a PDB file its modules, types and
-/// ids. The records of a records file are all there.
-pub fn open_source<R: Files + AllocGlobal>(
-    rt: &R,
-    source: SourceFile<R::File>,
-) -> Result<(InputFile, Option<PdbModules<R::File>>), Stop> {
-    if source.bytes.is_pdb_file() {
-        open_container(rt.alloc(), source)
-    } else {
-        let (front, bytes) = source.read(rt.alloc())?;
-        Ok((read_records_file(rt, front.path.as_str(), &bytes)?, None))
+        read_records_file(rt, file.path.as_str(), &bytes)
     }
 }
 
@@ -159,31 +127,13 @@ impl<F: Read + Seek + Drop> SourceFile<F> {
         SourceFile { file, bytes }
     }
 
-    // All bytes of the file, and what is known of it beside them.
-    fn read(self, alloc: Global) -> Result<(NamedFile, Vec<u8>), Stop> {
+    /// All bytes of the file, and what is known of it beside them.
+    pub fn read(self, alloc: Global) -> Result<(NamedFile, Vec<u8>), Stop> {
         let SourceFile { file, bytes } = self;
         match bytes.into_memory(alloc) {
             Ok(bytes) => Ok((file, bytes)),
             Err(error) => Err(cannot_read(alloc, file.path.as_str(), error)),
         }
-    }
-}
-
-fn read_container(alloc: Global, file: NamedFile, bytes: &[u8]) -> Result<InputFile, Stop> {
-    match read_file_and_identity(alloc, bytes) {
-        Ok((pdb_file, identity)) => Ok(of_pdb_file(file, pdb_file, identity)),
-        Err(fault) => Err(container_stop(alloc, file.path.as_str(), fault)),
-    }
-}
-
-fn open_container<F: Read + Seek + Drop>(
-    alloc: Global,
-    source: SourceFile<F>,
-) -> Result<(InputFile, Option<PdbModules<F>>), Stop> {
-    let SourceFile { file, bytes } = source;
-    match PdbModules::open(alloc, bytes) {
-        Ok((modules, pdb_file)) => Ok((of_pdb_file(file, pdb_file, None), Some(modules))),
-        Err(fault) => Err(open_stop(alloc, file.path.as_str(), fault)),
     }
 }
 
@@ -218,43 +168,12 @@ fn cannot_read(alloc: Global, path: &str, error: io::Error) -> Stop {
     }
 }
 
-fn read_file_and_identity(
-    alloc: Global,
-    bytes: &[u8],
-) -> Result<(PdbFile, Option<PdbIdentity>), ContainerFault> {
-    let file = read_pdb_file(alloc, bytes)?;
-    let identity = read_identity(alloc, bytes)?;
-    Ok((file, identity))
-}
-
-fn of_pdb_file(file: NamedFile, pdb_file: PdbFile, identity: Option<PdbIdentity>) -> InputFile {
-    let NamedFile {
-        path,
-        image_base,
-        code_id,
-    } = file;
-    let PdbFile {
-        records,
-        refusal,
-        names_only,
-    } = pdb_file;
-    InputFile {
-        path,
-        records,
-        refusal,
-        names_only,
-        identity,
-        image_base,
-        code_id,
-    }
-}
-
 /// The records of a records file and of its module files.
-fn read_records_file<R: Files + AllocGlobal>(
+pub fn read_records_file<R: Files + AllocGlobal>(
     rt: &R,
     path: &str,
     bytes: &[u8],
-) -> Result<InputFile, Stop> {
+) -> Result<PDB, Stop> {
     if let Some(foreign) = ForeignFile::of_bytes(bytes) {
         return Err(Stop::Foreign(String::from_str(rt.alloc(), path)?, foreign));
     }
@@ -268,21 +187,13 @@ fn read_module_records<R: Files + AllocGlobal>(
     rt: &R,
     path: &str,
     file: RecordsFile,
-) -> Result<InputFile, Stop> {
+) -> Result<PDB, Stop> {
     let files = match read_module_files(rt, path, &file) {
         Ok(files) => files,
         Err(fault) => return Err(module_file_stop(rt.alloc(), path, fault)),
     };
     match file.read_records(&files) {
-        Ok(records) => Ok(InputFile {
-            path: String::from_str(rt.alloc(), path)?,
-            records,
-            refusal: None,
-            names_only: false,
-            identity: None,
-            image_base: None,
-            code_id: None,
-        }),
+        Ok(records) => Ok(records),
         Err(fault) => Err(Stop::Records(String::from_str(rt.alloc(), path)?, fault)),
     }
 }

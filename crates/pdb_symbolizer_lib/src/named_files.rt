@@ -4,21 +4,18 @@
 
 use crate::answer_texts::write_unknown;
 use crate::file_answers::{addresses_of_lines, answer_line, print_answer};
-use crate::frame_answers::{FileContext, print_lack};
-use crate::input_files::InputFile;
+use crate::frame_answers::print_lack;
 use crate::line_queue::LineQueue;
-use crate::module_reader::ModuleReader;
+use crate::opened_files::{OpenedFile, open_file};
 use crate::options::Options;
-use crate::pdb_modules::PdbModules;
 use crate::questions::Questions;
-use crate::repaired_files::open_asked;
 use crate::requests::{Request, parse_request};
 use crate::run_state::RunState;
 use crate::status_line::StatusLine;
 use crate::stops::Stop;
 use crate::symbol_names::SymbolNames;
 use crate::unopened_files::answer_unopened;
-use pdb_addr2line::ContextPdbData;
+use pdb_session::{SessionContext, SessionData};
 use std::io::{Read, Seek};
 use std::rt::Files;
 
@@ -57,10 +54,8 @@ fn answer_next_lines<R: Files + Print + Eprint + AllocGlobal, T: Read + Drop>(
         answer_none(rt, options, &request)?;
         return queue.pass();
     }
-    match open_asked(rt, status_line, options, request.file) {
-        Ok((mut input, reader)) => {
-            answer_lines_of(rt, options, request.file, &mut input, reader, state, queue)
-        }
+    match open_file(rt, status_line, options, request.file) {
+        Ok(mut input) => answer_lines_of(rt, options, request.file, &mut input, state, queue),
         Err(cause) if cause.is_want_of_memory() => Err(cause),
         Err(cause) => {
             state.unopened = true;
@@ -86,18 +81,16 @@ fn answer_lines_of<R: Files + Print + Eprint + AllocGlobal, F: Read + Seek + Dro
     rt: &R,
     options: &Options<'_>,
     path: &str,
-    input: &mut InputFile,
-    reader: Option<PdbModules<F>>,
+    input: &mut OpenedFile<F>,
     state: &mut RunState,
     queue: &mut LineQueue<T>,
 ) -> Result<(), Stop> {
-    let names = SymbolNames::for_answers(rt.alloc(), options, &input.records)?;
+    let names = SymbolNames::for_answers(rt.alloc(), options, input.records())?;
     let questions = Questions::new(options, path, input, &names);
-    let mut modules = ModuleReader::new(rt.alloc(), reader, &input.records)?;
     for _ in 0..u64::MAX {
         let addresses = addresses_of_lines(rt.alloc(), &questions, queue)?;
-        modules.read(rt, input.path.as_str(), &mut input.records, &addresses)?;
-        if answer_same_file(rt, &questions, state, input, &modules, queue)? == Left::Nothing {
+        input.read_for(rt, &addresses)?;
+        if answer_same_file(rt, &questions, state, input, queue)? == Left::Nothing {
             break;
         }
     }
@@ -118,17 +111,16 @@ fn answer_same_file<R: Files + Print + Eprint + AllocGlobal, F: Read + Seek + Dr
     rt: &R,
     questions: &Questions<'_, '_>,
     state: &mut RunState,
-    input: &mut InputFile,
-    modules: &ModuleReader<F>,
+    input: &OpenedFile<F>,
     queue: &mut LineQueue<T>,
 ) -> Result<Left, Stop> {
-    let data = ContextPdbData::try_from_pdb_ref(rt.alloc(), &mut input.records)?;
-    let mut context = data.make_context_with_formatter_flags(questions.options.flags())?;
+    let data = input.session.data()?;
+    let mut context = data.context(questions.options.flags())?;
     for _ in 0..u64::MAX {
         let Some(line) = queue.first() else {
             break;
         };
-        if questions.lacks(modules, line) {
+        if questions.needs_more(&context, line) {
             return Ok(Left::Lines);
         }
         if !answer_if_same(rt, questions, &data, &mut context, state, line)? {
@@ -143,8 +135,8 @@ fn answer_same_file<R: Files + Print + Eprint + AllocGlobal, F: Read + Seek + Dr
 fn answer_if_same<R: Files + Print + Eprint + AllocGlobal>(
     rt: &R,
     questions: &Questions<'_, '_>,
-    data: &ContextPdbData<'_>,
-    context: &mut FileContext<'_, '_>,
+    data: &SessionData<'_>,
+    context: &mut SessionContext<'_, '_>,
     state: &mut RunState,
     line: &str,
 ) -> Result<bool, Stop> {

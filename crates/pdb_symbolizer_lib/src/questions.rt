@@ -1,11 +1,11 @@
 //! What is asked of a file, and what its answers have from beside the context.
 
 use crate::addresses::Origin;
-use crate::input_files::InputFile;
-use crate::module_reader::ModuleReader;
+use crate::opened_files::OpenedFile;
 use crate::options::{FileNaming, Options};
 use crate::requests::{Place, Request, Sort, parse_request};
 use crate::symbol_names::SymbolNames;
+use pdb_session::SessionContext;
 use std::io::{Read, Seek};
 
 /// What is asked, of which file, and what is had from beside the context.
@@ -20,10 +20,10 @@ pub struct Questions<'q, 'w> {
 
 impl<'q, 'w> Questions<'q, 'w> {
     /// What is asked of a file that was opened.
-    pub fn new(
+    pub fn new<F: Read + Seek + Drop>(
         options: &'q Options<'w>,
         file: &'q str,
-        input: &InputFile,
+        input: &OpenedFile<F>,
         names: &'q SymbolNames,
     ) -> Self {
         Questions {
@@ -57,10 +57,10 @@ impl Questions<'_, '_> {
         }
     }
 
-    /// Whether a text asks for code of a module that was not read.
-    pub fn lacks<F: Read + Seek + Drop>(&self, modules: &ModuleReader<F>, text: &str) -> bool {
+    /// Whether something is still to be read for the answer of a text.
+    pub fn needs_more(&self, context: &SessionContext<'_, '_>, text: &str) -> bool {
         match self.address_in(text) {
-            Some(address) => modules.lacks(address),
+            Some(address) => context.needs(address),
             None => false,
         }
     }

@@ -3,31 +3,11 @@
 use crate::stops::Stop;
 use pdb_addr2line::pdb::{Module, PDB, RawString, StreamError};
 use pdb_container::faults::fault_text;
-use pdb_repairs::{Repair, repair_modules, repair_records};
+use pdb_repairs::Repair;
 use std::alloc::{AllocError, Global};
 
-/// Takes out of the records of a file what is broken, and prints a line of each on standard error.
+/// Prints a line for each part of a file's records that was broken and was taken out.
 pub fn print_repairs<R: Eprint + AllocGlobal>(
-    rt: &R,
-    file: &str,
-    records: &mut PDB,
-) -> Result<(), Stop> {
-    let repairs = repair_records(rt.alloc(), records)?;
-    print_all(rt, file, records, &repairs)
-}
-
-/// The same of modules that were read later than the others.
-pub fn print_module_repairs<R: Eprint + AllocGlobal>(
-    rt: &R,
-    file: &str,
-    records: &mut PDB,
-    positions: &[usize],
-) -> Result<(), Stop> {
-    let repairs = repair_modules(rt.alloc(), records, positions)?;
-    print_all(rt, file, records, &repairs)
-}
-
-fn print_all<R: Eprint + AllocGlobal>(
     rt: &R,
     file: &str,
     records: &PDB,

@@ -1,17 +1,20 @@
 //! The Breakpad symbol file that `--dump-syms` writes, on standard output or into a store.
 
 use crate::file_frames::FileFrames;
-use crate::input_files::InputFile;
+use crate::identities::identity_in;
+use crate::input_files::{SourceFile, find_file};
+use crate::opened_files::{OpenedFile, open_source};
 use crate::options::{Options, SymbolFilePlace};
 use crate::paths::last_part;
-use crate::repaired_files::open_file;
 use crate::status_line::StatusLine;
 use crate::stops::Stop;
 use crate::symbol_names::SymbolNames;
 use crate::symbol_stores::{make_place, write_whole};
-use pdb_addr2line::ContextPdbData;
 use pdb_breakpad::{ModuleIdentity, ProgramIdentity, SymbolFileFault, write_symbol_file};
-use std::io;
+use pdb_container::PdbIdentity;
+use pdb_session::SessionData;
+use std::alloc::Global;
+use std::io::{self, Read, Seek};
 use std::rt::Files;
 
 /// Writes the functions of a file as a symbol file. It has to be a PDB file, or a program with one.
@@ -25,20 +28,35 @@ pub fn dump_symbols<R: Files + Print + Eprint + AllocGlobal>(
     if !options.addresses.is_empty() {
         return Err(Stop::AnswersNone("dump-syms"));
     }
-    let mut input = open_file(rt, status_line, options, path)?;
-    dump_over(rt, options, place, path, &mut input)
+    let mut source = find_file(rt, status_line, options, path)?;
+    let identity = identity_of_source(rt.alloc(), &mut source)?;
+    let mut input = open_source(rt, source)?;
+    input.read_all(rt)?;
+    let Some(identity) = identity else {
+        return Err(Stop::NoIdentity(String::from_str(rt.alloc(), input.path.as_str())?));
+    };
+    dump_over(rt, options, place, path, &input, identity)
 }
 
-fn dump_over<R: Files + Print + Eprint + AllocGlobal>(
+// Which build a file is of, if it is a PDB file that says so.
+fn identity_of_source<F: Read + Seek + Drop>(
+    alloc: Global,
+    source: &mut SourceFile<F>,
+) -> Result<Option<PdbIdentity>, Stop> {
+    if !source.bytes.is_pdb_file() {
+        return Ok(None);
+    }
+    identity_in(alloc, source.file.path.as_str(), &mut source.bytes)
+}
+
+fn dump_over<R: Files + Print + Eprint + AllocGlobal, F: Read + Seek + Drop>(
     rt: &R,
     options: &Options<'_>,
     place: SymbolFilePlace<'_>,
     path: &str,
-    input: &mut InputFile,
+    input: &OpenedFile<F>,
+    identity: PdbIdentity,
 ) -> Result<(), Stop> {
-    let Some(identity) = input.identity else {
-        return Err(Stop::NoIdentity(String::from_str(rt.alloc(), input.path.as_str())?));
-    };
     let module = ModuleIdentity {
         machine: identity.machine,
         debug_id: identity.debug_id,
@@ -48,8 +66,8 @@ fn dump_over<R: Files + Print + Eprint + AllocGlobal>(
             name: last_part(path),
         }),
     };
-    let names = SymbolNames::new(rt.alloc(), &input.records)?;
-    let data = ContextPdbData::try_from_pdb_ref(rt.alloc(), &mut input.records)?;
+    let names = SymbolNames::new(rt.alloc(), input.records())?;
+    let data = input.session.data()?;
     match place {
         SymbolFilePlace::StandardOutput => {
             Ok(dump_all(rt, options, None, &module, &names, &data)?)
@@ -66,7 +84,7 @@ fn dump_into_store<R: Files + Print + Eprint + AllocGlobal>(
     store: &str,
     module: &ModuleIdentity<'_>,
     names: &SymbolNames,
-    data: &ContextPdbData<'_>,
+    data: &SessionData<'_>,
 ) -> Result<(), Stop> {
     let path = make_place(rt, store, module)?;
     match dump_all(rt, options, Some(path.as_str()), module, names, data) {
@@ -84,9 +102,9 @@ fn dump_all<R: Files + Print + Eprint + AllocGlobal>(
     path: Option<&str>,
     module: &ModuleIdentity<'_>,
     names: &SymbolNames,
-    data: &ContextPdbData<'_>,
+    data: &SessionData<'_>,
 ) -> Result<(), SymbolFileFault> {
-    let mut context = data.make_context_with_formatter_flags(options.flags())?;
+    let mut context = data.context(options.flags())?;
     let mut frames = FileFrames::new(rt, &mut context, names, data);
     match path {
         Some(path) => write_whole(rt, path, module, &mut frames),

@@ -1,16 +1,14 @@
 //! The modules that a request asks for: their PDB files in folders, and what is found at the offsets of each.
 
 use crate::file_frames::FileFrames;
-use crate::input_files::InputFile;
-use crate::module_reader::ModuleReader;
+use crate::opened_files::{OpenedFile, open_source};
 use crate::options::Options;
-use crate::pdb_modules::PdbModules;
 use crate::programs::find_in_folders;
-use crate::repaired_files::open_repaired;
 use crate::stops::Stop;
 use crate::symbol_names::SymbolNames;
-use pdb_addr2line::{ContextPdbData, Error, Frame, FunctionFrames};
+use pdb_addr2line::{Error, Frame, FunctionFrames};
 use pdb_breakpad::FrameSource;
+use pdb_session::SessionData;
 use pdb_symbolication::{FoundFunction, FrameTexts, Place, WantedModule};
 use std::alloc::{AllocError, Global};
 use std::io::{Read, Seek};
@@ -54,21 +52,19 @@ fn texts_of_file<R: Files + Eprint + AllocGlobal>(
     let Some(found) = find_in_folders(rt, options, module)? else {
         return Ok(None);
     };
-    let (mut input, reader) = open_repaired(rt, found)?;
-    Ok(Some(texts_over(rt, options, module, &mut input, reader)?))
+    let mut input = open_source(rt, found)?;
+    Ok(Some(texts_over(rt, options, module, &mut input)?))
 }
 
 fn texts_over<R: Eprint + AllocGlobal, F: Read + Seek + Drop>(
     rt: &R,
     options: &Options<'_>,
     module: &WantedModule,
-    input: &mut InputFile,
-    reader: Option<PdbModules<F>>,
+    input: &mut OpenedFile<F>,
 ) -> Result<FrameTexts, Stop> {
-    let names = SymbolNames::new(rt.alloc(), &input.records)?;
-    let mut modules = ModuleReader::new(rt.alloc(), reader, &input.records)?;
-    modules.read(rt, input.path.as_str(), &mut input.records, &module.offsets)?;
-    let data = ContextPdbData::try_from_pdb_ref(rt.alloc(), &mut input.records)?;
+    let names = SymbolNames::new(rt.alloc(), input.records())?;
+    input.read_for(rt, &module.offsets)?;
+    let data = input.session.data()?;
     Ok(texts_by(rt, options, module, &names, &data)?)
 }
 
@@ -77,9 +73,9 @@ fn texts_by<R: Eprint + AllocGlobal>(
     options: &Options<'_>,
     module: &WantedModule,
     names: &SymbolNames,
-    data: &ContextPdbData<'_>,
+    data: &SessionData<'_>,
 ) -> Result<FrameTexts, Error> {
-    let mut context = data.make_context_with_formatter_flags(options.flags())?;
+    let mut context = data.context(options.flags())?;
     let mut frames = FileFrames::new(rt, &mut context, names, data);
     let mut texts = FrameTexts::new(rt.alloc());
     for &offset in &module.offsets {

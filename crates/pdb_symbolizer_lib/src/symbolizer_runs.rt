@@ -5,7 +5,7 @@ use crate::environment::words_of_run;
 use crate::export_files::write_files;
 use crate::file_answers::answer_file;
 use crate::identities::print_identities;
-use crate::input_files::read_input_file;
+use crate::input_files::read_all_records;
 use crate::named_files::answer_named_files;
 use crate::options::{Export, Options, Purpose};
 use crate::status_line::StatusLine;
@@ -67,6 +67,6 @@ fn export_file<R: Files + Eprint + Clock + AllocGlobal>(
     if !options.addresses.is_empty() {
         return Err(Stop::AnswersNone("export"));
     }
-    let file = read_input_file(rt, status_line, options, file)?;
-    write_files(rt, status_line, export, &file.records)
+    let records = read_all_records(rt, status_line, options, file)?;
+    write_files(rt, status_line, export, &records)
 }

@@ -1,0 +1,25 @@
+-- What a file says beside its types, its ids and its modules.
+use Rattle.std.specs.Prelude.{◌≡◌}
+use Rattle.pdb_records.specs.Records.{Records}
+use Rattle.pdb_msf.specs.Msf.{Msf}
+use Rattle.pdb_container.specs.DebugRecords.{address_map, debug_information, global_symbols, sections}
+use Rattle.pdb_container.specs.Records.{table_of}
+use Rattle.pdb_container.specs.Strings.{string_table}
+
+-- records have what a container says beside its types, its ids and what is known of its modules
+abbrev pub HasFront : Msf → Records → Type 0
+HasFront msf records =
+    (records.sections ≡ sections msf)
+    × (records.address_map ≡ address_map msf)
+    × (records.global_symbols ≡ table_of (global_symbols msf))
+    × (records.debug_information ≡ debug_information msf)
+    × (records.string_table ≡ string_table msf)
+
+-- records differ at most in types, ids and what is known of modules
+abbrev pub SameFront : Records → Records → Type 0
+SameFront old new =
+    (new.sections ≡ old.sections)
+    × (new.address_map ≡ old.address_map)
+    × (new.global_symbols ≡ old.global_symbols)
+    × (new.debug_information ≡ old.debug_information)
+    × (new.string_table ≡ old.string_table)

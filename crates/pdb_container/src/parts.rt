@@ -1,0 +1,9 @@
+//! What a reader is made of that reads a file as it is asked.
+
+pub use crate::debug_records::{DEBUG, SECTIONS, debug_stream};
+pub use crate::front::{Front, IDS, TYPES, read_front};
+pub use crate::info::{Features, INFO, InfoStream};
+pub use crate::module_places::{ModuleInfoResult, ModulePlace, module_in_stream};
+pub use crate::records::NAMES;
+pub use crate::refusals::refusal_of;
+pub use crate::unnamed_code::{has_unnamed_code, name_unnamed_code};

@@ -1,0 +1,97 @@
+//! What was read of a file so far.
+
+ghost use Rattle.std.specs.Prelude.{◌≡◌};
+ghost use Rattle.pdb_known.specs.Known.{is_covered, is_read, is_sized};
+
+use pdb_records::PDB;
+use std::marker::Model;
+
+// The indices from here on name imports of a module, whose entries another module has.
+const FIRST_IMPORT: u32 = 1 << 31;
+
+/// Which entries of a stream of types or ids were read.
+#[derive(Drop)]
+pub struct EntriesRead {
+    /// The index of the stream's first entry.
+    pub first: u32,
+    /// Whether each entry was read, by its position from the first.
+    pub read: Vec<bool>,
+}
+
+impl Model for EntriesRead {
+    ghost use Rattle.pdb_known.specs.Known.{Span};
+
+    ghost Value = { Span };
+
+    ghost view = { λ e. record { first = e.first; read = e.read.items } };
+}
+
+impl EntriesRead {
+    /// Whether nothing is left to be read for an index: its entry was read, or the stream has none. That of an import
+    /// is never read.
+    pub fn is_covered(&self, index: u32) -> bool
+        ensures { result ≡ is_covered self.now index }
+    {
+        if index >= FIRST_IMPORT {
+            return false;
+        }
+        if index < self.first {
+            return true;
+        }
+        match self.read.get((index - self.first) as usize) {
+            Some(read) => *read,
+            None => true,
+        }
+    }
+}
+
+/// What was read of a file.
+#[derive(Drop)]
+pub struct KnownRecords {
+    /// The records so far.
+    pub records: PDB,
+    /// Whether they are all.
+    pub all: bool,
+    /// Whether each module was read, by its module index.
+    pub modules: Vec<bool>,
+    /// The types.
+    pub types: EntriesRead,
+    /// The types whose size is the same as over all records.
+    pub sizes: EntriesRead,
+    /// The ids.
+    pub ids: EntriesRead,
+}
+
+impl Model for KnownRecords {
+    ghost use Rattle.pdb_known.specs.Known.{Known};
+
+    ghost Value = { Known };
+
+    ghost view = { λ k. record {
+      records = k.records;
+      all = k.all;
+      modules = k.modules.items;
+      types = k.types;
+      sizes = k.sizes;
+      ids = k.ids;
+    } };
+}
+
+impl KnownRecords {
+    /// Whether nothing is left to be read of a module: it was read, or there is none at this module index.
+    pub fn is_read(&self, module_index: usize) -> bool
+        ensures { result ≡ is_read self.now module_index }
+    {
+        match self.modules.get(module_index) {
+            Some(read) => *read,
+            None => true,
+        }
+    }
+
+    /// Whether a type was read, and its size is the same as over all records.
+    pub fn is_sized(&self, index: u32) -> bool
+        ensures { result ≡ is_sized self.now index }
+    {
+        self.types.is_covered(index) && self.sizes.is_covered(index)
+    }
+}

@@ -1,0 +1,4 @@
+pub mod AddedStreamLemmas
+pub mod FrontStreamLemmas
+pub mod OwnerLemmas
+pub mod PartLemmas

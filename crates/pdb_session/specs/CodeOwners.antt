@@ -1,0 +1,55 @@
+-- Whose code lies at an address: the module of the contribution over it.
+use Rattle.std.specs.Prelude.{ℕ, Bool, not, false, List, [], Option, Some, None, Result, Ok, Err, find, option_map}
+use Rattle.std.specs.Prelude.{option_and_then, unwrap_or}
+use Rattle.std.specs.Option.{option_map_or}
+use Rattle.std.specs.Result.{result_unwrap_or}
+use Rattle.pdb_records.specs.Addresses.{internal_offset}
+use Rattle.pdb_records.specs.Records.{Records}
+use Rattle.pdb_records.specs.declared.addresses.AddressRange.{AddressRange}
+use Rattle.pdb_records.specs.declared.addresses.ImageSectionHeader.{ImageSectionHeader}
+use Rattle.pdb_records.specs.declared.addresses.PdbInternalSectionOffset.{PdbInternalSectionOffset}
+use Rattle.pdb_records.specs.declared.debug_information.DebugInformation.{DebugInformation}
+use Rattle.pdb_records.specs.declared.error.StreamError.{StreamError}
+use Rattle.pdb_functions.specs.declared.contributions.ModuleSectionContribution.{ModuleSectionContribution}
+use Rattle.pdb_functions.specs.Contributions.{merged_contributions}
+use Rattle.pdb_functions.specs.Spans.{contribution_covers}
+use Rattle.pdb_known.specs.Known.{Known, is_read}
+
+-- where sections are loaded, and the merged contributions
+pub record Owners : Type 0 where
+  pub address_map : List AddressRange
+  pub contributions : List ModuleSectionContribution
+
+-- the headers of the sections; none where the records don't say them
+abbrev pub headers_of : Records → List ImageSectionHeader
+headers_of records = unwrap_or (result_unwrap_or records.sections None) []
+
+-- where sections are loaded; nothing where the records don't say it
+abbrev pub address_map_of : Records → List AddressRange
+address_map_of records = result_unwrap_or records.address_map []
+
+-- the merged contributions of debug information that was read; there are none where merging refuses them
+abbrev pub merged_in : List ImageSectionHeader → Result DebugInformation StreamError → List ModuleSectionContribution
+merged_in headers (Ok debug) = result_unwrap_or (merged_contributions headers debug) []
+merged_in headers (Err fault) = []
+
+-- the merged contributions of records
+abbrev pub contributions_in : Records → List ModuleSectionContribution
+contributions_in records = merged_in (headers_of records) records.debug_information
+
+-- the owners of the code that records list
+abbrev pub owners_of : Records → Owners
+owners_of records = record { address_map = address_map_of records; contributions = contributions_in records }
+
+-- the module whose code lies at an address
+abbrev pub owner_at : Owners → ℕ → Option ℕ
+owner_at owners address =
+    let over = λ (section_offset : PdbInternalSectionOffset).
+    find (contribution_covers section_offset) owners.contributions in
+    option_map (λ c. c.module_index)
+    (option_and_then over (internal_offset owners.address_map (record { 0 = address })))
+
+-- the module whose code lies at an address is still to be read
+abbrev pub lacks_owner : Known → Owners → ℕ → Bool
+lacks_owner known owners address =
+    option_map_or (λ module_index. not (is_read known module_index)) (owner_at owners address) false

@@ -1,0 +1,3 @@
+pub mod CodeOwners
+pub mod FrontStreams
+pub mod Session

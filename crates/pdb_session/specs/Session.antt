@@ -1,0 +1,68 @@
+-- What a session has read of its file, and what it answers.
+use Rattle.std.specs.Prelude.{◌≡◌, ◌≢◌, ℕ, Bool, not, ◌||◌, List, [], Option, Result, Ok, Err}
+use Rattle.std.specs.Global.{Vec}
+use Rattle.std.specs.List.{list_all}
+use Rattle.pdb_records.specs.Records.{Records}
+use Rattle.pdb_errors.specs.declared.error.Error.TheVariants.{OutOfMemory}
+use Rattle.pdb_frames.specs.Frame.{FramesInfo}
+use Rattle.pdb_types.specs.declared.flags.TypeFormatterFlags.{TypeFormatterFlags}
+use Rattle.pdb_addr2line.specs.ContextInputs.{ContextInputs, ContextState}
+use Rattle.pdb_addr2line.specs.Functions.{start_addresses}
+use Rattle.pdb_addr2line.specs.Lookups.{code_failed_after, failed_after_frames, frames_answered}
+use Rattle.pdb_known.specs.Known.{Known, Span, infos_of}
+use Rattle.pdb_known.specs.StrictlyClosed.{is_strictly_closed}
+use Rattle.pdb_session.specs.declared.session_context.QuestionFault.{QuestionFault}
+use Rattle.pdb_session.specs.declared.session_context.QuestionFault.TheVariants as fault
+use Rattle.pdb_session.specs.CodeOwners.{lacks_owner, owners_of}
+
+-- a stream without entries
+abbrev pub no_entries : Span
+no_entries = record { first = 0; read = [] }
+
+-- something is still to be read for the answer at an address: the module whose code lies there, or what a part that was
+-- read leads to
+abbrev pub needs : Known → ℕ → Bool
+needs known address = not (is_strictly_closed known) || lacks_owner known (owners_of known.records) address
+
+-- nothing is still to be read for the answers at these addresses
+abbrev pub needs_none : Known → List ℕ → Bool
+needs_none known addresses = list_all (λ address. not (needs known address)) addresses
+
+-- a context over what was read: what was read, the flags by which names are printed, and the context's own state
+pub record ContextOverPart : Type 0 where
+  pub known : Known
+  pub flags : TypeFormatterFlags
+  pub state : ContextState Records
+
+-- the same context over other records: what failed so far stays
+abbrev pub over : ContextState Records → ContextInputs Records → ContextState Records
+over state inputs = record state { inputs = inputs }
+
+-- frames at an address are those of a context over these records, in which the same parts failed before, unless there
+-- was no memory
+abbrev pub GivesFrames : Result (Option FramesInfo) QuestionFault → ContextState Records → ContextInputs Records → ℕ
+    → Type 0
+GivesFrames (Ok found) state inputs address = frames_answered infos_of (over state inputs) address ≡ Ok found
+GivesFrames (Err (fault.Records error)) state inputs address =
+    error ≢ OutOfMemory → frames_answered infos_of (over state inputs) address ≡ Err error
+GivesFrames (Err fault.NotRead) state inputs address = ⊥
+
+-- the parts that failed once frames at an address are answered, by these records
+abbrev pub HasFailed : ContextState Records → ContextState Records → ContextInputs Records → ℕ → Type 0
+HasFailed before after inputs address =
+    (after.failed ≡ failed_after_frames infos_of inputs address before.failed)
+    × (after.code_failed ≡ code_failed_after infos_of (over before inputs) address)
+
+-- frames leave the same parts failed as those of a context over these records, unless there was no memory
+abbrev pub LeavesFailed : Result (Option FramesInfo) QuestionFault → ContextState Records → ContextState Records
+    → ContextInputs Records → ℕ → Type 0
+LeavesFailed (Ok found) before after inputs address = HasFailed before after inputs address
+LeavesFailed (Err (fault.Records error)) before after inputs address =
+    error ≢ OutOfMemory → HasFailed before after inputs address
+LeavesFailed (Err fault.NotRead) before after inputs address = ⊥
+
+-- where functions start is what records list that are all there, unless there was no memory
+abbrev pub GivesStarts : Result (Vec ℕ) QuestionFault → ContextInputs Records → Type 0
+GivesStarts (Ok starts) inputs = starts.items ≡ start_addresses infos_of inputs
+GivesStarts (Err (fault.Records error)) inputs = error ≡ OutOfMemory
+GivesStarts (Err fault.NotRead) inputs = ⊥

@@ -1,0 +1,73 @@
+//! The records of a file that are read before any of its modules.
+
+ghost use Rattle.std.specs.Prelude.{◌≡◌, IfErr, IfOk, option_map};
+ghost use Rattle.pdb_container.specs.DebugRecords.{streams_of_modules};
+ghost use Rattle.pdb_container.specs.ModulePlaces.{places_within};
+ghost use Rattle.pdb_container.specs.Front.{HasFront};
+ghost use Rattle.pdb_container.specs.Records.{has_names_only};
+ghost use Rattle.pdb_container.specs.Refusals.{reason_of, refusal_of};
+ghost use Rattle.pdb_container.specs.Info.{version};
+ghost use Rattle.pdb_msf.specs.Msf.{stream_of};
+
+use crate::front_streams::FrontStreams;
+use crate::reach::Reach;
+use crate::type_lists::{ItemList, TypeLists, first_items};
+use pdb_container::PdbFile;
+use pdb_container::parts::{Front, InfoStream, ModulePlace, read_front, refusal_of};
+use pdb_msf::faults::Fault;
+use std::alloc::Global;
+
+/// The records of a file without its types, ids and modules, and where these are.
+#[derive(Drop)]
+pub struct FrontRecords {
+    /// Where the records of each module are.
+    pub places: Vec<ModulePlace>,
+    pub lists: TypeLists,
+    pub reach: Reach,
+    pub file: PdbFile,
+}
+
+/// The records of a file of this length, of which these streams were read.
+pub fn read_front_records(
+    alloc: Global,
+    streams: FrontStreams,
+    file_length: usize,
+) -> Result<FrontRecords, Fault>
+    ensures places { IfOk result (λ read. read.places.items
+        ≡ places_within streams.excerpt file_length (streams_of_modules streams.excerpt)) }
+    ensures front { IfOk result (λ read. HasFront streams.excerpt read.file.records) }
+    ensures refusal { IfOk result (λ read. option_map reason_of read.file.refusal
+        ≡ refusal_of (version (stream_of streams.excerpt 1)) read.file.records) }
+    ensures names_only { IfOk result (λ read. read.file.names_only ≡ has_names_only streams.excerpt) }
+    ensures memory { IfErr result (λ fault. fault ≡ Fault.OutOfMemory) }
+{
+    let FrontStreams {
+        excerpt,
+        types,
+        ids,
+    } = streams;
+    let container = excerpt.container(alloc)?;
+    let info = InfoStream::read(alloc, &container)?;
+    let Front {
+        places,
+        mut records,
+    } = read_front(alloc, &container, &info, file_length)?;
+    records.type_information = first_items(alloc, &types)?;
+    records.id_information = first_items(alloc, &ids)?;
+    let lists = TypeLists {
+        types: ItemList::new(alloc, types),
+        ids: ItemList::new(alloc, ids),
+    };
+    let reach = Reach::new(alloc, &lists)?;
+    let file = PdbFile {
+        refusal: refusal_of(info.version(), &records),
+        names_only: info.features().names_only,
+        records,
+    };
+    Ok(FrontRecords {
+        places,
+        lists,
+        reach,
+        file,
+    })
+}

@@ -1,0 +1,23 @@
+//! A PDB file that is read as it is asked: of its modules, types and ids what answers about addresses depend on.
+//!
+//! A [`PdbSession`] has the records that were read so far. [`PdbSession::read_for`] reads what is still missing for
+//! some addresses; a [`SessionContext`] then answers them, as a context over all records of the file would. What
+//! finds out which types and ids to read isn't trusted: a check looks whether these name any that weren't read, and
+//! where they do, all is read.
+#![tactic(auto)]
+
+mod code_owners;
+mod front_records;
+mod front_streams;
+mod module_reads;
+mod reach;
+mod read_plan;
+mod reader;
+mod session;
+mod session_context;
+mod session_fault;
+mod type_lists;
+
+pub use session::{Opened, PdbSession};
+pub use session_context::{QuestionFault, SessionContext, SessionData};
+pub use session_fault::SessionFault;

@@ -1,0 +1,297 @@
+//! `PdbSession`: the records of a file that were read so far, and what reads the others.
+
+ghost use Rattle.std.specs.Prelude.{◌≡◌, IfOk, OnOk, true};
+ghost use Rattle.pdb_container.specs.Front.{SameFront};
+ghost use Rattle.pdb_repairs.specs.Repaired.{repaired, repairs_of};
+ghost use Rattle.pdb_errors.specs.Outcomes.{Refuses};
+ghost use Rattle.pdb_addr2line.specs.ContextData.{records_refusal};
+ghost use Rattle.pdb_known.specs.Known.{all_read};
+ghost use Rattle.pdb_session.specs.CodeOwners.{lacks_owner, owners_of};
+ghost use Rattle.pdb_session.specs.Session.{needs, needs_none};
+
+use crate::code_owners::CodeOwners;
+use crate::read_plan::ReadPlan;
+use crate::reader::{FileReader, no_entries};
+use crate::session_context::SessionData;
+use crate::session_fault::SessionFault;
+use pdb_addr2line::Error;
+use pdb_container::{PdbFile, Source, SourceFault};
+use pdb_known::{KnownRecords, is_closed};
+use pdb_records::PDB;
+use pdb_repairs::{Repair, repair_records};
+use std::alloc::{AllocError, Global};
+use std::marker::Model;
+
+/// The records of a file that were read so far, without what is broken in them, and what reads the others.
+pub struct PdbSession<S> {
+    alloc: Global,
+    known: KnownRecords,
+    owners: CodeOwners,
+    /// Whether no part that was read leads to one that wasn't.
+    is_closed: bool,
+    /// `None` once all records were read.
+    reader: Option<FileReader<S>>,
+    plan: ReadPlan,
+}
+
+impl<S: Drop> Drop for PdbSession<S> {
+    fn drop(self) {
+        let PdbSession {
+            alloc: _,
+            known: _,
+            owners: _,
+            is_closed: _,
+            reader: _,
+            plan: _,
+        } = self;
+    }
+}
+
+// Clauses see a session as what was read.
+impl<S> Model for PdbSession<S> {
+    ghost use Rattle.std.specs.Prelude.{◌≡◌, None};
+    ghost use Rattle.pdb_known.specs.Known.{Known, all_read};
+    ghost use Rattle.pdb_known.specs.StrictlyClosed.{is_strictly_closed};
+    ghost use Rattle.pdb_session.specs.CodeOwners.{owners_of};
+
+    ghost Value = { Known };
+
+    ghost view = { λ s. s.known };
+
+    ghost invariant = { λ s. record {
+      owners : s.owners ≡ owners_of s.known.records;
+      closed : s.is_closed ≡ is_strictly_closed s.known;
+      whole : s.reader ≡ None → s.known ≡ all_read s.known.records;
+    } };
+}
+
+/// A session that was opened.
+#[derive(Drop)]
+pub struct Opened<S> {
+    pub session: PdbSession<S>,
+    /// Whether the file has names alone, since it was made with `/DEBUG:FASTLINK`: lines and types are in objects.
+    pub names_only: bool,
+    /// What was broken, and was taken out.
+    pub repairs: Vec<Repair>,
+}
+
+impl<S: Source + Drop> PdbSession<S> {
+    /// A session over a PDB file of this length, of which everything is read but types, ids and modules. What is broken
+    /// is taken out.
+    ///
+    /// # Errors
+    ///
+    /// [`SessionFault::File`] where the file is no PDB file that can be read, or a range of it can't be, and
+    /// [`SessionFault::Refused`] where nothing can be answered over its records.
+    pub fn open(alloc: Global, source: S, file_length: usize) -> Result<Opened<S>, SessionFault> {
+        let (reader, file) = FileReader::open(alloc, source, file_length)?;
+        Self::over_file(alloc, reader, file)
+    }
+
+    // A session over a file of which everything was read but types, ids and modules.
+    fn over_file(
+        alloc: Global,
+        reader: FileReader<S>,
+        file: PdbFile,
+    ) -> Result<Opened<S>, SessionFault>
+        ensures records { IfOk result (λ opened. opened.session.records ≡ repaired file.records) }
+        ensures names_only { IfOk result (λ opened. opened.names_only ≡ file.names_only) }
+        ensures repairs { IfOk result (λ opened. opened.repairs.items ≡ repairs_of file.records) }
+    {
+        let PdbFile {
+            mut records,
+            refusal,
+            names_only,
+        } = file;
+        if let Some(refusal) = refusal {
+            return Err(SessionFault::Refused(refusal));
+        }
+        let repairs = repair_records(alloc, &mut records)?;
+        let session = Self::over_front(alloc, records, reader)?;
+        Ok(Opened {
+            session,
+            names_only,
+            repairs,
+        })
+    }
+
+    // A session over records of which modules, types and ids are still to be read.
+    fn over_front(alloc: Global, records: PDB, reader: FileReader<S>) -> Result<Self, Error>
+        ensures { IfOk result (λ session. session.records ≡ records) }
+    {
+        let owners = CodeOwners::new(alloc, &records)?;
+        let mut modules = Vec::new(alloc);
+        modules.resize(reader.module_count(), false)?;
+        let (types, sizes, ids) = reader.entries_read(alloc)?;
+        let known = KnownRecords {
+            records,
+            all: false,
+            modules,
+            types,
+            sizes,
+            ids,
+        };
+        Ok(PdbSession {
+            alloc,
+            is_closed: is_closed(&known),
+            known,
+            owners,
+            reader: Some(reader),
+            plan: ReadPlan::new(),
+        })
+    }
+
+    /// A session over records that are all there. What is broken is taken out of them.
+    pub fn over_records(alloc: Global, records: PDB) -> Result<Opened<S>, Error>
+        ensures answer { IfOk result (λ opened. opened.session ≡ all_read (repaired records)) }
+        ensures repairs { IfOk result (λ opened. opened.repairs.items ≡ repairs_of records) }
+    {
+        let mut records = records;
+        let repairs = repair_records(alloc, &mut records)?;
+        let owners = CodeOwners::new(alloc, &records)?;
+        let session = PdbSession {
+            alloc,
+            known: KnownRecords {
+                records,
+                all: true,
+                modules: Vec::new(alloc),
+                types: no_entries(alloc),
+                sizes: no_entries(alloc),
+                ids: no_entries(alloc),
+            },
+            owners,
+            is_closed: true,
+            reader: None,
+            plan: ReadPlan::new(),
+        };
+        Ok(Opened {
+            session,
+            names_only: false,
+            repairs,
+        })
+    }
+
+    /// The records that were read so far.
+    pub fn records(&self) -> &PDB
+        ensures { result.now ≡ self.now.records }
+    {
+        &self.known.records
+    }
+
+    /// Reads what is missing for answers at these addresses, relative to where the program is loaded. What is broken in
+    /// the modules that are read is taken out, and answered.
+    ///
+    /// # Errors
+    ///
+    /// [`SourceFault::Unreadable`] where a range of the file can't be read, and [`SourceFault::OutOfMemory`]. The same
+    /// addresses may be asked for again.
+    pub fn read_for(&mut self, addresses: &[u32]) -> Result<Vec<Repair>, SourceFault>
+        ensures enough { OnOk result (needs_none self.new addresses.now ≡ true) }
+        ensures front { SameFront self.old.records self.new.records }
+    {
+        let mut repairs = self.read_owners(addresses)?;
+        if self.has_enough(addresses) {
+            return Ok(repairs);
+        }
+        let more = self.read_all()?;
+        repairs.extend_from_slice(&more)?;
+        Ok(repairs)
+    }
+
+    /// Reads everything that is left.
+    ///
+    /// # Errors
+    ///
+    /// Those of [`read_for`](PdbSession::read_for).
+    pub fn read_all(&mut self) -> Result<Vec<Repair>, SourceFault>
+        ensures all { OnOk result (self.new ≡ all_read self.new.records) }
+        ensures front { SameFront self.old.records self.new.records }
+    {
+        let Some(reader) = &mut self.reader else {
+            return Ok(Vec::new(self.alloc));
+        };
+        let read = reader.read_all(self.alloc, &mut self.known);
+        self.is_closed = is_closed(&self.known);
+        let repairs = read?;
+        self.reader = None;
+        Ok(repairs)
+    }
+
+    /// Lends the records that were read so far to a context.
+    ///
+    /// # Errors
+    ///
+    /// [`Error::PdbError`] of the first stream that failed of those that a context can't do without.
+    pub fn data(&self) -> Result<SessionData<'_>, Error>
+        ensures answer { IfOk result (λ lent. lent ≡ self.now) }
+        ensures refused { Refuses result (records_refusal self.now.records) }
+    {
+        SessionData::new(self.alloc, &self.known, &self.owners, self.is_closed)
+    }
+
+    // Reads the modules whose code lies at these addresses, or everything where that is likely to be wanted.
+    fn read_owners(&mut self, addresses: &[u32]) -> Result<Vec<Repair>, SourceFault>
+        ensures front { SameFront self.old.records self.new.records }
+    {
+        let wanted = self.lacking_owners(addresses)?;
+        let Some(reader) = &mut self.reader else {
+            return Ok(Vec::new(self.alloc));
+        };
+        if wanted.is_empty() {
+            return Ok(Vec::new(self.alloc));
+        }
+        let module_count = reader.module_count();
+        if self
+            .plan
+            .reads_all(wanted.len(), addresses.len(), module_count)
+        {
+            return self.read_all();
+        }
+        let read = reader.read_modules(self.alloc, &mut self.known, wanted);
+        self.is_closed = is_closed(&self.known);
+        read
+    }
+
+    // The modules whose code lies at these addresses and that were not read, ascending, each once.
+    fn lacking_owners(&self, addresses: &[u32]) -> Result<Vec<usize>, AllocError> {
+        let mut wanted = Vec::new(self.alloc);
+        for &address in addresses {
+            if let Some(owner) = self.owners.owner_at(address)
+                && !self.known.is_read(owner)
+                && wanted.last() != Some(&owner)
+            {
+                wanted.push(owner)?;
+            }
+        }
+        wanted.sort_unstable();
+        wanted.dedup();
+        Ok(wanted)
+    }
+
+    // Whether what was read is enough for answers at all of these addresses.
+    fn has_enough(&self, addresses: &[u32]) -> bool
+        ensures { result ≡ needs_none self.now addresses.now }
+    {
+        for &address in addresses {
+            if self.needs(address) {
+                return false;
+            }
+        }
+        true
+    }
+
+    // Whether something is still to be read for the answer at an address.
+    fn needs(&self, address: u32) -> bool
+        ensures { result ≡ needs self.now address }
+    {
+        let is_closed = self.is_closed;
+        if is_closed { self.lacks(address) } else { true }
+    }
+
+    // Whether the module whose code lies at an address is still to be read.
+    fn lacks(&self, address: u32) -> bool
+        ensures { result ≡ lacks_owner self.now (owners_of self.now.records) address }
+    {
+        self.owners.is_lacking(&self.known, address)
+    }
+}

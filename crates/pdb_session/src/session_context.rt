@@ -1,0 +1,227 @@
+//! Answers over what was read of a file, each as over all of its records.
+
+ghost use Rattle.std.specs.Prelude.{◌≡◌, Err, Ok, IfOk, false, true};
+ghost use Rattle.pdb_errors.specs.Outcomes.{Gives, Refuses};
+ghost use Rattle.pdb_records.specs.Records.{Records};
+ghost use Rattle.pdb_addr2line.specs.ContextData.{context_of, records_refusal};
+ghost use Rattle.pdb_addr2line.specs.ContextInputs.{ContextInputs};
+ghost use Rattle.pdb_known.specs.Known.{IsPartOf};
+ghost use Rattle.pdb_known.specs.StrictlyClosed.{is_strictly_closed};
+ghost use Rattle.pdb_session.specs.CodeOwners.{owners_of};
+ghost use Rattle.pdb_session.specs.Session.{GivesFrames, GivesStarts, LeavesFailed, needs};
+
+use crate::code_owners::CodeOwners;
+use pdb_addr2line::{Context, ContextPdbData, Error, FunctionFrames, TypeFormatterFlags};
+use pdb_known::KnownRecords;
+use std::alloc::Global;
+use std::marker::Model;
+
+/// Why a question about an address has no answer.
+#[derive(Debug, Drop)]
+pub enum QuestionFault {
+    /// Something that the answer depends on was not read: [`PdbSession::read_for`](crate::PdbSession::read_for) reads
+    /// it.
+    NotRead,
+    /// The records that the answer depends on are broken, or there was no memory.
+    Records(Error),
+}
+
+/// What was read of a file, lent to contexts.
+pub struct SessionData<'s> {
+    provider: ContextPdbData<'s>,
+    known: &'s KnownRecords,
+    owners: &'s CodeOwners,
+    /// Whether no part that was read leads to one that wasn't.
+    is_closed: bool,
+}
+
+impl Drop for SessionData<'_> {
+    fn drop(self) {
+        let SessionData {
+            provider: _,
+            known: _,
+            owners: _,
+            is_closed: _,
+        } = self;
+    }
+}
+
+impl<'s> Model for SessionData<'s> {
+    ghost use Rattle.std.specs.Prelude.{◌≡◌};
+    ghost use Rattle.pdb_known.specs.Known.{Known};
+    ghost use Rattle.pdb_known.specs.StrictlyClosed.{is_strictly_closed};
+    ghost use Rattle.pdb_session.specs.CodeOwners.{owners_of};
+
+    ghost Value = { Known };
+
+    ghost view = { λ d. d.known.now };
+
+    ghost invariant = { λ d. record {
+      records : d.provider ≡ d.known.now.records;
+      owners : d.owners.now ≡ owners_of d.known.now.records;
+      closed : d.is_closed ≡ is_strictly_closed d.known.now;
+    } };
+}
+
+impl<'s> SessionData<'s> {
+    // What was read, with the owners of its code.
+    pub(crate) fn new(
+        alloc: Global,
+        known: &'s KnownRecords,
+        owners: &'s CodeOwners,
+        is_closed: bool,
+    ) -> Result<Self, Error>
+        requires owners { owners.now ≡ owners_of known.now.records }
+        requires closed { is_closed ≡ is_strictly_closed known.now }
+        ensures answer { IfOk result (λ lent. lent ≡ known.now) }
+        ensures refused { Refuses result (records_refusal known.now.records) }
+    {
+        Ok(SessionData {
+            provider: ContextPdbData::try_from_shared_pdb(alloc, &known.records)?,
+            known,
+            owners,
+            is_closed,
+        })
+    }
+
+    /// Whether something is still to be read for the answer at an address.
+    pub fn needs(&self, address: u32) -> bool
+        ensures { result ≡ needs self.now address }
+    {
+        let is_closed = self.is_closed;
+        if is_closed {
+            self.owners.is_lacking(self.known, address)
+        } else {
+            true
+        }
+    }
+
+    // Whether all records were read.
+    fn has_all(&self) -> bool
+        ensures { result ≡ self.now.all }
+    {
+        let known = self.known;
+        known.all
+    }
+
+    /// The records, as contexts are made over them.
+    pub fn provider(&self) -> &ContextPdbData<'s>
+        ensures { result.now ≡ self.now.records }
+    {
+        &self.provider
+    }
+
+    /// A context over what was read, whose names are printed with these flags.
+    ///
+    /// # Errors
+    ///
+    /// Those of [`ContextPdbData::make_context_with_formatter_flags`]. They are those of a context over all records.
+    pub fn context(&self, flags: TypeFormatterFlags) -> Result<SessionContext<'_, 's>, Error>
+        ensures answer { Gives (λ c. c.state.inputs) result (context_of flags self.now.records) }
+        ensures known { IfOk result (λ c. c.known ≡ self.now) }
+        ensures flags { IfOk result (λ c. c.flags ≡ flags) }
+    {
+        Ok(SessionContext {
+            context: self.provider.make_context_with_formatter_flags(flags)?,
+            part: self,
+            flags,
+        })
+    }
+}
+
+/// A context over what was read of a file. It answers at an address once everything was read that the answer depends
+/// on, and then as a context over all records.
+pub struct SessionContext<'a, 's> {
+    context: Context<'a, ContextPdbData<'s>>,
+    part: &'a SessionData<'s>,
+    flags: TypeFormatterFlags,
+}
+
+impl Drop for SessionContext<'_, '_> {
+    fn drop(self) {
+        let SessionContext {
+            context: _,
+            part: _,
+            flags: _,
+        } = self;
+    }
+}
+
+impl<'a, 's> Model for SessionContext<'a, 's> {
+    ghost use Rattle.std.specs.Prelude.{◌≡◌, Ok};
+    ghost use Rattle.pdb_addr2line.specs.ContextData.{context_of};
+    ghost use Rattle.pdb_session.specs.Session.{ContextOverPart};
+
+    ghost Value = { ContextOverPart };
+
+    ghost view = { λ c. record { known = c.part.now; flags = c.flags; state = c.context } };
+
+    ghost invariant = { λ c. context_of c.flags c.part.now.records ≡ Ok c.context.inputs };
+}
+
+impl<'a, 's> SessionContext<'a, 's> {
+    /// Whether something is still to be read for the answer at an address.
+    pub fn needs(&self, address: u32) -> bool
+        ensures { result ≡ needs self.now.known address }
+    {
+        self.part.needs(address)
+    }
+
+    /// The functions in whose code an address lies, from inside to outside, as
+    /// [`Context::find_frames`](pdb_addr2line::Context::find_frames) answers them over all records of the file.
+    ///
+    /// # Errors
+    ///
+    /// [`QuestionFault::NotRead`] where something is still to be read for the answer, and else
+    /// [`QuestionFault::Records`] with the errors of `Context::find_frames`.
+    pub fn find_frames(&mut self, address: u32) -> Result<Option<FunctionFrames<'a>>, QuestionFault>
+        ensures not_read { needs self.old.known address ≡ true → result ≡ Err QuestionFault.NotRead }
+        ensures answer { needs self.old.known address ≡ false
+            → (whole : Records) (inputs : ContextInputs Records) → IsPartOf self.old.known whole
+            → context_of self.old.flags whole ≡ Ok inputs
+            → GivesFrames result self.old.state inputs address }
+        ensures failed { needs self.old.known address ≡ false
+            → (whole : Records) (inputs : ContextInputs Records) → IsPartOf self.old.known whole
+            → context_of self.old.flags whole ≡ Ok inputs
+            → LeavesFailed result self.old.state self.new.state inputs address }
+        ensures unchanged { needs self.old.known address ≡ true → self.new ≡ self.old }
+        ensures known { self.new.known ≡ self.old.known }
+        ensures flags { self.new.flags ≡ self.old.flags }
+    {
+        if self.needs(address) {
+            return Err(QuestionFault::NotRead);
+        }
+        let found = match self.context.find_frames(address) {
+            Ok(found) => found,
+            Err(error) => return Err(QuestionFault::Records(error)),
+        };
+        Ok(found)
+    }
+
+    /// Where functions start, ascending and each once, once all records were read.
+    ///
+    /// # Errors
+    ///
+    /// [`QuestionFault::NotRead`] where some records were not read:
+    /// [`PdbSession::read_all`](crate::PdbSession::read_all) reads them. `OutOfMemory` where memory runs out.
+    pub fn start_addresses(&mut self) -> Result<Vec<u32>, QuestionFault>
+        ensures not_read { self.old.known.all ≡ false → result ≡ Err QuestionFault.NotRead }
+        ensures answer { self.old.known.all ≡ true → GivesStarts result self.old.state.inputs }
+        ensures unchanged { self.new ≡ self.old }
+    {
+        if !self.part.has_all() {
+            return Err(QuestionFault::NotRead);
+        }
+        match self.context.start_addresses() {
+            Ok(starts) => Ok(starts),
+            Err(error) => Err(QuestionFault::Records(error)),
+        }
+    }
+
+    /// Gives the memory back of what was found so far. Every answer is as before.
+    pub fn clear_caches(&mut self)
+        ensures unchanged { self.new ≡ self.old }
+    {
+        self.context.clear_caches();
+    }
+}

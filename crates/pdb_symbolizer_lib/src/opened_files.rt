@@ -1,0 +1,140 @@
+//! Files that are opened for answers. What is broken in their records is taken out, and printed on standard error.
+
+use crate::file_bytes::FileBytes;
+use crate::input_files::{
+    NamedFile, SourceFile, find_file, open_stop, read_records_file, unreadable,
+};
+use crate::options::Options;
+use crate::repairs::print_repairs;
+use crate::status_line::StatusLine;
+use crate::stops::Stop;
+use pdb_addr2line::Error;
+use pdb_addr2line::pdb::PDB;
+use pdb_container::SourceFault;
+use pdb_identity::CodeId;
+use pdb_repairs::Repair;
+use pdb_session::{Opened, PdbSession, SessionFault};
+use std::alloc::Global;
+use std::io::{Read, Seek};
+use std::rt::Files;
+
+/// A file that was opened for answers.
+#[derive(Drop)]
+pub struct OpenedFile<F> {
+    /// The path of the file that the records are of: a PDB file that was found for a program, or the one that was
+    /// named.
+    pub path: String,
+    pub session: PdbSession<FileBytes<F>>,
+    /// Where the program wants to be loaded, if one was named, and which build it is of.
+    pub image_base: Option<u64>,
+    pub code_id: Option<CodeId>,
+}
+
+impl<F: Read + Seek + Drop> OpenedFile<F> {
+    /// The records that were read so far.
+    pub fn records(&self) -> &PDB {
+        self.session.records()
+    }
+
+    /// Reads what is missing for answers at these addresses, relative to where the program is loaded.
+    pub fn read_for<R: Eprint + AllocGlobal>(
+        &mut self,
+        rt: &R,
+        addresses: &[u32],
+    ) -> Result<(), Stop> {
+        let read = self.session.read_for(addresses);
+        self.print_read(rt, read)
+    }
+
+    /// Reads everything that is left.
+    pub fn read_all<R: Eprint + AllocGlobal>(&mut self, rt: &R) -> Result<(), Stop> {
+        let read = self.session.read_all();
+        self.print_read(rt, read)
+    }
+
+    // Prints what was broken in what was read.
+    fn print_read<R: Eprint + AllocGlobal>(
+        &self,
+        rt: &R,
+        read: Result<Vec<Repair>, SourceFault>,
+    ) -> Result<(), Stop> {
+        match read {
+            Ok(repairs) => print_repairs(rt, self.path.as_str(), self.records(), &repairs),
+            Err(SourceFault::OutOfMemory) => Err(Stop::Refused(Error::OutOfMemory)),
+            Err(SourceFault::Unreadable) => Err(unreadable(rt.alloc(), self.path.as_str())),
+        }
+    }
+}
+
+/// Opens a file that the words name: a PDB file, a records file, or the PDB file of a program, which is looked for. An
+/// error where nothing can be answered over it.
+pub fn open_file<R: Files + Eprint + AllocGlobal>(
+    rt: &R,
+    status_line: &StatusLine,
+    options: &Options<'_>,
+    path: &str,
+) -> Result<OpenedFile<R::File>, Stop> {
+    let source = find_file(rt, status_line, options, path)?;
+    open_source(rt, source)
+}
+
+/// The same of a file that was found.
+pub fn open_source<R: Files + Eprint + AllocGlobal>(
+    rt: &R,
+    source: SourceFile<R::File>,
+) -> Result<OpenedFile<R::File>, Stop> {
+    if source.bytes.is_pdb_file() {
+        let SourceFile { file, bytes } = source;
+        let length = bytes.length();
+        match PdbSession::open(rt.alloc(), bytes, length) {
+            Ok(opened) => opened_file(rt, file, opened),
+            Err(fault) => Err(session_stop(rt.alloc(), file.path.as_str(), fault)),
+        }
+    } else {
+        let (file, bytes) = source.read(rt.alloc())?;
+        let records = read_records_file(rt, file.path.as_str(), &bytes)?;
+        let opened = PdbSession::over_records(rt.alloc(), records)?;
+        opened_file(rt, file, opened)
+    }
+}
+
+fn opened_file<R: Eprint + AllocGlobal, F: Read + Seek + Drop>(
+    rt: &R,
+    file: NamedFile,
+    opened: Opened<FileBytes<F>>,
+) -> Result<OpenedFile<F>, Stop> {
+    let NamedFile {
+        path,
+        image_base,
+        code_id,
+    } = file;
+    let Opened {
+        session,
+        names_only,
+        repairs,
+    } = opened;
+    if names_only {
+        let _ = eprintln!(rt;
+            "pdb_symbolizer: {path}: made with /DEBUG:FASTLINK: names but no lines"
+        );
+    }
+    print_repairs(rt, path.as_str(), session.records(), &repairs)?;
+    Ok(OpenedFile {
+        path,
+        session,
+        image_base,
+        code_id,
+    })
+}
+
+// Why a run ends over a file over which no session can be opened.
+fn session_stop(alloc: Global, path: &str, fault: SessionFault) -> Stop {
+    match fault {
+        SessionFault::File(fault) => open_stop(alloc, path, fault),
+        SessionFault::Records(error) => Stop::Refused(error),
+        SessionFault::Refused(refusal) => match String::from_str(alloc, path) {
+            Ok(path) => Stop::PdbFile(path, refusal),
+            Err(_) => Stop::Refused(Error::OutOfMemory),
+        },
+    }
+}
