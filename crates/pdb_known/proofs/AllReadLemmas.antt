@@ -13,13 +13,13 @@ use Rattle.pdb_addr2line.specs.Lookups.{contribution_at}
 use Rattle.pdb_known.specs.Known.{Span, IsPartOf, AreAlike, AreDefinedAlike, all_read, is_read, lacks}
 
 -- a stream is like itself
-alike_itself : {I D : Type 0} (number_of : I → ℕ) (span : Span) (stream : Result (ItemInformation I D) StreamError)
+pub alike_itself : {I D : Type 0} (number_of : I → ℕ) (span : Span) (stream : Result (ItemInformation I D) StreamError)
     → AreAlike number_of span stream stream
 alike_itself number_of span (Ok content) = λ index is. refl
 alike_itself number_of span (Err fault) = refl
 
 -- and has its own definitions
-defined_itself : (span : Span) (stream : Result (ItemInformation TypeIndex TypeData) StreamError)
+pub defined_itself : (span : Span) (stream : Result (ItemInformation TypeIndex TypeData) StreamError)
     → AreDefinedAlike span stream stream
 defined_itself span (Ok content) = λ index is. refl
 defined_itself span (Err fault) = tt

@@ -5,4 +5,3 @@ pub mod IntervalLemmas
 pub mod OwnsLemmas
 pub mod ApartLemmas
 pub mod RetainedLemmas
-pub mod RepeatedLemmas

@@ -1,7 +1,6 @@
 -- What records become once their broken parts are taken out, and what is told of these parts.
-use Rattle.std.specs.Prelude.{ℕ, ◌+◌, ◌==◌, if◌then◌else◌, List, [], ◌∷◌, ◌++◌, map, slice_get, slice_set}
-use Rattle.std.specs.Prelude.{Option, Some, None, option_map, option_to_list, Result, Ok, Err}
-use Rattle.std.specs.List.{list_any}
+use Rattle.std.specs.Prelude.{ℕ, ◌+◌, List, [], ◌∷◌, ◌++◌, map, Option, Some, None, option_map, option_to_list}
+use Rattle.std.specs.Prelude.{Result, Ok, Err}
 use Rattle.std.specs.Option.{option_or}
 use Rattle.pdb_records.specs.LinePrograms.{Lines}
 use Rattle.pdb_records.specs.Readings.{Read}
@@ -92,45 +91,6 @@ repairs_of_read module_index (Err fault) = Module module_index fault ∷ []
 abbrev pub repairs_from : ℕ → List ModuleOrFault → List Repair
 repairs_from module_index [] = []
 repairs_from module_index (read ∷ reads) = repairs_of_read module_index read ++ repairs_from (module_index + 1) reads
-
--- modules where the one at a position is repaired, if there is one
-abbrev pub repaired_at : ℕ → List ModuleOrFault → List ModuleOrFault
-repaired_at position modules =
-    elim (slice_get modules position) as (λ found. List ModuleOrFault) [
-      | None ↦ modules
-      | Some read ↦ slice_set modules position (repaired_read read)
-    ]
-
--- what is told of the module at a position, if there is one
-abbrev pub repairs_at : ℕ → List ModuleOrFault → List Repair
-repairs_at position modules =
-    elim (slice_get modules position) as (λ found. List Repair) [
-      | None ↦ []
-      | Some read ↦ repairs_of_read position read
-    ]
-
--- modules where those at these positions are repaired, one after the other
-abbrev pub repaired_each : List ℕ → List ModuleOrFault → List ModuleOrFault
-repaired_each [] modules = modules
-repaired_each (position ∷ positions) modules = repaired_each positions (repaired_at position modules)
-
--- the module at a position, repaired where the position is one of these
-abbrev pub repaired_where : List ℕ → List ModuleOrFault → ℕ → Option ModuleOrFault
-repaired_where positions modules position =
-    if list_any (λ p. p == position) positions then option_map repaired_read (slice_get modules position)
-    else slice_get modules position
-
--- records in which the modules at these positions are repaired
-abbrev pub repaired_modules : List ℕ → Records → Records
-repaired_modules positions records =
-    record records { module_infos = repaired_each positions records.module_infos }
-
--- what is told of the modules at these positions, one after the other: of a position that is listed twice only what is
--- still broken is told again
-abbrev pub repairs_of_each : List ℕ → List ModuleOrFault → List Repair
-repairs_of_each [] modules = []
-repairs_of_each (position ∷ positions) modules =
-    repairs_at position modules ++ repairs_of_each positions (repaired_at position modules)
 
 -- the public symbols up to their fault, where they were read
 abbrev pub repaired_symbols : Result SymbolTable StreamError → Result SymbolTable StreamError

@@ -17,4 +17,4 @@ mod overlaps;
 mod repairs;
 mod retained;
 
-pub use repairs::{Repair, repair_modules, repair_records};
+pub use repairs::{Repair, repair_module_info, repair_records};

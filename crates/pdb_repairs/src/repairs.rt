@@ -1,13 +1,12 @@
 //! What is taken out of the records of a program, each with its fault.
 
-ghost use Rattle.std.specs.Prelude.{◌≡◌, ℕ, ◌++◌, map, slice_get, IfOk, OnOk};
+ghost use Rattle.std.specs.Prelude.{◌≡◌, ◌++◌, map, IfOk, OnOk};
 ghost use Rattle.pdb_records.specs.Sections.{listed};
-ghost use Rattle.pdb_repairs.specs.Repaired.{repaired, repaired_at, repaired_debug, repaired_debug_information};
-ghost use Rattle.pdb_repairs.specs.Repaired.{repaired_each, repaired_lists, repaired_modules, repaired_read};
-ghost use Rattle.pdb_repairs.specs.Repaired.{repaired_symbols, repairs_at, repairs_from, repairs_of, repairs_of_debug};
-ghost use Rattle.pdb_repairs.specs.Repaired.{repairs_of_debug_information, repairs_of_each, repairs_of_lists};
-ghost use Rattle.pdb_repairs.specs.Repaired.{repairs_of_contributions, repairs_of_read, repairs_of_symbols, told};
-ghost use Rattle.pdb_repairs.specs.Repaired.{repaired_where, with_kept};
+ghost use Rattle.pdb_repairs.specs.Repaired.{repaired, repaired_debug, repaired_debug_information, repaired_lists};
+ghost use Rattle.pdb_repairs.specs.Repaired.{repaired_read, repaired_symbols, repairs_from, repairs_of};
+ghost use Rattle.pdb_repairs.specs.Repaired.{repairs_of_contributions, repairs_of_debug};
+ghost use Rattle.pdb_repairs.specs.Repaired.{repairs_of_debug_information, repairs_of_lists, repairs_of_read};
+ghost use Rattle.pdb_repairs.specs.Repaired.{repairs_of_symbols, told, with_kept};
 ghost use Rattle.pdb_repairs.specs.Repairs.{without_fault};
 
 use crate::module_records::repair_module;
@@ -78,55 +77,28 @@ pub fn repair_records(alloc: Global, records: &mut PDB) -> Result<Vec<Repair>, A
     Ok(repairs)
 }
 
-/// Takes out of the records what is broken of the modules at these positions, and answers what that was, as
-/// [`repair_records`] does: for modules whose records were read later than the others. A position past the last module
-/// changes nothing.
-pub fn repair_modules(
+/// Takes out of what was read of a module what is broken, and tells what that was, as [`repair_records`] does: for a module
+/// that is read by itself.
+pub fn repair_module_info(
     alloc: Global,
-    records: &mut PDB,
-    positions: &[usize],
-) -> Result<Vec<Repair>, AllocError>
-    ensures state { OnOk result (records.new ≡ repaired_modules positions.now records.old) }
-    ensures modules { OnOk result ((position : ℕ) → slice_get records.new.module_infos position
-        ≡ repaired_where positions.now records.old.module_infos position) }
-    ensures answer { IfOk result (λ v. v.items ≡ repairs_of_each positions.now records.old.module_infos) }
-    ensures rest { record records.new { module_infos = records.old.module_infos } ≡ records.old }
-{
-    let mut repairs = Vec::new(alloc);
-    repair_each(alloc, &mut records.module_infos, positions, &mut repairs)?;
-    Ok(repairs)
-}
-
-// Repairs the modules at these positions, one after the other.
-fn repair_each(
-    alloc: Global,
-    modules: &mut Vec<Result<Option<ModuleInfo>, StreamError>>,
-    positions: &[usize],
+    module_index: usize,
+    info: &mut Result<Option<ModuleInfo>, StreamError>,
     repairs: &mut Vec<Repair>,
 ) -> Result<(), AllocError>
-    ensures state { OnOk result (modules.new.items ≡ repaired_each positions.now modules.old.items) }
-    ensures told { OnOk result
-        (repairs.new.items ≡ repairs.old.items ++ repairs_of_each positions.now modules.old.items) }
+    ensures state { OnOk result (info.new ≡ repaired_read info.old) }
+    ensures told { OnOk result (repairs.new.items ≡ repairs.old.items ++ repairs_of_read module_index info.old) }
 {
-    for &position in positions {
-        repair_at(alloc, modules, position, repairs)?;
-    }
-    Ok(())
-}
-
-// Repairs the module at a position, if there is one.
-fn repair_at(
-    alloc: Global,
-    modules: &mut Vec<Result<Option<ModuleInfo>, StreamError>>,
-    position: usize,
-    repairs: &mut Vec<Repair>,
-) -> Result<(), AllocError>
-    ensures state { OnOk result (modules.new.items ≡ repaired_at position modules.old.items) }
-    ensures told { OnOk result (repairs.new.items ≡ repairs.old.items ++ repairs_at position modules.old.items) }
-{
-    match modules.get_mut(position) {
-        Some(info) => repair_read_module(alloc, position, info, repairs),
-        None => Ok(()),
+    match info {
+        Ok(Some(info)) => repair_module(alloc, module_index, info, repairs),
+        Ok(None) => Ok(()),
+        Err(fault) => {
+            let fault = *fault;
+            repairs.push(Repair::Module {
+                module_index,
+                fault,
+            })?;
+            Ok(())
+        }
     }
 }
 
@@ -140,7 +112,7 @@ fn repair_all(
     ensures told { OnOk result (repairs.new.items ≡ repairs.old.items ++ repairs_from 0 modules.old.items) }
 {
     for (module_index, info) in modules.iter_mut().enumerate() {
-        repair_read_module(alloc, module_index, info, repairs)?;
+        repair_module_info(alloc, module_index, info, repairs)?;
     }
     Ok(())
 }
@@ -229,29 +201,6 @@ fn repair_lists(debug: &mut DebugInformation, repairs: &mut Vec<Repair>) -> Resu
         repairs.push(Repair::Contributions(fault))?;
     }
     Ok(())
-}
-
-fn repair_read_module(
-    alloc: Global,
-    module_index: usize,
-    info: &mut Result<Option<ModuleInfo>, StreamError>,
-    repairs: &mut Vec<Repair>,
-) -> Result<(), AllocError>
-    ensures state { OnOk result (info.new ≡ repaired_read info.old) }
-    ensures told { OnOk result (repairs.new.items ≡ repairs.old.items ++ repairs_of_read module_index info.old) }
-{
-    match info {
-        Ok(Some(info)) => repair_module(alloc, module_index, info, repairs),
-        Ok(None) => Ok(()),
-        Err(fault) => {
-            let fault = *fault;
-            repairs.push(Repair::Module {
-                module_index,
-                fault,
-            })?;
-            Ok(())
-        }
-    }
 }
 
 /// Has a reading end behind what was read, and answers why it ended there, if it was for a fault.

@@ -1,4 +1,12 @@
 pub mod AddedStreamLemmas
+pub mod DefinitionLemmas
+pub mod FileLemmas
+pub mod FirstLemmas
 pub mod FrontStreamLemmas
+pub mod ItemsReadLemmas
+pub mod ListLemmas
+pub mod MarkedItemLemmas
+pub mod MarkedLemmas
 pub mod OwnerLemmas
 pub mod PartLemmas
+pub mod ReadLemmas

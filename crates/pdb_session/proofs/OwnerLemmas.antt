@@ -13,12 +13,11 @@ use Rattle.pdb_errors.specs.declared.error.Error.{Error}
 use Rattle.pdb_types.specs.declared.flags.TypeFormatterFlags.{TypeFormatterFlags}
 use Rattle.pdb_functions.specs.Contributions.{merged_contributions}
 use Rattle.pdb_functions.specs.Spans.{contribution_covers}
-use Rattle.pdb_functions.specs.declared.contributions.ModuleSectionContribution.{ModuleSectionContribution}
 use Rattle.pdb_addr2line.specs.ContextData.{context_of}
 use Rattle.pdb_addr2line.specs.ContextInputs.{ContextInputs}
 use Rattle.pdb_known.specs.Known.{Known, is_read, lacks}
 use Rattle.pdb_known.proofs.ContextLemmas.{Made, context_made, made_of}
-use Rattle.pdb_session.specs.CodeOwners.{Owners, headers_of, lacks_owner, merged_in, owner_at, owners_of}
+use Rattle.pdb_session.specs.CodeOwners.{Owners, headers_of, lacks_owner, merged_in, owners_of}
 
 -- the headers that a context has are those of the records
 headers_same : (sections : Result (Option (List ImageSectionHeader)) StreamError) (headers : List ImageSectionHeader)

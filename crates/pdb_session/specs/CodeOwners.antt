@@ -1,5 +1,5 @@
 -- Whose code lies at an address: the module of the contribution over it.
-use Rattle.std.specs.Prelude.{ℕ, Bool, not, false, List, [], Option, Some, None, Result, Ok, Err, find, option_map}
+use Rattle.std.specs.Prelude.{ℕ, Bool, not, false, List, [], Option, None, Result, Ok, Err, find, option_map}
 use Rattle.std.specs.Prelude.{option_and_then, unwrap_or}
 use Rattle.std.specs.Option.{option_map_or}
 use Rattle.std.specs.Result.{result_unwrap_or}

@@ -15,6 +15,16 @@ use Rattle.pdb_session.specs.declared.session_context.QuestionFault.{QuestionFau
 use Rattle.pdb_session.specs.declared.session_context.QuestionFault.TheVariants as fault
 use Rattle.pdb_session.specs.CodeOwners.{lacks_owner, owners_of}
 
+-- what a session has read, the bytes of its file, where its source says them, and how long that is
+pub record SessionFile : Type 0 where
+  pub known : Known
+  pub bytes : Option (List ℕ)
+  pub file_length : ℕ
+
+-- a session is still over the same file
+abbrev pub SameFile : SessionFile → SessionFile → Type 0
+SameFile before after = (after.bytes ≡ before.bytes) × (after.file_length ≡ before.file_length)
+
 -- a stream without entries
 abbrev pub no_entries : Span
 no_entries = record { first = 0; read = [] }

@@ -1,13 +1,17 @@
 //! The records of a file that are read before any of its modules.
 
-ghost use Rattle.std.specs.Prelude.{◌≡◌, IfErr, IfOk, option_map};
+ghost use Rattle.std.specs.Prelude.{◌≡◌, length, None, IfErr, IfOk, option_map};
 ghost use Rattle.pdb_container.specs.DebugRecords.{streams_of_modules};
 ghost use Rattle.pdb_container.specs.ModulePlaces.{places_within};
 ghost use Rattle.pdb_container.specs.Front.{HasFront};
 ghost use Rattle.pdb_container.specs.Records.{has_names_only};
 ghost use Rattle.pdb_container.specs.Refusals.{reason_of, refusal_of};
 ghost use Rattle.pdb_container.specs.Info.{version};
+ghost use Rattle.std.specs.Result.{result_unwrap_or};
 ghost use Rattle.pdb_msf.specs.Msf.{stream_of};
+ghost use Rattle.pdb_tpi.specs.Ids.{ids};
+ghost use Rattle.pdb_tpi.specs.Types.{types};
+ghost use Rattle.pdb_session.specs.FileParts.{first_information};
 
 use crate::front_streams::FrontStreams;
 use crate::reach::Reach;
@@ -36,6 +40,11 @@ pub fn read_front_records(
     ensures places { IfOk result (λ read. read.places.items
         ≡ places_within streams.excerpt file_length (streams_of_modules streams.excerpt)) }
     ensures front { IfOk result (λ read. HasFront streams.excerpt read.file.records) }
+    ensures modules { IfOk result (λ read. length read.file.records.module_infos ≡ length read.places.items) }
+    ensures types { IfOk result (λ read. read.file.records.type_information ≡ first_information types streams.types) }
+    ensures ids { IfOk result (λ read. read.file.records.id_information ≡ first_information ids streams.ids) }
+    ensures type_places { IfOk result (λ read. read.lists.types.places ≡ result_unwrap_or streams.types None) }
+    ensures id_places { IfOk result (λ read. read.lists.ids.places ≡ result_unwrap_or streams.ids None) }
     ensures refusal { IfOk result (λ read. option_map reason_of read.file.refusal
         ≡ refusal_of (version (stream_of streams.excerpt 1)) read.file.records) }
     ensures names_only { IfOk result (λ read. read.file.names_only ≡ has_names_only streams.excerpt) }
@@ -55,8 +64,8 @@ pub fn read_front_records(
     records.type_information = first_items(alloc, &types)?;
     records.id_information = first_items(alloc, &ids)?;
     let lists = TypeLists {
-        types: ItemList::new(alloc, types),
-        ids: ItemList::new(alloc, ids),
+        types: ItemList::new(types),
+        ids: ItemList::new(ids),
     };
     let reach = Reach::new(alloc, &lists)?;
     let file = PdbFile {

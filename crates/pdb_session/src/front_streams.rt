@@ -6,6 +6,10 @@ ghost use Rattle.pdb_container.specs.Info.{features};
 ghost use Rattle.pdb_file_laws.specs.SameFronts.{SameFronts};
 ghost use Rattle.pdb_msf.specs.Msf.{stream_of};
 ghost use Rattle.pdb_msf.specs.StreamMap.{IfFile, IsExcerptOf, with_bytes};
+ghost use Rattle.pdb_container.specs.TypeRecords.{id_information, type_information};
+ghost use Rattle.pdb_tpi.specs.Ids.{ids};
+ghost use Rattle.pdb_tpi.specs.Types.{types};
+ghost use Rattle.pdb_session.specs.FileParts.{HasItems};
 ghost use Rattle.pdb_session.specs.FrontStreams.{HasStreams, KeepsStreams, named_by_front, named_by_header};
 
 use crate::type_lists::{PlacesOrFault, id_list, type_list};
@@ -36,6 +40,11 @@ impl FrontStreams {
     ) -> Result<Self, SourceFault>
         ensures front { IfOk result (λ streams. IfFile (S.bytes source.old) map.now.file_length (λ file.
             SameFronts streams.excerpt (with_bytes file map.now))) }
+        ensures types { IfOk result (λ streams. IfFile (S.bytes source.old) map.now.file_length (λ file.
+            HasItems types file streams.types (type_information (with_bytes file map.now)))) }
+        ensures ids { IfOk result (λ streams. IfFile (S.bytes source.old) map.now.file_length (λ file.
+            HasItems ids file streams.ids (id_information (with_bytes file map.now)))) }
+        ensures inputs { S.bytes source.new ≡ S.bytes source.old }
         ensures refused { IfErr result (λ fault. fault ≡ SourceFault.Unreadable
             → S.refuses_from source.old ≤ map.now.file_length) }
         ensures refusals { S.refuses_from source.new ≡ S.refuses_from source.old }

@@ -1,9 +1,12 @@
-//! Single modules of a file: their records, as their own streams have them.
+//! Modules of a file that are read by themselves: their records, as their own streams have them.
 
-ghost use Rattle.std.specs.Prelude.{◌≡◌, ◌≤◌, IfErr, IfOk};
-ghost use Rattle.pdb_container.specs.ModulePlaces.{module_of};
-ghost use Rattle.pdb_container.specs.Front.{SameFront};
+ghost use Rattle.std.specs.Prelude.{◌≡◌, ◌≤◌, List, All, false, map, IfErr, IfOk, OnOk};
+ghost use Rattle.pdb_container.specs.DebugRecords.{tabled};
+ghost use Rattle.pdb_container.specs.ModulePlaces.{ModuleOrFault, module_of, place_at};
+ghost use Rattle.pdb_container.specs.UnnamedCode.{named_modules};
 ghost use Rattle.pdb_msf.specs.StreamMap.{IfFile, with_bytes};
+ghost use Rattle.pdb_repairs.specs.Repaired.{repaired_read};
+ghost use Rattle.pdb_session.specs.FileParts.{AreModulesOf, HasNames, IsModuleOf, IsReadFrom};
 
 use pdb_container::parts::{
     ModuleInfoResult, ModulePlace, has_unnamed_code, module_in_stream, name_unnamed_code,
@@ -11,11 +14,83 @@ use pdb_container::parts::{
 use pdb_container::{Source, SourceFault, StreamMap};
 use pdb_known::KnownRecords;
 use pdb_msf::part_of_source;
-use pdb_records::PDB;
+use pdb_repairs::{Repair, repair_module_info};
 use std::alloc::{AllocError, Global};
 
-/// The records of a module at this place, or why they can't be read. Code apart from its function has no name there.
-pub fn read_module<S: Source>(
+/// A module that was read by itself.
+#[derive(Drop)]
+pub struct ModuleRead {
+    /// Its module index.
+    pub position: usize,
+    /// Its records without what is broken in them, or why they can't be read.
+    pub info: ModuleInfoResult,
+}
+
+/// Reads the modules at these positions, each as its own stream has it. What is broken in them is taken out, and told.
+pub fn read_modules_at<S: Source>(
+    alloc: Global,
+    map: &StreamMap,
+    source: &mut S,
+    places: &[ModulePlace],
+    positions: &[usize],
+    repairs: &mut Vec<Repair>,
+) -> Result<Vec<ModuleRead>, SourceFault>
+    ensures answer { IfOk result (λ read. IfFile (S.bytes source.old) map.now.file_length (λ file.
+        All (IsReadFrom file map.now places.now) read.items)) }
+    ensures inputs { S.bytes source.new ≡ S.bytes source.old }
+{
+    let mut read = Vec::new(alloc);
+    for &position in positions {
+        read.push(read_module_at(alloc, map, source, places, position, repairs)?)?;
+    }
+    Ok(read)
+}
+
+// Reads the module at a position.
+fn read_module_at<S: Source>(
+    alloc: Global,
+    map: &StreamMap,
+    source: &mut S,
+    places: &[ModulePlace],
+    position: usize,
+    repairs: &mut Vec<Repair>,
+) -> Result<ModuleRead, SourceFault>
+    ensures answer { IfOk result (λ read. IfFile (S.bytes source.old) map.now.file_length (λ file.
+        IsReadFrom file map.now places.now read)) }
+    ensures inputs { S.bytes source.new ≡ S.bytes source.old }
+{
+    let mut info = read_module(alloc, map, source, place_at(places, position))?;
+    repair_module_info(alloc, position, &mut info, repairs)?;
+    Ok(ModuleRead { position, info })
+}
+
+// Where the records of the module at a position are.
+fn place_at(places: &[ModulePlace], position: usize) -> ModulePlace
+    ensures { result ≡ place_at places.now position }
+{
+    places.get(position).copied().unwrap_or(Ok(None))
+}
+
+/// Reads the modules at all of these places, each as its own stream has it.
+pub fn read_modules<S: Source>(
+    alloc: Global,
+    streams: &StreamMap,
+    source: &mut S,
+    places: &[ModulePlace],
+) -> Result<Vec<ModuleInfoResult>, SourceFault>
+    ensures answer { IfOk result (λ infos. IfFile (S.bytes source.old) streams.now.file_length (λ file.
+        infos.items ≡ map (module_of (with_bytes file streams.now)) places.now)) }
+    ensures inputs { S.bytes source.new ≡ S.bytes source.old }
+{
+    let mut infos = Vec::new(alloc);
+    for &place in places {
+        infos.push(read_module(alloc, streams, source, place)?)?;
+    }
+    Ok(infos)
+}
+
+// The records of a module at this place, or why they can't be read. Code apart from its function has no name there.
+fn read_module<S: Source>(
     alloc: Global,
     map: &StreamMap,
     source: &mut S,
@@ -38,56 +113,74 @@ pub fn read_module<S: Source>(
     }
 }
 
-/// The positions of the modules that were not read, of so many.
-pub fn unread_modules(
-    alloc: Global,
-    known: &KnownRecords,
-    module_count: usize,
-) -> Result<Vec<usize>, AllocError> {
-    let mut positions = Vec::new(alloc);
-    for position in 0..module_count {
-        if !known.is_read(position) {
-            positions.push(position)?;
-        }
-    }
-    Ok(positions)
-}
-
 /// Whether one of these modules has code without a name, whose function any module may list.
-pub fn has_any_unnamed_code(alloc: Global, infos: &[ModuleInfoResult]) -> Result<bool, AllocError> {
-    for info in infos {
-        if let Ok(Some(info)) = info
-            && has_unnamed_code(alloc, &info.symbols.items)?
-        {
+pub fn has_any_unnamed_code(alloc: Global, modules: &[ModuleRead]) -> Result<bool, AllocError>
+    ensures { IfOk result (λ has. has ≡ false → All HasNames modules.now) }
+{
+    for read in modules {
+        if has_code_without_name(alloc, read)? {
             return Ok(true);
         }
     }
     Ok(false)
 }
 
-/// Puts the records of modules at their positions.
-pub fn put_infos(
-    modules: &mut [ModuleInfoResult],
-    positions: &[usize],
-    infos: Vec<ModuleInfoResult>,
-) {
-    for (number, info) in infos.into_iter().enumerate() {
-        if let Some(&position) = positions.get(number)
-            && position < modules.len()
-        {
+// Whether a module has code without a name.
+fn has_code_without_name(alloc: Global, read: &ModuleRead) -> Result<bool, AllocError>
+    ensures { IfOk result (λ has. has ≡ false → HasNames read.now) }
+{
+    match &read.info {
+        Ok(Some(info)) => has_unnamed_code(alloc, &info.symbols.items),
+        _ => Ok(false),
+    }
+}
+
+/// Puts modules at their positions, and marks these.
+pub fn put_modules(modules: &mut [ModuleInfoResult], marks: &mut [bool], read: Vec<ModuleRead>)
+    ensures { (whole : List ModuleOrFault) → All (IsModuleOf whole) read.items → AreModulesOf whole marks.old modules.old
+        → AreModulesOf whole marks.new modules.new }
+{
+    for ModuleRead { position, info } in read {
+        if position < modules.len() && position < marks.len() {
             modules[position] = info;
+            marks[position] = true;
         }
     }
 }
 
 /// Names code without a name in modules that were all read, in a file of this length: names take no more bytes than it
 /// has.
-pub fn name_code(alloc: Global, records: &mut PDB, file_length: usize) -> Result<(), AllocError>
-    ensures front { SameFront records.old records.new }
+pub fn name_code(
+    alloc: Global,
+    known: &KnownRecords,
+    modules: &mut [ModuleInfoResult],
+    file_length: usize,
+) -> Result<(), AllocError>
+    ensures { OnOk result
+        (modules.new ≡ named_modules file_length (tabled known.now.records.global_symbols) modules.old) }
 {
-    let (modules, symbols) = (&mut records.module_infos, &records.global_symbols);
-    match name_unnamed_code(alloc, modules, symbols, file_length) {
+    let records = &known.records;
+    match name_unnamed_code(alloc, modules, &records.global_symbols, file_length) {
         Ok(()) => Ok(()),
         Err(_) => Err(AllocError),
     }
+}
+
+/// Takes out of modules what is broken in them, and tells it of those that were not read before.
+pub fn repair_modules(
+    alloc: Global,
+    known: &KnownRecords,
+    modules: &mut [ModuleInfoResult],
+) -> Result<Vec<Repair>, AllocError>
+    ensures { OnOk result (modules.new ≡ map repaired_read modules.old) }
+{
+    let mut repairs = Vec::new(alloc);
+    for (module_index, info) in modules.iter_mut().enumerate() {
+        let mut told = Vec::new(alloc);
+        repair_module_info(alloc, module_index, info, &mut told)?;
+        if !known.is_read(module_index) {
+            repairs.extend_from_slice(&told)?;
+        }
+    }
+    Ok(repairs)
 }

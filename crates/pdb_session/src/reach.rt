@@ -1,12 +1,12 @@
 //! Which types and ids answers over modules depend on: those that their functions name, with all that these lead to.
 
 ghost use Rattle.std.specs.Prelude.{◌≡◌};
-ghost use Rattle.pdb_container.specs.Front.{SameFront};
 
-use crate::type_lists::{TypeLists, mark, put_marked};
+use crate::module_reads::ModuleRead;
+use crate::type_lists::{TypeLists, mark};
 use pdb_msf::{Source, SourceFault};
 use pdb_records::{
-    IdData, IdIndex, Item, ModuleInfo, PDB, RawString, Symbol, SymbolData, TypeData, TypeIndex,
+    IdData, IdIndex, Item, ModuleInfo, RawString, Symbol, SymbolData, TypeData, TypeIndex,
 };
 use pdb_tpi::RecordWindow;
 use std::alloc::{AllocError, Global};
@@ -29,21 +29,31 @@ pub struct Reach {
     steps: Vec<Step>,
     /// The names of the forward references whose size is reached, which stands with another type of that name.
     names: BTreeSet<Vec<u8>>,
-    /// Whether types of some of these names were not yet looked for.
-    looks: bool,
+    type_window: RecordWindow,
+    id_window: RecordWindow,
 }
 
 impl Reach {
     /// A reach of nothing.
     pub fn new(alloc: Global, lists: &TypeLists) -> Result<Self, AllocError> {
-        Ok(Reach {
-            types: lists.types.unmarked(alloc)?,
-            sizes: lists.types.unmarked(alloc)?,
-            ids: lists.ids.unmarked(alloc)?,
+        let mut reach = Reach::over_nothing(alloc);
+        reach.types = lists.types.unmarked(alloc)?;
+        reach.sizes = lists.types.unmarked(alloc)?;
+        reach.ids = lists.ids.unmarked(alloc)?;
+        Ok(reach)
+    }
+
+    /// A reach over lists without records.
+    pub fn over_nothing(alloc: Global) -> Self {
+        Reach {
+            types: Vec::new(alloc),
+            sizes: Vec::new(alloc),
+            ids: Vec::new(alloc),
             steps: Vec::new(alloc),
             names: BTreeSet::new(alloc),
-            looks: false,
-        })
+            type_window: RecordWindow::of_few(alloc),
+            id_window: RecordWindow::of_few(alloc),
+        }
     }
 
     /// A mark for each type, by its position.
@@ -61,67 +71,34 @@ impl Reach {
         &self.ids
     }
 
-    /// Adds what the names of a module's functions depend on.
-    pub fn add_module<S: Source>(
+    /// The names of the forward references whose size is reached.
+    pub fn names(&self) -> &BTreeSet<Vec<u8>> {
+        &self.names
+    }
+
+    /// Adds what the names of the functions of these modules depend on.
+    pub fn add_modules<S: Source>(
         &mut self,
         alloc: Global,
         source: &mut S,
-        lists: &mut TypeLists,
-        info: &ModuleInfo,
-    ) -> Result<(), SourceFault> {
-        for symbol in &info.symbols.items {
-            self.add_symbol(lists, symbol)?;
+        lists: &TypeLists,
+        modules: &[ModuleRead],
+    ) -> Result<(), SourceFault>
+        ensures inputs { S.bytes source.new ≡ S.bytes source.old }
+    {
+        for read in modules {
+            if let Ok(Some(info)) = &read.info {
+                self.add_module(lists, info)?;
+            }
         }
         self.follow_steps(alloc, source, lists)
     }
 
-    /// Adds the types with which the sizes of forward references stand that are reached: all of their names.
-    pub fn add_definitions<S: Source>(
-        &mut self,
-        alloc: Global,
-        source: &mut S,
-        lists: &TypeLists,
-    ) -> Result<(), SourceFault> {
-        if let Some(list) = &lists.types.places
-            && self.looks
-        {
-            let mut window = RecordWindow::of_many(alloc);
-            for (position, reached) in self.types.iter_mut().enumerate() {
-                if !*reached && list.is_definition(source, &mut window, position)? {
-                    let item = list.item_at(alloc, source, &mut window, position)?;
-                    *reached = has_name(item, &self.names);
-                }
-            }
-            self.looks = false;
+    fn add_module(&mut self, lists: &TypeLists, info: &ModuleInfo) -> Result<(), AllocError> {
+        for symbol in &info.symbols.items {
+            self.add_symbol(lists, symbol)?;
         }
         Ok(())
-    }
-
-    /// Puts into the records the types and the ids that are reached.
-    pub fn put_items<S: Source>(
-        &self,
-        alloc: Global,
-        source: &mut S,
-        lists: &TypeLists,
-        records: &mut PDB,
-    ) -> Result<(), SourceFault>
-        ensures front { SameFront records.old records.new }
-        ensures modules { records.new.module_infos ≡ records.old.module_infos }
-    {
-        put_marked(
-            alloc,
-            source,
-            &lists.types,
-            &self.types,
-            &mut records.type_information,
-        )?;
-        put_marked(
-            alloc,
-            source,
-            &lists.ids,
-            &self.ids,
-            &mut records.id_information,
-        )
     }
 
     fn add_symbol(&mut self, lists: &TypeLists, symbol: &Symbol) -> Result<(), AllocError> {
@@ -164,8 +141,10 @@ impl Reach {
         &mut self,
         alloc: Global,
         source: &mut S,
-        lists: &mut TypeLists,
-    ) -> Result<(), SourceFault> {
+        lists: &TypeLists,
+    ) -> Result<(), SourceFault>
+        ensures inputs { S.bytes source.new ≡ S.bytes source.old }
+    {
         for _ in 0..u64::MAX {
             let Some(step) = self.steps.pop() else {
                 break;
@@ -182,28 +161,31 @@ impl Reach {
         &mut self,
         alloc: Global,
         source: &mut S,
-        lists: &mut TypeLists,
+        lists: &TypeLists,
         step: Step,
-    ) -> Result<(), SourceFault> {
+    ) -> Result<(), SourceFault>
+        ensures inputs { S.bytes source.new ≡ S.bytes source.old }
+    {
         match step {
             Step::Type(position) => {
-                let item = lists
-                    .types
-                    .item_at::<TypeIndex, S>(alloc, source, position)?;
+                let window = &mut self.type_window;
+                let item = (lists.types).item_at::<TypeIndex, S>(alloc, source, window, position)?;
                 if let Some(data) = content_of(&item) {
                     self.add_types_of(lists, data)?;
                 }
             }
             Step::Size(position) => {
-                let item = lists
-                    .types
-                    .item_at::<TypeIndex, S>(alloc, source, position)?;
+                let window = &mut self.type_window;
+                let item = (lists.types).item_at::<TypeIndex, S>(alloc, source, window, position)?;
                 if let Some(data) = content_of(&item) {
                     self.add_size_of(alloc, lists, data)?;
                 }
             }
             Step::Id(position) => {
-                let item = lists.ids.item_at::<IdIndex, S>(alloc, source, position)?;
+                let window = &mut self.id_window;
+                let item = lists
+                    .ids
+                    .item_at::<IdIndex, S>(alloc, source, window, position)?;
                 if let Some(data) = content_of(&item) {
                     self.add_types_of_id(lists, data)?;
                 }
@@ -260,7 +242,6 @@ impl Reach {
     fn add_name(&mut self, alloc: Global, name: &RawString) -> Result<(), AllocError> {
         if !self.names.contains(&name.0) {
             self.names.insert(Vec::from_slice(alloc, &name.0)?)?;
-            self.looks = true;
         }
         Ok(())
     }
@@ -324,14 +305,5 @@ fn name_of<'n>(name: &'n RawString, unique_name: &'n Option<RawString>) -> &'n R
     match unique_name {
         Some(unique_name) => unique_name,
         None => name,
-    }
-}
-
-// Whether a type is a class or a union of one of these names.
-fn has_name(item: Option<Item<TypeIndex, TypeData>>, names: &BTreeSet<Vec<u8>>) -> bool {
-    match content_of(&item) {
-        Some(TypeData::Class(class)) => names.contains(&name_of(&class.name, &class.unique_name).0),
-        Some(TypeData::Union(union)) => names.contains(&name_of(&union.name, &union.unique_name).0),
-        _ => false,
     }
 }

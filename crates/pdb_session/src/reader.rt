@@ -1,33 +1,37 @@
 //! Reads modules of a PDB file, with the types and ids that their functions name.
 
-ghost use Rattle.std.specs.Prelude.{◌≡◌, ◌≤◌, length, IfErr, IfOk, OnOk};
-ghost use Rattle.pdb_container.specs.ModulePlaces.{module_of, place_at};
-ghost use Rattle.pdb_msf.specs.StreamMap.{IfFile, with_bytes};
+ghost use Rattle.std.specs.Prelude.{◌≡◌, All, List, false, length, None, IfOk, OnErr, OnOk};
+ghost use Rattle.pdb_container.specs.ModulePlaces.{ModuleOrFault};
 ghost use Rattle.pdb_container.specs.Front.{SameFront};
 ghost use Rattle.pdb_known.specs.Known.{all_read};
+ghost use Rattle.pdb_session.specs.FileParts.{AreModulesOf, IsModuleOf, IsWhole, OpensFile, ReadsFile};
+ghost use Rattle.pdb_session.specs.FileParts.{nothing_read, with_all, with_ids, with_modules, with_types};
 ghost use Rattle.pdb_session.specs.Session.{no_entries};
 
 use crate::front_records::{FrontRecords, read_front_records};
 use crate::front_streams::FrontStreams;
+use crate::items_read::{IdsRead, TypesRead, read_all_items, read_ids, read_types};
 use crate::module_reads::{
-    has_any_unnamed_code, name_code, put_infos, read_module, unread_modules,
+    ModuleRead, has_any_unnamed_code, name_code, put_modules, read_modules, read_modules_at,
+    repair_modules,
 };
 use crate::reach::Reach;
-use crate::type_lists::{TypeLists, put_all_items};
+use crate::type_lists::TypeLists;
 use pdb_container::parts::{ModuleInfoResult, ModulePlace};
 use pdb_container::{OpenFault, PdbFile, Source, SourceFault, StreamMap};
 use pdb_known::{EntriesRead, KnownRecords};
-use pdb_repairs::{Repair, repair_modules};
+use pdb_records::{IdInformation, TypeInformation};
+use pdb_repairs::Repair;
 use std::alloc::{AllocError, Global};
 
 /// What reads the parts of a PDB file that are missing.
 #[derive(Drop)]
 pub struct FileReader<S> {
-    map: StreamMap,
-    source: S,
+    pub map: StreamMap,
+    pub source: S,
     /// Where the records of each module are.
-    places: Vec<ModulePlace>,
-    lists: TypeLists,
+    pub places: Vec<ModulePlace>,
+    pub lists: TypeLists,
     reach: Reach,
 }
 
@@ -37,7 +41,12 @@ impl<S: Source + Drop> FileReader<S> {
         alloc: Global,
         mut source: S,
         file_length: usize,
-    ) -> Result<(Self, PdbFile), OpenFault> {
+    ) -> Result<(Self, PdbFile), OpenFault>
+        ensures file { IfOk result (λ opened. OpensFile (S.bytes opened.0.source) opened.0.map
+            opened.0.places.items opened.0.lists opened.1.records) }
+        ensures inputs { IfOk result (λ opened. S.bytes opened.0.source ≡ S.bytes source) }
+        ensures length { IfOk result (λ opened. opened.0.map.file_length ≡ file_length) }
+    {
         let map = StreamMap::read(alloc, &mut source, file_length)?;
         let streams = FrontStreams::read(alloc, &map, &mut source)?;
         let front = read_front_records(alloc, streams, file_length)?;
@@ -64,16 +73,20 @@ impl<S: Source + Drop> FileReader<S> {
         self.places.len()
     }
 
-    /// Marks for the types, for the types whose size is known, and for the ids of the file: those that were reached.
-    pub fn entries_read(
+    /// Marks for the types, for the types whose size is known, and for the ids of the file: none was read.
+    pub fn nothing_read(
         &self,
         alloc: Global,
-    ) -> Result<(EntriesRead, EntriesRead, EntriesRead), AllocError> {
+    ) -> Result<(EntriesRead, EntriesRead, EntriesRead), AllocError>
+        ensures types { IfOk result (λ entries. entries.0 ≡ nothing_read self.now.lists.types.places) }
+        ensures sizes { IfOk result (λ entries. entries.1 ≡ nothing_read self.now.lists.types.places) }
+        ensures ids { IfOk result (λ entries. entries.2 ≡ nothing_read self.now.lists.ids.places) }
+    {
         let lists = &self.lists;
         Ok((
-            lists.types.entries_read(alloc, self.reach.types())?,
-            lists.types.entries_read(alloc, self.reach.sizes())?,
-            lists.ids.entries_read(alloc, self.reach.ids())?,
+            lists.types.nothing_read(alloc)?,
+            lists.types.nothing_read(alloc)?,
+            lists.ids.nothing_read(alloc)?,
         ))
     }
 
@@ -81,116 +94,118 @@ impl<S: Source + Drop> FileReader<S> {
     /// is read where one of them has code without a name, as chunks and jumps, whose function any module may list. What
     /// is broken in the modules is taken out, and answered.
     ///
-    /// Where there is no memory, or a range of the file can't be read, none of them counts as read.
+    /// Where there is no memory, or a range of the file can't be read, nothing counts as read that didn't before.
     pub fn read_modules(
         &mut self,
         alloc: Global,
         known: &mut KnownRecords,
-        positions: Vec<usize>,
+        positions: &[usize],
     ) -> Result<Vec<Repair>, SourceFault>
+        requires left { known.old.all ≡ false }
+        requires file { ReadsFile (S.bytes self.old.source) self.old.map self.old.places.items self.old.lists known.old }
+        ensures file { ReadsFile (S.bytes self.new.source) self.new.map self.new.places.items self.new.lists known.new }
+        ensures whole { IsWhole known.new }
         ensures front { SameFront known.old.records known.new.records }
+        ensures unchanged { OnErr result (known.new ≡ known.old) }
+        ensures inputs { S.bytes self.new.source ≡ S.bytes self.old.source }
+        ensures map { self.new.map ≡ self.old.map }
     {
-        let infos = self.read_each(alloc, &positions)?;
-        if has_any_unnamed_code(alloc, &infos)? {
+        let mut repairs = Vec::new(alloc);
+        let (map, source) = (&self.map, &mut self.source);
+        let modules = read_modules_at(alloc, map, source, &self.places, positions, &mut repairs)?;
+        if has_any_unnamed_code(alloc, &modules)? {
             return self.read_all(alloc, known);
         }
-        self.reach_modules(alloc, &infos)?;
-        let (types, sizes, ids) = self.entries_read(alloc)?;
         self.reach
-            .put_items(alloc, &mut self.source, &self.lists, &mut known.records)?;
-        put_infos(&mut known.records.module_infos, &positions, infos);
-        let repairs = repair_modules(alloc, &mut known.records, &positions)?;
-        set_read(&mut known.modules, &positions);
-        known.types = types;
-        known.sizes = sizes;
-        known.ids = ids;
+            .add_modules(alloc, &mut self.source, &mut self.lists, &modules)?;
+        let types = read_types(alloc, &mut self.source, &self.lists.types, &self.reach)?;
+        let ids = read_ids(alloc, &mut self.source, &self.lists.ids, &self.reach)?;
+        put_types(known, types);
+        put_ids(known, ids);
+        put_read_modules(known, modules);
         Ok(repairs)
     }
 
-    /// Reads everything that is left. What is broken in the modules is taken out, and answered.
+    /// Reads everything that is left. What is broken in the modules is taken out, and answered of those that were not
+    /// read before.
+    ///
+    /// Where there is no memory, or a range of the file can't be read, nothing counts as read that didn't before.
     pub fn read_all(
         &mut self,
         alloc: Global,
         known: &mut KnownRecords,
     ) -> Result<Vec<Repair>, SourceFault>
-        ensures front { SameFront known.old.records known.new.records }
+        requires left { known.old.all ≡ false }
+        requires file { ReadsFile (S.bytes self.old.source) self.old.map self.old.places.items self.old.lists known.old }
+        ensures file { ReadsFile (S.bytes self.new.source) self.new.map self.new.places.items self.new.lists known.new }
         ensures all { OnOk result (known.new ≡ all_read known.new.records) }
+        ensures whole { IsWhole known.new }
+        ensures front { SameFront known.old.records known.new.records }
+        ensures unchanged { OnErr result (known.new ≡ known.old) }
+        ensures inputs { S.bytes self.new.source ≡ S.bytes self.old.source }
+        ensures map { self.new.map ≡ self.old.map }
     {
-        let positions = unread_modules(alloc, known, self.module_count())?;
-        let infos = self.read_each(alloc, &positions)?;
-        put_all_items(alloc, &mut self.source, &mut self.lists, &mut known.records)?;
-        put_infos(&mut known.records.module_infos, &positions, infos);
-        name_code(alloc, &mut known.records, self.map.file_length())?;
-        let repairs = repair_modules(alloc, &mut known.records, &positions)?;
-        set_all(alloc, known);
+        let types = read_all_items(alloc, &mut self.source, &self.lists.types)?;
+        let ids = read_all_items(alloc, &mut self.source, &self.lists.ids)?;
+        let mut modules = read_modules(alloc, &self.map, &mut self.source, &self.places)?;
+        name_code(alloc, known, &mut modules, self.map.file_length())?;
+        let repairs = repair_modules(alloc, known, &mut modules)?;
+        put_all(alloc, known, types, ids, modules);
+        self.lists.types.places = None;
+        self.lists.ids.places = None;
+        self.reach = Reach::over_nothing(alloc);
         Ok(repairs)
     }
-
-    // Reads the modules at these positions, each as its own stream has it.
-    fn read_each(
-        &mut self,
-        alloc: Global,
-        positions: &[usize],
-    ) -> Result<Vec<ModuleInfoResult>, SourceFault> {
-        let mut infos = Vec::with_capacity(alloc, positions.len())?;
-        for &position in positions {
-            infos.push(self.module_info(alloc, position)?)?;
-        }
-        Ok(infos)
-    }
-
-    // The records of the module at a position, or why they can't be read.
-    fn module_info(
-        &mut self,
-        alloc: Global,
-        position: usize,
-    ) -> Result<ModuleInfoResult, SourceFault>
-        ensures answer { IfOk result (λ read. IfFile (S.bytes self.old.source) self.old.map.file_length (λ file.
-            read ≡ module_of (with_bytes file self.old.map) (place_at self.old.places.items position))) }
-        ensures refused { IfErr result (λ fault. fault ≡ SourceFault.Unreadable
-            → S.refuses_from self.old.source ≤ self.old.map.file_length) }
-        ensures inputs { S.bytes self.new.source ≡ S.bytes self.old.source }
-    {
-        let place = self.place_at(position);
-        read_module(alloc, &self.map, &mut self.source, place)
-    }
-
-    // Where the records of the module at a position are.
-    fn place_at(&self, position: usize) -> ModulePlace
-        ensures { result ≡ place_at self.now.places.items position }
-    {
-        self.places.get(position).copied().unwrap_or(Ok(None))
-    }
-
-    // Adds to the reach what the functions of these modules name.
-    fn reach_modules(
-        &mut self,
-        alloc: Global,
-        infos: &[ModuleInfoResult],
-    ) -> Result<(), SourceFault> {
-        for info in infos {
-            if let Ok(Some(info)) = info {
-                self.reach
-                    .add_module(alloc, &mut self.source, &mut self.lists, info)?;
-            }
-        }
-        self.reach
-            .add_definitions(alloc, &mut self.source, &self.lists)
-    }
 }
 
-fn set_read(read: &mut [bool], positions: &[usize]) {
-    for &position in positions {
-        if position < read.len() {
-            read[position] = true;
-        }
-    }
-}
-
-// Marks everything as read.
-fn set_all(alloc: Global, known: &mut KnownRecords)
-    ensures { known.new ≡ all_read known.old.records }
+// Puts the types that were read in place of others, if the list can be read.
+fn put_types(known: &mut KnownRecords, types: Option<TypesRead>)
+    ensures { known.new ≡ with_types known.old types }
 {
+    if let Some(read) = types {
+        known.records.type_information = Ok(read.information);
+        known.types = read.types;
+        known.sizes = read.sizes;
+    }
+}
+
+// Puts the ids that were read in place of others, if the list can be read.
+fn put_ids(known: &mut KnownRecords, ids: Option<IdsRead>)
+    ensures { known.new ≡ with_ids known.old ids }
+{
+    if let Some(read) = ids {
+        known.records.id_information = Ok(read.information);
+        known.ids = read.ids;
+    }
+}
+
+// Puts the modules that were read at their positions, and marks them as read.
+fn put_read_modules(known: &mut KnownRecords, read: Vec<ModuleRead>)
+    ensures rest { known.new ≡ with_modules known.old known.new.modules known.new.records.module_infos }
+    ensures same { (whole : List ModuleOrFault) → All (IsModuleOf whole) read.items
+        → AreModulesOf whole known.old.modules known.old.records.module_infos
+        → AreModulesOf whole known.new.modules known.new.records.module_infos }
+{
+    put_modules(&mut known.records.module_infos, &mut known.modules, read);
+}
+
+// Puts everything in place of what was read before, and marks all as read.
+fn put_all(
+    alloc: Global,
+    known: &mut KnownRecords,
+    types: Option<TypeInformation>,
+    ids: Option<IdInformation>,
+    modules: Vec<ModuleInfoResult>,
+)
+    ensures { known.new ≡ all_read (with_all known.old.records types ids modules.items) }
+{
+    if let Some(types) = types {
+        known.records.type_information = Ok(types);
+    }
+    if let Some(ids) = ids {
+        known.records.id_information = Ok(ids);
+    }
+    known.records.module_infos = modules;
     known.all = true;
     known.modules = Vec::new(alloc);
     known.types = no_entries(alloc);

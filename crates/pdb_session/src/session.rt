@@ -7,7 +7,8 @@ ghost use Rattle.pdb_errors.specs.Outcomes.{Refuses};
 ghost use Rattle.pdb_addr2line.specs.ContextData.{records_refusal};
 ghost use Rattle.pdb_known.specs.Known.{all_read};
 ghost use Rattle.pdb_session.specs.CodeOwners.{lacks_owner, owners_of};
-ghost use Rattle.pdb_session.specs.Session.{needs, needs_none};
+ghost use Rattle.pdb_session.specs.FileParts.{IsPartOfFile, OpensFile, ReadsFile, first_known};
+ghost use Rattle.pdb_session.specs.Session.{SameFile, needs, needs_none};
 
 use crate::code_owners::CodeOwners;
 use crate::read_plan::ReadPlan;
@@ -23,18 +24,18 @@ use std::alloc::{AllocError, Global};
 use std::marker::Model;
 
 /// The records of a file that were read so far, without what is broken in them, and what reads the others.
-pub struct PdbSession<S> {
+pub struct PdbSession<S: Source> {
     alloc: Global,
     known: KnownRecords,
     owners: CodeOwners,
     /// Whether no part that was read leads to one that wasn't.
     is_closed: bool,
-    /// `None` once all records were read.
+    /// What reads the file; `None` of records that were all there at first.
     reader: Option<FileReader<S>>,
     plan: ReadPlan,
 }
 
-impl<S: Drop> Drop for PdbSession<S> {
+impl<S: Source + Drop> Drop for PdbSession<S> {
     fn drop(self) {
         let PdbSession {
             alloc: _,
@@ -47,27 +48,35 @@ impl<S: Drop> Drop for PdbSession<S> {
     }
 }
 
-// Clauses see a session as what was read.
-impl<S> Model for PdbSession<S> {
-    ghost use Rattle.std.specs.Prelude.{◌≡◌, None};
-    ghost use Rattle.pdb_known.specs.Known.{Known, all_read};
+// Clauses see a session as what was read, and the file that it is read from, where its source says that.
+impl<S: Source> Model for PdbSession<S> {
+    ghost use Rattle.std.specs.Prelude.{◌≡◌, IfSome, None, true};
+    ghost use Rattle.std.specs.Option.{option_and_then, option_map_or};
     ghost use Rattle.pdb_known.specs.StrictlyClosed.{is_strictly_closed};
     ghost use Rattle.pdb_session.specs.CodeOwners.{owners_of};
+    ghost use Rattle.pdb_session.specs.FileParts.{IsWhole, ReadsFile};
+    ghost use Rattle.pdb_session.specs.Session.{SessionFile};
 
-    ghost Value = { Known };
+    ghost Value = { SessionFile };
 
-    ghost view = { λ s. s.known };
+    ghost view = { λ s. record {
+      known = s.known;
+      bytes = option_and_then (λ r. S.bytes r.source) s.reader;
+      file_length = option_map_or (λ r. r.map.file_length) s.reader 0;
+    } };
 
     ghost invariant = { λ s. record {
       owners : s.owners ≡ owners_of s.known.records;
       closed : s.is_closed ≡ is_strictly_closed s.known;
-      whole : s.reader ≡ None → s.known ≡ all_read s.known.records;
+      whole : IsWhole s.known;
+      alone : s.reader ≡ None → s.known.all ≡ true;
+      file : IfSome s.reader (λ r. ReadsFile (S.bytes r.source) r.map r.places.items r.lists s.known);
     } };
 }
 
 /// A session that was opened.
 #[derive(Drop)]
-pub struct Opened<S> {
+pub struct Opened<S: Source> {
     pub session: PdbSession<S>,
     /// Whether the file has names alone, since it was made with `/DEBUG:FASTLINK`: lines and types are in objects.
     pub names_only: bool,
@@ -83,7 +92,10 @@ impl<S: Source + Drop> PdbSession<S> {
     ///
     /// [`SessionFault::File`] where the file is no PDB file that can be read, or a range of it can't be, and
     /// [`SessionFault::Refused`] where nothing can be answered over its records.
-    pub fn open(alloc: Global, source: S, file_length: usize) -> Result<Opened<S>, SessionFault> {
+    pub fn open(alloc: Global, source: S, file_length: usize) -> Result<Opened<S>, SessionFault>
+        ensures bytes { IfOk result (λ opened. opened.session.bytes ≡ S.bytes source) }
+        ensures length { IfOk result (λ opened. opened.session.file_length ≡ file_length) }
+    {
         let (reader, file) = FileReader::open(alloc, source, file_length)?;
         Self::over_file(alloc, reader, file)
     }
@@ -94,7 +106,10 @@ impl<S: Source + Drop> PdbSession<S> {
         reader: FileReader<S>,
         file: PdbFile,
     ) -> Result<Opened<S>, SessionFault>
-        ensures records { IfOk result (λ opened. opened.session.records ≡ repaired file.records) }
+        requires file { OpensFile (S.bytes reader.source) reader.map reader.places.items reader.lists file.records }
+        ensures bytes { IfOk result (λ opened. opened.session.bytes ≡ S.bytes reader.source) }
+        ensures length { IfOk result (λ opened. opened.session.file_length ≡ reader.map.file_length) }
+        ensures records { IfOk result (λ opened. opened.session.known.records ≡ repaired file.records) }
         ensures names_only { IfOk result (λ opened. opened.names_only ≡ file.names_only) }
         ensures repairs { IfOk result (λ opened. opened.repairs.items ≡ repairs_of file.records) }
     {
@@ -117,12 +132,16 @@ impl<S: Source + Drop> PdbSession<S> {
 
     // A session over records of which modules, types and ids are still to be read.
     fn over_front(alloc: Global, records: PDB, reader: FileReader<S>) -> Result<Self, Error>
-        ensures { IfOk result (λ session. session.records ≡ records) }
+        requires file { ReadsFile (S.bytes reader.source) reader.map reader.places.items reader.lists
+            (first_known records reader.places.items reader.lists) }
+        ensures bytes { IfOk result (λ session. session.bytes ≡ S.bytes reader.source) }
+        ensures length { IfOk result (λ session. session.file_length ≡ reader.map.file_length) }
+        ensures records { IfOk result (λ session. session.known.records ≡ records) }
     {
         let owners = CodeOwners::new(alloc, &records)?;
         let mut modules = Vec::new(alloc);
         modules.resize(reader.module_count(), false)?;
-        let (types, sizes, ids) = reader.entries_read(alloc)?;
+        let (types, sizes, ids) = reader.nothing_read(alloc)?;
         let known = KnownRecords {
             records,
             all: false,
@@ -143,7 +162,7 @@ impl<S: Source + Drop> PdbSession<S> {
 
     /// A session over records that are all there. What is broken is taken out of them.
     pub fn over_records(alloc: Global, records: PDB) -> Result<Opened<S>, Error>
-        ensures answer { IfOk result (λ opened. opened.session ≡ all_read (repaired records)) }
+        ensures answer { IfOk result (λ opened. opened.session.known ≡ all_read (repaired records)) }
         ensures repairs { IfOk result (λ opened. opened.repairs.items ≡ repairs_of records) }
     {
         let mut records = records;
@@ -173,7 +192,7 @@ impl<S: Source + Drop> PdbSession<S> {
 
     /// The records that were read so far.
     pub fn records(&self) -> &PDB
-        ensures { result.now ≡ self.now.records }
+        ensures { result.now ≡ self.now.known.records }
     {
         &self.known.records
     }
@@ -186,8 +205,9 @@ impl<S: Source + Drop> PdbSession<S> {
     /// [`SourceFault::Unreadable`] where a range of the file can't be read, and [`SourceFault::OutOfMemory`]. The same
     /// addresses may be asked for again.
     pub fn read_for(&mut self, addresses: &[u32]) -> Result<Vec<Repair>, SourceFault>
-        ensures enough { OnOk result (needs_none self.new addresses.now ≡ true) }
-        ensures front { SameFront self.old.records self.new.records }
+        ensures enough { OnOk result (needs_none self.new.known addresses.now ≡ true) }
+        ensures front { SameFront self.old.known.records self.new.known.records }
+        ensures file { SameFile self.old self.new }
     {
         let mut repairs = self.read_owners(addresses)?;
         if self.has_enough(addresses) {
@@ -204,42 +224,51 @@ impl<S: Source + Drop> PdbSession<S> {
     ///
     /// Those of [`read_for`](PdbSession::read_for).
     pub fn read_all(&mut self) -> Result<Vec<Repair>, SourceFault>
-        ensures all { OnOk result (self.new ≡ all_read self.new.records) }
-        ensures front { SameFront self.old.records self.new.records }
+        ensures all { OnOk result (self.new.known ≡ all_read self.new.known.records) }
+        ensures front { SameFront self.old.known.records self.new.known.records }
+        ensures file { SameFile self.old self.new }
     {
+        let known = &self.known;
+        let has_all = known.all;
+        if has_all {
+            return Ok(Vec::new(self.alloc));
+        }
         let Some(reader) = &mut self.reader else {
             return Ok(Vec::new(self.alloc));
         };
         let read = reader.read_all(self.alloc, &mut self.known);
         self.is_closed = is_closed(&self.known);
-        let repairs = read?;
-        self.reader = None;
-        Ok(repairs)
+        read
     }
 
-    /// Lends the records that were read so far to a context.
+    /// Lends the records that were read so far to a context. They are a part of all records of the file, without what
+    /// is broken in these.
     ///
     /// # Errors
     ///
     /// [`Error::PdbError`] of the first stream that failed of those that a context can't do without.
     pub fn data(&self) -> Result<SessionData<'_>, Error>
-        ensures answer { IfOk result (λ lent. lent ≡ self.now) }
-        ensures refused { Refuses result (records_refusal self.now.records) }
+        ensures answer { IfOk result (λ lent. lent ≡ self.now.known) }
+        ensures file { IfOk result (λ lent. IsPartOfFile lent self.now.bytes self.now.file_length) }
+        ensures refused { Refuses result (records_refusal self.now.known.records) }
     {
         SessionData::new(self.alloc, &self.known, &self.owners, self.is_closed)
     }
 
     // Reads the modules whose code lies at these addresses, or everything where that is likely to be wanted.
     fn read_owners(&mut self, addresses: &[u32]) -> Result<Vec<Repair>, SourceFault>
-        ensures front { SameFront self.old.records self.new.records }
+        ensures front { SameFront self.old.known.records self.new.known.records }
+        ensures file { SameFile self.old self.new }
     {
         let wanted = self.lacking_owners(addresses)?;
+        let known = &self.known;
+        let has_all = known.all;
+        if has_all || wanted.is_empty() {
+            return Ok(Vec::new(self.alloc));
+        }
         let Some(reader) = &mut self.reader else {
             return Ok(Vec::new(self.alloc));
         };
-        if wanted.is_empty() {
-            return Ok(Vec::new(self.alloc));
-        }
         let module_count = reader.module_count();
         if self
             .plan
@@ -247,7 +276,7 @@ impl<S: Source + Drop> PdbSession<S> {
         {
             return self.read_all();
         }
-        let read = reader.read_modules(self.alloc, &mut self.known, wanted);
+        let read = reader.read_modules(self.alloc, &mut self.known, &wanted);
         self.is_closed = is_closed(&self.known);
         read
     }
@@ -270,7 +299,7 @@ impl<S: Source + Drop> PdbSession<S> {
 
     // Whether what was read is enough for answers at all of these addresses.
     fn has_enough(&self, addresses: &[u32]) -> bool
-        ensures { result ≡ needs_none self.now addresses.now }
+        ensures { result ≡ needs_none self.now.known addresses.now }
     {
         for &address in addresses {
             if self.needs(address) {
@@ -282,7 +311,7 @@ impl<S: Source + Drop> PdbSession<S> {
 
     // Whether something is still to be read for the answer at an address.
     fn needs(&self, address: u32) -> bool
-        ensures { result ≡ needs self.now address }
+        ensures { result ≡ needs self.now.known address }
     {
         let is_closed = self.is_closed;
         if is_closed { self.lacks(address) } else { true }
@@ -290,7 +319,7 @@ impl<S: Source + Drop> PdbSession<S> {
 
     // Whether the module whose code lies at an address is still to be read.
     fn lacks(&self, address: u32) -> bool
-        ensures { result ≡ lacks_owner self.now (owners_of self.now.records) address }
+        ensures { result ≡ lacks_owner self.now.known (owners_of self.now.known.records) address }
     {
         self.owners.is_lacking(&self.known, address)
     }

@@ -1,49 +1,60 @@
 //! The lists of types and of ids of a PDB file, and marks of their records.
 
-ghost use Rattle.std.specs.Prelude.{◌≡◌, ◌≤◌, IfErr, IsOkAnd};
-ghost use Rattle.pdb_container.specs.Front.{SameFront};
+ghost use Rattle.std.specs.Prelude.{◌≡◌, ◌≤◌, length, None, IfErr, IfOk, IfSome, IsOkAnd};
+ghost use Rattle.std.specs.Result.{result_unwrap_or};
+ghost use Rattle.pdb_msf.specs.StreamBlocks.{blocks_read, said_in};
+ghost use Rattle.pdb_tpi.specs.Ids.{ids};
+ghost use Rattle.pdb_tpi.specs.TypePlaces.{LieIn, list_at};
+ghost use Rattle.pdb_container.specs.TypeRecords.{ids_in};
+ghost use Rattle.pdb_session.specs.FileParts.{HasItems, HasPlaces, first_information, listed_in, nothing_read};
+ghost use Rattle.pdb_session.specs.MarkedItems.{marked_items};
 
 use pdb_known::EntriesRead;
 use pdb_msf::faults::NO_STREAM;
 use pdb_msf::{Source, SourceFault, StreamBlocks};
-use pdb_records::{Item, ItemInformation, PDB, Reading, StreamError};
+use pdb_records::{Item, ItemInformation, Reading, StreamError};
 use pdb_tpi::{ItemIndex, RecordWindow, TypePlaces};
 use std::alloc::{AllocError, Global};
 
 /// What a file has of types, or of ids: where their records start, if there are any, or why they can't be read.
 pub type PlacesOrFault = Result<Option<TypePlaces>, StreamError>;
 
-/// A list of types or of ids of a file, where it can be read, and a window through which single records are read.
+/// A list of types or of ids of a file: where its records start, where it can be read and some of it is left to read.
 #[derive(Drop)]
 pub struct ItemList {
     pub places: Option<TypePlaces>,
-    window: RecordWindow,
 }
 
 impl ItemList {
     /// This list.
-    pub fn new(alloc: Global, places: PlacesOrFault) -> Self {
+    pub fn new(places: PlacesOrFault) -> Self
+        ensures { result.places ≡ result_unwrap_or places None }
+    {
         ItemList {
             places: places.unwrap_or(None),
-            window: RecordWindow::of_few(alloc),
         }
     }
 
-    /// The item at a position of the list.
+    /// The item at a position of the list, read through a window.
     pub fn item_at<I: ItemIndex, S: Source>(
-        &mut self,
+        &self,
         alloc: Global,
         source: &mut S,
+        window: &mut RecordWindow,
         position: usize,
-    ) -> Result<Option<Item<I, I::Data>>, SourceFault> {
+    ) -> Result<Option<Item<I, I::Data>>, SourceFault>
+        ensures inputs { S.bytes source.new ≡ S.bytes source.old }
+    {
         match &self.places {
-            Some(places) => places.item_at(alloc, source, &mut self.window, position),
+            Some(places) => places.item_at(alloc, source, window, position),
             None => Ok(None),
         }
     }
 
     /// A mark for each record.
-    pub fn unmarked(&self, alloc: Global) -> Result<Vec<bool>, AllocError> {
+    pub fn unmarked(&self, alloc: Global) -> Result<Vec<bool>, AllocError>
+        ensures { IfOk result (λ marks. marks.items ≡ (nothing_read self.now.places).read) }
+    {
         let length = match &self.places {
             Some(places) => places.len(),
             None => 0,
@@ -53,15 +64,17 @@ impl ItemList {
         Ok(marks)
     }
 
-    /// Which entries of the list were read, by a mark for each.
-    pub fn entries_read(&self, alloc: Global, marks: &[bool]) -> Result<EntriesRead, AllocError> {
+    /// Marks of the records of the list, none of which was read.
+    pub fn nothing_read(&self, alloc: Global) -> Result<EntriesRead, AllocError>
+        ensures { IfOk result (λ entries. entries ≡ nothing_read self.now.places) }
+    {
         let first = match &self.places {
             Some(places) => places.first(),
             None => 0,
         };
         Ok(EntriesRead {
             first,
-            read: Vec::from_slice(alloc, marks)?,
+            read: self.unmarked(alloc)?,
         })
     }
 
@@ -87,8 +100,12 @@ pub fn type_list<S: Source>(
     source: &mut S,
     blocks: Result<StreamBlocks, StreamError>,
 ) -> Result<PlacesOrFault, SourceFault>
+    ensures answer { IfOk result (λ list. IfSome (S.bytes source.old) (λ file.
+        IfOk blocks (λ blocks. length file ≡ blocks.file_length)
+        → HasPlaces file list (listed_in file blocks))) }
     ensures refused { IfErr result (λ fault. fault ≡ SourceFault.Unreadable
         → IsOkAnd blocks (λ blocks. S.refuses_from source.old ≤ blocks.file_length)) }
+    ensures inputs { S.bytes source.new ≡ S.bytes source.old }
     ensures refusals { S.refuses_from source.new ≡ S.refuses_from source.old }
 {
     match blocks {
@@ -107,14 +124,19 @@ pub fn id_list<S: Source>(
     source: &mut S,
     blocks: Result<StreamBlocks, StreamError>,
 ) -> Result<PlacesOrFault, SourceFault>
+    ensures answer { IfOk result (λ list. IfSome (S.bytes source.old) (λ file.
+        IfOk blocks (λ blocks. length file ≡ blocks.file_length)
+        → HasItems ids file list (ids_in (blocks_read file blocks)))) }
     ensures refused { IfErr result (λ fault. fault ≡ SourceFault.Unreadable
         → IsOkAnd blocks (λ blocks. S.refuses_from source.old ≤ blocks.file_length)) }
+    ensures inputs { S.bytes source.new ≡ S.bytes source.old }
     ensures refusals { S.refuses_from source.new ≡ S.refuses_from source.old }
 {
     match blocks {
         Ok(blocks) if blocks.len() == 0 => Ok(Ok(None)),
+        Ok(blocks) => type_list(alloc, source, Ok(blocks)),
         Err(NO_STREAM) => Ok(Ok(None)),
-        blocks => type_list(alloc, source, blocks),
+        Err(error) => Ok(Err(error)),
     }
 }
 
@@ -133,7 +155,9 @@ pub fn mark(marks: &mut [bool], position: usize) -> bool {
 pub fn first_items<I: ItemIndex>(
     alloc: Global,
     list: &PlacesOrFault,
-) -> Result<Result<ItemInformation<I, I::Data>, StreamError>, AllocError> {
+) -> Result<Result<ItemInformation<I, I::Data>, StreamError>, AllocError>
+    ensures { IfOk result (λ information. information ≡ first_information I.meaning list.now) }
+{
     let fault = match list {
         Ok(Some(places)) => places.fault(),
         Ok(None) => None,
@@ -145,18 +169,18 @@ pub fn first_items<I: ItemIndex>(
     }))
 }
 
-/// The marked items of a list, with those that every list has in front of them, in place of others, if the list can be
-/// read.
-pub fn put_marked<I: ItemIndex, S: Source>(
+/// The items of a list that are marked, with those that every list has in front of them.
+pub fn marked_items<I: ItemIndex, S: Source>(
     alloc: Global,
     source: &mut S,
-    list: &ItemList,
+    places: &TypePlaces,
     marks: &[bool],
-    information: &mut Result<ItemInformation<I, I::Data>, StreamError>,
-) -> Result<(), SourceFault> {
-    let Some(places) = &list.places else {
-        return Ok(());
-    };
+) -> Result<ItemInformation<I, I::Data>, SourceFault>
+    ensures answer { IfOk result (λ items. IfSome (said_in (S.bytes source.old) places.now.records.blocks) (λ stream.
+        LieIn places.now stream → items ≡ marked_items I.meaning (list_at places.now stream) marks.now)) }
+    ensures inputs { S.bytes source.new ≡ S.bytes source.old }
+    ensures refusals { S.refuses_from source.new ≡ S.refuses_from source.old }
+{
     let mut window = RecordWindow::of_few(alloc);
     let mut items = I::first_items(alloc)?;
     for (position, marked) in marks.iter().enumerate() {
@@ -164,44 +188,10 @@ pub fn put_marked<I: ItemIndex, S: Source>(
             items.push(item)?;
         }
     }
-    *information = Ok(ItemInformation {
+    Ok(ItemInformation {
         items: Reading {
             items,
             fault: places.fault(),
         },
-    });
-    Ok(())
-}
-
-/// Puts into the records all types and ids, and gives back the lists that they stand in.
-pub fn put_all_items<S: Source>(
-    alloc: Global,
-    source: &mut S,
-    lists: &mut TypeLists,
-    records: &mut PDB,
-) -> Result<(), SourceFault>
-    ensures front { SameFront records.old records.new }
-    ensures modules { records.new.module_infos ≡ records.old.module_infos }
-{
-    put_all(
-        alloc,
-        source,
-        &mut lists.types,
-        &mut records.type_information,
-    )?;
-    put_all(alloc, source, &mut lists.ids, &mut records.id_information)
-}
-
-// All items of a list in place of others, if the list can be read.
-fn put_all<I: ItemIndex, S: Source>(
-    alloc: Global,
-    source: &mut S,
-    list: &mut ItemList,
-    information: &mut Result<ItemInformation<I, I::Data>, StreamError>,
-) -> Result<(), SourceFault> {
-    if let Some(places) = &list.places {
-        *information = Ok(places.all_items(alloc, source)?);
-    }
-    list.places = None;
-    Ok(())
+    })
 }

@@ -20,7 +20,7 @@ use std::rt::Files;
 
 /// A file that was opened for answers.
 #[derive(Drop)]
-pub struct OpenedFile<F> {
+pub struct OpenedFile<F: Read + Seek + Drop> {
     /// The path of the file that the records are of: a PDB file that was found for a program, or the one that was
     /// named.
     pub path: String,

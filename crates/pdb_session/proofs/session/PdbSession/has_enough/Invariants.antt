@@ -5,4 +5,4 @@ use Rattle.pdb_session.proofs.session.PdbSession.has_enough.Given as goal
 
 abbrev pub invariant-loop-address : goal.invariant-loop-address
 invariant-loop-address g l =
-    needs_none l.self l.addresses ≡ needs_none l.self (drop l.address-index l.addresses)
+    needs_none l.self.known l.addresses ≡ needs_none l.self.known (drop l.address-index l.addresses)

@@ -1,0 +1,189 @@
+-- What is known of a file at first, before any module, type or id was read, is a part of its records.
+use Rattle.std.proofs.Common.{◌≡◌, ◌∙◌, ℕ, zero, suc, ◌+◌, ◌<◌, ◌≤◌, ◌⊎◌, inl, inr, Bool, true, false, List, [], ◌∷◌}
+use Rattle.std.proofs.Common.{◌++◌, map, append-nil, Option, Some, None, Ok, length, refl, sym, ap, subst, arith}
+use Rattle.std.proofs.lemmas.List.{get_or-replicate, length-map, length-replicate}
+use Rattle.std.proofs.lemmas.Option.{slice_get_past, slice_get-get_or}
+use Rattle.std.specs.Prelude.{replicate, slice_get, unwrap_or}
+use Rattle.pdb_records.specs.Records.{Records}
+use Rattle.pdb_records.specs.declared.types.TypeData.{TypeData}
+use Rattle.pdb_records.specs.declared.types.TypeIndex.{TypeIndex}
+use Rattle.pdb_msf.specs.Msf.{Msf}
+use Rattle.pdb_msf.specs.StreamMap.{MappedFile, with_bytes}
+use Rattle.pdb_tpi.specs.Ids.{ids}
+use Rattle.pdb_tpi.specs.Items.{ItemMeaning, TypeList, item_of, list_items}
+use Rattle.pdb_tpi.specs.TypePlaces.{list_at}
+use Rattle.pdb_tpi.specs.TypeRecords.{TypeBytes}
+use Rattle.pdb_tpi.specs.Types.{types}
+use Rattle.pdb_tpi.specs.declared.type_places.TypePlaces.{TypePlaces}
+use Rattle.pdb_container.specs.DebugRecords.{module_infos, sections}
+use Rattle.pdb_container.specs.ModulePlaces.{PlaceOrFault}
+use Rattle.pdb_container.specs.TypeRecords.{id_information, type_information}
+use Rattle.pdb_repairs.specs.Repaired.{repaired, repaired_debug_information, repaired_read, repaired_symbols}
+use Rattle.pdb_known.proofs.AllReadLemmas.{alike_itself, defined_itself}
+use Rattle.pdb_known.specs.Known.{AreAlike, AreDefinedAlike}
+use Rattle.pdb_session.proofs.MarkedLemmas.{alike_where_marked, defined_where_marked}
+use Rattle.pdb_session.proofs.ReadLemmas.{count_of_modules, nothing_behind, within_or_behind}
+use Rattle.pdb_session.specs.FileParts.{BeginsAs, HasItemsAt, IsLeft, IsOpened, IsReaderOf, ItemsOrFault, OpensFile}
+use Rattle.pdb_session.specs.FileParts.{ReadsFile, first_information, first_known, nothing_read}
+use Rattle.pdb_session.proofs.ItemsReadLemmas.{count_of_places}
+use Rattle.pdb_session.specs.MarkedItems.{marked_from, marked_items}
+use Rattle.pdb_session.specs.declared.type_lists.TypeLists.{TypeLists}
+
+-- none of marks that aren't set is set
+no_mark : (count position : ℕ) → slice_get (replicate count false) position ≡ Some true → ⊥
+no_mark count position set = by_place (within_or_behind position count) where
+  by_place : (position < count) ⊎ (count ≤ position) → ⊥
+  by_place (inl within) =
+      let there : slice_get (replicate count false) position ≡ Some false =
+      slice_get-get_or (replicate count false) position false (omega (arith, within, length-replicate count false))
+      ∙ ap Some (get_or-replicate count position false false within) in
+      let no : Some false ≡ Some true = sym there ∙ set in
+      cc
+  by_place (inr past) =
+      let there : slice_get (replicate count false) position ≡ None =
+      slice_get_past (replicate count false) position (omega (arith, past, length-replicate count false)) in
+      let no : None ≡ Some true = sym there ∙ set in
+      cc
+
+-- a mark that is set where none is lies behind them
+set_behind : (count position : ℕ) → unwrap_or (slice_get (replicate count false) position) true ≡ true
+    → count ≤ position
+set_behind count position set = by_place (within_or_behind position count) where
+  by_place : (position < count) ⊎ (count ≤ position) → count ≤ position
+  by_place (inl within) =
+      let there : slice_get (replicate count false) position ≡ Some false =
+      slice_get-get_or (replicate count false) position false (omega (arith, within, length-replicate count false))
+      ∙ ap Some (get_or-replicate count position false false within) in
+      let no : false ≡ true = sym (ap (λ (found : Option Bool). unwrap_or found true) there) ∙ set in
+      absurd cc
+  by_place (inr past) = past
+
+-- no item is marked by marks that aren't set
+none_marked : {A : Type 0} (item : ℕ → TypeBytes → A) (position count : ℕ) (list : List TypeBytes)
+    → marked_from item position (replicate count false) list ≡ []
+none_marked item position count [] = refl
+none_marked item position zero (bytes ∷ rest) = refl
+none_marked item position (suc count) (bytes ∷ rest) = none_marked item (position + 1) count rest
+
+-- so the items are those that every list has
+first_marked : {I D : Type 0} (meaning : ItemMeaning I D) (list : TypeList) (count : ℕ)
+    → marked_items meaning list (replicate count false)
+    ≡ record { items = record { items = meaning.first; fault = list.fault } }
+first_marked meaning list count =
+    ap (λ items. record { items = record { items = items; fault = list.fault } })
+    (ap (λ marked. meaning.first ++ marked) (none_marked (item_of meaning list.first) 0 count list.records)
+    ∙ append-nil meaning.first)
+
+-- there are as many marks as records
+count_of_records : (places : TypePlaces) (stream : List ℕ)
+    → length (replicate (length places.starts.items) false) ≡ length (list_at places stream).records
+count_of_records places stream =
+    length-replicate (length places.starts.items) false ∙ count_of_places places stream
+
+-- the items that a list begins with are alike in the whole
+first_alike : {I D : Type 0} (number_of : I → ℕ) (meaning : ItemMeaning I D)
+    → ((n : ℕ) → number_of (meaning.index n) ≡ n) → (file : List ℕ) (places : TypePlaces)
+    (whole : ItemsOrFault I D) → HasItemsAt meaning file places whole
+    → AreAlike number_of (nothing_read (Some places)) (first_information meaning (Ok (Some places))) whole
+first_alike number_of meaning numbered file places whole has =
+    let list : TypeList = list_at places has.stream in
+    let count : ℕ = length places.starts.items in
+    subst (λ w. AreAlike number_of (nothing_read (Some places)) (first_information meaning (Ok (Some places))) w)
+    (sym has.items)
+    (subst (λ part. AreAlike number_of (nothing_read (Some places)) (Ok part) (Ok (list_items meaning list)))
+    (first_marked meaning list count)
+    (alike_where_marked number_of meaning numbered list (replicate count false)
+    (count_of_records places has.stream)))
+
+-- and no size is known
+first_defined : (file : List ℕ) (places : TypePlaces) (whole : ItemsOrFault TypeIndex TypeData)
+    → HasItemsAt types file places whole
+    → AreDefinedAlike (nothing_read (Some places)) (first_information types (Ok (Some places))) whole
+first_defined file places whole has =
+    let list : TypeList = list_at places has.stream in
+    let count : ℕ = length places.starts.items in
+    let marks : List Bool = replicate count false in
+    subst (λ w. AreDefinedAlike (nothing_read (Some places)) (first_information types (Ok (Some places))) w)
+    (sym has.items)
+    (subst (λ part. AreDefinedAlike (nothing_read (Some places)) (Ok part) (Ok (list_items types list)))
+    (first_marked types list count)
+    (defined_where_marked list marks marks (count_of_records places has.stream) (count_of_records places has.stream)
+    (record {
+      marked = λ position set. absurd (no_mark count position set);
+      defined = λ position item name set is named other definition found defines. absurd (no_mark count position set);
+    })))
+
+-- a list begins alike
+begins_alike : {I D : Type 0} (number_of : I → ℕ) (meaning : ItemMeaning I D)
+    → ((n : ℕ) → number_of (meaning.index n) ≡ n) → (file : List ℕ) (places : Option TypePlaces)
+    (part whole : ItemsOrFault I D) → BeginsAs meaning file places part whole
+    → AreAlike number_of (nothing_read places) part whole
+begins_alike number_of meaning numbered file None part whole begins =
+    subst (AreAlike number_of (nothing_read None) part) begins (alike_itself number_of (nothing_read None) part)
+begins_alike number_of meaning numbered file (Some places) part whole begins =
+    subst (λ p. AreAlike number_of (nothing_read (Some places)) p whole) (sym begins.0)
+    (first_alike number_of meaning numbered file places whole begins.1)
+
+-- and with no size known
+begins_defined : (file : List ℕ) (places : Option TypePlaces) (part whole : ItemsOrFault TypeIndex TypeData)
+    → BeginsAs types file places part whole → AreDefinedAlike (nothing_read places) part whole
+begins_defined file None part whole begins =
+    subst (AreDefinedAlike (nothing_read None) part) begins (defined_itself (nothing_read None) part)
+begins_defined file (Some places) part whole begins =
+    subst (λ p. AreDefinedAlike (nothing_read (Some places)) p whole) (sym begins.0)
+    (first_defined file places whole begins.1)
+
+-- what a list begins with is what is left of it
+begins_left : {I D : Type 0} (meaning : ItemMeaning I D) (file : List ℕ) (places : Option TypePlaces)
+    (part whole : ItemsOrFault I D) → BeginsAs meaning file places part whole → IsLeft meaning file places part whole
+begins_left meaning file None part whole begins = begins
+begins_left meaning file (Some places) part whole begins = begins.1
+
+-- what is known of a file at first is a part of it, without what is broken in its front
+opened_is_part : (file : List ℕ) (mapped : MappedFile) (places : List PlaceOrFault) (lists : TypeLists)
+    (read : Records) → IsOpened file mapped places lists read
+    → IsReaderOf file mapped places lists (first_known (repaired read) places lists)
+opened_is_part file mapped places lists read opened =
+    let msf : Msf = with_bytes file mapped in
+    record {
+      container = opened.container;
+      places = opened.places;
+      types = begins_left types file lists.types.places read.type_information (type_information msf) opened.types;
+      ids = begins_left ids file lists.ids.places read.id_information (id_information msf) opened.ids;
+      part = record {
+        all = λ all. absurd cc;
+        sections = opened.front.0;
+        address_map = opened.front.1;
+        global_symbols = ap repaired_symbols opened.front.2;
+        debug_information =
+            ap (λ headers. repaired_debug_information headers read.debug_information) opened.front.0
+            ∙ ap (repaired_debug_information (sections msf)) opened.front.3;
+        string_table = opened.front.4;
+        modules = λ position marked.
+            let behind : (length places ≤ position) = set_behind (length places) position marked in
+            nothing_behind (map repaired_read read.module_infos) position
+            (omega (arith, behind, length-map read.module_infos repaired_read, opened.count))
+            ∙ sym (nothing_behind (map repaired_read (module_infos msf)) position
+            (omega (
+              arith,
+              behind,
+              length-map (module_infos msf) repaired_read,
+              count_of_modules msf,
+              ap length opened.places,
+            )));
+        types = begins_alike (λ i. i.0) types (λ n. refl) file lists.types.places read.type_information
+            (type_information msf) opened.types;
+        definitions = begins_defined file lists.types.places read.type_information (type_information msf)
+            opened.types;
+        ids = begins_alike (λ i. i.0) ids (λ n. refl) file lists.ids.places read.id_information (id_information msf)
+            opened.ids;
+      };
+    }
+
+-- the same of the file that a source says
+pub opened_reads_file : (bytes : Option (List ℕ)) (mapped : MappedFile) (places : List PlaceOrFault)
+    (lists : TypeLists) (read : Records) → OpensFile bytes mapped places lists read
+    → ReadsFile bytes mapped places lists (first_known (repaired read) places lists)
+opened_reads_file None mapped places lists read opens = tt
+opened_reads_file (Some file) mapped places lists read opens =
+    λ long. opened_is_part file mapped places lists read (opens long)

@@ -1,0 +1,166 @@
+-- Modules that are read by themselves are those of the file's records, where their code has names.
+use Rattle.std.proofs.Common.{◌≡◌, ◌≢◌, ◌∙◌, ℕ, zero, suc, ◌<◌, ◌≤◌, ◌⊎◌, inl, inr, Bool, true, List, [], ◌∷◌}
+use Rattle.std.proofs.Common.{All, map, set}
+use Rattle.std.proofs.lemmas.Bool.{cases_eq, cases_order}
+use Rattle.std.proofs.Common.{Option, Some, None, Ok, Err, length, length-set, refl, sym, ap, subst, arith}
+use Rattle.std.proofs.lemmas.List.{get_or-set_same, length-map}
+use Rattle.std.proofs.lemmas.List.Elements.{All-cons, All-head, All-nil, All-tail}
+use Rattle.std.proofs.lemmas.Option.{slice_get-get_or, slice_get-map, slice_get_past}
+use Rattle.std.specs.Prelude.{fold, option_map, slice_get, slice_set, unwrap_or}
+use Rattle.pdb_msf.specs.Msf.{Msf}
+use Rattle.pdb_dbi.specs.declared.module_list.ModuleStream.{ModuleStream}
+use Rattle.pdb_container.proofs.ModuleLemmas.{count_of_places}
+use Rattle.pdb_container.specs.DebugRecords.{global_symbols, module_infos, streams_of_modules}
+use Rattle.pdb_container.specs.Functions.{any_function, symbols_of}
+use Rattle.pdb_container.specs.ModulePlaces.{ModuleOrFault, PlaceOrFault, module_at, module_of, module_places}
+use Rattle.pdb_container.specs.ModulePlaces.{modules_read, place_at}
+use Rattle.pdb_container.specs.UnnamedCode.{apart_from, code_from, code_in_module, named}
+use Rattle.pdb_container.specs.UnnamedCode.{named_module, named_modules, namings}
+use Rattle.pdb_file_laws.proofs.ModuleLemmas.{said_alone}
+use Rattle.pdb_repairs.specs.Repaired.{repaired_read}
+use Rattle.pdb_session.specs.FileParts.{AreModulesOf, HasNames, IsModuleOf, module_in}
+use Rattle.pdb_session.specs.declared.module_reads.ModuleRead.{ModuleRead}
+
+-- a position lies within a list or behind it
+pub within_or_behind : (position count : ℕ) → (position < count) ⊎ (count ≤ position)
+within_or_behind position count = by_order (cases_order position count) where
+  by_order : (position ≡ count) ⊎ ((position < count) ⊎ (count < position))
+      → (position < count) ⊎ (count ≤ position)
+  by_order (inl same) = inr (omega (arith, same))
+  by_order (inr (inl below)) = inl below
+  by_order (inr (inr above)) = inr (omega (arith, above))
+
+-- what holds of each element by two facts
+pub all_by_both : {X : Type 0} (P Q R : X → Type 0) → ((x : X) → P x → Q x → R x) → (xs : List X) → All P xs
+    → All Q xs → All R xs
+all_by_both P Q R by [] ps qs = All-nil R
+all_by_both P Q R by (x ∷ xs) ps qs =
+    All-cons R x xs (by x (All-head P x xs ps) (All-head Q x xs qs))
+    (all_by_both P Q R by xs (All-tail P x xs ps) (All-tail Q x xs qs))
+
+-- a list with one element changed is as long as before
+length_changed : {A : Type 0} (items : List A) (position : ℕ) (change : A → A) (found : Option A)
+    → length (elim found as (λ f. List A) [
+      | None ↦ items
+      | Some item ↦ slice_set items position (change item)
+    ]) ≡ length items
+length_changed items position change None = refl
+length_changed items position change (Some item) = length-set items position (change item)
+
+-- a list that is changed by each of others in turn is as long as before, where each change leaves it so
+length_folded : {A B : Type 0} (change : List A → B → List A)
+    → ((items : List A) (by : B) → length (change items by) ≡ length items) → (changes : List B) (items : List A)
+    → length (fold change items changes) ≡ length items
+length_folded change same [] items = refl
+length_folded change same (by ∷ changes) items = length_folded change same changes (change items by) ∙ same items by
+
+-- the records have as many modules as the file has places for them
+pub count_of_modules : (msf : Msf) → length (module_infos msf) ≡ length (module_places msf (streams_of_modules msf))
+unfolding module_infos named_modules modules_read
+count_of_modules msf =
+    let places : List PlaceOrFault = module_places msf (streams_of_modules msf) in
+    length_folded named (λ modules naming.
+    length_changed modules naming.module_index (named_module naming.position naming.procedure)
+    (slice_get modules naming.module_index))
+    (namings (any_function (map (module_of msf) places) (global_symbols msf)) (length msf.file)
+    (code_from 0 (map (module_of msf) places))) (map (module_of msf) places)
+    ∙ length-map places (module_of msf)
+
+-- what is repaired of a module has the symbols that it had
+same_symbols : (read : ModuleOrFault) → symbols_of (repaired_read read) ≡ symbols_of read
+same_symbols (Ok (Some info)) = refl
+same_symbols (Ok None) = refl
+same_symbols (Err fault) = refl
+
+-- behind the last module nothing is known
+pub nothing_behind : (modules : List ModuleOrFault) (position : ℕ) → length modules ≤ position
+    → module_in modules position ≡ Ok None
+nothing_behind modules position past =
+    ap (λ (found : Option ModuleOrFault). unwrap_or found (Ok None)) (slice_get_past modules position past)
+
+-- a module that was read by itself and repaired is that of the repaired records, where all its code has a name
+module_alone : (msf : Msf) (read : ModuleRead)
+    → read.info ≡ repaired_read (module_of msf (place_at (module_places msf (streams_of_modules msf)) read.position))
+    → HasNames read → module_in (map repaired_read (module_infos msf)) read.position ≡ read.info
+unfolding module_at
+module_alone msf read is named_code =
+    by_place (within_or_behind read.position (length streams))
+  where
+    streams : List ModuleStream
+    streams = streams_of_modules msf
+
+    places : List PlaceOrFault
+    places = module_places msf streams
+
+    alone : ModuleOrFault
+    alone = module_of msf (place_at places read.position)
+
+    none_apart : apart_from 0 None (symbols_of alone) ≡ []
+    none_apart = ap (λ symbols. apart_from 0 None symbols) (sym (ap symbols_of is ∙ same_symbols alone)) ∙ named_code
+
+    by_place : (read.position < length streams) ⊎ (length streams ≤ read.position)
+        → module_in (map repaired_read (module_infos msf)) read.position ≡ read.info
+    by_place (inl within) =
+        ap (λ (found : Option ModuleOrFault). unwrap_or found (Ok None))
+        (slice_get-map repaired_read (module_infos msf) read.position
+        ∙ ap (option_map repaired_read) (said_alone msf read.position within
+        (ap (map (code_in_module read.position (symbols_of alone))) none_apart)))
+        ∙ sym is
+    by_place (inr past) =
+        nothing_behind (map repaired_read (module_infos msf)) read.position
+        (omega (
+          arith,
+          past,
+          length-map (module_infos msf) repaired_read,
+          count_of_modules msf,
+          count_of_places msf streams,
+        ))
+        ∙ sym (is ∙ ap (λ (found : Option PlaceOrFault). repaired_read (module_of msf (unwrap_or found (Ok None))))
+        (slice_get_past places read.position (omega (arith, past, count_of_places msf streams))))
+
+-- so are all modules that were read
+pub modules_alone : (msf : Msf) (places : List PlaceOrFault) → places ≡ module_places msf (streams_of_modules msf)
+    → (reads : List ModuleRead)
+    → All (λ (read : ModuleRead). read.info ≡ repaired_read (module_of msf (place_at places read.position))) reads
+    → All HasNames reads → All (IsModuleOf (map repaired_read (module_infos msf))) reads
+modules_alone msf places are reads read_from named_code =
+    all_by_both
+    (λ (read : ModuleRead). read.info ≡ repaired_read (module_of msf (place_at places read.position))) HasNames
+    (IsModuleOf (map repaired_read (module_infos msf)))
+    (λ read from names. module_alone msf read
+    (subst (λ (ps : List PlaceOrFault). read.info ≡ repaired_read (module_of msf (place_at ps read.position))) are from)
+    names) reads read_from named_code
+
+-- an element is as it was where another is set
+set_elsewhere : {A : Type 0} (items : List A) (i j : ℕ) (item : A) → i ≢ j
+    → slice_get (slice_set items i item) j ≡ slice_get items j
+set_elsewhere [] i j item other = refl
+set_elsewhere (x ∷ items) zero zero item other = absurd (other refl)
+set_elsewhere (x ∷ items) zero (suc j) item other = refl
+set_elsewhere (x ∷ items) (suc i) zero item other = refl
+set_elsewhere (x ∷ items) (suc i) (suc j) item other = set_elsewhere items i j item (λ same. other (ap suc same))
+
+-- the module at a position is what was put there
+put_there : (modules : List ModuleOrFault) (position : ℕ) (info : ModuleOrFault) → position < length modules
+    → module_in (slice_set modules position info) position ≡ info
+put_there modules position info within =
+    ap (λ (found : Option ModuleOrFault). unwrap_or found (Ok None))
+    (slice_get-get_or (set modules position info) position info
+    (omega (arith, within, length-set modules position info)))
+    ∙ get_or-set_same modules position info info within
+
+-- where one module more is put at its position and marked, the same is known of each module that is marked
+pub put_one : (whole modules : List ModuleOrFault) (marks : List Bool) (read : ModuleRead) → IsModuleOf whole read
+    → read.position < length modules → AreModulesOf whole marks modules
+    → AreModulesOf whole (slice_set marks read.position true) (slice_set modules read.position read.info)
+put_one whole modules marks read is within are position marked = by_place (cases_eq read.position position) where
+  by_place : (read.position ≡ position) ⊎ (read.position ≡ position → ⊥)
+      → module_in (slice_set modules read.position read.info) position ≡ module_in whole position
+  by_place (inl same) =
+      subst (λ p. module_in (slice_set modules read.position read.info) p ≡ module_in whole p) same
+      (put_there modules read.position read.info within ∙ sym is)
+  by_place (inr differ) =
+      ap (λ (found : Option ModuleOrFault). unwrap_or found (Ok None))
+      (set_elsewhere modules read.position position read.info differ)
+      ∙ are position (ap (λ (found : Option Bool). unwrap_or found true)
+      (sym (set_elsewhere marks read.position position true differ)) ∙ marked)
