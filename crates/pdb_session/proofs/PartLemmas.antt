@@ -9,11 +9,11 @@ use Rattle.pdb_types.specs.declared.flags.TypeFormatterFlags.{TypeFormatterFlags
 use Rattle.pdb_frames.specs.declared.code_parts.CodePart.{CodePart}
 use Rattle.pdb_addr2line.specs.ContextData.{context_of}
 use Rattle.pdb_addr2line.specs.ContextInputs.{ContextInputs, ContextState}
-use Rattle.pdb_addr2line.specs.Lookups.{answered_refusal, blamed_at, code_failed_after, failed_after_frames}
-use Rattle.pdb_addr2line.specs.Lookups.{failed_by_refusal, frames_answered, frames_at}
+use Rattle.pdb_addr2line.specs.Lookups.{answered_refusal, blamed_at, code_failed_after, failed_after}
+use Rattle.pdb_addr2line.specs.Lookups.{failed_after_frames, failed_by_refusal, frames_answered, frames_at, function_at}
 use Rattle.pdb_known.specs.Known.{Known, IsPartOf, all_read, infos_of, is_closed, is_read, lacks}
-use Rattle.pdb_known.proofs.AnswerLemmas.{blamed_at_same, frames_at_same}
-use Rattle.pdb_known.proofs.FailedLemmas.{failed_after_frames_same}
+use Rattle.pdb_known.proofs.AnswerLemmas.{blamed_at_same, frames_at_same, function_at_same}
+use Rattle.pdb_known.proofs.FailedLemmas.{failed_after_frames_same, failed_after_same}
 use Rattle.pdb_known.proofs.KnownLemmas.{same_or_known}
 use Rattle.pdb_known.proofs.StrictlyClosedLemmas.{closed_from_strictly}
 use Rattle.pdb_known.specs.StrictlyClosed.{is_strictly_closed}
@@ -23,6 +23,9 @@ use Rattle.pdb_session.specs.Session.{ContextOverPart, needs, needs_none, over}
 
 -- what a context over all records answers of the function and the frames at an address
 pub record SameAnswers (part inputs : ContextInputs Records) (address : ℕ) : Type 0 where
+  pub function : function_at infos_of part address ≡ function_at infos_of inputs address
+  pub failed_by_function : (parts : Parts)
+      → failed_after infos_of part address parts ≡ failed_after infos_of inputs address parts
   pub frames : frames_at infos_of part address ≡ frames_at infos_of inputs address
   pub blame : blamed_at infos_of part address ≡ blamed_at infos_of inputs address
   pub failed : (parts : Parts)
@@ -35,11 +38,15 @@ same_answers : (flags : TypeFormatterFlags) (known : Known) (whole : Records) (p
 same_answers flags known whole part inputs address is_part closed part_is inputs_is has =
     elim (same_or_known flags known whole part inputs address is_part closed part_is inputs_is has) [
       | inl same ↦ record {
+        function = ap (λ (i : ContextInputs Records). function_at infos_of i address) same;
+        failed_by_function = λ parts. ap (λ (i : ContextInputs Records). failed_after infos_of i address parts) same;
         frames = ap (λ (i : ContextInputs Records). frames_at infos_of i address) same;
         blame = ap (λ (i : ContextInputs Records). blamed_at infos_of i address) same;
         failed = λ parts. ap (λ (i : ContextInputs Records). failed_after_frames infos_of i address parts) same;
       }
       | inr at_address ↦ record {
+        function = function_at_same infos_of part inputs address at_address;
+        failed_by_function = failed_after_same infos_of part inputs address at_address;
         frames = frames_at_same infos_of part inputs address at_address;
         blame = blamed_at_same infos_of part inputs address at_address;
         failed = failed_after_frames_same infos_of part inputs address at_address;

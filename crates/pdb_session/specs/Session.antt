@@ -1,14 +1,17 @@
 -- What a session has read of its file, and what it answers.
-use Rattle.std.specs.Prelude.{◌≡◌, ◌≢◌, ℕ, Bool, not, ◌||◌, List, [], Option, Result, Ok, Err}
+use Rattle.std.specs.Prelude.{◌≡◌, ◌≢◌, ℕ, Bool, not, ◌||◌, List, [], Option, option_map, Result, Ok, Err}
 use Rattle.std.specs.Global.{Vec}
 use Rattle.std.specs.List.{list_all}
 use Rattle.pdb_records.specs.Records.{Records}
 use Rattle.pdb_errors.specs.declared.error.Error.TheVariants.{OutOfMemory}
 use Rattle.pdb_frames.specs.Frame.{FramesInfo}
+use Rattle.pdb_function_info.specs.Function.{function_view}
+use Rattle.pdb_function_info.specs.declared.function.Function.{Function}
 use Rattle.pdb_types.specs.declared.flags.TypeFormatterFlags.{TypeFormatterFlags}
 use Rattle.pdb_addr2line.specs.ContextInputs.{ContextInputs, ContextState}
 use Rattle.pdb_addr2line.specs.Functions.{start_addresses}
-use Rattle.pdb_addr2line.specs.Lookups.{code_failed_after, failed_after_frames, frames_answered}
+use Rattle.pdb_addr2line.specs.Lookups.{code_failed_after, failed_after, failed_after_frames, frames_answered}
+use Rattle.pdb_addr2line.specs.Lookups.{function_at}
 use Rattle.pdb_known.specs.Known.{Known, Span, infos_of}
 use Rattle.pdb_known.specs.StrictlyClosed.{is_strictly_closed}
 use Rattle.pdb_session.specs.declared.session_context.QuestionFault.{QuestionFault}
@@ -70,6 +73,17 @@ LeavesFailed (Ok found) before after inputs address = HasFailed before after inp
 LeavesFailed (Err (fault.Records error)) before after inputs address =
     error ≢ OutOfMemory → HasFailed before after inputs address
 LeavesFailed (Err fault.NotRead) before after inputs address = ⊥
+
+-- the function at an address is that of a context over these records, unless there was no memory
+abbrev pub GivesFunction : Result (Option Function) QuestionFault → ContextInputs Records → ℕ → Type 0
+GivesFunction (Ok found) inputs address = option_map function_view found ≡ function_at infos_of inputs address
+GivesFunction (Err (fault.Records error)) inputs address = error ≡ OutOfMemory
+GivesFunction (Err fault.NotRead) inputs address = ⊥
+
+-- the parts that failed once the function at an address is answered, by these records; parts of code stay as they were
+abbrev pub HasFailedByFunction : ContextState Records → ContextState Records → ContextInputs Records → ℕ → Type 0
+HasFailedByFunction before after inputs address =
+    (after.failed ≡ failed_after infos_of inputs address before.failed) × (after.code_failed ≡ before.code_failed)
 
 -- where functions start is what records list that are all there, unless there was no memory
 abbrev pub GivesStarts : Result (Vec ℕ) QuestionFault → ContextInputs Records → Type 0

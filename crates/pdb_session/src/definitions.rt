@@ -15,8 +15,31 @@ use std::alloc::Global;
 use std::collections::BTreeSet;
 
 /// Marks the types that define one of these names: classes and unions that go by it and are no forward references.
-/// Marks that are set already stay.
+/// Marks that are set already stay. Without any names nothing is read.
 pub fn mark_definitions<S: Source>(
+    alloc: Global,
+    source: &mut S,
+    places: &TypePlaces,
+    names: &BTreeSet<Vec<u8>>,
+    marks: &mut [bool],
+) -> Result<(), SourceFault>
+    requires length { length marks.old ≡ length places.now.starts.items }
+    ensures marked { OnOk result (IfSome (said_in (S.bytes source.old) places.now.records.blocks) (λ stream.
+        LieIn places.now stream → AreMarked names.now (list_at places.now stream) marks.new)) }
+    ensures length { length marks.new ≡ length marks.old }
+    ensures refused { IfErr result (λ fault. fault ≡ SourceFault.Unreadable
+        → S.refuses_from source.old ≤ places.now.records.blocks.file_length) }
+    ensures inputs { S.bytes source.new ≡ S.bytes source.old }
+    ensures refusals { S.refuses_from source.new ≡ S.refuses_from source.old }
+{
+    if names.is_empty() {
+        return Ok(());
+    }
+    mark_each(alloc, source, places, names, marks)
+}
+
+// Looks at each type that isn't marked.
+fn mark_each<S: Source>(
     alloc: Global,
     source: &mut S,
     places: &TypePlaces,

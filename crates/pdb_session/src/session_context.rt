@@ -1,6 +1,6 @@
 //! Answers over what was read of a file, each as over all of its records.
 
-ghost use Rattle.std.specs.Prelude.{◌≡◌, Err, Ok, IfOk, false, true};
+ghost use Rattle.std.specs.Prelude.{◌≡◌, Err, Ok, IfOk, OnOk, false, true};
 ghost use Rattle.pdb_errors.specs.Outcomes.{Gives, Refuses};
 ghost use Rattle.pdb_records.specs.Records.{Records};
 ghost use Rattle.pdb_addr2line.specs.ContextData.{context_of, records_refusal};
@@ -8,10 +8,11 @@ ghost use Rattle.pdb_addr2line.specs.ContextInputs.{ContextInputs};
 ghost use Rattle.pdb_known.specs.Known.{IsPartOf};
 ghost use Rattle.pdb_known.specs.StrictlyClosed.{is_strictly_closed};
 ghost use Rattle.pdb_session.specs.CodeOwners.{owners_of};
-ghost use Rattle.pdb_session.specs.Session.{GivesFrames, GivesStarts, LeavesFailed, needs};
+ghost use Rattle.pdb_session.specs.Session.{GivesFrames, GivesFunction, GivesStarts, HasFailedByFunction};
+ghost use Rattle.pdb_session.specs.Session.{LeavesFailed, needs};
 
 use crate::code_owners::CodeOwners;
-use pdb_addr2line::{Context, ContextPdbData, Error, FunctionFrames, TypeFormatterFlags};
+use pdb_addr2line::{Context, ContextPdbData, Error, Function, FunctionFrames, TypeFormatterFlags};
 use pdb_known::KnownRecords;
 use std::alloc::Global;
 use std::marker::Model;
@@ -165,6 +166,35 @@ impl<'a, 's> SessionContext<'a, 's> {
         ensures { result ≡ needs self.now.known address }
     {
         self.part.needs(address)
+    }
+
+    /// The function in whose code an address lies, with its addresses and its name but no lines, as
+    /// [`Context::find_function`](pdb_addr2line::Context::find_function) answers it over all records of the file.
+    ///
+    /// # Errors
+    ///
+    /// [`QuestionFault::NotRead`] where something is still to be read for the answer, and `OutOfMemory` where memory
+    /// runs out.
+    pub fn find_function(&mut self, address: u32) -> Result<Option<Function>, QuestionFault>
+        ensures not_read { needs self.old.known address ≡ true → result ≡ Err QuestionFault.NotRead }
+        ensures answer { needs self.old.known address ≡ false
+            → (whole : Records) (inputs : ContextInputs Records) → IsPartOf self.old.known whole
+            → context_of self.old.flags whole ≡ Ok inputs → GivesFunction result inputs address }
+        ensures failed { OnOk result ((whole : Records) (inputs : ContextInputs Records)
+            → IsPartOf self.old.known whole → context_of self.old.flags whole ≡ Ok inputs
+            → HasFailedByFunction self.old.state self.new.state inputs address) }
+        ensures unchanged { needs self.old.known address ≡ true → self.new ≡ self.old }
+        ensures known { self.new.known ≡ self.old.known }
+        ensures flags { self.new.flags ≡ self.old.flags }
+    {
+        if self.needs(address) {
+            return Err(QuestionFault::NotRead);
+        }
+        let found = match self.context.find_function(address) {
+            Ok(found) => found,
+            Err(error) => return Err(QuestionFault::Records(error)),
+        };
+        Ok(found)
     }
 
     /// The functions in whose code an address lies, from inside to outside, as

@@ -7,7 +7,7 @@ use Rattle.pdb_tpi.specs.RecordWindows.{records_in}
 use Rattle.pdb_tpi.specs.TypePlaces.{list_at}
 use Rattle.pdb_tpi.specs.TypeRecords.{first_record}
 use Rattle.pdb_session.proofs.DefinitionLemmas.{all_marked, marked_more}
-use Rattle.pdb_session.proofs.definitions.mark_definitions.Goals as goal
+use Rattle.pdb_session.proofs.definitions.mark_each.Goals as goal
 
 pub loop-position-preserved : goal.loop-position-preserved
 loop-position-preserved g c = record {

@@ -4,7 +4,7 @@ use Rattle.pdb_msf.specs.StreamBlocks.{said_in}
 use Rattle.pdb_tpi.specs.RecordWindows.{Shows, records_in}
 use Rattle.pdb_tpi.specs.TypePlaces.{LieIn, list_at}
 use Rattle.pdb_session.proofs.DefinitionLemmas.{MarkedBelow}
-use Rattle.pdb_session.proofs.definitions.mark_definitions.Given as goal
+use Rattle.pdb_session.proofs.definitions.mark_each.Given as goal
 
 abbrev pub invariant-loop-position : goal.invariant-loop-position
 invariant-loop-position g l = record {
