@@ -1,17 +1,19 @@
 //! Reads the PDB files that its words name, and writes the records of each, or why nothing can be answered.
 //!
-//! What of a file is broken is written too, and whether a session that reads all of the file comes to other records.
+//! What of a file is broken is written too, and whether a session that reads all of the file comes to other records, or
+//! answers by one call another function than by another.
 //! `data/write_files.py` writes the files, by their bytes, and what is wanted of them. A records file in the writer's
 //! own form comes out as it went in.
 #![tactic(auto)]
 
 use anyhow::Result;
+use pdb_addr2line::{Function, FunctionFrames, TypeFormatterFlags};
 use pdb_container::{PdbFile, Refusal, read_pdb_file};
 use pdb_export::write_records;
 use pdb_json::read_records;
 use pdb_records::PDB;
 use pdb_repairs::repair_records;
-use pdb_session::{PdbSession, SessionFault};
+use pdb_session::{PdbSession, QuestionFault, SessionFault};
 use std::alloc::Global;
 use std::rt::Files;
 use std::{env, fs, io};
@@ -96,13 +98,47 @@ fn records_text(alloc: Global, records: &PDB) -> Result<Vec<u8>> {
 fn read_by_session(alloc: Global, bytes: &[u8]) -> Result<Option<Reading>> {
     match PdbSession::open(alloc, bytes, bytes.len()) {
         Ok(mut opened) => match opened.session.read_all() {
-            Ok(_) => {
+            Ok(_) if answers_alike(&opened.session) => {
                 let text = records_text(alloc, opened.session.records())?;
                 Ok(Some(Reading::Records(text)))
             }
-            Err(_) => Ok(None),
+            _ => Ok(None),
         },
         Err(SessionFault::Refused(refusal)) => Ok(Some(Reading::Refused(refusal))),
         Err(_) => Ok(None),
+    }
+}
+
+/// Whether a session that read all of a file answers the same function by `find_function` as by `find_frames`, wherever
+/// a function starts.
+fn answers_alike(session: &PdbSession<&[u8]>) -> bool {
+    let Ok(data) = session.data() else {
+        return false;
+    };
+    let Ok(mut context) = data.context(TypeFormatterFlags::default()) else {
+        return false;
+    };
+    let Ok(starts) = context.start_addresses() else {
+        return false;
+    };
+    for start in starts {
+        if !is_same_function(context.find_function(start), context.find_frames(start)) {
+            return false;
+        }
+    }
+    true
+}
+
+/// Whether both are of one function, or of none.
+fn is_same_function(
+    function: Result<Option<Function>, QuestionFault>,
+    frames: Result<Option<FunctionFrames<'_>>, QuestionFault>,
+) -> bool {
+    match (function, frames) {
+        (Ok(Some(function)), Ok(Some(frames))) => {
+            function.start_rva == frames.start_rva && function.end_rva == frames.end_rva
+        }
+        (Ok(None), Ok(None)) => true,
+        _ => false,
     }
 }
