@@ -72,8 +72,8 @@ pub record IsLeftEarly (before after : ContextState Records) (command : Command)
   pub told : refusal ≡ refusal_of_report fault
   pub left : IsLeft infos before after command addresses fault
 
--- a context once a report of it was made: what the calls leave that it stands for, or where it ended early those that
--- were made until then
+-- the context behind a report is what the calls leave that the report stands for; behind one that ended early it is what
+-- the calls before its end leave
 abbrev pub IsLeftWithText : {A : Type 0} → Result A Refusal → (before after : ContextState Records) → Command → List ℕ
     → Type 0
 IsLeftWithText (Ok answer) before after command addresses =
