@@ -22,8 +22,8 @@ ROOT = HERE.parents[1]
 # The tests that run what a crate has; those of the readers are of all others.
 SYMBOLIZER = "pdb_symbolizer_tests"
 RUNS = {name: SYMBOLIZER for name in (
-    "pdb_symbolizer_lib", "pdb_symbolication", "pdb_session", "pdb_identity", "identity.rt", "block_reads.rt", "excerpt.rt",
-    "stream_map.rt", "type_places.rt")}
+    "pdb_symbolizer_lib", "pdb_answer_printer", "pdb_symbolication", "pdb_session", "pdb_identity", "identity.rt",
+    "block_reads.rt", "excerpt.rt", "stream_map.rt", "type_places.rt")}
 READERS = "pdb_container_tests"
 
 

@@ -3,6 +3,7 @@ pub mod FrameLevelLemmas
 pub mod AgreeLemmas
 pub mod FrameSiteLemmas
 pub mod GainLemmas
+pub mod NamedLemmas
 pub mod CallLemmas
 pub mod AnswerErrorLemmas
 pub mod FunctionLemmas

@@ -24,6 +24,7 @@ pub use Rattle.pdb_function_info.specs.NameTexts
 pub use Rattle.pdb_function_info.specs.CachedNames
 pub use Rattle.pdb_function_info.specs.Function
 pub mod Lookups
+pub mod NamedFunctions
 pub mod Functions
 pub mod FunctionSteps
 pub mod FunctionLaws

@@ -29,6 +29,7 @@ mod function_laws;
 mod functions;
 pub mod laws;
 mod lookups;
+mod named_functions;
 mod next_start;
 pub mod parts;
 mod run_calls;

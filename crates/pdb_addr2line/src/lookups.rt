@@ -224,7 +224,7 @@ impl<'a, P: ModuleProvider> Context<'a, P> {
     }
 
     // What lies over an address.
-    fn found(&mut self, address: u32) -> Result<Option<FoundFunction<'a>>>
+    pub(crate) fn found(&mut self, address: u32) -> Result<Option<FoundFunction<'a>>>
         ensures answer { MatchResult result
             (λ found. option_map found_function found ≡ found_at P.info self.old.inputs address)
             (λ e. e ≡ OutOfMemory) }

@@ -6,4 +6,5 @@ pub mod Functions
 pub mod InlineRecords
 pub mod NumberedCode
 pub mod Numbers
+pub mod SessionAnswers
 pub mod ShownFrames

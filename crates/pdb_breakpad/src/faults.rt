@@ -1,6 +1,7 @@
 //! Why a symbol file could not be written: no answer, no memory, a writer that refused.
 
 use pdb_addr2line::Error;
+use pdb_session::QuestionFault;
 use std::alloc::AllocError;
 use std::io;
 
@@ -10,6 +11,9 @@ pub enum SymbolFileFault {
     /// The source of the frames refused an answer, or there was no memory.
     #[error("{0}")]
     Refused(Error),
+    /// Something that an answer depends on was not read of the file.
+    #[error("not all of the file was read")]
+    NotRead,
     /// The writer refused what was written.
     #[error("cannot write")]
     CannotWrite,
@@ -21,6 +25,15 @@ pub enum SymbolFileFault {
 impl From<Error> for SymbolFileFault {
     fn from(error: Error) -> SymbolFileFault {
         SymbolFileFault::Refused(error)
+    }
+}
+
+impl From<QuestionFault> for SymbolFileFault {
+    fn from(fault: QuestionFault) -> SymbolFileFault {
+        match fault {
+            QuestionFault::NotRead => SymbolFileFault::NotRead,
+            QuestionFault::Records(error) => SymbolFileFault::Refused(error),
+        }
     }
 }
 

@@ -9,7 +9,7 @@ use crate::faults::SymbolFileFault;
 use crate::frame_source::FrameSource;
 use crate::function_records::FunctionRecords;
 use crate::numbers::Numbers;
-use pdb_addr2line::{FunctionFrames, Result as FramesResult};
+use pdb_addr2line::FunctionFrames;
 use std::alloc::Global;
 use std::io;
 
@@ -63,7 +63,7 @@ fn write_functions_from<'a, S: FrameSource<'a>, W: io::Write>(
 fn ask<'a, S: FrameSource<'a>>(
     source: &mut S,
     address: u32,
-) -> FramesResult<Option<FunctionFrames<'a>>>
+) -> Result<Option<FunctionFrames<'a>>, SymbolFileFault>
     ensures answer { IfOk result (λ found. IsAnswer S.answers source.old address found) }
     ensures inputs { KeepsAnswers S.answers source.old source.new }
 {

@@ -9,3 +9,4 @@ pub mod FrameRows
 pub mod FoundFrames
 pub mod Questions
 pub mod FrameAnswers
+pub mod Versions

@@ -9,7 +9,7 @@ use Rattle.pdb_addr2line.specs.ContextInputs.{ContextState}
 use Rattle.pdb_addr2line.specs.ContextData.{info_at}
 use Rattle.pdb_addr2line.specs.Calls.{after_frames, after_calls}
 use Rattle.pdb_addr2line.specs.Functions.{after_function, start_addresses, OnlyGainsBroken}
-use Rattle.pdb_addr2line.specs.Lookups.{frames_answered, function_at}
+use Rattle.pdb_addr2line.specs.NamedFunctions.{named_frames_answered, named_function_at}
 use Rattle.pdb_report_lib.specs.declared.reports.Command.{Command}
 use Rattle.pdb_report_lib.specs.declared.reports.ReportFault.{ReportFault}
 use Rattle.pdb_report_lib.specs.Reports.{report_calls, IsLeft}
@@ -32,9 +32,10 @@ abbrev pub report_asked : Command → ContextState Records → List ℕ → Resu
 report_asked command context [] = Err NoAddresses
 report_asked command context (address ∷ addresses) = text_of_context command context (address ∷ addresses)
 
--- the frames over an address that a context answers, and else the refusal of the address
+-- the frames over an address that a context answers, whose function goes by its symbol's name where it has no other,
+-- and else the refusal of the address
 abbrev pub frames_over : ContextState Records → ℕ → Result (Option FramesInfo) Refusal
-frames_over context address = with_refusal (λ error. AddressRefused) (frames_answered infos context address)
+frames_over context address = with_refusal (λ error. AddressRefused) (named_frames_answered infos context address)
 
 -- the first address from this one on at which a function starts, by the records of a context
 abbrev pub next_start : ContextState Records → ℕ → Option ℕ
@@ -46,7 +47,7 @@ answer_in context (question.Frames address) =
     and_then (frames_over context address) (λ found.
     Ok (shown found))
 answer_in context (question.Function address) =
-    Ok (shown (option_map frames_of_function (function_at infos context.inputs address)))
+    Ok (shown (option_map frames_of_function (named_function_at infos context.inputs address)))
 answer_in context (question.NextStart address) =
     Ok (shown (option_map frames_of_function (option_map start_alone (next_start context address))))
 answer_in context (question.Report command addresses) =

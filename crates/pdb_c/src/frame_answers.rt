@@ -3,7 +3,7 @@ ghost use Rattle.std.specs.Prelude.{◌≡◌, Ok, OnOk, MatchResult, option_map
 ghost use Rattle.pdb_function_info.specs.Function.{function_view};
 ghost use Rattle.pdb_addr2line.specs.Calls.{after_frames};
 ghost use Rattle.pdb_addr2line.specs.Functions.{after_function, OnlyGainsBroken};
-ghost use Rattle.pdb_addr2line.specs.Lookups.{function_at};
+ghost use Rattle.pdb_addr2line.specs.NamedFunctions.{named_function_at};
 ghost use Rattle.pdb_c.specs.FoundFrames.{shown_view};
 ghost use Rattle.pdb_c.specs.FrameAnswers.{shown_result, LeavesFrames};
 ghost use Rattle.pdb_c.specs.Questions.{infos, frames_over, answer_in, report_asked};
@@ -23,7 +23,7 @@ use pdb_addr2line::{Context, ContextPdbData, Error, Function, FunctionFrames};
 use pdb_report_lib::Command;
 use std::alloc::Global;
 
-// The frames over an address. What the context met broken on the way is broken.
+// The frames over an address, whose function goes by its symbol's name where it has no other. What the context met broken on the way is broken.
 fn look_up_frames<'a>(
     context: &mut Context<'a, ContextPdbData<'static>>,
     address: u32,
@@ -32,25 +32,26 @@ fn look_up_frames<'a>(
     ensures state { IsLeftByCall result context.old (after_frames infos context.old address) context.new }
     ensures gains { OnOk result (OnlyGainsBroken infos context.old context.new) }
 {
-    match context.find_frames(address) {
+    match context.find_named_frames(address) {
         Ok(found) => Ok(found),
         Err(Error::OutOfMemory) => Err(Refusal::OutOfMemory),
         Err(_) => Err(Refusal::AddressRefused),
     }
 }
 
-// The function over an address. What the context met broken on the way is broken.
+// The function over an address, by its symbol's name where it has no other. What the context met broken on the way is
+// broken.
 fn look_up(
     context: &mut Context<'_, ContextPdbData<'static>>,
     address: u32,
 ) -> Result<Option<Function>, Refusal>
     ensures answer { MatchResult result
-        (λ found. option_map function_view found ≡ function_at infos context.old.inputs address)
+        (λ found. option_map function_view found ≡ named_function_at infos context.old.inputs address)
         (λ refusal. refusal ≡ OutOfMemory) }
     ensures state { OnOk result (context.new ≡ after_function infos context.old address) }
     ensures gains { OnlyGainsBroken infos context.old context.new }
 {
-    match context.find_function(address) {
+    match context.find_named_function(address) {
         Ok(found) => Ok(found),
         Err(_) => Err(Refusal::OutOfMemory),
     }

@@ -22,6 +22,7 @@ mod pdb_openings;
 mod records_calls;
 mod refusals;
 mod texts;
+mod versions;
 
 pub use calls::{limberlime_frames_unchecked, limberlime_names_unchecked};
 pub use found_frames::FoundFunction;
@@ -40,3 +41,4 @@ pub use machine_calls::limberlime_machine_unchecked;
 pub use pdb_calls::{limberlime_debug_id_unchecked, limberlime_open_pdb_unchecked};
 pub use records_calls::{limberlime_module_files_unchecked, limberlime_open_records_unchecked};
 pub use refusals::Refusal;
+pub use versions::limberlime_version_unchecked;

@@ -74,7 +74,12 @@ abbrev pub function_name : {P : Type 0} → (P → ProviderInfos) → TypeInputs
 function_name info type_inputs globals (found_global m f) = option_map lossy f.name
 function_name info type_inputs globals (found_procedure m p) = procedure_name info type_inputs globals m p
 
--- the parts that failed once that is named: a global function breaks none
+-- the name of the symbol of a function that was found, as text: a procedure's, or a global function's, where it has one
+abbrev pub symbol_name : FoundFunction → Option (List ℕ)
+symbol_name (found_global m f) = option_map lossy f.name
+symbol_name (found_procedure m p) = Some (lossy p.name)
+
+-- the parts that failed once a function is named: a global function breaks none
 abbrev pub failed_by_function_name : {P : Type 0} → (P → ProviderInfos) → TypeInputs P → List GlobalFunction
     → FoundFunction
     → Parts → Parts

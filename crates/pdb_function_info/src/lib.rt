@@ -19,3 +19,4 @@ mod printed_names;
 pub use frames::frames_info;
 pub use function::{Function, function_info};
 pub use function_names::FunctionNames;
+pub use name_texts::symbol_name;

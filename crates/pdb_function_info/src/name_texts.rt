@@ -4,9 +4,10 @@ ghost use Rattle.std.specs.Prelude.{◌≡◌, option_map, string_bytes, IfOk};
 ghost use Rattle.std.specs.Option.{option_copied};
 ghost use Rattle.pdb_records.specs.Names.{lossy};
 ghost use Rattle.pdb_functions.specs.Procedures.{module_procedure};
-ghost use Rattle.pdb_function_info.specs.NameTexts.{is_decorated, decorated_at, decorated_instead};
+ghost use Rattle.pdb_functions.specs.FoundFunctions.{found_function};
+ghost use Rattle.pdb_function_info.specs.NameTexts.{is_decorated, decorated_at, decorated_instead, symbol_name};
 
-use pdb_functions::{GlobalFunctionTable, ProcedureSymbolFunction};
+use pdb_functions::{FoundFunction, GlobalFunctionTable, ProcedureSymbolFunction};
 use pdb_records::{PdbInternalSectionOffset, RawString};
 use pdb_tables::Probes;
 use std::alloc::{AllocError, Global};
@@ -38,6 +39,16 @@ pub(crate) fn text_of_name(
             let text = text_of(alloc, name)?;
             Ok(Some(text))
         }
+    }
+}
+
+/// The name of the symbol of a function that was found. A placeholder has none.
+pub fn symbol_name(alloc: Global, found: FoundFunction<'_>) -> Result<Option<String>, AllocError>
+    ensures { IfOk result (λ name. option_map string_bytes name ≡ symbol_name (found_function found.entry)) }
+{
+    match found {
+        FoundFunction::Global(_, function, _) => text_of_name(alloc, function.name),
+        FoundFunction::Procedure(_, procedure) => text_of_name(alloc, Some(procedure.name)),
     }
 }
 

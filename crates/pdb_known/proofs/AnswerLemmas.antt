@@ -30,9 +30,10 @@ use Rattle.pdb_inline.specs.Sites.{walk}
 use Rattle.pdb_function_info.specs.Frames.{Strings, inlined_frame, inlined_frames, origin_frames, own_frame}
 use Rattle.pdb_function_info.specs.Frames.{function_frames, function_size}
 use Rattle.pdb_function_info.specs.Function.{info_of, info_of_procedure, sum_in_32_bits}
-use Rattle.pdb_function_info.specs.NameTexts.{function_name, id_name}
+use Rattle.pdb_function_info.specs.NameTexts.{function_name, id_name, symbol_name}
 use Rattle.pdb_addr2line.specs.ContextInputs.{ContextInputs, global_functions_of}
 use Rattle.pdb_addr2line.specs.Lookups.{found_at, function_at, frames_at, frames_of, records_of, blamed_at, blamed_for}
+use Rattle.pdb_addr2line.specs.NamedFunctions.{symbol_name_at}
 use Rattle.pdb_known.specs.SameModules.{HasSameFront, KnowsModule, KnowsAddress, AreSiteIdsIn}
 use Rattle.pdb_known.proofs.BodyLemmas.{bodies_in}
 use Rattle.pdb_known.proofs.FoundLemmas.{KnowsFunction, IsTypeIn, found_same, function_known, readable_same}
@@ -213,6 +214,10 @@ module _ {P : Type 0} (info : P → ProviderInfos) (part whole : ContextInputs P
       (found_at info part address) (found_at info whole address) (found_same info part whole address known)
       (λ found is. info_of_same info part whole known.front found
       (function_known info part whole address known found is))
+
+  -- the name of the symbol of the function over the address
+  pub symbol_name_at_same : symbol_name_at info part address ≡ symbol_name_at info whole address
+  symbol_name_at_same = ap (option_and_then symbol_name) (found_same info part whole address known)
 
   -- the frames over the address
   pub frames_at_same : frames_at info part address ≡ frames_at info whole address

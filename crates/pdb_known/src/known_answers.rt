@@ -8,17 +8,23 @@ ghost use Rattle.pdb_addr2line.specs.ContextData.{context_of};
 ghost use Rattle.pdb_addr2line.specs.ContextInputs.{ContextInputs};
 ghost use Rattle.pdb_addr2line.specs.Lookups.{function_at, frames_at, blamed_at, failed_after};
 ghost use Rattle.pdb_addr2line.specs.Lookups.{failed_after_frames};
+ghost use Rattle.pdb_addr2line.specs.NamedFunctions.{symbol_name_at};
 ghost use Rattle.pdb_known.specs.Known.{Known, IsPartOf, is_closed, lacks, infos_of, refusal_of, all_read};
 
 /// What was read of a file answers as all of its records do, once a check found it closed, at each address whose module
-/// was read: the function, the frames, and the broken part to blame are the same. So are the parts of the records that
-/// failed by then.
+/// was read: the function, the name of its symbol, the frames, and the broken part to blame are the same. So are the
+/// parts of the records that failed by then.
 pub fn what_is_known_answers_as_all()
     ensures functions { (flags : TypeFormatterFlags) (known : Known) (whole : Records)
         (part inputs : ContextInputs Records) (address : ℕ) → IsPartOf known whole → is_closed known ≡ true
         → context_of flags known.records ≡ Ok part → context_of flags whole ≡ Ok inputs
         → lacks known part address ≡ false
         → function_at infos_of part address ≡ function_at infos_of inputs address }
+    ensures names { (flags : TypeFormatterFlags) (known : Known) (whole : Records)
+        (part inputs : ContextInputs Records) (address : ℕ) → IsPartOf known whole → is_closed known ≡ true
+        → context_of flags known.records ≡ Ok part → context_of flags whole ≡ Ok inputs
+        → lacks known part address ≡ false
+        → symbol_name_at infos_of part address ≡ symbol_name_at infos_of inputs address }
     ensures frames { (flags : TypeFormatterFlags) (known : Known) (whole : Records)
         (part inputs : ContextInputs Records) (address : ℕ) → IsPartOf known whole → is_closed known ≡ true
         → context_of flags known.records ≡ Ok part → context_of flags whole ≡ Ok inputs

@@ -1,4 +1,5 @@
 pub mod AddedStreamLemmas
+pub mod CallLemmas
 pub mod DefinitionLemmas
 pub mod FileLemmas
 pub mod FirstLemmas

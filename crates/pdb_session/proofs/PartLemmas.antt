@@ -1,7 +1,7 @@
 -- Answers of a context over what was read of a file, and over all of its records.
 use Rattle.std.proofs.Common.{◌≡◌, ◌∙◌, ℕ, Bool, true, false, not, ◌||◌, ◌&&◌, List, [], ◌∷◌, ap, inl, inr}
 use Rattle.std.proofs.Common.{refl, subst, sym}
-use Rattle.std.specs.Prelude.{Option, Some, None, Ok}
+use Rattle.std.specs.Prelude.{Option, Some, None, Ok, option_map}
 use Rattle.std.specs.Option.{option_map_or}
 use Rattle.pdb_records.specs.Records.{Records}
 use Rattle.pdb_types.specs.FailedParts.{Parts}
@@ -11,8 +11,10 @@ use Rattle.pdb_addr2line.specs.ContextData.{context_of}
 use Rattle.pdb_addr2line.specs.ContextInputs.{ContextInputs, ContextState}
 use Rattle.pdb_addr2line.specs.Lookups.{answered_refusal, blamed_at, code_failed_after, failed_after}
 use Rattle.pdb_addr2line.specs.Lookups.{failed_after_frames, failed_by_refusal, frames_answered, frames_at, function_at}
+use Rattle.pdb_addr2line.specs.NamedFunctions.{named_answer, named_frames_answered, named_function, named_function_at}
+use Rattle.pdb_addr2line.specs.NamedFunctions.{symbol_name_at}
 use Rattle.pdb_known.specs.Known.{Known, IsPartOf, all_read, infos_of, is_closed, is_read, lacks}
-use Rattle.pdb_known.proofs.AnswerLemmas.{blamed_at_same, frames_at_same, function_at_same}
+use Rattle.pdb_known.proofs.AnswerLemmas.{blamed_at_same, frames_at_same, function_at_same, symbol_name_at_same}
 use Rattle.pdb_known.proofs.FailedLemmas.{failed_after_frames_same, failed_after_same}
 use Rattle.pdb_known.proofs.KnownLemmas.{same_or_known}
 use Rattle.pdb_known.proofs.StrictlyClosedLemmas.{closed_from_strictly}
@@ -26,6 +28,7 @@ pub record SameAnswers (part inputs : ContextInputs Records) (address : ℕ) : T
   pub function : function_at infos_of part address ≡ function_at infos_of inputs address
   pub failed_by_function : (parts : Parts)
       → failed_after infos_of part address parts ≡ failed_after infos_of inputs address parts
+  pub symbol : symbol_name_at infos_of part address ≡ symbol_name_at infos_of inputs address
   pub frames : frames_at infos_of part address ≡ frames_at infos_of inputs address
   pub blame : blamed_at infos_of part address ≡ blamed_at infos_of inputs address
   pub failed : (parts : Parts)
@@ -40,6 +43,7 @@ same_answers flags known whole part inputs address is_part closed part_is inputs
       | inl same ↦ record {
         function = ap (λ (i : ContextInputs Records). function_at infos_of i address) same;
         failed_by_function = λ parts. ap (λ (i : ContextInputs Records). failed_after infos_of i address parts) same;
+        symbol = ap (λ (i : ContextInputs Records). symbol_name_at infos_of i address) same;
         frames = ap (λ (i : ContextInputs Records). frames_at infos_of i address) same;
         blame = ap (λ (i : ContextInputs Records). blamed_at infos_of i address) same;
         failed = λ parts. ap (λ (i : ContextInputs Records). failed_after_frames infos_of i address parts) same;
@@ -47,6 +51,7 @@ same_answers flags known whole part inputs address is_part closed part_is inputs
       | inr at_address ↦ record {
         function = function_at_same infos_of part inputs address at_address;
         failed_by_function = failed_after_same infos_of part inputs address at_address;
+        symbol = symbol_name_at_same infos_of part inputs address at_address;
         frames = frames_at_same infos_of part inputs address at_address;
         blame = blamed_at_same infos_of part inputs address at_address;
         failed = failed_after_frames_same infos_of part inputs address at_address;
@@ -78,6 +83,21 @@ answered_as_all state inputs address same =
     ap (λ (blamed : Option CodePart). answered_refusal state.code_failed blamed
     (frames_at infos_of state.inputs address)) same.blame
     ∙ ap (answered_refusal state.code_failed (blamed_at infos_of inputs address)) same.frames
+
+-- they go by the same names of symbols
+pub named_as_all : (state : ContextState Records) (inputs : ContextInputs Records) (address : ℕ)
+    → SameAnswers state.inputs inputs address
+    → named_frames_answered infos_of state address ≡ named_frames_answered infos_of (over state inputs) address
+named_as_all state inputs address same =
+    ap (λ (name : Option (List ℕ)). named_answer name (frames_answered infos_of state address)) same.symbol
+    ∙ ap (named_answer (symbol_name_at infos_of inputs address)) (answered_as_all state inputs address same)
+
+-- a function goes by the same name
+pub named_function_as_all : (part inputs : ContextInputs Records) (address : ℕ) → SameAnswers part inputs address
+    → named_function_at infos_of part address ≡ named_function_at infos_of inputs address
+named_function_as_all part inputs address same =
+    ap (λ (name : Option (List ℕ)). option_map (named_function name) (function_at infos_of part address)) same.symbol
+    ∙ ap (option_map (named_function (symbol_name_at infos_of inputs address))) same.function
 
 -- as many parts of code fail
 pub code_failed_as_all : (state : ContextState Records) (inputs : ContextInputs Records) (address : ℕ)

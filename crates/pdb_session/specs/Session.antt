@@ -1,5 +1,6 @@
 -- What a session has read of its file, and what it answers.
 use Rattle.std.specs.Prelude.{◌≡◌, ◌≢◌, ℕ, Bool, not, ◌||◌, List, [], Option, option_map, Result, Ok, Err}
+use Rattle.std.specs.Prelude.{find, nat_le}
 use Rattle.std.specs.Global.{Vec}
 use Rattle.std.specs.List.{list_all}
 use Rattle.pdb_records.specs.Records.{Records}
@@ -8,10 +9,13 @@ use Rattle.pdb_frames.specs.Frame.{FramesInfo}
 use Rattle.pdb_function_info.specs.Function.{function_view}
 use Rattle.pdb_function_info.specs.declared.function.Function.{Function}
 use Rattle.pdb_types.specs.declared.flags.TypeFormatterFlags.{TypeFormatterFlags}
+use Rattle.pdb_addr2line.specs.declared.calls.Answer.{Answer}
+use Rattle.pdb_addr2line.specs.declared.calls.Call.{Call}
+use Rattle.pdb_addr2line.specs.Calls.{Appends, StopsEarly, after_calls, answers_to}
 use Rattle.pdb_addr2line.specs.ContextInputs.{ContextInputs, ContextState}
 use Rattle.pdb_addr2line.specs.Functions.{start_addresses}
-use Rattle.pdb_addr2line.specs.Lookups.{code_failed_after, failed_after, failed_after_frames, frames_answered}
-use Rattle.pdb_addr2line.specs.Lookups.{function_at}
+use Rattle.pdb_addr2line.specs.Lookups.{code_failed_after, failed_after, failed_after_frames}
+use Rattle.pdb_addr2line.specs.NamedFunctions.{named_frames_answered, named_function_at}
 use Rattle.pdb_known.specs.Known.{Known, Span, infos_of}
 use Rattle.pdb_known.specs.StrictlyClosed.{is_strictly_closed}
 use Rattle.pdb_session.specs.declared.session_context.QuestionFault.{QuestionFault}
@@ -51,13 +55,13 @@ pub record ContextOverPart : Type 0 where
 abbrev pub over : ContextState Records → ContextInputs Records → ContextState Records
 over state inputs = record state { inputs = inputs }
 
--- frames at an address are those of a context over these records, in which the same parts failed before, unless there
--- was no memory
+-- frames at an address are those of a context over these records, in which the same parts failed before, and whose
+-- function goes by its symbol's name where it has no other, unless there was no memory
 abbrev pub GivesFrames : Result (Option FramesInfo) QuestionFault → ContextState Records → ContextInputs Records → ℕ
     → Type 0
-GivesFrames (Ok found) state inputs address = frames_answered infos_of (over state inputs) address ≡ Ok found
+GivesFrames (Ok found) state inputs address = named_frames_answered infos_of (over state inputs) address ≡ Ok found
 GivesFrames (Err (fault.Records error)) state inputs address =
-    error ≢ OutOfMemory → frames_answered infos_of (over state inputs) address ≡ Err error
+    error ≢ OutOfMemory → named_frames_answered infos_of (over state inputs) address ≡ Err error
 GivesFrames (Err fault.NotRead) state inputs address = ⊥
 
 -- the parts that failed once frames at an address are answered, by these records
@@ -74,9 +78,10 @@ LeavesFailed (Err (fault.Records error)) before after inputs address =
     error ≢ OutOfMemory → HasFailed before after inputs address
 LeavesFailed (Err fault.NotRead) before after inputs address = ⊥
 
--- the function at an address is that of a context over these records, unless there was no memory
+-- the function at an address is that of a context over these records, by its symbol's name where it has no other, unless
+-- there was no memory
 abbrev pub GivesFunction : Result (Option Function) QuestionFault → ContextInputs Records → ℕ → Type 0
-GivesFunction (Ok found) inputs address = option_map function_view found ≡ function_at infos_of inputs address
+GivesFunction (Ok found) inputs address = option_map function_view found ≡ named_function_at infos_of inputs address
 GivesFunction (Err (fault.Records error)) inputs address = error ≡ OutOfMemory
 GivesFunction (Err fault.NotRead) inputs address = ⊥
 
@@ -90,3 +95,19 @@ abbrev pub GivesStarts : Result (Vec ℕ) QuestionFault → ContextInputs Record
 GivesStarts (Ok starts) inputs = starts.items ≡ start_addresses infos_of inputs
 GivesStarts (Err (fault.Records error)) inputs = error ≡ OutOfMemory
 GivesStarts (Err fault.NotRead) inputs = ⊥
+
+-- where the next function starts is what records list that are all there, unless there was no memory
+abbrev pub GivesNextStart : Result (Option ℕ) QuestionFault → ContextInputs Records → ℕ → Type 0
+GivesNextStart (Ok start) inputs address = start ≡ find (λ from. nat_le address from) (start_addresses infos_of inputs)
+GivesNextStart (Err (fault.Records error)) inputs address = error ≡ OutOfMemory
+GivesNextStart (Err fault.NotRead) inputs address = ⊥
+
+-- calls are answered by records that are all there, and leave the context that they define; or some first ones are, and
+-- there was no memory for the next one
+abbrev pub EndsCalls : Result (Unit {0}) QuestionFault → ContextState Records → ContextState Records → List Call
+    → List Answer → List Answer → Type 0
+EndsCalls (Ok _) before after calls answers answers' =
+    Appends answers answers' (answers_to infos_of before calls) × (after ≡ after_calls infos_of before calls)
+EndsCalls (Err (fault.Records error)) before after calls answers answers' =
+    (error ≡ OutOfMemory) × StopsEarly infos_of before calls answers answers' after
+EndsCalls (Err fault.NotRead) before after calls answers answers' = ⊥

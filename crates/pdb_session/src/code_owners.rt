@@ -10,6 +10,7 @@ use pdb_functions::ContributionTable;
 use pdb_known::KnownRecords;
 use pdb_records::{AddressMap, ImageSectionHeader, PDB, Rva};
 use std::alloc::{AllocError, Global};
+use std::collections::BTreeSet;
 use std::marker::Model;
 
 /// Where sections are loaded, and which module each byte of them came from.
@@ -50,6 +51,21 @@ impl CodeOwners {
             .contributions
             .contribution_over(section_offset, &mut Probes::new())?;
         Some(contribution.module_index)
+    }
+
+    /// The modules whose code lies at these addresses.
+    pub fn owners_at(
+        &self,
+        alloc: Global,
+        addresses: &[u32],
+    ) -> Result<BTreeSet<usize>, AllocError> {
+        let mut modules = BTreeSet::new(alloc);
+        for &address in addresses {
+            if let Some(owner) = self.owner_at(address) {
+                modules.insert(owner)?;
+            }
+        }
+        Ok(modules)
     }
 
     /// Whether the module whose code lies at an address is still to be read.

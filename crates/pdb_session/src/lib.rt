@@ -20,6 +20,8 @@ mod session;
 mod session_context;
 mod session_fault;
 mod type_lists;
+mod untold_repairs;
+mod whole_calls;
 
 pub use session::{Opened, PdbSession};
 pub use session_context::{QuestionFault, SessionContext, SessionData};

@@ -117,7 +117,7 @@ impl<S: Source + Drop> FileReader<S> {
             return self.read_all(alloc, known);
         }
         self.reach
-            .add_modules(alloc, &mut self.source, &mut self.lists, &modules)?;
+            .add_modules(alloc, &mut self.source, &self.lists, &modules)?;
         let types = read_types(alloc, &mut self.source, &self.lists.types, &self.reach)?;
         let ids = read_ids(alloc, &mut self.source, &self.lists.ids, &self.reach)?;
         put_types(known, types);

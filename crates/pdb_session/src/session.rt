@@ -15,6 +15,7 @@ use crate::read_plan::ReadPlan;
 use crate::reader::{FileReader, no_entries};
 use crate::session_context::SessionData;
 use crate::session_fault::SessionFault;
+use crate::untold_repairs::UntoldRepairs;
 use pdb_addr2line::Error;
 use pdb_container::{PdbFile, Source, SourceFault};
 use pdb_known::{KnownRecords, is_closed};
@@ -33,6 +34,7 @@ pub struct PdbSession<S: Source> {
     /// What reads the file; `None` of records that were all there at first.
     reader: Option<FileReader<S>>,
     plan: ReadPlan,
+    untold: UntoldRepairs,
 }
 
 impl<S: Source + Drop> Drop for PdbSession<S> {
@@ -44,6 +46,7 @@ impl<S: Source + Drop> Drop for PdbSession<S> {
             is_closed: _,
             reader: _,
             plan: _,
+            untold: _,
         } = self;
     }
 }
@@ -157,6 +160,7 @@ impl<S: Source + Drop> PdbSession<S> {
             owners,
             reader: Some(reader),
             plan: ReadPlan::new(),
+            untold: UntoldRepairs::new(alloc),
         })
     }
 
@@ -182,6 +186,7 @@ impl<S: Source + Drop> PdbSession<S> {
             is_closed: true,
             reader: None,
             plan: ReadPlan::new(),
+            untold: UntoldRepairs::new(alloc),
         };
         Ok(Opened {
             session,
@@ -198,7 +203,8 @@ impl<S: Source + Drop> PdbSession<S> {
     }
 
     /// Reads what is missing for answers at these addresses, relative to where the program is loaded. What is broken in
-    /// the modules that are read is taken out, and answered.
+    /// the modules that are read is taken out. Of the modules whose code lies at these addresses it is answered, once:
+    /// where more modules were read, what is broken in these is answered when an address in their code is asked for.
     ///
     /// # Errors
     ///
@@ -209,16 +215,12 @@ impl<S: Source + Drop> PdbSession<S> {
         ensures front { SameFront self.old.known.records self.new.known.records }
         ensures file { SameFile self.old self.new }
     {
-        let mut repairs = self.read_owners(addresses)?;
-        if self.has_enough(addresses) {
-            return Ok(repairs);
-        }
-        let more = self.read_all()?;
-        repairs.extend_from_slice(&more)?;
-        Ok(repairs)
+        self.read_owners(addresses)?;
+        self.read_rest_for(addresses)?;
+        Ok(self.untold.take_at(self.alloc, &self.owners, addresses)?)
     }
 
-    /// Reads everything that is left.
+    /// Reads everything that is left, and answers what was broken in the modules and wasn't answered yet.
     ///
     /// # Errors
     ///
@@ -228,17 +230,40 @@ impl<S: Source + Drop> PdbSession<S> {
         ensures front { SameFront self.old.known.records self.new.known.records }
         ensures file { SameFile self.old self.new }
     {
+        self.read_rest()?;
+        Ok(self.untold.take_all(self.alloc))
+    }
+
+    // Reads everything that is left, unless what was read is enough for answers at these addresses.
+    fn read_rest_for(&mut self, addresses: &[u32]) -> Result<(), SourceFault>
+        ensures enough { OnOk result (needs_none self.new.known addresses.now ≡ true) }
+        ensures front { SameFront self.old.known.records self.new.known.records }
+        ensures file { SameFile self.old self.new }
+    {
+        if self.has_enough(addresses) {
+            return Ok(());
+        }
+        self.read_rest()?;
+        Ok(())
+    }
+
+    // Reads everything that is left.
+    fn read_rest(&mut self) -> Result<(), SourceFault>
+        ensures all { OnOk result (self.new.known ≡ all_read self.new.known.records) }
+        ensures front { SameFront self.old.known.records self.new.known.records }
+        ensures file { SameFile self.old self.new }
+    {
         let known = &self.known;
         let has_all = known.all;
         if has_all {
-            return Ok(Vec::new(self.alloc));
+            return Ok(());
         }
         let Some(reader) = &mut self.reader else {
-            return Ok(Vec::new(self.alloc));
+            return Ok(());
         };
         let read = reader.read_all(self.alloc, &mut self.known);
         self.is_closed = is_closed(&self.known);
-        read
+        Ok(self.untold.add(&read?)?)
     }
 
     /// Lends the records that were read so far to a context. They are a part of all records of the file, without what
@@ -256,7 +281,7 @@ impl<S: Source + Drop> PdbSession<S> {
     }
 
     // Reads the modules whose code lies at these addresses, or everything where that is likely to be wanted.
-    fn read_owners(&mut self, addresses: &[u32]) -> Result<Vec<Repair>, SourceFault>
+    fn read_owners(&mut self, addresses: &[u32]) -> Result<(), SourceFault>
         ensures front { SameFront self.old.known.records self.new.known.records }
         ensures file { SameFile self.old self.new }
     {
@@ -264,21 +289,21 @@ impl<S: Source + Drop> PdbSession<S> {
         let known = &self.known;
         let has_all = known.all;
         if has_all || wanted.is_empty() {
-            return Ok(Vec::new(self.alloc));
+            return Ok(());
         }
         let Some(reader) = &mut self.reader else {
-            return Ok(Vec::new(self.alloc));
+            return Ok(());
         };
         let module_count = reader.module_count();
         if self
             .plan
             .reads_all(wanted.len(), addresses.len(), module_count)
         {
-            return self.read_all();
+            return self.read_rest();
         }
         let read = reader.read_modules(self.alloc, &mut self.known, &wanted);
         self.is_closed = is_closed(&self.known);
-        read
+        Ok(self.untold.add(&read?)?)
     }
 
     // The modules whose code lies at these addresses and that were not read, ascending, each once.

@@ -8,7 +8,7 @@ ghost use Rattle.pdb_addr2line.specs.ContextInputs.{ContextInputs};
 ghost use Rattle.pdb_known.specs.Known.{IsPartOf};
 ghost use Rattle.pdb_known.specs.StrictlyClosed.{is_strictly_closed};
 ghost use Rattle.pdb_session.specs.CodeOwners.{owners_of};
-ghost use Rattle.pdb_session.specs.Session.{GivesFrames, GivesFunction, GivesStarts, HasFailedByFunction};
+ghost use Rattle.pdb_session.specs.Session.{GivesFrames, GivesFunction, HasFailedByFunction};
 ghost use Rattle.pdb_session.specs.Session.{LeavesFailed, needs};
 
 use crate::code_owners::CodeOwners;
@@ -18,12 +18,14 @@ use std::alloc::Global;
 use std::marker::Model;
 
 /// Why a question about an address has no answer.
-#[derive(Debug, Drop)]
+#[derive(Debug, Drop, thiserror::Error)]
 pub enum QuestionFault {
     /// Something that the answer depends on was not read: [`PdbSession::read_for`](crate::PdbSession::read_for) reads
     /// it.
+    #[error("not all of the file was read")]
     NotRead,
     /// The records that the answer depends on are broken, or there was no memory.
+    #[error("{0}")]
     Records(Error),
 }
 
@@ -98,18 +100,11 @@ impl<'s> SessionData<'s> {
     }
 
     // Whether all records were read.
-    fn has_all(&self) -> bool
+    pub(crate) fn has_all(&self) -> bool
         ensures { result ≡ self.now.all }
     {
         let known = self.known;
         known.all
-    }
-
-    /// The records, as contexts are made over them.
-    pub fn provider(&self) -> &ContextPdbData<'s>
-        ensures { result.now ≡ self.now.records }
-    {
-        &self.provider
     }
 
     /// A context over what was read, whose names are printed with these flags.
@@ -133,8 +128,8 @@ impl<'s> SessionData<'s> {
 /// A context over what was read of a file. It answers at an address once everything was read that the answer depends
 /// on, and then as a context over all records.
 pub struct SessionContext<'a, 's> {
-    context: Context<'a, ContextPdbData<'s>>,
-    part: &'a SessionData<'s>,
+    pub(crate) context: Context<'a, ContextPdbData<'s>>,
+    pub(crate) part: &'a SessionData<'s>,
     flags: TypeFormatterFlags,
 }
 
@@ -169,7 +164,8 @@ impl<'a, 's> SessionContext<'a, 's> {
     }
 
     /// The function in whose code an address lies, with its addresses and its name but no lines, as
-    /// [`Context::find_function`](pdb_addr2line::Context::find_function) answers it over all records of the file.
+    /// [`Context::find_named_function`](pdb_addr2line::Context::find_named_function) answers it over all records of the
+    /// file. A function whose signature can't be printed goes by its symbol's name.
     ///
     /// # Errors
     ///
@@ -190,7 +186,7 @@ impl<'a, 's> SessionContext<'a, 's> {
         if self.needs(address) {
             return Err(QuestionFault::NotRead);
         }
-        let found = match self.context.find_function(address) {
+        let found = match self.context.find_named_function(address) {
             Ok(found) => found,
             Err(error) => return Err(QuestionFault::Records(error)),
         };
@@ -198,7 +194,8 @@ impl<'a, 's> SessionContext<'a, 's> {
     }
 
     /// The functions in whose code an address lies, from inside to outside, as
-    /// [`Context::find_frames`](pdb_addr2line::Context::find_frames) answers them over all records of the file.
+    /// [`Context::find_named_frames`](pdb_addr2line::Context::find_named_frames) answers them over all records of the
+    /// file. The last one goes by its symbol's name where its signature can't be printed.
     ///
     /// # Errors
     ///
@@ -221,31 +218,11 @@ impl<'a, 's> SessionContext<'a, 's> {
         if self.needs(address) {
             return Err(QuestionFault::NotRead);
         }
-        let found = match self.context.find_frames(address) {
+        let found = match self.context.find_named_frames(address) {
             Ok(found) => found,
             Err(error) => return Err(QuestionFault::Records(error)),
         };
         Ok(found)
-    }
-
-    /// Where functions start, ascending and each once, once all records were read.
-    ///
-    /// # Errors
-    ///
-    /// [`QuestionFault::NotRead`] where some records were not read:
-    /// [`PdbSession::read_all`](crate::PdbSession::read_all) reads them. `OutOfMemory` where memory runs out.
-    pub fn start_addresses(&mut self) -> Result<Vec<u32>, QuestionFault>
-        ensures not_read { self.old.known.all ≡ false → result ≡ Err QuestionFault.NotRead }
-        ensures answer { self.old.known.all ≡ true → GivesStarts result self.old.state.inputs }
-        ensures unchanged { self.new ≡ self.old }
-    {
-        if !self.part.has_all() {
-            return Err(QuestionFault::NotRead);
-        }
-        match self.context.start_addresses() {
-            Ok(starts) => Ok(starts),
-            Err(error) => Err(QuestionFault::Records(error)),
-        }
     }
 
     /// Gives the memory back of what was found so far. Every answer is as before.

@@ -1,2 +1,3 @@
 pub mod HarmlessNames
+pub mod JsonTexts
 pub mod Requests

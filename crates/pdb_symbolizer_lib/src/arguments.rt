@@ -145,7 +145,7 @@ static VALUED: [Valued; 5] = [
 pub fn command<'a>(alloc: Global) -> Result<Command<'a>, AllocError> {
     let arguments = arguments(alloc)?;
     Command::new(alloc, "pdb_symbolizer")
-        .version("0.1.0")
+        .version("0.2.0")
         .args(arguments)
 }
 

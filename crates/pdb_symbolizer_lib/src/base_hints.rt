@@ -1,6 +1,6 @@
 //! The line on standard error for an address with a program's base in it, where a PDB file alone doesn't say that.
 
-use crate::symbol_names::SymbolNames;
+use crate::public_names::PublicNames;
 
 /// Where linkers have programs and DLLs loaded, unless they are told otherwise.
 const BASES: [u64; 4] = [0x40_0000, 0x1000_0000, 0x1_4000_0000, 0x1_8000_0000];
@@ -20,7 +20,7 @@ pub enum BaseHint {
 
 impl BaseHint {
     /// Prints once how a base is given, where an address lies in no section, and does less one of the usual bases.
-    pub fn print<R: Eprint>(&mut self, rt: &R, file: &str, names: &SymbolNames, given: u64) {
+    pub fn print<R: Eprint>(&mut self, rt: &R, file: &str, names: &PublicNames, given: u64) {
         if *self == BaseHint::Printed || given < LOWEST || names.lies_in_section(given) {
             return;
         }

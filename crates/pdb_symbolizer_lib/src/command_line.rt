@@ -1,14 +1,13 @@
 //! What the words of a command line ask for: which file, which form, which defaults by the program's name.
 
-use crate::addresses::{parse_address, parse_number};
 use crate::arguments::command;
 use crate::identities::ExpectedBuild;
-use crate::options::{
-    Base, Detail, Digits, Export, FileNaming, NameStyle, Options, Purpose, RequestForm, Style,
-    SymbolFilePlace,
-};
+use crate::options::{Base, Export, FileNaming, Options, Purpose, RequestForm, SymbolFilePlace};
 use crate::stops::Stop;
 use clap::ArgMatches;
+use pdb_answer_printer::{
+    Detail, Digits, NameStyle, PrinterOptions, Style, parse_address, parse_number,
+};
 use std::alloc::Global;
 
 /// The option for lines of source files.
@@ -53,9 +52,7 @@ fn options_of<'w>(
     habit: Habit,
     matches: &ArgMatches<'w>,
 ) -> Result<Options<'w>, Stop> {
-    let names = name_style(alloc, habit, matches)?;
-    let inlines = inlines(alloc, habit, matches)?;
-    let style = style(alloc, habit, matches)?;
+    let printer = printer_options(alloc, habit, matches)?;
     let base = base(alloc, matches)?;
     let adjust = adjustment(alloc, matches)?;
     let source_lines = source_lines(alloc, matches)?;
@@ -71,14 +68,8 @@ fn options_of<'w>(
         file,
         pdb_dirs,
         addresses: Vec::from_slice(alloc, addresses)?,
-        names,
+        printer,
         decorated: matches.get_flag("no-demangle"),
-        inlines,
-        address_shown: matches.get_flag("addresses"),
-        pretty: matches.get_flag("pretty-print"),
-        basenames: matches.get_flag("basenames"),
-        style,
-        detail: detail(matches),
         source_lines,
         digits: digits(habit, naming),
         naming,
@@ -86,6 +77,25 @@ fn options_of<'w>(
         adjust,
         purpose: purpose_of(matches),
         expected,
+    })
+}
+
+fn printer_options(
+    alloc: Global,
+    habit: Habit,
+    matches: &ArgMatches<'_>,
+) -> Result<PrinterOptions, Stop> {
+    let names = name_style(alloc, habit, matches)?;
+    let inlines = inlines(alloc, habit, matches)?;
+    let style = style(alloc, habit, matches)?;
+    Ok(PrinterOptions {
+        style,
+        names,
+        detail: detail(matches),
+        inlines,
+        address_shown: matches.get_flag("addresses"),
+        pretty: matches.get_flag("pretty-print"),
+        basenames: matches.get_flag("basenames"),
     })
 }
 

@@ -3,14 +3,15 @@
 use crate::frame_answers::request_text;
 use crate::line_queue::LineQueue;
 use crate::opened_files::{OpenedFile, open_file};
-use crate::options::{FileNaming, Options, Style};
+use crate::options::{FileNaming, Options};
+use crate::public_names::PublicNames;
 use crate::questions::Questions;
 use crate::run_state::RunState;
 use crate::status_line::StatusLine;
 use crate::stops::Stop;
-use crate::symbol_names::SymbolNames;
 use crate::unopened_files::end_unopened;
-use pdb_session::{SessionContext, SessionData};
+use pdb_answer_printer::Style;
+use pdb_session::SessionContext;
 use std::alloc::{AllocError, Global};
 use std::io::{self, Read, Seek, Write};
 use std::rt::Files;
@@ -38,7 +39,7 @@ fn answer_over<R: Files + Input + Print + Eprint + AllocGlobal, F: Read + Seek +
     path: &str,
     input: &mut OpenedFile<F>,
 ) -> Result<(), Stop> {
-    let names = SymbolNames::for_answers(rt.alloc(), options, input.records())?;
+    let names = PublicNames::for_answers(rt.alloc(), options, input.records())?;
     let questions = Questions::new(options, path, input, &names);
     let mut state = RunState::new(rt.alloc());
     if options.addresses.is_empty() {
@@ -59,7 +60,7 @@ fn answer_words<R: Files + Print + Eprint + AllocGlobal, F: Read + Seek + Drop>(
     input.read_for(rt, &addresses)?;
     let data = input.session.data()?;
     let mut context = data.context(questions.options.flags())?;
-    print_words(rt, questions, &data, &mut context, state)
+    print_words(rt, questions, &mut context, state)
 }
 
 fn addresses_of_words(
@@ -79,11 +80,10 @@ fn addresses_of_words(
 fn print_words<R: Files + Print + Eprint + AllocGlobal>(
     rt: &R,
     questions: &Questions<'_, '_>,
-    data: &SessionData<'_>,
     context: &mut SessionContext<'_, '_>,
     state: &mut RunState,
 ) -> Result<(), Stop> {
-    let json = questions.options.style == Style::Json;
+    let json = questions.options.printer.style == Style::Json;
     if json {
         write_out(rt, "[")?;
     }
@@ -91,7 +91,7 @@ fn print_words<R: Files + Print + Eprint + AllocGlobal>(
         if json && position > 0 {
             write_out(rt, ",")?;
         }
-        let text = request_text(rt, questions, data, context, state, given)?;
+        let text = request_text(rt, questions, context, state, given)?;
         write_out(rt, text.as_str())?;
     }
     if json {
@@ -147,7 +147,7 @@ fn answer_lines<R: Files + Print + Eprint + AllocGlobal, F: Read + Seek + Drop, 
     for _ in 0..u64::MAX {
         match queue.first() {
             Some(line) if !questions.needs_more(&context, line) => {
-                answer_line(rt, questions, &data, &mut context, state, line)?;
+                answer_line(rt, questions, &mut context, state, line)?;
             }
             _ => break,
         }
@@ -160,18 +160,17 @@ fn answer_lines<R: Files + Print + Eprint + AllocGlobal, F: Read + Seek + Drop, 
 pub fn answer_line<R: Files + Print + Eprint + AllocGlobal>(
     rt: &R,
     questions: &Questions<'_, '_>,
-    data: &SessionData<'_>,
     context: &mut SessionContext<'_, '_>,
     state: &mut RunState,
     given: &str,
 ) -> Result<(), Stop> {
-    let text = request_text(rt, questions, data, context, state, given)?;
+    let text = request_text(rt, questions, context, state, given)?;
     print_answer(rt, questions.options, text)
 }
 
 /// Prints an answer, which in JSON has a line of its own.
 pub fn print_answer<R: Print>(rt: &R, options: &Options<'_>, mut text: String) -> Result<(), Stop> {
-    if options.style == Style::Json {
+    if options.printer.style == Style::Json {
         text.push('\n')?;
     }
     write_out(rt, text.as_str())

@@ -1,37 +1,76 @@
 //! The answer of one request: the frames of an address of code, or that nothing is known.
 
-use crate::answer_texts::{ShownFrames, file_of, write_answer, write_unknown};
-use crate::options::{Options, Style};
+ghost use Rattle.std.specs.Prelude.{◌≡◌, ℕ, List, [], IfOk, string_bytes};
+ghost use Rattle.pdb_answer_printer.specs.Answers.{answer_text, unknown_text};
+ghost use Rattle.pdb_answer_printer.specs.FrameNames.{shown_frames};
+ghost use Rattle.pdb_answer_printer.specs.Requests.{question_of};
+ghost use Rattle.pdb_symbolizer_lib.specs.AnsweredRequests.{AnswersQuestion, AreFrames, AreFramesAt, question_in};
+ghost use Rattle.pdb_symbolizer_lib.specs.Origins.{relative};
+
+use crate::options::Options;
 use crate::questions::Questions;
-use crate::requests::{Place, Request, Sort};
 use crate::run_state::RunState;
 use crate::stops::Stop;
 use pdb_addr2line::{Error, Frame, FunctionFrames};
-use pdb_session::{QuestionFault, SessionContext, SessionData};
-use std::alloc::AllocError;
+use pdb_answer_printer::{
+    Place, Request, Sort, file_of, shown_frames, write_answer, write_unknown,
+};
+use pdb_session::{QuestionFault, SessionContext};
+use std::alloc::{AllocError, Global};
 use std::rt::Files;
 
-/// The answer of a request, which this text was.
+/// The answer of a text that asks for something.
 pub fn request_text<R: Files + Eprint + AllocGlobal>(
     rt: &R,
     questions: &Questions<'_, '_>,
-    data: &SessionData<'_>,
     context: &mut SessionContext<'_, '_>,
     state: &mut RunState,
     given: &str,
-) -> Result<String, Stop> {
+) -> Result<String, Stop>
+    ensures text { questions.now.names.now.places.items ≡ [] → IfOk result (λ text.
+        AnswersQuestion questions.now.options.now.printer (relative questions.now.origin)
+        (question_in questions.now.options.now.naming questions.now.options.now.digits questions.now.file.now
+        given.now) context.old (string_bytes text)) }
+{
     let request = questions.request(given);
-    let mut text = String::new(rt.alloc());
+    answer_request(rt, questions, context, state, &request, given)
+}
+
+/// The answer of a request, which this text was.
+fn answer_request<R: Files + Eprint + AllocGlobal>(
+    rt: &R,
+    questions: &Questions<'_, '_>,
+    context: &mut SessionContext<'_, '_>,
+    state: &mut RunState,
+    request: &Request<'_>,
+    given: &str,
+) -> Result<String, Stop>
+    ensures text { questions.now.names.now.places.items ≡ [] → IfOk result (λ text.
+        AnswersQuestion questions.now.options.now.printer (relative questions.now.origin) (question_of request.now)
+        context.old (string_bytes text)) }
+{
     match (request.sort, request.place) {
         (Sort::Code, Place::Address(address)) => {
-            let found = frames_at(rt, questions, data, context, state, address)?;
-            write_found(rt, questions.options, state, &request, &found, &mut text)?;
+            let found = frames_at(rt, questions, context, state, address)?;
+            Ok(text_of_found(rt, questions.options, state, request, &found)?)
         }
         _ => {
-            print_lack(rt, &request, given);
-            write_unknown(&mut text, questions.options, &request)?;
+            print_lack(rt, request, given);
+            Ok(text_of_unknown(rt.alloc(), questions.options, request)?)
         }
     }
+}
+
+// The answer of a request of which nothing is known.
+fn text_of_unknown(
+    alloc: Global,
+    options: &Options<'_>,
+    request: &Request<'_>,
+) -> Result<String, AllocError>
+    ensures { IfOk result (λ text. string_bytes text ≡ unknown_text options.now.printer (question_of request.now)) }
+{
+    let mut text = String::new(alloc);
+    write_unknown(&mut text, &options.printer, request)?;
     Ok(text)
 }
 
@@ -44,22 +83,23 @@ pub fn print_lack<R: Eprint>(rt: &R, request: &Request<'_>, given: &str) {
     }
 }
 
-/// Appends the answer of an address of code, with lines of source files where these are asked for.
-fn write_found<R: Files + AllocGlobal>(
+// The answer of an address of code, with lines of source files where these are asked for.
+fn text_of_found<R: Files + AllocGlobal>(
     rt: &R,
     options: &Options<'_>,
     state: &mut RunState,
     request: &Request<'_>,
     found: &Option<FunctionFrames<'_>>,
-    text: &mut String,
-) -> Result<(), AllocError> {
-    let frames = shown(options, found);
+) -> Result<String, AllocError>
+    ensures { IfOk result (λ text. (sources : List (List ℕ)) × (string_bytes text
+        ≡ answer_text options.now.printer (question_of request.now)
+        (shown_frames options.now.printer found.now) sources)) }
+{
+    let mut text = String::new(rt.alloc());
+    let frames = shown_frames(&options.printer, found);
     let sources = sources_of(rt, options, state, frames)?;
-    let shown = ShownFrames {
-        frames,
-        sources: &sources,
-    };
-    write_answer(text, options, request, shown)
+    write_answer(&mut text, &options.printer, request, frames, &sources)?;
+    Ok(text)
 }
 
 // The lines around the place of each frame; none where none are asked for.
@@ -75,7 +115,7 @@ fn sources_of<R: Files + AllocGlobal>(
         return Ok(sources);
     }
     for frame in frames {
-        let file = file_of(options, frame, "");
+        let file = file_of(&options.printer, frame, "");
         sources.push(
             state
                 .sources
@@ -89,11 +129,13 @@ fn sources_of<R: Files + AllocGlobal>(
 fn frames_at<'a, R: Eprint + AllocGlobal>(
     rt: &R,
     questions: &Questions<'_, '_>,
-    data: &SessionData<'_>,
     context: &mut SessionContext<'a, '_>,
     state: &mut RunState,
     given: u64,
-) -> Result<Option<FunctionFrames<'a>>, Error> {
+) -> Result<Option<FunctionFrames<'a>>, Error>
+    ensures { questions.now.names.now.places.items ≡ [] → IfOk result (λ found.
+        AreFrames context.old (relative questions.now.origin given) found) }
+{
     let names = questions.names;
     if !questions.origin.is_known() {
         state.hint.print(rt, questions.file, names, given);
@@ -103,20 +145,21 @@ fn frames_at<'a, R: Eprint + AllocGlobal>(
     };
     let mut found = readable_frames(rt, context, given, address)?;
     if let Some(frames) = &mut found {
-        names.name_function(rt.alloc(), data.provider(), frames)?;
         names.decorate(rt.alloc(), frames)?;
     }
     Ok(found)
 }
 
-/// The frames of an address. Where the records of its module can't be read that is shown on standard error, with the
-/// address as it was given.
-pub fn readable_frames<'a, R: Eprint>(
+// The frames of an address. Where the records of its module can't be read that is shown on standard error, with the
+// address as it was given.
+fn readable_frames<'a, R: Eprint>(
     rt: &R,
     context: &mut SessionContext<'a, '_>,
     given: u64,
     address: u32,
-) -> Result<Option<FunctionFrames<'a>>, Error> {
+) -> Result<Option<FunctionFrames<'a>>, Error>
+    ensures { IfOk result (λ found. AreFramesAt context.old address found) }
+{
     match context.find_frames(address) {
         Ok(found) => Ok(found),
         Err(QuestionFault::Records(error)) => {
@@ -128,21 +171,5 @@ pub fn readable_frames<'a, R: Eprint>(
             let _ = eprintln!(rt; "pdb_symbolizer: 0x{given:x}: its module was not read");
             Ok(None)
         }
-    }
-}
-
-/// The frames that are printed: without inlined functions one alone, in GNU's form the innermost, and else the
-/// function itself.
-fn shown<'f, 'a>(options: &Options<'_>, found: &'f Option<FunctionFrames<'a>>) -> &'f [Frame<'a>] {
-    let Some(found) = found else {
-        return &[];
-    };
-    let frames = found.frames.as_slice();
-    if options.inlines || frames.is_empty() {
-        return frames;
-    }
-    match options.style {
-        Style::Gnu => &frames[..1],
-        _ => &frames[frames.len() - 1..],
     }
 }

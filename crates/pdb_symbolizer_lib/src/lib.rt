@@ -7,7 +7,6 @@
 #![tactic(auto)]
 
 mod addresses;
-mod answer_texts;
 mod arguments;
 mod base_hints;
 mod command_line;
@@ -15,12 +14,10 @@ mod environment;
 mod export_files;
 mod file_answers;
 mod file_bytes;
-mod file_frames;
 mod foreign_files;
 mod frame_answers;
 mod identities;
 mod input_files;
-mod json_answers;
 mod line_queue;
 mod named_files;
 mod opened_files;
@@ -30,14 +27,12 @@ mod programs;
 mod public_names;
 mod questions;
 mod repairs;
-mod requests;
 mod response_files;
 mod run_state;
 mod source_lines;
 mod status_line;
 mod stops;
 mod symbol_files;
-mod symbol_names;
 mod symbol_stores;
 mod symbolication;
 mod symbolized_modules;

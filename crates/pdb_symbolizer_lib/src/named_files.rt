@@ -2,20 +2,19 @@
 //!
 //! Those that follow one another and name the same file are answered by one context.
 
-use crate::answer_texts::write_unknown;
 use crate::file_answers::{addresses_of_lines, answer_line, print_answer};
 use crate::frame_answers::print_lack;
 use crate::line_queue::LineQueue;
 use crate::opened_files::{OpenedFile, open_file};
 use crate::options::Options;
+use crate::public_names::PublicNames;
 use crate::questions::Questions;
-use crate::requests::{Request, parse_request};
 use crate::run_state::RunState;
 use crate::status_line::StatusLine;
 use crate::stops::Stop;
-use crate::symbol_names::SymbolNames;
 use crate::unopened_files::answer_unopened;
-use pdb_session::{SessionContext, SessionData};
+use pdb_answer_printer::{Request, parse_request, write_unknown};
+use pdb_session::SessionContext;
 use std::io::{Read, Seek};
 use std::rt::Files;
 
@@ -72,7 +71,7 @@ fn answer_none<R: Print + AllocGlobal>(
     request: &Request<'_>,
 ) -> Result<(), Stop> {
     let mut text = String::new(rt.alloc());
-    write_unknown(&mut text, options, request)?;
+    write_unknown(&mut text, &options.printer, request)?;
     print_answer(rt, options, text)
 }
 
@@ -85,7 +84,7 @@ fn answer_lines_of<R: Files + Print + Eprint + AllocGlobal, F: Read + Seek + Dro
     state: &mut RunState,
     queue: &mut LineQueue<T>,
 ) -> Result<(), Stop> {
-    let names = SymbolNames::for_answers(rt.alloc(), options, input.records())?;
+    let names = PublicNames::for_answers(rt.alloc(), options, input.records())?;
     let questions = Questions::new(options, path, input, &names);
     for _ in 0..u64::MAX {
         let addresses = addresses_of_lines(rt.alloc(), &questions, queue)?;
@@ -123,7 +122,7 @@ fn answer_same_file<R: Files + Print + Eprint + AllocGlobal, F: Read + Seek + Dr
         if questions.needs_more(&context, line) {
             return Ok(Left::Lines);
         }
-        if !answer_if_same(rt, questions, &data, &mut context, state, line)? {
+        if !answer_if_same(rt, questions, &mut context, state, line)? {
             break;
         }
         queue.pass()?;
@@ -135,7 +134,6 @@ fn answer_same_file<R: Files + Print + Eprint + AllocGlobal, F: Read + Seek + Dr
 fn answer_if_same<R: Files + Print + Eprint + AllocGlobal>(
     rt: &R,
     questions: &Questions<'_, '_>,
-    data: &SessionData<'_>,
     context: &mut SessionContext<'_, '_>,
     state: &mut RunState,
     line: &str,
@@ -144,6 +142,6 @@ fn answer_if_same<R: Files + Print + Eprint + AllocGlobal>(
     if request.file != questions.file && !request.is_nowhere() {
         return Ok(false);
     }
-    answer_line(rt, questions, data, context, state, line)?;
+    answer_line(rt, questions, context, state, line)?;
     Ok(true)
 }

@@ -3,28 +3,7 @@
 use crate::identities::ExpectedBuild;
 use bitflags::Flags;
 use pdb_addr2line::TypeFormatterFlags;
-
-/// What is printed of a function's name.
-#[derive(Clone, Copy, PartialEq, Eq)]
-pub enum NameStyle {
-    /// Nothing.
-    None,
-    /// The name alone.
-    Short,
-    /// The name with the types of the arguments.
-    Signature,
-}
-
-/// The form of the answers.
-#[derive(Clone, Copy, PartialEq, Eq)]
-pub enum Style {
-    /// Name, place, and an empty line behind them.
-    Llvm,
-    /// Name and place, with no column.
-    Gnu,
-    /// A JSON object on one line.
-    Json,
-}
+use pdb_answer_printer::{Detail, Digits, NameStyle, PrinterOptions, Style};
 
 /// The files that the records are written to.
 #[derive(Clone, Copy)]
@@ -79,15 +58,6 @@ pub enum Base {
     At(u64),
 }
 
-/// How digits are read that say nothing of it.
-#[derive(Clone, Copy, PartialEq, Eq)]
-pub enum Digits {
-    /// As hexadecimal ones.
-    Hexadecimal,
-    /// As decimal ones, but behind `0x`, `0b`, `0o` or a zero.
-    ByPrefix,
-}
-
 /// What names the file that addresses are of.
 #[derive(Clone, Copy, PartialEq, Eq)]
 pub enum FileNaming {
@@ -99,15 +69,6 @@ pub enum FileNaming {
     ByEachLine,
 }
 
-/// How much is printed of where a frame's code came from.
-#[derive(Clone, Copy, PartialEq, Eq)]
-pub enum Detail {
-    /// File, line and column in one line.
-    Brief,
-    /// Each on a line of its own.
-    Verbose,
-}
-
 /// What the words of a command line ask for.
 #[derive(Drop)]
 pub struct Options<'w> {
@@ -117,19 +78,10 @@ pub struct Options<'w> {
     pub pdb_dirs: Vec<&'w str>,
     /// The addresses, as they were given. Where there are none they come from standard input.
     pub addresses: Vec<&'w str>,
-    pub names: NameStyle,
+    /// How answers are printed.
+    pub printer: PrinterOptions,
     /// Whether a function goes by its public symbol's name, as the records have it.
     pub decorated: bool,
-    /// Whether the functions are printed that were inlined.
-    pub inlines: bool,
-    /// Whether the address is printed before its answer.
-    pub address_shown: bool,
-    /// Whether what belongs to one frame stands on one line.
-    pub pretty: bool,
-    /// Whether folders are left out of the names of files.
-    pub basenames: bool,
-    pub style: Style,
-    pub detail: Detail,
     /// How many lines of the source file are shown around the place of each frame.
     pub source_lines: u32,
     pub digits: Digits,
@@ -145,13 +97,13 @@ pub struct Options<'w> {
 impl Options<'_> {
     /// Whether functions go by the names of their public symbols: not where a name is to be short, or none.
     pub fn shows_decorated_names(&self) -> bool {
-        self.decorated && self.names == NameStyle::Signature
+        self.decorated && self.printer.names == NameStyle::Signature
     }
 
     /// How many lines of the source file are shown around each place. None are shown where file, line and column have
     /// lines of their own.
     pub fn shown_source_lines(&self) -> u32 {
-        match (self.style, self.detail) {
+        match (self.printer.style, self.printer.detail) {
             (Style::Llvm | Style::Gnu, Detail::Verbose) => 0,
             _ => self.source_lines,
         }
@@ -160,7 +112,7 @@ impl Options<'_> {
     /// How names are printed.
     pub fn flags(&self) -> TypeFormatterFlags {
         let flags = TypeFormatterFlags::default();
-        match self.names {
+        match self.printer.names {
             NameStyle::Short => flags.union(TypeFormatterFlags::NO_ARGUMENTS),
             _ => flags,
         }

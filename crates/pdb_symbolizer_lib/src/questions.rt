@@ -1,10 +1,14 @@
 //! What is asked of a file, and what its answers have from beside the context.
 
+ghost use Rattle.std.specs.Prelude.{◌≡◌};
+ghost use Rattle.pdb_answer_printer.specs.Requests.{question_of};
+ghost use Rattle.pdb_symbolizer_lib.specs.AnsweredRequests.{question_in};
+
 use crate::addresses::Origin;
 use crate::opened_files::OpenedFile;
 use crate::options::{FileNaming, Options};
-use crate::requests::{Place, Request, Sort, parse_request};
-use crate::symbol_names::SymbolNames;
+use crate::public_names::PublicNames;
+use pdb_answer_printer::{Place, Request, Sort, parse_request};
 use pdb_session::SessionContext;
 use std::io::{Read, Seek};
 
@@ -15,7 +19,7 @@ pub struct Questions<'q, 'w> {
     /// The file as it was named.
     pub file: &'q str,
     pub origin: Origin,
-    pub names: &'q SymbolNames,
+    pub names: &'q PublicNames,
 }
 
 impl<'q, 'w> Questions<'q, 'w> {
@@ -24,7 +28,7 @@ impl<'q, 'w> Questions<'q, 'w> {
         options: &'q Options<'w>,
         file: &'q str,
         input: &OpenedFile<F>,
-        names: &'q SymbolNames,
+        names: &'q PublicNames,
     ) -> Self {
         Questions {
             options,
@@ -37,7 +41,10 @@ impl<'q, 'w> Questions<'q, 'w> {
 
 impl Questions<'_, '_> {
     /// The request of a text, which names its file where the command line names none.
-    pub fn request<'t>(&'t self, text: &'t str) -> Request<'t> {
+    pub fn request<'t>(&'t self, text: &'t str) -> Request<'t>
+        ensures { question_of result
+            ≡ question_in self.now.options.now.naming self.now.options.now.digits self.now.file.now text.now }
+    {
         let file = match self.options.naming {
             FileNaming::ByEachLine => None,
             _ => Some(self.file),

@@ -10,6 +10,7 @@ use pdb_container::{ContainerFault, DebugId, Refusal};
 use pdb_export::ExportFault;
 use pdb_json::RecordFault;
 use pdb_records_files::ran_out_of_memory;
+use pdb_session::QuestionFault;
 use std::alloc::{AllocError, AllocFailed};
 use std::io;
 
@@ -79,6 +80,9 @@ pub enum Stop {
     /// The records were refused, or there was no memory.
     #[error("{0}")]
     Refused(Error),
+    /// Something that an answer depends on was not read of the file.
+    #[error("not all of the file was read")]
+    NotRead,
     /// Standard input could not be read.
     #[error("cannot read standard input")]
     CannotReadInput,
@@ -185,9 +189,16 @@ impl From<SymbolFileFault> for Stop {
     fn from(fault: SymbolFileFault) -> Stop {
         match fault {
             SymbolFileFault::Refused(error) => Stop::Refused(error),
+            SymbolFileFault::NotRead => Stop::NotRead,
             SymbolFileFault::CannotWrite => Stop::CannotWrite,
             SymbolFileFault::ClosedPipe => Stop::ClosedPipe,
         }
+    }
+}
+
+impl From<QuestionFault> for Stop {
+    fn from(fault: QuestionFault) -> Stop {
+        Stop::from(SymbolFileFault::from(fault))
     }
 }
 

@@ -1,6 +1,5 @@
 //! The Breakpad symbol file that `--dump-syms` writes, on standard output or into a store.
 
-use crate::file_frames::FileFrames;
 use crate::identities::identity_in;
 use crate::input_files::{SourceFile, find_file};
 use crate::opened_files::{OpenedFile, open_source};
@@ -8,7 +7,6 @@ use crate::options::{Options, SymbolFilePlace};
 use crate::paths::last_part;
 use crate::status_line::StatusLine;
 use crate::stops::Stop;
-use crate::symbol_names::SymbolNames;
 use crate::symbol_stores::{make_place, write_whole};
 use pdb_breakpad::{ModuleIdentity, ProgramIdentity, SymbolFileFault, write_symbol_file};
 use pdb_container::PdbIdentity;
@@ -66,15 +64,10 @@ fn dump_over<R: Files + Print + Eprint + AllocGlobal, F: Read + Seek + Drop>(
             name: last_part(path),
         }),
     };
-    let names = SymbolNames::new(rt.alloc(), input.records())?;
     let data = input.session.data()?;
     match place {
-        SymbolFilePlace::StandardOutput => {
-            Ok(dump_all(rt, options, None, &module, &names, &data)?)
-        }
-        SymbolFilePlace::Store(store) => {
-            dump_into_store(rt, options, store, &module, &names, &data)
-        }
+        SymbolFilePlace::StandardOutput => { Ok(dump_all(rt, options, None, &module, &data)?) }
+        SymbolFilePlace::Store(store) => { dump_into_store(rt, options, store, &module, &data) }
     }
 }
 
@@ -83,11 +76,10 @@ fn dump_into_store<R: Files + Print + Eprint + AllocGlobal>(
     options: &Options<'_>,
     store: &str,
     module: &ModuleIdentity<'_>,
-    names: &SymbolNames,
     data: &SessionData<'_>,
 ) -> Result<(), Stop> {
     let path = make_place(rt, store, module)?;
-    match dump_all(rt, options, Some(path.as_str()), module, names, data) {
+    match dump_all(rt, options, Some(path.as_str()), module, data) {
         Err(SymbolFileFault::CannotWrite) => {
             Err(Stop::SymbolFile(path, SymbolFileFault::CannotWrite))
         }
@@ -101,13 +93,11 @@ fn dump_all<R: Files + Print + Eprint + AllocGlobal>(
     options: &Options<'_>,
     path: Option<&str>,
     module: &ModuleIdentity<'_>,
-    names: &SymbolNames,
     data: &SessionData<'_>,
 ) -> Result<(), SymbolFileFault> {
     let mut context = data.context(options.flags())?;
-    let mut frames = FileFrames::new(rt, &mut context, names, data);
     match path {
-        Some(path) => write_whole(rt, path, module, &mut frames),
-        None => write_symbol_file(rt.alloc(), &mut io::writer(rt), module, &mut frames),
+        Some(path) => write_whole(rt, path, module, &mut context),
+        None => write_symbol_file(rt.alloc(), &mut io::writer(rt), module, &mut context),
     }
 }

@@ -1,14 +1,11 @@
 //! The modules that a request asks for: their PDB files in folders, and what is found at the offsets of each.
 
-use crate::file_frames::FileFrames;
 use crate::opened_files::{OpenedFile, open_source};
 use crate::options::Options;
 use crate::programs::find_in_folders;
 use crate::stops::Stop;
-use crate::symbol_names::SymbolNames;
 use pdb_addr2line::{Error, Frame, FunctionFrames};
-use pdb_breakpad::FrameSource;
-use pdb_session::SessionData;
+use pdb_session::{SessionContext, SessionData};
 use pdb_symbolication::{FoundFunction, FrameTexts, Place, WantedModule};
 use std::alloc::{AllocError, Global};
 use std::io::{Read, Seek};
@@ -62,36 +59,33 @@ fn texts_over<R: Eprint + AllocGlobal, F: Read + Seek + Drop>(
     module: &WantedModule,
     input: &mut OpenedFile<F>,
 ) -> Result<FrameTexts, Stop> {
-    let names = SymbolNames::new(rt.alloc(), input.records())?;
     input.read_for(rt, &module.offsets)?;
     let data = input.session.data()?;
-    Ok(texts_by(rt, options, module, &names, &data)?)
+    texts_by(rt.alloc(), options, module, &data)
 }
 
-fn texts_by<R: Eprint + AllocGlobal>(
-    rt: &R,
+fn texts_by(
+    alloc: Global,
     options: &Options<'_>,
     module: &WantedModule,
-    names: &SymbolNames,
     data: &SessionData<'_>,
-) -> Result<FrameTexts, Error> {
+) -> Result<FrameTexts, Stop> {
     let mut context = data.context(options.flags())?;
-    let mut frames = FileFrames::new(rt, &mut context, names, data);
-    let mut texts = FrameTexts::new(rt.alloc());
+    let mut texts = FrameTexts::new(alloc);
     for &offset in &module.offsets {
-        add_text(rt.alloc(), &mut texts, &mut frames, offset)?;
+        add_text(alloc, &mut texts, &mut context, offset)?;
     }
     Ok(texts)
 }
 
 // Adds the text at an offset.
-fn add_text<'a, S: FrameSource<'a>>(
+fn add_text(
     alloc: Global,
     texts: &mut FrameTexts,
-    frames: &mut S,
+    context: &mut SessionContext<'_, '_>,
     offset: u32,
-) -> Result<(), Error> {
-    match frames.find_frames(offset)? {
+) -> Result<(), Stop> {
+    match context.find_frames(offset)? {
         Some(found) => {
             let function = function_of(alloc, &found)?;
             texts.add(offset, Some(&function))?;

@@ -1,11 +1,9 @@
 //! Answers where a file can't be opened.
 
-use crate::answer_texts::write_unknown;
 use crate::file_answers::print_answer;
-use crate::json_answers::write_json_error;
-use crate::options::{Options, Style};
-use crate::requests::{Place, Request, Sort};
+use crate::options::Options;
 use crate::stops::Stop;
+use pdb_answer_printer::{Place, Request, Sort, Style, write_json_error, write_unknown};
 
 /// Ends a run whose file an option names: by why it can't be opened, in JSON as an object.
 pub fn end_unopened<R: Print + Eprint + AllocGlobal>(
@@ -14,7 +12,7 @@ pub fn end_unopened<R: Print + Eprint + AllocGlobal>(
     path: &str,
     cause: &Stop,
 ) -> Result<(), Stop> {
-    if options.style != Style::Json {
+    if options.printer.style != Style::Json {
         cause.print(rt);
         return Ok(());
     }
@@ -34,12 +32,12 @@ pub fn answer_unopened<R: Print + Eprint + AllocGlobal>(
     request: &Request<'_>,
     cause: &Stop,
 ) -> Result<(), Stop> {
-    if options.style == Style::Json {
+    if options.printer.style == Style::Json {
         return print_error(rt, options, request, cause);
     }
     cause.print(rt);
     let mut text = String::new(rt.alloc());
-    write_unknown(&mut text, options, request)?;
+    write_unknown(&mut text, &options.printer, request)?;
     print_answer(rt, options, text)
 }
 

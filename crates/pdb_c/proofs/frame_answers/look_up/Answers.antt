@@ -4,10 +4,10 @@ use Rattle.pdb_c.proofs.frame_answers.look_up.Goals as goal
 
 pub returns-in-Ok-clause-gains : goal.returns-in-Ok-clause-gains
 returns-in-Ok-clause-gains c =
-    let found = c.find_function.ensures in
-    gains_by_one infos c.args.context.now c.find_function.new.self found.inputs found.broken found.code_failed
+    let found = c.find_named_function.ensures in
+    gains_by_one infos c.args.context.now c.find_named_function.new.self found.inputs found.broken found.code_failed
 
 pub returns-clause-gains : goal.returns-clause-gains
 returns-clause-gains c =
-    let found = c.find_function.ensures in
-    gains_by_one infos c.args.context.now c.find_function.new.self found.inputs found.broken found.code_failed
+    let found = c.find_named_function.ensures in
+    gains_by_one infos c.args.context.now c.find_named_function.new.self found.inputs found.broken found.code_failed

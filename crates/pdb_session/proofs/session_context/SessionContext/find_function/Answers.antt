@@ -2,18 +2,19 @@
 use Rattle.std.proofs.Common.{◌∙◌, ap, sym}
 use Rattle.pdb_records.specs.Records.{Records}
 use Rattle.pdb_addr2line.specs.ContextInputs.{ContextState}
-use Rattle.pdb_addr2line.specs.Lookups.{failed_after, function_at}
+use Rattle.pdb_addr2line.specs.Lookups.{failed_after}
+use Rattle.pdb_addr2line.specs.NamedFunctions.{named_function_at}
 use Rattle.pdb_known.specs.Known.{infos_of}
-use Rattle.pdb_session.proofs.PartLemmas.{same_over}
+use Rattle.pdb_session.proofs.PartLemmas.{named_function_as_all, same_over}
 use Rattle.pdb_session.specs.Session.{ContextOverPart}
 use Rattle.pdb_session.proofs.session_context.SessionContext.find_function.Goals as goal
 
 pub returns-clause-answer : goal.returns-clause-answer
 returns-clause-answer c = λ enough whole inputs is_part made.
     c.in-Ok.ensures.answer
-    ∙ ap (λ (v : ContextOverPart). function_at infos_of v.state.inputs c.args.address) c.self.view_is
-    ∙ (same_over _ c.args.self.now whole inputs c.args.address c.self.view_is c.self.invariant enough is_part
-    made).function
+    ∙ ap (λ (v : ContextOverPart). named_function_at infos_of v.state.inputs c.args.address) c.self.view_is
+    ∙ named_function_as_all c.args.self.now.state.inputs inputs c.args.address
+    (same_over _ c.args.self.now whole inputs c.args.address c.self.view_is c.self.invariant enough is_part made)
 
 pub returns-clause-failed : goal.returns-clause-failed
 returns-clause-failed c = λ whole inputs is_part made.

@@ -1,0 +1,6 @@
+mod AnswerExamples
+mod AppendLemmas
+mod LastByteLemmas
+mod NumeralLemmas
+mod PrefixLemmas
+mod WordLemmas

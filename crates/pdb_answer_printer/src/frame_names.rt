@@ -1,0 +1,57 @@
+//! What is printed of a frame, and which frames are printed.
+
+ghost use Rattle.std.specs.Prelude.{◌≡◌};
+ghost use Rattle.pdb_answer_printer.specs.FrameNames.{file_of, function_of, line_of, shown_frames};
+
+use crate::base_names::base_name;
+use crate::printer_options::{PrinterOptions, Style};
+use pdb_frames::{Frame, FunctionFrames};
+
+/// The frames that are printed: without inlined functions one alone, in GNU's form the innermost, and else the
+/// function itself.
+pub fn shown_frames<'f, 'a>(
+    options: &PrinterOptions,
+    found: &'f Option<FunctionFrames<'a>>,
+) -> &'f [Frame<'a>]
+    ensures { result.now ≡ shown_frames options.now found.now }
+{
+    let Some(found) = found else {
+        return &[];
+    };
+    let frames = found.frames.as_slice();
+    if options.inlines || frames.is_empty() {
+        return frames;
+    }
+    match options.style {
+        Style::Gnu => &frames[..1],
+        _ => &frames[frames.len() - 1..],
+    }
+}
+
+/// The name of a frame's file as it is printed, or this text where it isn't known.
+pub fn file_of<'f>(options: &PrinterOptions, frame: &'f Frame<'_>, unknown: &'f str) -> &'f str
+    ensures { result.now ≡ file_of options.now unknown.now frame.now }
+{
+    match &frame.file {
+        Some(file) if options.basenames => base_name(file.as_str()),
+        Some(file) => file.as_str(),
+        None => unknown,
+    }
+}
+
+/// The name of a frame's function, or this text where it isn't known.
+pub(crate) fn function_of<'f>(frame: &'f Frame<'_>, unknown: &'f str) -> &'f str
+    ensures { result.now ≡ function_of unknown.now frame.now }
+{
+    match &frame.function {
+        Some(name) => name.as_str(),
+        None => unknown,
+    }
+}
+
+/// The line of a frame.
+pub(crate) fn line_of(frame: &Frame<'_>) -> u32
+    ensures { result ≡ line_of frame.now }
+{
+    frame.line.unwrap_or(0)
+}

@@ -1,0 +1,133 @@
+//! The JSON objects of frames.
+
+ghost use Rattle.std.specs.Prelude.{◌≡◌, ◌++◌, [], codes, map, string_bytes, OnOk};
+ghost use Rattle.pdb_answer_printer.specs.JsonObjects.{found_frames, frame_object, frames_member, json_frame};
+ghost use Rattle.pdb_answer_printer.specs.JsonObjects.{json_frames, json_function};
+ghost use Rattle.pdb_answer_printer.specs.JsonObjects.{no_frame, source_member};
+
+use crate::frame_names::{file_of, function_of, line_of};
+use crate::printer_options::{NameStyle, PrinterOptions};
+use crate::source_texts::{first_source, later_sources};
+use pdb_frames::Frame;
+use pdb_symbolication::write_quoted;
+use std::alloc::AllocError;
+
+/// Appends the member that has the frames, or one without names where there is none.
+pub(crate) fn write_frames_member(
+    out: &mut String,
+    options: &PrinterOptions,
+    frames: &[Frame<'_>],
+    sources: &[String],
+) -> Result<(), AllocError>
+    ensures { OnOk result (string_bytes out.new ≡ string_bytes out.old
+        ++ frames_member (found_frames options.now frames.now (map string_bytes sources.now))) }
+{
+    out.push_str(",\"Symbol\":[")?;
+    write_found_frames(out, options, frames, sources)?;
+    out.push_str("]")
+}
+
+fn write_found_frames(
+    out: &mut String,
+    options: &PrinterOptions,
+    frames: &[Frame<'_>],
+    sources: &[String],
+) -> Result<(), AllocError>
+    ensures { OnOk result (string_bytes out.new
+        ≡ string_bytes out.old ++ found_frames options.now frames.now (map string_bytes sources.now)) }
+{
+    if frames.is_empty() {
+        return write_no_frame(out);
+    }
+    write_json_frames(out, options, frames, sources)
+}
+
+// Appends frames from inside to outside, with a comma between two.
+fn write_json_frames(
+    out: &mut String,
+    options: &PrinterOptions,
+    frames: &[Frame<'_>],
+    sources: &[String],
+) -> Result<(), AllocError>
+    ensures { OnOk result (string_bytes out.new
+        ≡ string_bytes out.old ++ json_frames options.now [] frames.now (map string_bytes sources.now)) }
+{
+    let mut start = "";
+    let mut later = sources;
+    for frame in frames {
+        write_json_frame(out, options, start, frame, first_source(later))?;
+        start = separator();
+        later = later_sources(later);
+    }
+    Ok(())
+}
+
+// What stands before each frame but the first.
+fn separator() -> &'static str
+    ensures { result.now ≡ codes "," }
+{
+    ","
+}
+
+fn write_no_frame(out: &mut String) -> Result<(), AllocError>
+    ensures { OnOk result (string_bytes out.new ≡ string_bytes out.old ++ no_frame) }
+{
+    write_frame_object(out, "", "", 0, "")
+}
+
+// Appends a frame, after a text that says whether it is the first.
+fn write_json_frame(
+    out: &mut String,
+    options: &PrinterOptions,
+    start: &str,
+    frame: &Frame<'_>,
+    source: &str,
+) -> Result<(), AllocError>
+    ensures { OnOk result (string_bytes out.new
+        ≡ string_bytes out.old ++ (start.now ++ json_frame options.now frame.now source.now)) }
+{
+    let file = file_of(options, frame, "");
+    let function = json_function(options, frame);
+    out.push_str(start)?;
+    write_frame_object(out, file, function, line_of(frame), source)
+}
+
+// The name of a frame's function, unless no names are wanted.
+fn json_function<'f>(options: &PrinterOptions, frame: &'f Frame<'_>) -> &'f str
+    ensures { result.now ≡ json_function options.now.names frame.now }
+{
+    match options.names {
+        NameStyle::None => "",
+        _ => function_of(frame, ""),
+    }
+}
+
+fn write_frame_object(
+    out: &mut String,
+    file: &str,
+    function: &str,
+    line: u32,
+    source: &str,
+) -> Result<(), AllocError>
+    ensures { OnOk result (string_bytes out.new
+        ≡ string_bytes out.old ++ frame_object file.now function.now line source.now) }
+{
+    out.push_str("{\"Column\":0,\"Discriminator\":0,\"FileName\":")?;
+    write_quoted(out, file)?;
+    out.push_str(",\"FunctionName\":")?;
+    write_quoted(out, function)?;
+    write!(out, ",\"Line\":{line}")?;
+    write_source(out, source)?;
+    out.push_str(",\"StartAddress\":\"\",\"StartFileName\":\"\",\"StartLine\":0}")
+}
+
+// Appends the lines of the source file, where there are some.
+fn write_source(out: &mut String, source: &str) -> Result<(), AllocError>
+    ensures { OnOk result (string_bytes out.new ≡ string_bytes out.old ++ source_member source.now) }
+{
+    if source.is_empty() {
+        return Ok(());
+    }
+    out.push_str(",\"Source\":")?;
+    write_quoted(out, source)
+}

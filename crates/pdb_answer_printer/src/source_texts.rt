@@ -1,0 +1,24 @@
+//! The lines of source files around the places of frames.
+
+ghost use Rattle.std.specs.Prelude.{◌≡◌, map, string_bytes};
+ghost use Rattle.pdb_answer_printer.specs.Lines.{first_source, later_sources};
+
+/// The first text; none where there are none.
+pub(crate) fn first_source<'s>(sources: &'s [String]) -> &'s str
+    ensures { result.now ≡ first_source (map string_bytes sources.now) }
+{
+    match sources.first() {
+        Some(source) => source.as_str(),
+        None => "",
+    }
+}
+
+/// The texts after the first.
+pub(crate) fn later_sources<'s>(sources: &'s [String]) -> &'s [String]
+    ensures { map string_bytes result.now ≡ later_sources (map string_bytes sources.now) }
+{
+    match sources.split_first() {
+        Some((_, later)) => later,
+        None => sources,
+    }
+}

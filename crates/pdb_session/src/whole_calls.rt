@@ -1,0 +1,80 @@
+//! Answers that depend on all records of a file: where functions start, and lists of calls.
+
+ghost use Rattle.std.specs.Prelude.{◌≡◌, Err, false, true};
+ghost use Rattle.pdb_session.specs.Session.{EndsCalls, GivesNextStart, GivesStarts};
+ghost use Rattle.pdb_session.specs.declared.session_context.QuestionFault.TheVariants.{NotRead};
+
+use crate::session_context::{QuestionFault, SessionContext};
+use pdb_addr2line::{Answer, Call};
+
+impl<'a> SessionContext<'a, '_> {
+    /// Where functions start, ascending and each once, once all records were read.
+    ///
+    /// # Errors
+    ///
+    /// [`QuestionFault::NotRead`] where some records were not read:
+    /// [`PdbSession::read_all`](crate::PdbSession::read_all) reads them. `OutOfMemory` where memory runs out.
+    pub fn start_addresses(&mut self) -> Result<Vec<u32>, QuestionFault>
+        ensures not_read { self.old.known.all ≡ false → result ≡ Err NotRead }
+        ensures answer { self.old.known.all ≡ true → GivesStarts result self.old.state.inputs }
+        ensures unchanged { self.new ≡ self.old }
+    {
+        if !self.part.has_all() {
+            return Err(QuestionFault::NotRead);
+        }
+        match self.context.start_addresses() {
+            Ok(starts) => Ok(starts),
+            Err(error) => Err(QuestionFault::Records(error)),
+        }
+    }
+
+    /// The first of the [start addresses](SessionContext::start_addresses) that isn't below an address, if there is one.
+    ///
+    /// # Errors
+    ///
+    /// Those of `start_addresses`.
+    pub fn next_start_address(&mut self, address: u32) -> Result<Option<u32>, QuestionFault>
+        ensures not_read { self.old.known.all ≡ false → result ≡ Err NotRead }
+        ensures answer { self.old.known.all ≡ true → GivesNextStart result self.old.state.inputs address }
+        ensures unchanged { self.new ≡ self.old }
+    {
+        if !self.part.has_all() {
+            return Err(QuestionFault::NotRead);
+        }
+        let start = match self.context.next_start_address(address) {
+            Ok(start) => start,
+            Err(error) => return Err(QuestionFault::Records(error)),
+        };
+        Ok(start)
+    }
+
+    /// Answers calls, one after the other, and appends an answer for each, as
+    /// [`Context::run_calls`](pdb_addr2line::Context::run_calls) does, once all records were read.
+    ///
+    /// # Errors
+    ///
+    /// [`QuestionFault::NotRead`] where some records were not read, and then no call is answered. `OutOfMemory` where
+    /// memory runs out: the list is then longer by the answers of the calls before the one for which there was no
+    /// memory.
+    pub fn run_calls(
+        &mut self,
+        calls: &[Call<'_>],
+        answers: &mut Vec<Answer<'a>>,
+    ) -> Result<(), QuestionFault>
+        ensures not_read { self.old.known.all ≡ false → result ≡ Err NotRead }
+        ensures answers { self.old.known.all ≡ true → EndsCalls result self.old.state self.new.state calls.now
+            answers.old.items answers.new.items }
+        ensures unchanged { self.old.known.all ≡ false → self.new ≡ self.old }
+        ensures same_answers { self.old.known.all ≡ false → answers.new.items ≡ answers.old.items }
+        ensures known { self.new.known ≡ self.old.known }
+        ensures flags { self.new.flags ≡ self.old.flags }
+    {
+        if !self.part.has_all() {
+            return Err(QuestionFault::NotRead);
+        }
+        if let Err(error) = self.context.run_calls(calls, answers) {
+            return Err(QuestionFault::Records(error));
+        }
+        Ok(())
+    }
+}

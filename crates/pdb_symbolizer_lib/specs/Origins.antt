@@ -1,0 +1,16 @@
+-- What is taken from addresses, so that they are relative to where a program is loaded.
+use Rattle.std.specs.Prelude.{ℕ, ◌+◌, ◌-◌, ◌%◌, ◌^◌, Option, Some, None, unwrap_or, nat_lt, if◌then◌else◌}
+use Rattle.pdb_symbolizer_lib.specs.declared.addresses.Origin.{Origin}
+
+-- an address of 64 bits less another one, where addresses start again behind the last
+abbrev pub less : ℕ → ℕ → ℕ
+less address taken = (address + (2 ^ 64 - taken)) % 2 ^ 64
+
+-- an address, where it fits 32 bits
+abbrev pub in_32_bits : ℕ → Option ℕ
+in_32_bits address = if nat_lt address (2 ^ 32) then Some address else None
+
+-- an address relative to where the program is loaded, where it can lie in the program: less the base, and less what else
+-- is taken from addresses
+abbrev pub relative : Origin → ℕ → Option ℕ
+relative origin given = in_32_bits (less (less given (unwrap_or origin.base 0)) origin.adjust)
