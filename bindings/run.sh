@@ -4,11 +4,11 @@
 # Usage: bindings/run.sh [FOLDER]
 #
 # What is built is left in FOLDER, which is else a new one that is removed at the end. Wanted are rt, gcc, g++, make,
-# cmake, pkg-config, valgrind, cargo with clippy, and python3. Nothing is fetched.
+# cmake, pkg-config, valgrind, cargo with clippy, and python3. Nothing is fetched. The library is proved and built here,
+# or taken from the folder LIMBERLIME_BUILT (packaging/built.sh).
 set -eu
 
 top=$(cd "$(dirname "$0")/.." && pwd)
-kit=$(dirname "$(rt doc)")
 folder=${1:-$(mktemp -d)}
 [ $# -gt 0 ] || trap 'rm -rf "$folder"' EXIT
 mkdir -p "$folder"
@@ -19,8 +19,9 @@ files="$top/crates/pdb_container_tests/data"
 modules="$top/crates/pdb_report_tests/data/modules"
 failed=0
 
-(cd "$top/crates/pdb_c" && rt lib)
-make --no-print-directory -C "$bindings" OUT="$folder" KIT="$kit" PREFIX="$folder/prefix" install
+"$top/packaging/built.sh" "$folder" libpdb_c.a liblibc_c.a
+make --no-print-directory -C "$bindings" OUT="$folder" PDB_C="$folder/libpdb_c.a" MEMORY="$folder/liblibc_c.a" \
+    PREFIX="$folder/prefix" install
 
 cat >"$folder/wanted" <<'WANTED'
 shapes::Point::length() const at C:\shapes\shapes.h:10:0
@@ -69,15 +70,16 @@ for build in 'c11 gcc -std=c11' 'c++17 g++ -std=c++17 -x c++'; do
 done
 
 # By what `make install` put there.
+export PKG_CONFIG_PATH="$folder/prefix/lib/pkgconfig"
 try cmake -S "$bindings/c" -B "$folder/cmake" -DCMAKE_PREFIX_PATH="$folder/prefix"
 try cmake --build "$folder/cmake"
 prints_the_stack "$folder/cmake/stack"
 # shellcheck disable=SC2046
 gcc -o "$folder/stack_shared" "$bindings/c/stack.c" \
-    $(PKG_CONFIG_PATH="$folder/prefix/lib/pkgconfig" pkg-config --cflags --libs limberlime)
+    $(pkg-config --cflags --libs limberlime)
 prints_the_stack env LD_LIBRARY_PATH="$folder/prefix/lib" "$folder/stack_shared"
 
-export LIMBERLIME_LIB_DIR="$folder" CARGO_TARGET_DIR="$folder/target" CARGO_NET_OFFLINE=true
+export CARGO_TARGET_DIR="$folder/target" CARGO_NET_OFFLINE=true
 cd "$bindings/rust"
 try cargo fmt --check
 try cargo clippy --quiet --all-targets -- -D warnings

@@ -5,26 +5,26 @@
 # Usage: examples/run.sh [FOLDER [PROGRAM]]
 #
 # The examples are left in FOLDER, which is else a new one that is removed at the end. PROGRAM is a built pdb_report;
-# else it is built here. Wanted are gcc, cargo, make and rt. bindings/run.sh has the tests of the bindings.
+# else it is built here. Wanted are gcc, cargo, make and rt. bindings/run.sh has the tests of the bindings. What is built
+# here is taken from the folder LIMBERLIME_BUILT instead where that is set (packaging/built.sh).
 set -eu
 
 top=$(cd "$(dirname "$0")/.." && pwd)
-kit=$(dirname "$(rt doc)")
 folder=${1:-$(mktemp -d)}
 [ $# -gt 0 ] || trap 'rm -rf "$folder"' EXIT
 mkdir -p "$folder"
 folder=$(cd "$folder" && pwd)
 
-(cd "$top/crates/pdb_c" && rt lib)
-program=${2:-$top/crates/pdb_report/out/pdb_report}
-[ $# -gt 1 ] || (cd "$top/crates/pdb_report" && rt run -- "$top/crates/pdb_report/data/a.json" list) >/dev/null
+"$top/packaging/built.sh" "$folder" libpdb_c.a liblibc_c.a
+program=${2:-$folder/pdb_report}
+[ $# -gt 1 ] || "$top/packaging/built.sh" "$folder" pdb_report
 
-library="$top/crates/pdb_c/out/libpdb_c.a"
 for name in report opened refusals; do
     gcc -std=c11 -O2 -Wall -Wextra -Werror -I "$top/include" -o "$folder/${name}_c" \
-        "$top/examples/c/$name.c" "$library" "$kit/c/liblibc_c.a"
+        "$top/examples/c/$name.c" "$folder/libpdb_c.a" "$folder/liblibc_c.a"
 done
-make --no-print-directory -s -C "$top/bindings" OUT="$folder/library" KIT="$kit" "$folder/library/liblimberlime.a"
+make --no-print-directory -s -C "$top/bindings" OUT="$folder/library" PDB_C="$folder/libpdb_c.a" \
+    MEMORY="$folder/liblibc_c.a" "$folder/library/liblimberlime.a"
 (cd "$top/bindings/rust" && LIMBERLIME_LIB_DIR="$folder/library" CARGO_TARGET_DIR="$folder/target" \
     cargo build --quiet --offline --release --example opened && rm -f Cargo.lock)
 cp "$folder/target/release/examples/opened" "$folder/opened_rust"

@@ -5,8 +5,7 @@
  * limberlime_find_function answer an address of it as data, limberlime_find_all_frames answers many, and
  * limberlime_next_function goes over all functions. limberlime_frames_of and limberlime_names_of write a text into a
  * buffer of the caller's: the very text that the program pdb_report prints of such records. limberlime_frames and
- * limberlime_names do so over the bytes of a records file, which they read at each call. Link libpdb_c.a and the kit's
- * liblibc_c.a, or the one library that the Makefile in bindings makes of both.
+ * limberlime_names do so over the bytes of a records file, which they read at each call. Link with -llimberlime.
  *
  * What the caller owes: each pointer is null, or valid for as many elements as its length says and aligned for them,
  * until the call returns. Nobody writes meanwhile what a call reads, and nobody else uses what it writes: the buffer,
@@ -27,6 +26,11 @@
 #include <stdint.h>
 #include <stdlib.h>
 #include <string.h>
+
+/* The version of this header. The packages take theirs from it. */
+#define LIMBERLIME_VERSION_MAJOR 0
+#define LIMBERLIME_VERSION_MINOR 2
+#define LIMBERLIME_VERSION_PATCH 0
 
 /* How the functions below are defined: each file that includes this has its own. A file that makes a shared library of
  * them says so before, by a definition of its own (bindings/library.c). */
@@ -93,7 +97,8 @@ enum limberlime_refusal {
 /* A function in whose code an address lies: the one that was called, or one whose body was inlined there. Texts are
  * UTF-8, with a 0 behind the last byte, which the length doesn't count. */
 struct limberlime_frame {
-    /* The function's name, or null where none is known, and how many bytes it has. */
+    /* The function's name, or null where none is known, and how many bytes it has: its signature, or the name of its
+     * symbol where that can't be printed. */
     const char *function;
     size_t function_length;
     /* The source file that the code comes from, or null where none is known, and how many bytes its name has. */
@@ -104,7 +109,7 @@ struct limberlime_frame {
 };
 
 /* The frames over an address. They and their texts stay until the next call with their handle. */
-struct limberlime_frames {
+struct limberlime_function_frames {
     /* How many there are: 0 where no function lies over the address. */
     size_t count;
     /* The frames, the innermost inlined function first, and last the one that was called. */
@@ -139,8 +144,17 @@ struct limberlime_found {
     uint32_t end_known;
 };
 
-/* What the last answer of a handle stands in. */
-struct limberlime_rooms {
+/* The size of each public struct, in bytes, as the caller's compiler knows it; 0 means the size in the library. A later
+ * version may add members at the end of a struct. It then writes only the members that the caller's struct has, so a
+ * program runs with the library of its header's version and with each later one of the same soname. */
+struct limberlime_sizes {
+    size_t handle;
+    size_t function_frames;
+    size_t frame;
+};
+
+/* The memory of a handle's last answer. */
+struct limberlime_buffers {
     struct limberlime_row *rows;
     struct limberlime_frame *frames;
     size_t row_capacity;
@@ -154,12 +168,17 @@ struct limberlime_handle {
     /* Both are the library's alone, to write and to follow. The second is null where the handle is closed. */
     void *records;
     void *context;
+    /* Set by LIMBERLIME_CLOSED, and read by the functions below. */
+    struct limberlime_sizes sizes;
     /* Those of the functions below alone, to write and to follow. */
-    struct limberlime_rooms rooms;
+    struct limberlime_buffers buffers;
 };
 
 /* A handle that was never opened, as `struct limberlime_handle handle = LIMBERLIME_CLOSED;`. */
-#define LIMBERLIME_CLOSED { NULL, NULL, { NULL, NULL, 0, NULL, 0 } }
+#define LIMBERLIME_CLOSED \
+    { NULL, NULL, LIMBERLIME_SIZES, { NULL, NULL, 0, NULL, 0 } }
+#define LIMBERLIME_SIZES \
+    { sizeof(struct limberlime_handle), sizeof(struct limberlime_function_frames), sizeof(struct limberlime_frame) }
 
 /* The calls as the library has them. They are given no null pointer; the functions below see to that. */
 int64_t limberlime_frames_unchecked(const uint8_t *records, size_t records_length, const uint32_t *addresses,
@@ -190,6 +209,14 @@ int64_t limberlime_next_start_unchecked(struct limberlime_handle *handle, uint32
                                         struct limberlime_row *rows, size_t row_capacity, uint8_t *texts,
                                         size_t text_capacity, struct limberlime_found *found);
 void limberlime_close_unchecked(struct limberlime_handle *handle);
+int64_t limberlime_version_unchecked(void);
+
+/* The version of the library that is linked, as major * 1000000 + minor * 1000 + patch: 2000 for 0.2.0. It may be later
+ * than this header's, LIMBERLIME_VERSION_MAJOR and so on. */
+LIMBERLIME_FUNCTION int64_t limberlime_version(void)
+{
+    return limberlime_version_unchecked();
+}
 
 /* What a number that a call answers says in words, as a text that stays. An empty one where it is no refusal. */
 LIMBERLIME_FUNCTION const char *limberlime_refusal_text(int64_t answer)
@@ -340,7 +367,7 @@ static inline int64_t limberlime_gather(const uint8_t *names, size_t names_lengt
     return 0;
 }
 
-/* Opens a records file by the names of its module files, in rooms that are made for the names and the contents. */
+/* Opens a records file by the names of its module files, with buffers for the names and the contents. */
 static inline int64_t limberlime_open_named(const uint8_t *records, size_t records_length, uint8_t *names,
                                             size_t names_length, limberlime_module_file_call module_file, void *caller,
                                             struct limberlime_contents *contents, struct limberlime_handle *handle)
@@ -432,47 +459,49 @@ LIMBERLIME_FUNCTION int64_t limberlime_machine(const uint8_t *pdb, size_t pdb_le
     return limberlime_machine_unchecked(pdb, pdb_length);
 }
 
-/* Makes room for an answer of this size. Whether there was memory for it. */
-static inline int limberlime_make_room(struct limberlime_rooms *rooms, size_t rows, size_t texts)
+/* Allocates buffers for an answer of this size, with frames of the caller's size. Whether there was memory. */
+static inline int limberlime_grow(struct limberlime_buffers *buffers, size_t rows, size_t texts, size_t frame_size)
 {
-    if (rooms->row_capacity == 0 || rooms->row_capacity < rows) {
+    if (buffers->row_capacity == 0 || buffers->row_capacity < rows) {
         size_t capacity = limberlime_capacity(16, rows);
-        free(rooms->rows);
-        free(rooms->frames);
-        rooms->rows = (struct limberlime_row *)calloc(capacity, sizeof *rooms->rows);
-        rooms->frames = (struct limberlime_frame *)calloc(capacity, sizeof *rooms->frames);
-        rooms->row_capacity = rooms->rows == NULL || rooms->frames == NULL ? 0 : capacity;
+        free(buffers->rows);
+        free(buffers->frames);
+        buffers->rows = (struct limberlime_row *)calloc(capacity, sizeof *buffers->rows);
+        buffers->frames = (struct limberlime_frame *)calloc(capacity, frame_size);
+        buffers->row_capacity = buffers->rows == NULL || buffers->frames == NULL ? 0 : capacity;
     }
-    if (rooms->text_capacity == 0 || rooms->text_capacity < texts) {
+    if (buffers->text_capacity == 0 || buffers->text_capacity < texts) {
         size_t capacity = limberlime_capacity(1024, texts);
-        free(rooms->texts);
-        rooms->texts = (uint8_t *)calloc(capacity, 1);
-        rooms->text_capacity = rooms->texts == NULL ? 0 : capacity;
+        free(buffers->texts);
+        buffers->texts = (uint8_t *)calloc(capacity, 1);
+        buffers->text_capacity = buffers->texts == NULL ? 0 : capacity;
     }
-    return rooms->row_capacity >= rows && rooms->text_capacity >= texts && rooms->row_capacity != 0
-        && rooms->text_capacity != 0;
+    return buffers->row_capacity >= rows && buffers->text_capacity >= texts && buffers->row_capacity != 0
+        && buffers->text_capacity != 0;
 }
 
 /* The text at a place, or null where it isn't known. */
-static inline const char *limberlime_text(const struct limberlime_rooms *rooms, struct limberlime_place place)
+static inline const char *limberlime_text(const struct limberlime_buffers *buffers, struct limberlime_place place)
 {
-    return place.start == SIZE_MAX ? NULL : (const char *)rooms->texts + place.start;
+    return place.start == SIZE_MAX ? NULL : (const char *)buffers->texts + place.start;
 }
 
-/* What the library wrote into a handle's rooms, with pointers to its texts. */
-static inline void limberlime_show(struct limberlime_rooms *rooms, const struct limberlime_found *found,
-                                   struct limberlime_frames *frames)
+/* Makes frames of what the library wrote into a handle's buffers, with pointers to its texts. */
+static inline void limberlime_show(struct limberlime_buffers *buffers, const struct limberlime_found *found,
+                                   size_t frame_size, struct limberlime_function_frames *frames)
 {
-    for (size_t i = 0; i < found->rows; i++) {
-        const struct limberlime_row *row = &rooms->rows[i];
-        rooms->frames[i].function = limberlime_text(rooms, row->function);
-        rooms->frames[i].function_length = row->function.length;
-        rooms->frames[i].file = limberlime_text(rooms, row->file);
-        rooms->frames[i].file_length = row->file.length;
-        rooms->frames[i].line = row->line;
+    unsigned char *place = (unsigned char *)buffers->frames;
+    for (size_t i = 0; i < found->rows; i++, place += frame_size) {
+        const struct limberlime_row *row = &buffers->rows[i];
+        struct limberlime_frame *frame = (struct limberlime_frame *)(void *)place;
+        frame->function = limberlime_text(buffers, row->function);
+        frame->function_length = row->function.length;
+        frame->file = limberlime_text(buffers, row->file);
+        frame->file_length = row->file.length;
+        frame->line = row->line;
     }
     frames->count = found->rows;
-    frames->frames = rooms->frames;
+    frames->frames = buffers->frames;
     frames->start = found->start;
     frames->end = found->end;
     frames->end_known = found->end_known;
@@ -481,20 +510,22 @@ static inline void limberlime_show(struct limberlime_rooms *rooms, const struct 
 typedef int64_t (*limberlime_find_call)(struct limberlime_handle *, uint32_t, struct limberlime_row *, size_t,
                                         uint8_t *, size_t, struct limberlime_found *);
 
-/* Asks by a call of the library's, with more room where the answer is larger than there is. */
+/* Asks by a call of the library's, with larger buffers if the answer doesn't fit. */
 static inline int64_t limberlime_find(limberlime_find_call call, struct limberlime_handle *handle, uint32_t address,
-                                      struct limberlime_frames *frames)
+                                      struct limberlime_function_frames *frames)
 {
-    struct limberlime_rooms *rooms = &handle->rooms;
+    struct limberlime_buffers *buffers = &handle->buffers;
     struct limberlime_found found = {0, 0, 0, 0, 0};
+    size_t frame_size = handle->sizes.frame == 0 ? sizeof(struct limberlime_frame) : handle->sizes.frame;
     int64_t answer = LIMBERLIME_BUFFER_TOO_SMALL;
     while (answer == LIMBERLIME_BUFFER_TOO_SMALL) {
-        if (!limberlime_make_room(rooms, found.rows, found.texts))
+        if (!limberlime_grow(buffers, found.rows, found.texts, frame_size))
             return LIMBERLIME_OUT_OF_MEMORY;
-        answer = call(handle, address, rooms->rows, rooms->row_capacity, rooms->texts, rooms->text_capacity, &found);
+        answer = call(handle, address, buffers->rows, buffers->row_capacity, buffers->texts, buffers->text_capacity,
+                      &found);
     }
     if (answer == 0)
-        limberlime_show(rooms, &found, frames);
+        limberlime_show(buffers, &found, frame_size, frames);
     return answer;
 }
 
@@ -513,7 +544,7 @@ static inline int64_t limberlime_find(limberlime_find_call call, struct limberli
  * symbol's.
  */
 LIMBERLIME_FUNCTION int64_t limberlime_find_frames(struct limberlime_handle *handle, uint32_t address,
-                                                   struct limberlime_frames *frames)
+                                                   struct limberlime_function_frames *frames)
 {
     if (handle == NULL || frames == NULL)
         return LIMBERLIME_NULL_POINTER;
@@ -524,7 +555,7 @@ LIMBERLIME_FUNCTION int64_t limberlime_find_frames(struct limberlime_handle *han
  * returns. It makes no call with the handle. Answers 0 to be given the next one, or another number to stop.
  */
 typedef int (*limberlime_frames_call)(void *caller, uint32_t address, int64_t answer,
-                                      const struct limberlime_frames *frames);
+                                      const struct limberlime_function_frames *frames);
 
 /* Finds the frames over a list of addresses, and hands each answer to a call of the caller's, in order.
  *
@@ -541,7 +572,7 @@ LIMBERLIME_FUNCTION int64_t limberlime_find_all_frames(struct limberlime_handle 
     if (handle == NULL || addresses == NULL || each == NULL)
         return LIMBERLIME_NULL_POINTER;
     while (goes_on && asked < address_count) {
-        struct limberlime_frames frames;
+        struct limberlime_function_frames frames;
         uint32_t address = addresses[asked++];
         int64_t answer = limberlime_find_frames(handle, address, &frames);
         goes_on = each(caller, address, answer, answer == 0 ? &frames : NULL) == 0;
@@ -553,7 +584,7 @@ LIMBERLIME_FUNCTION int64_t limberlime_find_all_frames(struct limberlime_handle 
  * limberlime_find_frames. It needs no lines, and so no LIMBERLIME_ADDRESS_REFUSED is answered.
  */
 LIMBERLIME_FUNCTION int64_t limberlime_find_function(struct limberlime_handle *handle, uint32_t address,
-                                                     struct limberlime_frames *frames)
+                                                     struct limberlime_function_frames *frames)
 {
     if (handle == NULL || frames == NULL)
         return LIMBERLIME_NULL_POINTER;
@@ -568,9 +599,9 @@ LIMBERLIME_FUNCTION int64_t limberlime_find_function(struct limberlime_handle *h
  * frames->count is 0 behind the last function. The first such question to a handle reads where all functions start.
  */
 LIMBERLIME_FUNCTION int64_t limberlime_next_function(struct limberlime_handle *handle, uint64_t *next,
-                                                     struct limberlime_frames *frames)
+                                                     struct limberlime_function_frames *frames)
 {
-    static const struct limberlime_frames none = {0, NULL, 0, 0, 0};
+    static const struct limberlime_function_frames none = {0, NULL, 0, 0, 0};
     if (handle == NULL || next == NULL || frames == NULL)
         return LIMBERLIME_NULL_POINTER;
     while (*next <= UINT32_MAX) {
@@ -621,14 +652,14 @@ LIMBERLIME_FUNCTION void limberlime_close(struct limberlime_handle *handle)
     if (handle == NULL)
         return;
     limberlime_close_unchecked(handle);
-    free(handle->rooms.rows);
-    free(handle->rooms.frames);
-    free(handle->rooms.texts);
-    handle->rooms.rows = NULL;
-    handle->rooms.frames = NULL;
-    handle->rooms.texts = NULL;
-    handle->rooms.row_capacity = 0;
-    handle->rooms.text_capacity = 0;
+    free(handle->buffers.rows);
+    free(handle->buffers.frames);
+    free(handle->buffers.texts);
+    handle->buffers.rows = NULL;
+    handle->buffers.frames = NULL;
+    handle->buffers.texts = NULL;
+    handle->buffers.row_capacity = 0;
+    handle->buffers.text_capacity = 0;
 }
 
 #ifdef __cplusplus

@@ -58,7 +58,7 @@ static void print_frame(const struct limberlime_frame *frame, const char *before
 /* Prints the stack of an address, or what refuses it. */
 static int print_stack(struct limberlime_handle *handle, uint32_t address)
 {
-    struct limberlime_frames found;
+    struct limberlime_function_frames found;
     int64_t answer = limberlime_find_frames(handle, address, &found);
     if (answer != 0) {
         fprintf(stderr, "stack: 0x%lx: %s\n", (unsigned long)address, limberlime_refusal_text(answer));

@@ -57,7 +57,7 @@ static const struct {
 static void refused_files(const char *folder)
 {
     struct limberlime_handle handle = LIMBERLIME_CLOSED;
-    struct limberlime_frames frames;
+    struct limberlime_function_frames frames;
     for (size_t i = 0; i < sizeof refused / sizeof *refused; i++) {
         size_t length;
         uint8_t *bytes = read_file(folder, refused[i].name, &length);
@@ -85,7 +85,7 @@ static void expect_frame(const struct limberlime_frame *frame, const char *funct
 static void shapes(const uint8_t *pdb, size_t length)
 {
     struct limberlime_handle handle = LIMBERLIME_CLOSED;
-    struct limberlime_frames frames;
+    struct limberlime_function_frames frames;
     expect("it opens", limberlime_open_pdb(pdb, length, &handle) == 0);
     expect("frames are answered", limberlime_find_frames(&handle, 0x1136, &frames) == 0 && frames.count == 3);
     expect_frame(&frames.frames[0], "shapes::Point::length() const", "C:\\shapes\\shapes.h", 10);
@@ -107,7 +107,7 @@ static void functions(const uint8_t *pdb, size_t length)
 {
     static const uint32_t starts[] = {0x1000, 0x1020, 0x10e0, 0x1110, 0x1150, 0x1190, 0x1260};
     struct limberlime_handle handle = LIMBERLIME_CLOSED;
-    struct limberlime_frames frames;
+    struct limberlime_function_frames frames;
     uint64_t next = 0;
     size_t named = 0;
     expect("it opens", limberlime_open_pdb(pdb, length, &handle) == 0);
@@ -126,10 +126,51 @@ static void functions(const uint8_t *pdb, size_t length)
     limberlime_close(&handle);
 }
 
+/* Where the caller's frames have more members, each stands behind the other by the caller's size. */
+static void larger_frames(const uint8_t *pdb, size_t length)
+{
+    struct larger_frame {
+        struct limberlime_frame frame;
+        uint64_t later[2];
+    };
+    struct limberlime_handle handle = LIMBERLIME_CLOSED;
+    struct limberlime_function_frames frames;
+    handle.sizes.frame = sizeof(struct larger_frame);
+    expect("it opens", limberlime_open_pdb(pdb, length, &handle) == 0);
+    expect("frames are answered", limberlime_find_frames(&handle, 0x1136, &frames) == 0 && frames.count == 3);
+    const struct larger_frame *larger = (const struct larger_frame *)(const void *)frames.frames;
+    expect("the last frame", larger[2].frame.line == 36 && larger[2].later[0] == 0);
+    limberlime_close(&handle);
+}
+
+static void versions(void)
+{
+    int64_t version = LIMBERLIME_VERSION_MAJOR * 1000000 + LIMBERLIME_VERSION_MINOR * 1000 + LIMBERLIME_VERSION_PATCH;
+    expect("the library's version is the header's", limberlime_version() == version);
+}
+
+#ifdef __cplusplus
+/* In C++ the name of a struct is that of a type, unless a function has it too. */
+static void names_without_struct(void)
+{
+    limberlime_handle handle = LIMBERLIME_CLOSED;
+    limberlime_function_frames frames = {0, NULL, 0, 0, 0};
+    limberlime_frame frame = {NULL, 0, NULL, 0, 0};
+    limberlime_place place = {0, 0};
+    limberlime_row row = {place, place, 0};
+    limberlime_found found = {0, 0, 0, 0, 0};
+    limberlime_sizes sizes = LIMBERLIME_SIZES;
+    limberlime_buffers buffers = {&row, &frame, 1, NULL, 0};
+    limberlime_contents contents = {NULL, 0, 0, NULL, 0};
+    expect("sizes", handle.sizes.frame == sizes.frame && frames.count + found.rows + contents.count == 0);
+    expect("buffers", buffers.rows == &row);
+}
+#endif
+
 static void null_pointers(const uint8_t *pdb, size_t length)
 {
     struct limberlime_handle handle = LIMBERLIME_CLOSED;
-    struct limberlime_frames frames;
+    struct limberlime_function_frames frames;
     uint8_t buffer[40];
     size_t wanted;
     expect("no bytes", limberlime_open_pdb(NULL, length, &handle) == LIMBERLIME_NULL_POINTER);
@@ -213,7 +254,7 @@ struct answers {
     size_t frames;
 };
 
-static int add_answer(void *caller, uint32_t address, int64_t answer, const struct limberlime_frames *frames)
+static int add_answer(void *caller, uint32_t address, int64_t answer, const struct limberlime_function_frames *frames)
 {
     struct answers *answers = (struct answers *)caller;
     expect("addresses come in order", address == (answers->given == 0 ? 0x1136u : 0x10u));
@@ -244,6 +285,11 @@ int main(int argc, char **argv)
     uint8_t *pdb = read_file(argv[1], "", &length);
     refused_files(argv[2]);
     shapes(pdb, length);
+    larger_frames(pdb, length);
+    versions();
+#ifdef __cplusplus
+    names_without_struct();
+#endif
     null_pointers(pdb, length);
     debug_ids(pdb, length);
     machines(pdb, length);

@@ -8,29 +8,26 @@ An address is a hexadecimal number, relative to where the program is loaded.
 import pathlib
 import sys
 
-import limberlime
-
-NOT_A_PDB_FILE = -11
-ADDRESS_REFUSED = -7
+from limberlime import Error, Program, Refusal
 
 
-def open_file(data):
+def open_file(path):
     """A PDB file, or else a records file."""
     try:
-        return limberlime.Program.open_pdb(data)
-    except limberlime.Refusal as refusal:
-        if refusal.number != NOT_A_PDB_FILE:
+        return Program.open(path)
+    except Error as error:
+        if error.refusal != Refusal.NOT_A_PDB_FILE:
             raise
-        return limberlime.Program.open_records(data)
+        return Program.open_records(pathlib.Path(path).read_bytes())
 
 
 def print_stack(program, address):
     try:
-        frames = program.frames(address)
-    except limberlime.Refusal as refusal:
-        if refusal.number != ADDRESS_REFUSED:
+        frames = program.find_frames(address)
+    except Error as error:
+        if error.refusal != Refusal.ADDRESS_REFUSED:
             raise
-        print(f"stack: {address:#x}: {refusal}", file=sys.stderr)
+        print(f"stack: {address:#x}: {error}", file=sys.stderr)
         frames = []
     if not frames:
         print("?? at ??:0:0")
@@ -43,7 +40,7 @@ def print_stack(program, address):
 
 
 def main(file, *addresses):
-    with open_file(pathlib.Path(file).read_bytes()) as program:
+    with open_file(file) as program:
         for address in addresses:
             print_stack(program, int(address, 16))
 
@@ -53,5 +50,5 @@ if __name__ == "__main__":
         sys.exit(__doc__)
     try:
         main(*sys.argv[1:])
-    except limberlime.Refusal as refused:
+    except Error as refused:
         sys.exit(f"stack: {refused}")

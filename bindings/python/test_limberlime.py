@@ -1,12 +1,16 @@
 """Questions to a small program, and what is refused."""
+import concurrent.futures
 import pathlib
+import re
 import threading
 import unittest
 
 import limberlime
+from limberlime import Refusal
 
 CRATES = pathlib.Path(__file__).resolve().parents[2] / "crates"
-SHAPES = (CRATES / "pdb_symbolizer" / "data" / "shapes.pdb").read_bytes()
+PATH = CRATES / "pdb_symbolizer" / "data" / "shapes.pdb"
+SHAPES = PATH.read_bytes()
 FILES = CRATES / "pdb_container_tests" / "data"
 MODULES = CRATES / "pdb_report_tests" / "data" / "modules"
 STACK = [
@@ -15,10 +19,15 @@ STACK = [
     ("Framed::draw(int)", r"C:\shapes\main.cpp", 36),
 ]
 REFUSED = {
-    "text.pdb": -11, "program.exe": -12, "portable.pdb": -13, "compressed.pd_": -14, "version_2.pdb": -15,
-    "superblock_alone.pdb": -16, "streams_too_long.pdb": -17, "objects.pdb": -18, "old_types.pdb": -19,
-    "stripped.pdb": -20, "rearranged_to.pdb": -21, "cut_debug.pdb": -22,
+    "text.pdb": Refusal.NOT_A_PDB_FILE, "program.exe": Refusal.PROGRAM, "portable.pdb": Refusal.PORTABLE_PDB,
+    "compressed.pd_": Refusal.COMPRESSED, "version_2.pdb": Refusal.OLD_PDB_FILE,
+    "superblock_alone.pdb": Refusal.CUT_SHORT, "streams_too_long.pdb": Refusal.STREAMS_TOO_LONG,
+    "objects.pdb": Refusal.OF_OBJECTS, "old_types.pdb": Refusal.OLD_TYPES,
+    "stripped.pdb": Refusal.NO_SECTION_HEADERS, "rearranged_to.pdb": Refusal.REARRANGED,
+    "cut_debug.pdb": Refusal.BROKEN_STREAM,
 }
+HEADER = CRATES.parent / "include" / "limberlime.h"
+THREADS, QUESTIONS = 4, 500
 
 
 class Programs(unittest.TestCase):
@@ -27,12 +36,12 @@ class Programs(unittest.TestCase):
         self.addCleanup(self.program.close)
 
     def test_inlined_calls_come_from_inside_to_outside(self):
-        frames = self.program.frames(0x1136)
+        frames = self.program.find_frames(0x1136)
         self.assertEqual(list(frames), STACK)
         self.assertTrue(frames.start <= 0x1136 < frames.end)
 
     def test_a_function_is_one_frame(self):
-        self.assertEqual(list(self.program.function(0x1136)), [("Framed::draw(int)", None, None)])
+        self.assertEqual(list(self.program.find_function(0x1136)), [("Framed::draw(int)", None, None)])
 
     def test_functions_come_by_where_they_start(self):
         named = [function for function in self.program.functions() if function.name is not None]
@@ -42,30 +51,69 @@ class Programs(unittest.TestCase):
 
     def test_nothing_lies_over_other_addresses(self):
         for address in (0, 2**32 - 1):
-            self.assertEqual(len(self.program.frames(address)), 0)
+            self.assertEqual(len(self.program.find_frames(address)), 0)
         with self.assertRaises(ValueError):
-            self.program.frames(2**32)
+            self.program.find_frames(2**32)
 
     def test_a_closed_program_is_refused(self):
         self.program.close()
-        with self.assertRaises(limberlime.Refusal) as caught:
-            self.program.frames(0x1136)
-        self.assertEqual((caught.exception.number, str(caught.exception)), (-10, "the handle is closed"))
+        with self.assertRaises(limberlime.Error) as caught:
+            self.program.find_frames(0x1136)
+        self.assertEqual(caught.exception.refusal, Refusal.CLOSED_HANDLE)
+        self.assertEqual(str(caught.exception), "the handle is closed")
 
     def test_a_program_goes_to_another_thread(self):
         answers = []
-        thread = threading.Thread(target=lambda: answers.append(list(self.program.frames(0x1136))))
+        thread = threading.Thread(target=lambda: answers.append(list(self.program.find_frames(0x1136))))
         thread.start()
         thread.join()
         self.assertEqual(answers, [STACK])
 
+    def test_threads_share_a_program(self):
+        def ask(number):
+            address = (0x1136, 0x10)[number % 2]
+            return [list(self.program.find_frames(address)) for _ in range(QUESTIONS)]
+
+        with concurrent.futures.ThreadPoolExecutor(THREADS) as threads:
+            answers = list(threads.map(ask, range(THREADS)))
+        self.assertEqual(answers, [[(STACK, [])[number % 2]] * QUESTIONS for number in range(THREADS)])
+
+    def test_a_program_is_closed_while_threads_ask(self):
+        def ask(_):
+            try:
+                while True:
+                    self.assertEqual(list(self.program.find_frames(0x1136)), STACK)
+            except limberlime.Error as error:
+                return error.refusal
+
+        with concurrent.futures.ThreadPoolExecutor(THREADS) as threads:
+            asked = [threads.submit(ask, number) for number in range(THREADS)]
+            self.program.close()
+            self.assertEqual({each.result() for each in asked}, {Refusal.CLOSED_HANDLE})
+
 
 class Files(unittest.TestCase):
+    def test_a_file_is_opened_by_its_path(self):
+        for path in (PATH, str(PATH)):
+            with limberlime.Program.open(path) as program:
+                self.assertEqual(list(program.find_frames(0x1136)), STACK)
+        with self.assertRaises(FileNotFoundError):
+            limberlime.Program.open(FILES / "missing.pdb")
+
+    def test_refusals_are_those_of_the_header(self):
+        numbers = re.findall(r"LIMBERLIME_(\w+) = (-\d+)", HEADER.read_text())
+        self.assertEqual([(name, int(number)) for name, number in numbers],
+                         [(refusal.name, refusal.value) for refusal in Refusal])
+
+    def test_the_version_is_that_of_the_header(self):
+        parts = re.findall(r"LIMBERLIME_VERSION_(?:MAJOR|MINOR|PATCH) (\d+)", HEADER.read_text())
+        self.assertEqual(limberlime.version(), tuple(map(int, parts)))
+
     def test_files_that_are_none_are_refused_as_what_they_are(self):
         for name, number in REFUSED.items():
-            with self.subTest(name), self.assertRaises(limberlime.Refusal) as caught:
+            with self.subTest(name), self.assertRaises(limberlime.Error) as caught:
                 limberlime.Program.open_pdb((FILES / name).read_bytes())
-            self.assertEqual(caught.exception.number, number, name)
+            self.assertEqual(caught.exception.refusal, number, name)
 
     def test_a_file_says_which_build_it_is_of(self):
         self.assertEqual(limberlime.debug_id(SHAPES), "6B32B94164959A524C4C44205044422E1")
@@ -73,9 +121,9 @@ class Files(unittest.TestCase):
 
     def test_module_files_are_handed_in_by_their_names(self):
         records = (MODULES / "two.json").read_bytes()
-        with self.assertRaises(limberlime.Refusal) as caught:
+        with self.assertRaises(limberlime.Error) as caught:
             limberlime.Program.open_records(records)
-        self.assertEqual(caught.exception.number, -5)
+        self.assertEqual(caught.exception.refusal, Refusal.MODULE_FILES)
         with self.assertRaises(FileNotFoundError):
             limberlime.Program.open_records(records, lambda name: (MODULES / "missing").read_bytes())
         with limberlime.Program.open_records(records, lambda name: (MODULES / name).read_bytes()) as program:

@@ -37,7 +37,7 @@ def run(words, **more):
 
 def symbolizer_lines(frames):
     """What pdb_symbolizer prints of frames with -p, but the empty line."""
-    lines = [f"{'' if frame.function is None else frame.function} at {frame.file or '??'}:{frame.line or 0}:0\n"
+    lines = [f"{'??' if frame.function is None else frame.function} at {frame.file or '??'}:{frame.line or 0}:0\n"
              for frame in frames]
     return " (inlined by) ".join(lines) if lines else UNKNOWN
 
@@ -52,13 +52,20 @@ def report_lines(address, frames):
     return f"0x{address:x} - {len(frames)} frames:\n" + "".join(lines)
 
 
+def as_report_names(frames, wanted):
+    """Frames whose function has no name where pdb_report prints none: it doesn't print names of symbols."""
+    if frames and wanted.splitlines()[-1:] and wanted.splitlines()[-1].startswith("     <unknown> at "):
+        return [*frames[:-1], frames[-1]._replace(function=None)]
+    return frames
+
+
 def pdb_differences(limberlime, symbolizer, path, counts):
     """Where frames over a PDB file are others than the program prints."""
     addresses = range(0x1000, END, STEP)
     printed = run([symbolizer, "-p", path, *(f"0x{address:x}" for address in addresses)])
     try:
         program = limberlime.Program.open_pdb(path.read_bytes())
-    except limberlime.Refusal as refusal:
+    except limberlime.Error as refusal:
         counts[f"refused: {refusal}"] += 1
         return [] if printed.returncode else [(path, str(refusal), printed.stderr.decode())]
     if printed.returncode:
@@ -70,14 +77,11 @@ def pdb_differences(limberlime, symbolizer, path, counts):
 
 def address_difference(limberlime, program, path, address, wanted, counts):
     try:
-        frames = program.frames(address)
-    except limberlime.Refusal as refusal:
+        frames = program.find_frames(address)
+    except limberlime.Error as refusal:
         counts[f"address: {refusal}"] += 1
         return [] if wanted == UNKNOWN else [(path, address, str(refusal), wanted)]
     counts["addresses with frames" if frames else "addresses without"] += 1
-    if frames and frames[-1].function is None:
-        counts["functions without a name"] += 1
-        return []
     got = symbolizer_lines(frames)
     return [] if got == wanted else [(path, hex(address), got, wanted)]
 
@@ -86,20 +90,21 @@ def records_differences(limberlime, report, path, data, runs, counts):
     """Where frames over a records file are others than the program prints, an address at a time."""
     try:
         program = limberlime.Program.open_records(data)
-    except limberlime.Refusal as refusal:
+    except limberlime.Error as refusal:
         counts[f"records: {refusal}"] += 1
         return []
     found = []
     asked = {word for words in runs if words[:1] == ["frames"] for word in words[1:]}
     for word in sorted(filter(ADDRESS.fullmatch, asked)):
         printed = run([report, path, "frames", word])
+        wanted = printed.stdout.decode().replace(":0\n", ":??\n")
         try:
-            got, status = report_lines(int(word, 16), program.frames(int(word, 16))), 0
-        except limberlime.Refusal as refusal:
+            frames = as_report_names(program.find_frames(int(word, 16)), wanted)
+            got, status = report_lines(int(word, 16), frames), 0
+        except limberlime.Error as refusal:
             got, status = "", 1
             counts[f"records, address: {refusal}"] += 1
         counts["addresses of records files"] += 1
-        wanted = printed.stdout.decode().replace(":0\n", ":??\n")
         if (got, status) != (wanted, printed.returncode):
             found.append((path, word, got, wanted, printed.stderr.decode()))
     return found

@@ -11,7 +11,7 @@ ROOT = pathlib.Path(__file__).resolve().parents[2]
 
 
 def main():
-    page = (ROOT / "docs" / "USING.md").read_text(encoding="utf-8")
+    page = (ROOT / "docs" / "USING.md").read_text(encoding="utf-8").partition("\n## From C\n")[0]
     files = {path.read_text(encoding="utf-8") for path in (ROOT / "crates" / "pdb_examples" / "src").glob("*.rt")}
     other = [sample for sample in re.findall(r"```rust\n(.*?)```", page, re.S) if sample not in files]
     for sample in other:

@@ -5,42 +5,52 @@
 //! Each address is a question of its own. An address is a hexadecimal number. The status is 1 where the library
 //! refuses, and 2 for all else.
 
-use limberlime::{Program, Refusal};
+use limberlime::{Error, Program};
 use std::io::Write;
 use std::process::ExitCode;
 use std::{env, fs, io};
 
-type Call = fn(&mut Program, &[u32]) -> Result<String, Refusal>;
+type Call = fn(&mut Program, &[u32]) -> Result<String, Error>;
 
 fn main() -> ExitCode {
     let words: Vec<String> = env::args().collect();
-    let [_, records, command, addresses @ ..] = words.as_slice() else {
-        return fail(2, "usage: opened RECORDS (frames|names) ADDRESS..");
+    match run(words.get(1..).unwrap_or_default()) {
+        Ok(()) => ExitCode::SUCCESS,
+        Err((status, message)) => {
+            eprintln!("{message}");
+            ExitCode::from(status)
+        }
+    }
+}
+
+fn run(words: &[String]) -> Result<(), (u8, String)> {
+    let usage = || (2, "usage: opened RECORDS (frames|names) ADDRESS..".to_string());
+    let (records, call, addresses) = match words {
+        [records, command, addresses @ ..] => (records, call(command).ok_or_else(usage)?, addresses),
+        _ => return Err(usage()),
     };
-    let call: Call = match command.as_str() {
-        "frames" => Program::report_frames,
-        "names" => Program::report_names,
-        _ => return fail(2, "usage: opened RECORDS (frames|names) ADDRESS.."),
-    };
-    let Ok(addresses) = addresses
+    let addresses = addresses
         .iter()
         .map(|word| address(word))
-        .collect::<Result<Vec<u32>, _>>()
-    else {
-        return fail(2, "opened: an address is a hexadecimal number of 32 bits");
-    };
-    let Ok(records) = fs::read(records) else {
-        return fail(2, &format!("opened: cannot read {records}"));
-    };
-    match texts(call, &records, &addresses) {
-        Ok(text) if io::stdout().write_all(text.as_bytes()).is_ok() => ExitCode::SUCCESS,
-        Ok(_) => fail(2, "opened: cannot write"),
-        Err(refusal) => fail(1, &format!("opened: {refusal}")),
+        .collect::<Result<Vec<u32>, _>>();
+    let addresses =
+        addresses.map_err(|_| (2, "opened: an address is a hexadecimal number of 32 bits".into()))?;
+    let records = fs::read(records).map_err(|_| (2, format!("opened: cannot read {records}")))?;
+    let text = texts(call, &records, &addresses).map_err(|error| (1, format!("opened: {error}")))?;
+    let written = io::stdout().write_all(text.as_bytes());
+    written.map_err(|_| (2, "opened: cannot write".into()))
+}
+
+fn call(command: &str) -> Option<Call> {
+    match command {
+        "frames" => Some(Program::report_frames),
+        "names" => Some(Program::report_names),
+        _ => None,
     }
 }
 
 /// The texts of addresses, each asked for by itself.
-fn texts(call: Call, records: &[u8], addresses: &[u32]) -> Result<String, Refusal> {
+fn texts(call: Call, records: &[u8], addresses: &[u32]) -> Result<String, Error> {
     let mut program = Program::open_records(records)?;
     addresses
         .iter()
@@ -50,9 +60,4 @@ fn texts(call: Call, records: &[u8], addresses: &[u32]) -> Result<String, Refusa
 
 fn address(word: &str) -> Result<u32, std::num::ParseIntError> {
     u32::from_str_radix(word.trim_start_matches("0x"), 16)
-}
-
-fn fail(status: u8, message: &str) -> ExitCode {
-    eprintln!("{message}");
-    ExitCode::from(status)
 }

@@ -4,8 +4,8 @@
 //!
 //! An address is a hexadecimal number, relative to where the program is loaded.
 
-use limberlime::{Frames, Program, Refusal};
-use std::error::Error;
+use limberlime::{Error, Frames, Program};
+use std::error;
 use std::io::{self, Write};
 use std::process::ExitCode;
 use std::{env, fs};
@@ -21,10 +21,8 @@ fn main() -> ExitCode {
     }
 }
 
-fn run(words: &[String]) -> Result<(), Box<dyn Error>> {
-    let [file, addresses @ ..] = words else {
-        return Err("usage: stack PDB ADDRESS..".into());
-    };
+fn run(words: &[String]) -> Result<(), Box<dyn error::Error>> {
+    let (file, addresses) = words.split_first().ok_or("usage: stack PDB ADDRESS..")?;
     let mut program = open(&fs::read(file)?)?;
     let mut out = io::BufWriter::new(io::stdout().lock());
     for word in addresses {
@@ -36,21 +34,25 @@ fn run(words: &[String]) -> Result<(), Box<dyn Error>> {
 }
 
 /// A PDB file, or else a records file.
-fn open(bytes: &[u8]) -> Result<Program, Refusal> {
+fn open(bytes: &[u8]) -> Result<Program, Error> {
     match Program::open_pdb(bytes) {
-        Err(Refusal::NotAPdbFile) => Program::open_records(bytes).map_err(|_| Refusal::NotAPdbFile),
+        Err(Error::NotAPdbFile) => Program::open_records(bytes).map_err(|_| Error::NotAPdbFile),
         opened => opened,
     }
 }
 
-fn print_stack(out: &mut impl Write, program: &mut Program, address: u32) -> Result<(), Box<dyn Error>> {
-    match program.frames(address) {
+fn print_stack(
+    out: &mut impl Write,
+    program: &mut Program,
+    address: u32,
+) -> Result<(), Box<dyn error::Error>> {
+    match program.find_frames(address) {
         Ok(frames) => print_frames(out, frames)?,
-        Err(Refusal::AddressRefused) => {
-            eprintln!("stack: 0x{address:x}: {}", Refusal::AddressRefused);
+        Err(Error::AddressRefused) => {
+            eprintln!("stack: 0x{address:x}: {}", Error::AddressRefused);
             writeln!(out, "?? at ??:0:0")?;
         }
-        Err(refusal) => return Err(refusal.into()),
+        Err(error) => return Err(error.into()),
     }
     writeln!(out)?;
     Ok(())

@@ -1,7 +1,7 @@
 //! The library's calls with Rust's types. `include/limberlime.h` says what they mean, and what a caller owes.
 
+use crate::errors::Error;
 use crate::frames::Frames;
-use crate::refusals::Refusal;
 use std::ffi::c_void;
 use std::ptr;
 
@@ -127,12 +127,14 @@ extern "C" {
     ) -> i64;
 
     fn limberlime_close_unchecked(handle: *mut Handle);
+
+    fn limberlime_version_unchecked() -> i64;
 }
 
-/// The number that is answered for rooms that the answer doesn't fit.
+/// The number that is answered if an answer doesn't fit the buffers.
 const BUFFER_TOO_SMALL: i64 = -9;
 
-/// How large the first rooms are. They do for most answers.
+/// The sizes of the first buffers. Most answers fit.
 const FIRST_ROWS: usize = 16;
 const FIRST_BYTES: usize = 1024;
 
@@ -151,14 +153,14 @@ impl Handle {
         }
     }
 
-    pub(crate) fn open_pdb(pdb: &[u8]) -> Result<Handle, Refusal> {
+    pub(crate) fn open_pdb(pdb: &[u8]) -> Result<Handle, Error> {
         let mut handle = Handle::closed();
         // SAFETY: the pointer is the slice's, with its length, and the handle is closed, as before its first call.
         let answer = unsafe { limberlime_open_pdb_unchecked(pdb.as_ptr(), pdb.len(), &mut handle) };
         length_of(answer).map(|_| handle)
     }
 
-    pub(crate) fn open_records(records: &[u8]) -> Result<Handle, Refusal> {
+    pub(crate) fn open_records(records: &[u8]) -> Result<Handle, Error> {
         let mut handle = Handle::closed();
         // SAFETY: as in `open_pdb`.
         let answer = unsafe { limberlime_open_unchecked(records.as_ptr(), records.len(), &mut handle) };
@@ -168,11 +170,11 @@ impl Handle {
     pub(crate) fn open_records_with(
         records: &[u8],
         mut module_file: impl FnMut(&str) -> Option<Vec<u8>>,
-    ) -> Result<Handle, Refusal> {
+    ) -> Result<Handle, Error> {
         let mut contents = Vec::new();
         let mut lengths = Vec::new();
         for name in module_files(records)?.split_terminator('\0') {
-            let file = module_file(name).ok_or(Refusal::CannotReadModule)?;
+            let file = module_file(name).ok_or(Error::CannotReadModule)?;
             contents.extend_from_slice(&file);
             lengths.push(file.len());
         }
@@ -193,15 +195,15 @@ impl Handle {
         length_of(answer).map(|_| handle)
     }
 
-    pub(crate) fn report_frames(&mut self, addresses: &[u32]) -> Result<String, Refusal> {
+    pub(crate) fn report_frames(&mut self, addresses: &[u32]) -> Result<String, Error> {
         self.report(limberlime_frames_of_unchecked, addresses)
     }
 
-    pub(crate) fn report_names(&mut self, addresses: &[u32]) -> Result<String, Refusal> {
+    pub(crate) fn report_names(&mut self, addresses: &[u32]) -> Result<String, Error> {
         self.report(limberlime_names_of_unchecked, addresses)
     }
 
-    fn report(&mut self, call: ReportFunction, addresses: &[u32]) -> Result<String, Refusal> {
+    fn report(&mut self, call: ReportFunction, addresses: &[u32]) -> Result<String, Error> {
         text_of(FIRST_BYTES, |buffer, wanted| {
             // SAFETY: the pointers are the slices' and the reference's, with their lengths; the library alone writes
             // the handle, which this call borrows alone.
@@ -227,7 +229,7 @@ impl Drop for Handle {
 }
 
 /// The debug id of a PDB file.
-pub(crate) fn debug_id(pdb: &[u8]) -> Result<String, Refusal> {
+pub(crate) fn debug_id(pdb: &[u8]) -> Result<String, Error> {
     text_of(DEBUG_ID_BYTES, |buffer, wanted| {
         // SAFETY: the pointers are the slices' and the reference's, with their lengths.
         unsafe {
@@ -237,7 +239,7 @@ pub(crate) fn debug_id(pdb: &[u8]) -> Result<String, Refusal> {
 }
 
 /// The names of the module files that a records file wants, each with a 0 behind it.
-fn module_files(records: &[u8]) -> Result<String, Refusal> {
+fn module_files(records: &[u8]) -> Result<String, Error> {
     text_of(FIRST_BYTES, |buffer, wanted| {
         // SAFETY: the pointers are the slices' and the reference's, with their lengths.
         unsafe {
@@ -253,19 +255,26 @@ fn module_files(records: &[u8]) -> Result<String, Refusal> {
 }
 
 /// The number of the processor that a PDB file's program is for.
-pub(crate) fn machine(pdb: &[u8]) -> Result<u16, Refusal> {
+pub(crate) fn machine(pdb: &[u8]) -> Result<u16, Error> {
     // SAFETY: the pointer is the slice's, with its length.
     let answer = unsafe { limberlime_machine_unchecked(pdb.as_ptr(), pdb.len()) };
-    u16::try_from(answer).map_err(|_| Refusal::of_number(answer))
+    u16::try_from(answer).map_err(|_| Error::of_number(answer))
 }
 
-/// A length that was answered, or the refusal of its number.
-fn length_of(answer: i64) -> Result<usize, Refusal> {
-    usize::try_from(answer).map_err(|_| Refusal::of_number(answer))
+/// The version of the library, whose number is major * 1000000 + minor * 1000 + patch.
+pub(crate) fn version() -> (u32, u32, u32) {
+    // SAFETY: the call takes nothing, and only answers.
+    let number = u32::try_from(unsafe { limberlime_version_unchecked() }).unwrap_or(0);
+    (number / 1_000_000, number / 1000 % 1000, number % 1000)
+}
+
+/// A length that was answered, or the error of its number.
+fn length_of(answer: i64) -> Result<usize, Error> {
+    usize::try_from(answer).map_err(|_| Error::of_number(answer))
 }
 
 /// The text of a call. Where the first buffer is too small, the call has said the length that is wanted.
-fn text_of(capacity: usize, mut call: impl FnMut(&mut [u8], &mut usize) -> i64) -> Result<String, Refusal> {
+fn text_of(capacity: usize, mut call: impl FnMut(&mut [u8], &mut usize) -> i64) -> Result<String, Error> {
     let mut buffer = vec![0; capacity];
     let mut wanted = 0;
     let mut answer = call(&mut buffer, &mut wanted);
@@ -295,27 +304,27 @@ impl FindCall {
     }
 }
 
-/// What the last answer stands in.
-pub(crate) struct Rooms {
+/// The memory of the last answer.
+pub(crate) struct Buffers {
     rows: Vec<Row>,
     texts: Vec<u8>,
 }
 
-impl Rooms {
-    pub(crate) fn new() -> Rooms {
-        Rooms {
+impl Buffers {
+    pub(crate) fn new() -> Buffers {
+        Buffers {
             rows: vec![Row::default(); FIRST_ROWS],
             texts: vec![0; FIRST_BYTES],
         }
     }
 
-    /// Asks about an address, with more room where the answer is larger than there is.
+    /// Asks about an address, with larger buffers if the answer doesn't fit.
     pub(crate) fn find(
         &mut self,
         handle: &mut Handle,
         call: FindCall,
         address: u32,
-    ) -> Result<Frames<'_>, Refusal> {
+    ) -> Result<Frames<'_>, Error> {
         let mut found = Found::default();
         loop {
             // SAFETY: the pointers are the vectors' and the references', with their lengths; the library alone writes
@@ -333,13 +342,13 @@ impl Rooms {
             };
             match answer {
                 0 => return Ok(Frames::new(&self.rows, &self.texts, found)),
-                BUFFER_TOO_SMALL => self.make_room(&found),
-                refused => return Err(Refusal::of_number(refused)),
+                BUFFER_TOO_SMALL => self.grow(&found),
+                refused => return Err(Error::of_number(refused)),
             }
         }
     }
 
-    fn make_room(&mut self, found: &Found) {
+    fn grow(&mut self, found: &Found) {
         if self.rows.len() < found.rows {
             self.rows.resize(found.rows.next_power_of_two(), Row::default());
         }

@@ -7,7 +7,7 @@ use std::{fmt, slice, str};
 /// A function in whose code an address lies: the one that was called, or one whose body was inlined there.
 #[derive(Debug, Clone, Copy, PartialEq, Eq, Hash)]
 pub struct Frame<'a> {
-    /// The function's name, where one is known.
+    /// The function's name, where one is known: its signature, or the name of its symbol where that can't be printed.
     pub function: Option<&'a str>,
     /// The source file that the code comes from, where it is known.
     pub file: Option<&'a str>,

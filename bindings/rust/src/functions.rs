@@ -1,7 +1,7 @@
 //! The functions of a program, by where they start.
 
+use crate::errors::Error;
 use crate::frames::Frames;
-use crate::refusals::Refusal;
 use crate::Program;
 use std::iter::FusedIterator;
 
@@ -44,14 +44,15 @@ impl<'p> Functions<'p> {
     }
 
     /// The first function that starts at an address or behind it.
-    fn from(&mut self, address: u32) -> Result<Option<Function>, Refusal> {
+    fn from(&mut self, address: u32) -> Result<Option<Function>, Error> {
         let mut untried = Some(address);
         while let Some(address) = untried {
-            let Some(start) = self.program.next_start(address)? else {
-                break;
+            let start = match self.program.next_start(address)? {
+                Some(start) => start,
+                None => break,
             };
             untried = start.checked_add(1);
-            if let Some(function) = Function::of(self.program.function(start)?) {
+            if let Some(function) = Function::of(self.program.find_function(start)?) {
                 self.next = untried;
                 return Ok(Some(function));
             }
@@ -61,7 +62,7 @@ impl<'p> Functions<'p> {
 }
 
 impl Iterator for Functions<'_> {
-    type Item = Result<Function, Refusal>;
+    type Item = Result<Function, Error>;
 
     fn next(&mut self) -> Option<Self::Item> {
         let address = self.next.take()?;

@@ -4,7 +4,7 @@
 //! # fn main() -> Result<(), Box<dyn std::error::Error>> {
 //! let file = std::fs::read("../../crates/pdb_symbolizer/data/shapes.pdb")?;
 //! let mut program = limberlime::Program::open_pdb(&file)?;
-//! let frames = program.frames(0x1136)?;
+//! let frames = program.find_frames(0x1136)?;
 //! let innermost = frames.iter().next().ok_or("no function")?;
 //! assert_eq!(innermost.function, Some("shapes::Point::length() const"));
 //! assert_eq!(innermost.file, Some(r"C:\shapes\shapes.h"));
@@ -19,15 +19,15 @@
 #![deny(missing_docs)]
 
 mod calls;
+mod errors;
 mod frames;
 mod functions;
-mod refusals;
 
+pub use errors::Error;
 pub use frames::{Frame, Frames, Iter};
 pub use functions::{Function, Functions};
-pub use refusals::Refusal;
 
-use calls::{FindCall, Handle, Rooms};
+use calls::{Buffers, FindCall, Handle};
 use std::fmt;
 
 /// A program's records, which are read once for many questions, and given back when this is dropped.
@@ -45,7 +45,7 @@ use std::fmt;
 /// ```
 pub struct Program {
     handle: Handle,
-    rooms: Rooms,
+    buffers: Buffers,
 }
 
 impl Program {
@@ -57,12 +57,12 @@ impl Program {
     /// What the bytes are that are no PDB file of a program; or why nothing can be answered over them:
     ///
     /// ```
-    /// use limberlime::{Program, Refusal};
+    /// use limberlime::{Error, Program};
     ///
-    /// let refusal = Program::open_pdb(b"MZ, and then a program").err();
-    /// assert_eq!(refusal, Some(Refusal::Program));
+    /// let error = Program::open_pdb(b"MZ, and then a program").err();
+    /// assert_eq!(error, Some(Error::Program));
     /// ```
-    pub fn open_pdb(pdb: &[u8]) -> Result<Program, Refusal> {
+    pub fn open_pdb(pdb: &[u8]) -> Result<Program, Error> {
         Ok(Program::of(Handle::open_pdb(pdb)?))
     }
 
@@ -70,9 +70,9 @@ impl Program {
     ///
     /// # Errors
     ///
-    /// [`Refusal::NotJson`], [`Refusal::NoRecords`] and [`Refusal::ModuleFiles`] for the file's own faults, and
-    /// [`Refusal::RecordsRefused`] where the records of the whole program are refused.
-    pub fn open_records(records: &[u8]) -> Result<Program, Refusal> {
+    /// [`Error::NotJson`], [`Error::NoRecords`] and [`Error::ModuleFiles`] for the file's own faults, and
+    /// [`Error::RecordsRefused`] where the records of the whole program are refused.
+    pub fn open_records(records: &[u8]) -> Result<Program, Error> {
         Ok(Program::of(Handle::open_records(records)?))
     }
 
@@ -82,18 +82,18 @@ impl Program {
     ///
     /// # Errors
     ///
-    /// [`Refusal::CannotReadModule`] where a module file isn't handed in, and those of [`Program::open_records`].
+    /// [`Error::CannotReadModule`] where a module file isn't handed in, and those of [`Program::open_records`].
     pub fn open_records_with(
         records: &[u8],
         module_file: impl FnMut(&str) -> Option<Vec<u8>>,
-    ) -> Result<Program, Refusal> {
+    ) -> Result<Program, Error> {
         Ok(Program::of(Handle::open_records_with(records, module_file)?))
     }
 
     fn of(handle: Handle) -> Program {
         Program {
             handle,
-            rooms: Rooms::new(),
+            buffers: Buffers::new(),
         }
     }
 
@@ -102,30 +102,30 @@ impl Program {
     ///
     /// # Errors
     ///
-    /// [`Refusal::AddressRefused`] where the records of the address's module are refused, and
-    /// [`Refusal::OutOfMemory`].
-    pub fn frames(&mut self, address: u32) -> Result<Frames<'_>, Refusal> {
-        self.rooms.find(&mut self.handle, FindCall::Frames, address)
+    /// [`Error::AddressRefused`] where the records of the address's module are refused, and
+    /// [`Error::OutOfMemory`].
+    pub fn find_frames(&mut self, address: u32) -> Result<Frames<'_>, Error> {
+        self.buffers.find(&mut self.handle, FindCall::Frames, address)
     }
 
     /// The function in whose code an address lies, as the one frame of itself, with no file and no line.
     ///
     /// # Errors
     ///
-    /// [`Refusal::OutOfMemory`].
+    /// [`Error::OutOfMemory`].
     ///
     /// ```
     /// # fn main() -> Result<(), Box<dyn std::error::Error>> {
     /// # let file = std::fs::read("../../crates/pdb_symbolizer/data/shapes.pdb")?;
     /// # let mut program = limberlime::Program::open_pdb(&file)?;
-    /// let function = program.function(0x1136)?;
+    /// let function = program.find_function(0x1136)?;
     /// assert!(function.start() <= 0x1136);
-    /// assert!(function.end().is_some_and(|end| 0x1136 < end));
+    /// assert!(function.end() > Some(0x1136));
     /// # Ok(())
     /// # }
     /// ```
-    pub fn function(&mut self, address: u32) -> Result<Frames<'_>, Refusal> {
-        self.rooms.find(&mut self.handle, FindCall::Function, address)
+    pub fn find_function(&mut self, address: u32) -> Result<Frames<'_>, Error> {
+        self.buffers.find(&mut self.handle, FindCall::Function, address)
     }
 
     /// The functions of the program, by where they start.
@@ -144,8 +144,10 @@ impl Program {
     }
 
     /// The first address from this one on at which a function starts.
-    fn next_start(&mut self, address: u32) -> Result<Option<u32>, Refusal> {
-        let found = self.rooms.find(&mut self.handle, FindCall::NextStart, address)?;
+    fn next_start(&mut self, address: u32) -> Result<Option<u32>, Error> {
+        let found = self
+            .buffers
+            .find(&mut self.handle, FindCall::NextStart, address)?;
         Ok((!found.is_empty()).then_some(found.start()))
     }
 
@@ -153,9 +155,9 @@ impl Program {
     ///
     /// # Errors
     ///
-    /// [`Refusal::NoAddresses`], [`Refusal::AddressRefused`] where one of them is refused, and
-    /// [`Refusal::OutOfMemory`].
-    pub fn report_frames(&mut self, addresses: &[u32]) -> Result<String, Refusal> {
+    /// [`Error::NoAddresses`], [`Error::AddressRefused`] where one of them is refused, and
+    /// [`Error::OutOfMemory`].
+    pub fn report_frames(&mut self, addresses: &[u32]) -> Result<String, Error> {
         self.handle.report_frames(addresses)
     }
 
@@ -163,8 +165,8 @@ impl Program {
     ///
     /// # Errors
     ///
-    /// [`Refusal::NoAddresses`] and [`Refusal::OutOfMemory`].
-    pub fn report_names(&mut self, addresses: &[u32]) -> Result<String, Refusal> {
+    /// [`Error::NoAddresses`] and [`Error::OutOfMemory`].
+    pub fn report_names(&mut self, addresses: &[u32]) -> Result<String, Error> {
         self.handle.report_names(addresses)
     }
 }
@@ -180,7 +182,7 @@ impl fmt::Debug for Program {
 ///
 /// # Errors
 ///
-/// [`Refusal::NoDebugId`] where the file doesn't say it, or what the bytes are that are no PDB file.
+/// [`Error::NoDebugId`] where the file doesn't say it, or what the bytes are that are no PDB file.
 ///
 /// ```
 /// # fn main() -> Result<(), Box<dyn std::error::Error>> {
@@ -189,7 +191,7 @@ impl fmt::Debug for Program {
 /// # Ok(())
 /// # }
 /// ```
-pub fn debug_id(pdb: &[u8]) -> Result<String, Refusal> {
+pub fn debug_id(pdb: &[u8]) -> Result<String, Error> {
     calls::debug_id(pdb)
 }
 
@@ -198,7 +200,12 @@ pub fn debug_id(pdb: &[u8]) -> Result<String, Refusal> {
 ///
 /// # Errors
 ///
-/// [`Refusal::NoDebugId`] where the file doesn't say which build it is of, or what the bytes are that are no PDB file.
-pub fn machine(pdb: &[u8]) -> Result<u16, Refusal> {
+/// [`Error::NoDebugId`] where the file doesn't say which build it is of, or what the bytes are that are no PDB file.
+pub fn machine(pdb: &[u8]) -> Result<u16, Error> {
     calls::machine(pdb)
+}
+
+/// The version of the library that is linked, as `(0, 2, 0)`.
+pub fn version() -> (u32, u32, u32) {
+    calls::version()
 }

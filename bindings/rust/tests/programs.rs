@@ -1,6 +1,6 @@
 //! Questions to a small program, and what is refused.
 
-use limberlime::{debug_id, machine, Frame, Program, Refusal};
+use limberlime::{debug_id, machine, version, Error, Frame, Program};
 use std::fs;
 
 const SHAPES: &str = "../../crates/pdb_symbolizer/data/shapes.pdb";
@@ -11,7 +11,7 @@ fn shapes() -> Program {
     Program::open_pdb(&fs::read(SHAPES).expect("the file is there")).expect("it opens")
 }
 
-fn refusal_of(name: &str) -> Option<Refusal> {
+fn error_of(name: &str) -> Option<Error> {
     let bytes = fs::read(format!("{FILES}/{name}")).expect("the file is there");
     Program::open_pdb(&bytes).err()
 }
@@ -19,7 +19,7 @@ fn refusal_of(name: &str) -> Option<Refusal> {
 #[test]
 fn inlined_calls_come_from_inside_to_outside() {
     let mut program = shapes();
-    let frames = program.frames(0x1136).expect("it is answered");
+    let frames = program.find_frames(0x1136).expect("it is answered");
     let wanted = [
         ("shapes::Point::length() const", r"C:\shapes\shapes.h", 10),
         ("Picture::draw(int)", r"C:\shapes\main.cpp", 29),
@@ -56,8 +56,8 @@ fn functions_come_by_where_they_start() {
 fn nothing_lies_over_other_addresses() {
     let mut program = shapes();
     for address in [0, 0x10, u32::MAX] {
-        assert!(program.frames(address).expect("it is answered").is_empty());
-        assert!(program.function(address).expect("it is answered").is_empty());
+        assert!(program.find_frames(address).expect("it is answered").is_empty());
+        assert!(program.find_function(address).expect("it is answered").is_empty());
     }
 }
 
@@ -66,7 +66,7 @@ fn a_program_goes_to_another_thread() {
     let mut program = shapes();
     let asked = std::thread::spawn(move || {
         program
-            .function(0x1136)
+            .find_function(0x1136)
             .map(|found| found.iter().next().and_then(|f| f.function.map(String::from)))
     });
     let name = asked.join().expect("it ends").expect("it is answered");
@@ -75,30 +75,30 @@ fn a_program_goes_to_another_thread() {
 
 #[test]
 fn files_that_are_none_are_refused_as_what_they_are() {
-    assert_eq!(refusal_of("text.pdb"), Some(Refusal::NotAPdbFile));
-    assert_eq!(refusal_of("program.exe"), Some(Refusal::Program));
-    assert_eq!(refusal_of("portable.pdb"), Some(Refusal::PortablePdb));
-    assert_eq!(refusal_of("compressed.pd_"), Some(Refusal::Compressed));
-    assert_eq!(refusal_of("version_2.pdb"), Some(Refusal::OldPdbFile));
-    assert_eq!(refusal_of("superblock_alone.pdb"), Some(Refusal::CutShort));
-    assert_eq!(refusal_of("streams_too_long.pdb"), Some(Refusal::StreamsTooLong));
-    assert_eq!(refusal_of("objects.pdb"), Some(Refusal::OfObjects));
-    assert_eq!(refusal_of("old_types.pdb"), Some(Refusal::OldTypes));
-    assert_eq!(refusal_of("stripped.pdb"), Some(Refusal::NoSectionHeaders));
-    assert_eq!(refusal_of("rearranged_to.pdb"), Some(Refusal::Rearranged));
-    assert_eq!(refusal_of("cut_debug.pdb"), Some(Refusal::BrokenStream));
-    assert_eq!(Program::open_records(b"{").err(), Some(Refusal::NotJson));
-    assert_eq!(Program::open_records(b"{}").err(), Some(Refusal::NoRecords));
-    assert_eq!(shapes().report_names(&[]).err(), Some(Refusal::NoAddresses));
+    assert_eq!(error_of("text.pdb"), Some(Error::NotAPdbFile));
+    assert_eq!(error_of("program.exe"), Some(Error::Program));
+    assert_eq!(error_of("portable.pdb"), Some(Error::PortablePdb));
+    assert_eq!(error_of("compressed.pd_"), Some(Error::Compressed));
+    assert_eq!(error_of("version_2.pdb"), Some(Error::OldPdbFile));
+    assert_eq!(error_of("superblock_alone.pdb"), Some(Error::CutShort));
+    assert_eq!(error_of("streams_too_long.pdb"), Some(Error::StreamsTooLong));
+    assert_eq!(error_of("objects.pdb"), Some(Error::OfObjects));
+    assert_eq!(error_of("old_types.pdb"), Some(Error::OldTypes));
+    assert_eq!(error_of("stripped.pdb"), Some(Error::NoSectionHeaders));
+    assert_eq!(error_of("rearranged_to.pdb"), Some(Error::Rearranged));
+    assert_eq!(error_of("cut_debug.pdb"), Some(Error::BrokenStream));
+    assert_eq!(Program::open_records(b"{").err(), Some(Error::NotJson));
+    assert_eq!(Program::open_records(b"{}").err(), Some(Error::NoRecords));
+    assert_eq!(shapes().report_names(&[]).err(), Some(Error::NoAddresses));
 }
 
 #[test]
 fn module_files_are_handed_in_by_their_names() {
     let read = |name: &str| fs::read(format!("{MODULES}/{name}"));
     let records = read("two.json").expect("the file is there");
-    assert_eq!(Program::open_records(&records).err(), Some(Refusal::ModuleFiles));
+    assert_eq!(Program::open_records(&records).err(), Some(Error::ModuleFiles));
     let none = Program::open_records_with(&records, |_| None);
-    assert_eq!(none.err(), Some(Refusal::CannotReadModule));
+    assert_eq!(none.err(), Some(Error::CannotReadModule));
     let mut program = Program::open_records_with(&records, |name| read(name).ok()).expect("it opens");
     assert_eq!(
         program.report_names(&[0x1010, 0x1050]).as_deref(),
@@ -113,7 +113,13 @@ fn a_file_says_which_build_it_is_of() {
         debug_id(&bytes).as_deref(),
         Ok("6B32B94164959A524C4C44205044422E1")
     );
-    assert_eq!(debug_id(b"MZ").err(), Some(Refusal::Program));
+    assert_eq!(debug_id(b"MZ").err(), Some(Error::Program));
     assert_eq!(machine(&bytes), Ok(0x8664));
-    assert_eq!(machine(b"MZ").err(), Some(Refusal::Program));
+    assert_eq!(machine(b"MZ").err(), Some(Error::Program));
+}
+
+#[test]
+fn the_library_has_the_version_of_the_crate() {
+    let (major, minor, patch) = version();
+    assert_eq!(format!("{major}.{minor}.{patch}"), env!("CARGO_PKG_VERSION"));
 }

@@ -5,7 +5,7 @@ use std::fmt;
 /// Why a call has no answer.
 #[derive(Debug, Clone, Copy, PartialEq, Eq, Hash)]
 #[non_exhaustive]
-pub enum Refusal {
+pub enum Error {
     /// No addresses were given.
     NoAddresses,
     /// The bytes are no JSON text.
@@ -53,65 +53,65 @@ pub enum Refusal {
     Unknown(i64),
 }
 
-/// Each refusal with the number that the library answers for it, and its text.
-const REFUSALS: [(i64, Refusal, &str); 21] = [
-    (-2, Refusal::NoAddresses, "no addresses"),
-    (-3, Refusal::NotJson, "not a JSON text"),
-    (-4, Refusal::NoRecords, "no records"),
-    (-5, Refusal::ModuleFiles, "module files"),
-    (-6, Refusal::RecordsRefused, "the records are refused"),
+/// Each error with the number that the library answers for it, and its text.
+const ERRORS: [(i64, Error, &str); 21] = [
+    (-2, Error::NoAddresses, "no addresses"),
+    (-3, Error::NotJson, "not a JSON text"),
+    (-4, Error::NoRecords, "no records"),
+    (-5, Error::ModuleFiles, "module files"),
+    (-6, Error::RecordsRefused, "the records are refused"),
     (
         -7,
-        Refusal::AddressRefused,
+        Error::AddressRefused,
         "the records of the address's module are refused",
     ),
-    (-8, Refusal::OutOfMemory, "out of memory"),
-    (-11, Refusal::NotAPdbFile, "not a PDB file"),
-    (-12, Refusal::Program, "a program (EXE or DLL), not its PDB file"),
-    (-13, Refusal::PortablePdb, "a .NET portable PDB"),
-    (-14, Refusal::Compressed, "a compressed file (CAB, .pd_)"),
-    (-15, Refusal::OldPdbFile, "a PDB file of version 2.00 (JG)"),
+    (-8, Error::OutOfMemory, "out of memory"),
+    (-11, Error::NotAPdbFile, "not a PDB file"),
+    (-12, Error::Program, "a program (EXE or DLL), not its PDB file"),
+    (-13, Error::PortablePdb, "a .NET portable PDB"),
+    (-14, Error::Compressed, "a compressed file (CAB, .pd_)"),
+    (-15, Error::OldPdbFile, "a PDB file of version 2.00 (JG)"),
     (
         -16,
-        Refusal::CutShort,
+        Error::CutShort,
         "the file is cut short before the end of its directory",
     ),
     (
         -17,
-        Refusal::StreamsTooLong,
+        Error::StreamsTooLong,
         "the streams are longer than the file together",
     ),
     (
         -18,
-        Refusal::OfObjects,
+        Error::OfObjects,
         "a compiler's PDB file, of objects and not of a program",
     ),
-    (-19, Refusal::OldTypes, "types made by a version from before 2005"),
-    (-20, Refusal::NoSectionHeaders, "no section headers (stripped)"),
-    (-21, Refusal::Rearranged, "rearranged addresses (OMAP)"),
-    (-22, Refusal::BrokenStream, "a broken stream"),
-    (-23, Refusal::NoDebugId, "no debug id"),
-    (-24, Refusal::CannotReadModule, "cannot read a module file"),
+    (-19, Error::OldTypes, "types made by a version from before 2005"),
+    (-20, Error::NoSectionHeaders, "no section headers (stripped)"),
+    (-21, Error::Rearranged, "rearranged addresses (OMAP)"),
+    (-22, Error::BrokenStream, "a broken stream"),
+    (-23, Error::NoDebugId, "no debug id"),
+    (-24, Error::CannotReadModule, "cannot read a module file"),
 ];
 
-impl Refusal {
-    /// The refusal that the library answers as this number.
-    pub(crate) fn of_number(number: i64) -> Refusal {
-        REFUSALS
+impl Error {
+    /// The error that the library answers as this number.
+    pub(crate) fn of_number(number: i64) -> Error {
+        ERRORS
             .iter()
             .find(|row| row.0 == number)
-            .map_or(Refusal::Unknown(number), |row| row.1)
+            .map_or(Error::Unknown(number), |row| row.1)
     }
 }
 
-impl fmt::Display for Refusal {
+impl fmt::Display for Error {
     fn fmt(&self, formatter: &mut fmt::Formatter<'_>) -> fmt::Result {
-        match (self, REFUSALS.iter().find(|row| row.1 == *self)) {
+        match (self, ERRORS.iter().find(|row| row.1 == *self)) {
             (_, Some(row)) => formatter.write_str(row.2),
-            (Refusal::Unknown(number), None) => write!(formatter, "unknown refusal {number}"),
+            (Error::Unknown(number), None) => write!(formatter, "unknown refusal {number}"),
             (other, None) => write!(formatter, "{other:?}"),
         }
     }
 }
 
-impl std::error::Error for Refusal {}
+impl std::error::Error for Error {}

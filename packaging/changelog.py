@@ -1,0 +1,44 @@
+#!/usr/bin/env python3
+"""Writes CHANGELOG.md in the form that Debian's packages have, or the version of its newest part.
+
+Usage: changelog.py (version|debian DATE)
+
+DATE is that of the commit, in the form of `date -R`.
+"""
+import pathlib
+import re
+import sys
+import textwrap
+
+PAGE = pathlib.Path(__file__).resolve().parents[1] / "CHANGELOG.md"
+MAINTAINER = "Limberlime maintainers <maintainers@users.noreply.limberlime.example>"
+
+
+def parts():
+    """The versions of the page with their entries but for those on the crates, the newest first."""
+    found = re.split(r"^## (\S+)$", PAGE.read_text(), flags=re.M)[1:]
+    texts = [text.partition("\n### Rattle crates")[0] for text in found[1::2]]
+    return [(version, re.findall(r"^- (.*)$", text, re.M)) for version, text in zip(found[::2], texts)]
+
+
+def plain(entry):
+    """An entry without marks and links."""
+    return re.sub(r"\*\*|`", "", re.sub(r"\[(.*?)\]\(.*?\)", r"\1", entry))
+
+
+def debian(date):
+    for version, entries in parts():
+        print(f"limberlime ({version}) unstable; urgency=medium\n")
+        for entry in entries:
+            print(textwrap.fill(plain(entry), 78, initial_indent="  * ", subsequent_indent="    ",
+                                break_long_words=False, break_on_hyphens=False))
+        print(f"\n -- {MAINTAINER}  {date}\n")
+
+
+if __name__ == "__main__":
+    if sys.argv[1:] == ["version"]:
+        print(parts()[0][0])
+    elif sys.argv[1:2] == ["debian"] and len(sys.argv) == 3:
+        debian(sys.argv[2])
+    else:
+        sys.exit(__doc__)
