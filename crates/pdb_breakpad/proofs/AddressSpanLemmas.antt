@@ -16,15 +16,16 @@ past address span before = grind (arith, common_steps)
 ahead : {T : Type 0} (address : ℕ) (span : Span T) → address < span.start → is_over address span ≡ false
 ahead address span before = grind (arith, common_steps)
 
--- spans that end before an address have nothing there
-pub nothing_past : {T : Type 0} (address : ℕ) (spans : List (Span T)) → All (λ span. span.last < address) spans
-    → content_at address spans ≡ None
-nothing_past address [] before = refl
-nothing_past address (span ∷ spans) before =
-    let first : is_over address span ≡ false = past address span (All-head (λ s. s.last < address) span spans before) in
-    let others : content_at address spans ≡ None
-    = nothing_past address spans (All-tail (λ s. s.last < address) span spans before) in
-    grind (arith, common_steps, first, others)
+-- spans that end before a piece have nothing at its addresses
+pub nothing_past : {T : Type 0} (a first : ℕ) (spans : List (Span T)) → first ≤ a
+    → All (λ span. span.last < first) spans → content_at a spans ≡ None
+nothing_past a first [] from before = refl
+nothing_past a first (span ∷ spans) from before =
+    let ends : span.last < first = All-head (λ s. s.last < first) span spans before in
+    let outermost : is_over a span ≡ false = past a span (omega (arith, ends, from)) in
+    let others : content_at a spans ≡ None
+    = nothing_past a first spans from (All-tail (λ s. s.last < first) span spans before) in
+    grind (arith, common_steps, outermost, others)
 
 -- what holds at an address, where a span stands behind all others
 pub content_with_last : {T : Type 0} (address : ℕ) (spans : List (Span T)) (span : Span T)
@@ -53,49 +54,50 @@ pub before_by_last : {T : Type 0} (address : ℕ) (spans : List (Span T)) (span 
     → content_before address (spans ++ span ∷ []) ≡ ending_before address span
 before_by_last address spans span = ap (option_and_then (ending_before address)) (last_of_pushed spans span)
 
--- a span that ends at the address before one is over it once it reaches to it
-reaches : {T : Type 0} (address : ℕ) (content : T) (span : Span T) → span.start ≤ span.last
-    → ending_before address span ≡ Some content
-    → content_at address (record span { last = address } ∷ []) ≡ Some content
-reaches address content span some is = grind (arith, common_steps)
+-- a span that ends at the address before a piece is over the piece once it reaches to its end
+reaches : {T : Type 0} (a first last : ℕ) (content : T) (span : Span T) → first ≤ a → a ≤ last
+    → span.start ≤ span.last → ending_before first span ≡ Some content
+    → content_at a (record span { last = last } ∷ []) ≡ Some content
+reaches a first last content span from to some is = grind (arith, common_steps)
 
 -- at lower addresses it holds as before
-holds_below : {T : Type 0} (a address : ℕ) (content : T) (span : Span T) → a < address
-    → ending_before address span ≡ Some content
-    → content_at a (record span { last = address } ∷ []) ≡ content_at a (span ∷ [])
-holds_below a address content span below is = grind (arith, common_steps)
+holds_below : {T : Type 0} (a first last : ℕ) (content : T) (span : Span T) → a < first → first ≤ last
+    → ending_before first span ≡ Some content
+    → content_at a (record span { last = last } ∷ []) ≡ content_at a (span ∷ [])
+holds_below a first last content span below some is = grind (arith, common_steps)
 
--- a span that is the last and goes on to an address holds there what it holds
-pub goes_on_to : {T : Type 0} (address : ℕ) (content : T) (spans : List (Span T)) (span : Span T)
-    → All (λ s. s.last < address) spans → span.start ≤ span.last → ending_before address span ≡ Some content
-    → content_at address (spans ++ record span { last = address } ∷ []) ≡ Some content
-goes_on_to address content spans span before some is =
-    content_with_last address spans (record span { last = address })
-    ∙ ap (λ there. option_or there (content_at address (record span { last = address } ∷ [])))
-    (nothing_past address spans before) ∙ reaches address content span some is
+-- a span that is the last and goes on over a piece holds there what it holds
+pub goes_on_to : {T : Type 0} (a first last : ℕ) (content : T) (spans : List (Span T)) (span : Span T)
+    → first ≤ a → a ≤ last
+    → All (λ s. s.last < first) spans → span.start ≤ span.last → ending_before first span ≡ Some content
+    → content_at a (spans ++ record span { last = last } ∷ []) ≡ Some content
+goes_on_to a first last content spans span from to before some is =
+    content_with_last a spans (record span { last = last })
+    ∙ ap (λ there. option_or there (content_at a (record span { last = last } ∷ [])))
+    (nothing_past a first spans from before) ∙ reaches a first last content span from to some is
 
 -- at lower addresses it stays as it was
-pub stays_below : {T : Type 0} (a address : ℕ) (content : T) (spans : List (Span T)) (span : Span T) → a < address
-    → ending_before address span ≡ Some content
-    → content_at a (spans ++ record span { last = address } ∷ []) ≡ content_at a (spans ++ span ∷ [])
-stays_below a address content spans span below is =
-    content_with_last a spans (record span { last = address })
-    ∙ ap (option_or (content_at a spans)) (holds_below a address content span below is)
+pub stays_below : {T : Type 0} (a first last : ℕ) (content : T) (spans : List (Span T)) (span : Span T) → a < first
+    → first ≤ last → ending_before first span ≡ Some content
+    → content_at a (spans ++ record span { last = last } ∷ []) ≡ content_at a (spans ++ span ∷ [])
+stays_below a first last content spans span below some is =
+    content_with_last a spans (record span { last = last })
+    ∙ ap (option_or (content_at a spans)) (holds_below a first last content span below some is)
     ∙ sym (content_with_last a spans span)
 
--- a span of one address behind all others holds there
-pub begins_at : {T : Type 0} (address : ℕ) (spans : List (Span T)) (span : Span T)
-    → All (λ s. s.last < address) spans → span.start ≡ address → span.last ≡ address
-    → content_at address (spans ++ span ∷ []) ≡ Some span.content
-begins_at address spans span before start last =
-    let there : content_at address (span ∷ []) ≡ Some span.content = grind (arith, common_steps) in
-    content_with_last address spans span
-    ∙ ap (λ found. option_or found (content_at address (span ∷ []))) (nothing_past address spans before) ∙ there
+-- a span of a piece behind all others holds there
+pub begins_at : {T : Type 0} (a first last : ℕ) (spans : List (Span T)) (span : Span T) → first ≤ a → a ≤ last
+    → All (λ s. s.last < first) spans → span.start ≡ first → span.last ≡ last
+    → content_at a (spans ++ span ∷ []) ≡ Some span.content
+begins_at a first last spans span from to before start end =
+    let there : content_at a (span ∷ []) ≡ Some span.content = grind (arith, common_steps) in
+    content_with_last a spans span
+    ∙ ap (λ found. option_or found (content_at a (span ∷ []))) (nothing_past a first spans from before) ∙ there
 
 -- at lower addresses nothing changes by it
-pub none_below : {T : Type 0} (a address : ℕ) (spans : List (Span T)) (span : Span T) → a < address
-    → span.start ≡ address → content_at a (spans ++ span ∷ []) ≡ content_at a spans
-none_below a address spans span below start =
+pub none_below : {T : Type 0} (a first : ℕ) (spans : List (Span T)) (span : Span T) → a < first
+    → span.start ≡ first → content_at a (spans ++ span ∷ []) ≡ content_at a spans
+none_below a first spans span below start =
     let nothing : content_at a (span ∷ []) ≡ None = grind (arith, common_steps) in
     let same : option_or (content_at a spans) None ≡ content_at a spans = grind (arith, common_steps) in
     content_with_last a spans span ∙ ap (option_or (content_at a spans)) nothing ∙ same
@@ -105,21 +107,22 @@ pub ends_there : {T : Type 0} (address : ℕ) (span : Span T) → IsSome (ending
     → ending_before address span ≡ Some span.content
 ends_there address span is = grind (arith, common_steps)
 
--- where the last span ends at the address before one and goes on to it, what held before it holds there
-pub went_on : {T : Type 0} (address : ℕ) (old spans : List (Span T)) (span : Span T)
-    → old ≡ spans ++ span ∷ [] → All (λ s. s.last < address) old → All (λ s. s.start ≤ s.last) old
-    → IsSome (content_before address old)
-    → content_at address (spans ++ record span { last = address } ∷ []) ≡ content_before address old
-went_on address old spans span is before some there =
-    let last : content_before address old ≡ ending_before address span
-    = ap (content_before address) is ∙ before_by_last address spans span in
-    let found : ending_before address span ≡ Some span.content
-    = ends_there address span (subst IsSome last there) in
-    let front : All (λ s. s.last < address) spans × IfSome (Some span) (λ s. s.last < address)
-    = All-pop (λ s. s.last < address) old spans (Some span) is before in
+-- where the last span ends at the address before a piece and goes on over it, what held before it holds there
+pub went_on : {T : Type 0} (a first last : ℕ) (old spans : List (Span T)) (span : Span T)
+    → first ≤ a → a ≤ last
+    → old ≡ spans ++ span ∷ [] → All (λ s. s.last < first) old → All (λ s. s.start ≤ s.last) old
+    → IsSome (content_before first old)
+    → content_at a (spans ++ record span { last = last } ∷ []) ≡ content_before first old
+went_on a first last old spans span from to is before some there =
+    let outermost : content_before first old ≡ ending_before first span
+    = ap (content_before first) is ∙ before_by_last first spans span in
+    let found : ending_before first span ≡ Some span.content
+    = ends_there first span (subst IsSome outermost there) in
+    let front : All (λ s. s.last < first) spans × IfSome (Some span) (λ s. s.last < first)
+    = All-pop (λ s. s.last < first) old spans (Some span) is before in
     let whole : All (λ s. s.start ≤ s.last) spans × IfSome (Some span) (λ s. s.start ≤ s.last)
     = All-pop (λ s. s.start ≤ s.last) old spans (Some span) is some in
-    goes_on_to address span.content spans span front.0 whole.1 found ∙ sym found ∙ sym last
+    goes_on_to a first last span.content spans span from to front.0 whole.1 found ∙ sym found ∙ sym outermost
 
 -- what is known of spans of which the last goes on
 pub ruleset lengthened = (before_by_last, went_on, stays_below, ends_there)

@@ -3,3 +3,5 @@ pub mod FunctionLemmas
 pub mod FunctionRecordLemmas
 pub mod InlineRecordLemmas
 pub mod NumberLemmas
+pub mod OnOkLemmas
+pub mod SessionLemmas

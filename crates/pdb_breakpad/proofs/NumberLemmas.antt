@@ -1,11 +1,13 @@
 -- Names behind which one more stands.
-use Rattle.std.proofs.Common.{◌≡◌, ◌∙◌, ℕ, zero, suc, Bool, true, false, cond, List, [], ◌∷◌, ◌++◌, length, slice_get}
-use Rattle.std.proofs.Common.{Option, Some, refl, sym, ap}
+use Rattle.std.proofs.Common.{◌≡◌, ◌∙◌, ◌<◌, ◌+◌, ℕ, zero, suc, Bool, true, false, cond, List, [], ◌∷◌, ◌++◌, length}
+use Rattle.std.proofs.Common.{slice_get, get_or, drop, Option, Some, refl, sym, ap, arith, add-one, append_assoc, drop-cons}
 use Rattle.std.specs.Prelude.{String}
 use Rattle.std.specs.BTreeMap.{BTreeMap, get_by_text}
 use Rattle.std.specs.Bool.{Decides}
 use Rattle.std.specs.Str.{bytes_eq}
+use Rattle.std.proofs.lemmas.Option.{slice_get-get_or, slice_get_within}
 use Rattle.std.proofs.lemmas.Slice.Eq.{bytes_eq-Decides}
+use Rattle.pdb_breakpad.specs.NameRecords.{name_record, name_records}
 use Rattle.pdb_breakpad.specs.Numbers.{KeepsNames, KnowsNumbers}
 
 -- the names before it keep their numbers
@@ -52,3 +54,23 @@ knows_put old new names name next knows count put asked number is =
 
 -- what is known of a table in which a name is put
 pub ruleset numbered = (keeps_pushed, numbered_last, knows_pushed, knows_put)
+
+-- what is written, and the records of the names that are left, are all once the record of the next name is written
+pub one_name_more : (start : List ℕ) (number : ℕ) (names : List (List ℕ)) (name text more all : List ℕ)
+    → number < length names → get_or names number [] ≡ name → more ≡ text ++ name_record start number name
+    → text ++ name_records start number (drop number names) ≡ all
+    → more ++ name_records start (number + 1) (drop (number + 1) names) ≡ all
+one_name_more start number names name text more all below is pushed before =
+    let next : drop number names ≡ name ∷ drop (number + 1) names
+    = rw (add-one, drop-cons names number [] below) (ap (λ first. first ∷ drop (suc number) names) is) in
+    ap (λ written. written ++ name_records start (number + 1) (drop (number + 1) names)) pushed
+    ∙ append_assoc text (name_record start number name) (name_records start (number + 1) (drop (number + 1) names))
+    ∙ ap (λ rest. text ++ name_records start number rest) (sym next) ∙ before
+
+-- where no name is new, each number has the name that it had
+pub names_back : (old new : List (List ℕ)) → KeepsNames old new → length new ≡ length old → KeepsNames new old
+names_back old new keeps same number name is =
+    let below : number < length old = omega (arith, same, slice_get_within new number name is) in
+    let known : slice_get old number ≡ Some (get_or old number []) = slice_get-get_or old number [] below in
+    let there : slice_get new number ≡ Some (get_or old number []) = keeps number (get_or old number []) known in
+    known ∙ sym there ∙ is

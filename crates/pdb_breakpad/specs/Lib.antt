@@ -3,8 +3,12 @@ pub mod FrameSource
 pub mod FrameTexts
 pub mod FunctionRecords
 pub mod Functions
+pub mod FunctionTexts
 pub mod InlineRecords
+pub mod NameRecords
 pub mod NumberedCode
 pub mod Numbers
+pub mod Pieces
 pub mod SessionAnswers
 pub mod ShownFrames
+pub mod SymbolFile

@@ -1,5 +1,5 @@
 -- What a session answers for the symbol file of its file.
-use Rattle.std.specs.Prelude.{◌≡◌, ℕ, false, Option, Ok}
+use Rattle.std.specs.Prelude.{◌≡◌, ℕ, Option, Ok}
 use Rattle.pdb_records.specs.Records.{Records}
 use Rattle.pdb_frames.specs.Frame.{FramesInfo}
 use Rattle.pdb_addr2line.specs.ContextData.{context_of}
@@ -7,12 +7,12 @@ use Rattle.pdb_addr2line.specs.ContextInputs.{ContextInputs}
 use Rattle.pdb_addr2line.specs.Lookups.{frames_at}
 use Rattle.pdb_addr2line.specs.NamedFunctions.{named_answer, symbol_name_at}
 use Rattle.pdb_known.specs.Known.{IsPartOf, infos_of}
-use Rattle.pdb_session.specs.Session.{ContextOverPart, needs}
+use Rattle.pdb_session.specs.Session.{ContextOverPart}
 
--- the answer at an address is that over all records of the file, where nothing is still to be read for it: the frames,
--- whose function goes by its symbol's name where it has no other
+-- the answer at an address is that over all records of the file: the frames, whose function goes by its symbol's name
+-- where it has no other
 abbrev pub IsAnswerOverAll : ContextOverPart → ℕ → Option FramesInfo → Type 0
 IsAnswerOverAll context address answer =
-    needs context.known address ≡ false → (whole : Records) (inputs : ContextInputs Records)
+    (whole : Records) (inputs : ContextInputs Records)
     → IsPartOf context.known whole → context_of context.flags whole ≡ Ok inputs
     → named_answer (symbol_name_at infos_of inputs address) (frames_at infos_of inputs address) ≡ Ok answer

@@ -1,8 +1,10 @@
 //! What holds over addresses, by ranges of them that follow one another.
 
 ghost use Rattle.std.specs.Prelude.{◌≡◌, ◌<◌, ◌≤◌, ◌+◌, ◌++◌, ℕ, [], ◌∷◌, Some, IsSome, OnOk};
+ghost use Rattle.pdb_breakpad.specs.FunctionTexts.{size_between};
 ghost use Rattle.pdb_breakpad.specs.AddressSpans.{EndBefore, content_at, content_before};
 
+use crate::pieces::Piece;
 use std::alloc::{AllocError, Global};
 use std::marker::Model;
 
@@ -15,11 +17,11 @@ pub(crate) struct Span<T> {
     pub last: u32,
 }
 
-impl<T> Span<T> {
-    /// How many addresses it has.
-    pub(crate) fn size(&self) -> u64 {
-        u64::from(self.last.saturating_sub(self.start)) + 1
-    }
+/// How many addresses stand from one to another, both of them included.
+pub(crate) fn size_between(first: u32, last: u32) -> u64
+    ensures { result ≡ size_between first last }
+{
+    u64::from(last.saturating_sub(first)) + 1
 }
 
 /// What holds over addresses, each content with the addresses that it is of, ascending.
@@ -68,38 +70,40 @@ impl<T: Copy> AddressSpans<T> {
         None
     }
 
-    /// Has what holds at the address before this one go on to it. All other addresses stand before it.
+    /// Has what holds at the address before a piece go on over it. All other addresses stand before it.
     #[tactic(auto, using(crate::proofs::AddressSpanLemmas::lengthened))]
-    pub(crate) fn lengthen(&mut self, address: u32) -> Result<(), AllocError>
-        requires order { EndBefore address self.old }
-        requires there { IsSome (content_before address self.old) }
-        ensures answer { OnOk result (content_at address self.new ≡ content_before address self.old) }
-        ensures unchanged { OnOk result ((a : ℕ) → a < address → content_at a self.new ≡ content_at a self.old) }
-        ensures order { OnOk result (EndBefore (address + 1) self.new) }
+    pub(crate) fn lengthen(&mut self, piece: Piece) -> Result<(), AllocError>
+        requires order { EndBefore piece.first self.old }
+        requires there { IsSome (content_before piece.first self.old) }
+        ensures answer { OnOk result ((a : ℕ) → piece.first ≤ a → a ≤ piece.last
+            → content_at a self.new ≡ content_before piece.first self.old) }
+        ensures unchanged { OnOk result ((a : ℕ) → a < piece.first → content_at a self.new ≡ content_at a self.old) }
+        ensures order { OnOk result (EndBefore (piece.last + 1) self.new) }
     {
-        let Some(last) = self.spans.pop() else {
+        let Some(before) = self.spans.pop() else {
             return Ok(());
         };
         self.push(Span {
-            last: address,
-            ..last
+            last: piece.last,
+            ..before
         })
     }
 
-    /// Has this hold at an address. All other addresses stand before it.
+    /// Has this hold over a piece. All other addresses stand before it.
     #[tactic(auto, using(crate::proofs::AddressSpanLemmas::begun))]
-    pub(crate) fn begin(&mut self, address: u32, content: T) -> Result<(), AllocError>
-        requires order { EndBefore address self.old }
-        ensures answer { OnOk result (content_at address self.new ≡ Some content) }
-        ensures unchanged { OnOk result ((a : ℕ) → a < address → content_at a self.new ≡ content_at a self.old) }
-        ensures order { OnOk result (EndBefore (address + 1) self.new) }
-        ensures state { OnOk result
-            (self.new ≡ self.old ++ record { content = content; start = address; last = address } ∷ []) }
+    pub(crate) fn begin(&mut self, piece: Piece, content: T) -> Result<(), AllocError>
+        requires order { EndBefore piece.first self.old }
+        ensures answer { OnOk result ((a : ℕ) → piece.first ≤ a → a ≤ piece.last
+            → content_at a self.new ≡ Some content) }
+        ensures unchanged { OnOk result ((a : ℕ) → a < piece.first → content_at a self.new ≡ content_at a self.old) }
+        ensures order { OnOk result (EndBefore (piece.last + 1) self.new) }
+        ensures state { OnOk result (self.new
+            ≡ self.old ++ record { content = content; start = piece.first; last = piece.last } ∷ []) }
     {
         self.push(Span {
             content,
-            start: address,
-            last: address,
+            start: piece.first,
+            last: piece.last,
         })
     }
 

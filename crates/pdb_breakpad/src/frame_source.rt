@@ -1,20 +1,25 @@
-//! What a symbol file is made of: whatever answers where functions start and what frames an address has.
+//! What a symbol file is made of: whatever answers where its pieces begin and what frames an address has.
 
-ghost use Rattle.std.specs.Prelude.{◌≡◌, ℕ, Option, Ok, IfOk};
+ghost use Rattle.std.specs.Prelude.{ℕ, Option, IfOk};
 ghost use Rattle.pdb_frames.specs.Frame.{FramesInfo};
 ghost use Rattle.pdb_breakpad.specs.FrameSource.{KeepsAnswers};
+ghost use Rattle.pdb_breakpad.specs.Pieces.{ArePieces};
 
 use crate::faults::SymbolFileFault;
-use pdb_addr2line::{Context, FunctionFrames, ModuleProvider};
+use pdb_addr2line::FunctionFrames;
+use pdb_change_points::change_points;
 use pdb_session::SessionContext;
+use std::alloc::Global;
 
 /// Answers over a program. The same question has the same answer, as often as it is asked.
 pub trait FrameSource<'a> {
     /// Whether this is the answer at an address.
     ghost answers: { Self → ℕ → Option FramesInfo → Type 0 };
 
-    /// Where functions start, ascending and each once.
-    fn start_addresses(&mut self) -> Result<Vec<u32>, SymbolFileFault>
+    /// Where the pieces of the program begin, ascending: the first at address 0. Over all addresses of a piece the
+    /// answer is the same.
+    fn piece_starts(&mut self, alloc: Global) -> Result<Vec<u32>, SymbolFileFault>
+        ensures pieces { IfOk result (λ starts. ArePieces answers self.new starts.items) }
         ensures inputs { KeepsAnswers answers self.old self.new };
 
     /// The functions in whose code an address lies, from inside to outside. `None` where no function is known there.
@@ -27,33 +32,15 @@ pub trait FrameSource<'a> {
         ensures inputs { KeepsAnswers answers self.old self.new };
 }
 
-impl<'a, P: ModuleProvider> FrameSource<'a> for Context<'a, P> {
-    ghost use Rattle.pdb_addr2line.specs.Lookups.{frames_at};
-
-    ghost answers = { λ context address answer. frames_at P.info context.inputs address ≡ Ok answer };
-
-    fn start_addresses(&mut self) -> Result<Vec<u32>, SymbolFileFault> {
-        Ok(Context::start_addresses(self)?)
-    }
-
-    fn find_frames(&mut self, address: u32) -> Result<Option<FunctionFrames<'a>>, SymbolFileFault> {
-        Ok(Context::find_frames(self, address)?)
-    }
-
-    fn clear_caches(&mut self) {
-        Context::clear_caches(self);
-    }
-}
-
 impl<'a> FrameSource<'a> for SessionContext<'a, '_> {
     ghost use Rattle.pdb_breakpad.specs.SessionAnswers.{IsAnswerOverAll};
 
     ghost answers = { λ context address answer. IsAnswerOverAll context address answer };
 
-    fn start_addresses(&mut self) -> Result<Vec<u32>, SymbolFileFault> {
-        match SessionContext::start_addresses(self) {
-            Ok(starts) => Ok(starts),
-            Err(fault) => Err(SymbolFileFault::from(fault)),
+    fn piece_starts(&mut self, alloc: Global) -> Result<Vec<u32>, SymbolFileFault> {
+        match self.all_records() {
+            Some(records) => Ok(change_points(alloc, records)?),
+            None => Err(SymbolFileFault::NotRead),
         }
     }
 

@@ -1,19 +1,22 @@
 //! The records of a function: where it lies, its inlined calls and its lines, made address by address.
 
 ghost use Rattle.std.specs.Prelude.{◌≡◌, ◌≤◌, ◌<◌, ◌+◌, ℕ, List, [], true, Some, None, is_some, IfOk, OnOk};
-ghost use Rattle.std.specs.Prelude.{if◌then◌else◌};
+ghost use Rattle.std.specs.Prelude.{◌++◌, string_bytes, if◌then◌else◌};
+ghost use Rattle.std.specs.List.{flat_map};
 ghost use Rattle.pdb_breakpad.specs.AddressSpans.{EndBefore, content_at};
 ghost use Rattle.pdb_breakpad.specs.InlineRecords.{LevelEndsBefore, calls_at};
+ghost use Rattle.pdb_breakpad.specs.FunctionTexts.{function_head, function_text, line_line};
 ghost use Rattle.pdb_breakpad.specs.FunctionRecords.{InOrder, IsNumbered, IsOf, Reads};
 ghost use Rattle.pdb_breakpad.specs.NumberedCode.{KeepsAllNames};
 ghost use Rattle.pdb_breakpad.specs.ShownFrames.{answer_shown, own_name};
 
-use crate::address_spans::AddressSpans;
+use crate::address_spans::{AddressSpans, Span, size_between};
 use crate::frame_texts::{are_equal, function_name};
 use crate::inline_records::InlineRecords;
 use crate::name_text::push_name;
 use crate::numbered_code::{NumberedCode, Place, number_code};
 use crate::numbers::Numbers;
+use crate::pieces::Piece;
 use pdb_addr2line::FunctionFrames;
 use std::alloc::{AllocError, Global};
 
@@ -32,16 +35,17 @@ pub(crate) struct FunctionRecords<'a> {
 
 impl<'a> FunctionRecords<'a> {
     #[tactic(auto, using(crate::proofs::FunctionRecordLemmas::recorded))]
-    /// A function of which one address has been gone through. The frames of the answer there stand from outside to
+    /// A function of which one piece has been gone through. The frames of the answer there stand from outside to
     /// inside.
     pub(crate) fn new(
         alloc: Global,
         numbers: &mut Numbers,
-        address: u32,
+        piece: Piece,
         found: FunctionFrames<'a>,
     ) -> Result<Self, AllocError>
-        ensures answer { IfOk result (λ records. Reads numbers.new records address (answer_shown found.entry)) }
-        ensures addresses { IfOk result (λ records. (records.start ≡ address) × (records.last ≡ address)) }
+        ensures answer { IfOk result (λ records. (a : ℕ) → piece.first ≤ a → a ≤ piece.last
+            → Reads numbers.new records a (answer_shown found.entry)) }
+        ensures addresses { IfOk result (λ records. (records.start ≡ piece.first) × (records.last ≡ piece.last)) }
         ensures order { IfOk result InOrder }
         ensures numbered { IfOk result (IsNumbered numbers.new) }
         ensures names { KeepsAllNames numbers.old numbers.new }
@@ -50,20 +54,13 @@ impl<'a> FunctionRecords<'a> {
         let mut records = FunctionRecords {
             found,
             code,
-            start: address,
-            last: address,
+            start: piece.first,
+            last: piece.last,
             inlines: InlineRecords::new(alloc),
             lines: AddressSpans::new(alloc),
         };
-        records.add_code(address, false)?;
+        records.add_code(piece, false)?;
         Ok(records)
-    }
-
-    /// The last address.
-    pub(crate) fn last(&self) -> u32
-        ensures { result ≡ self.now.last }
-    {
-        self.last
     }
 
     /// Whether an answer, whose frames stand from outside to inside, is of this function: it has the same start, end
@@ -77,23 +74,24 @@ impl<'a> FunctionRecords<'a> {
     }
 
     #[tactic(auto, using(crate::proofs::FunctionRecordLemmas::recorded))]
-    /// Adds the next address with its answer, which is of this function. Its frames stand from outside to inside.
+    /// Adds the next piece with its answer, which is of this function. Its frames stand from outside to inside.
     pub(crate) fn add(
         &mut self,
         numbers: &mut Numbers,
-        address: u32,
+        piece: Piece,
         found: FunctionFrames<'a>,
     ) -> Result<(), AllocError>
-        requires next { address ≡ self.old.last + 1 }
+        requires next { piece.first ≡ self.old.last + 1 }
         requires same { IsOf self.old.found found }
         requires order { InOrder self.old }
         requires numbered { IsNumbered numbers.old self.old }
-        ensures answer { OnOk result (Reads numbers.new self.new address (answer_shown found.entry)) }
+        ensures answer { OnOk result ((a : ℕ) → piece.first ≤ a → a ≤ piece.last
+            → Reads numbers.new self.new a (answer_shown found.entry)) }
         ensures unchanged { OnOk result ((a : ℕ) → a ≤ self.old.last
             → (calls_at a self.new.inlines ≡ calls_at a self.old.inlines)
             × (content_at a self.new.lines ≡ content_at a self.old.lines)) }
         ensures name { OnOk result (own_name self.old.found.frames ≡ own_name self.new.found.frames) }
-        ensures addresses { OnOk result ((self.new.start ≡ self.old.start) × (self.new.last ≡ address)) }
+        ensures addresses { OnOk result ((self.new.start ≡ self.old.start) × (self.new.last ≡ piece.last)) }
         ensures order { OnOk result (InOrder self.new) }
         ensures numbered { OnOk result (IsNumbered numbers.new self.new) }
         ensures names { KeepsAllNames numbers.old numbers.new }
@@ -104,25 +102,25 @@ impl<'a> FunctionRecords<'a> {
             self.code = number_code(alloc, numbers, &found.frames)?;
         }
         self.found = found;
-        self.last = address;
-        self.add_code(address, goes_on)
+        self.last = piece.last;
+        self.add_code(piece, goes_on)
     }
 
-    // Adds what is known of the code at the last address, unless the function's end isn't known. A line goes on where
+    // Adds what is known of the code over the last piece, unless the function's end isn't known. A line goes on where
     // all frames are as before.
     #[tactic(auto, using(crate::proofs::InlineRecordLemmas::past))]
-    fn add_code(&mut self, address: u32, goes_on: bool) -> Result<(), AllocError>
-        requires inlines { (level : ℕ) → LevelEndsBefore address self.old.inlines level }
-        requires lines { EndBefore address self.old.lines }
-        ensures calls { OnOk result (calls_at address self.new.inlines
+    fn add_code(&mut self, piece: Piece, goes_on: bool) -> Result<(), AllocError>
+        requires inlines { (level : ℕ) → LevelEndsBefore piece.first self.old.inlines level }
+        requires lines { EndBefore piece.first self.old.lines }
+        ensures calls { OnOk result ((a : ℕ) → piece.first ≤ a → a ≤ piece.last → calls_at a self.new.inlines
             ≡ (if is_some self.new.found.end_rva then self.new.code.calls.items else [])) }
-        ensures place { OnOk result (content_at address self.new.lines
+        ensures place { OnOk result ((a : ℕ) → piece.first ≤ a → a ≤ piece.last → content_at a self.new.lines
             ≡ (if is_some self.new.found.end_rva then self.new.code.place else None)) }
-        ensures unchanged { OnOk result ((a : ℕ) → a < address
+        ensures unchanged { OnOk result ((a : ℕ) → a < piece.first
             → (calls_at a self.new.inlines ≡ calls_at a self.old.inlines)
             × (content_at a self.new.lines ≡ content_at a self.old.lines)) }
-        ensures inlines { OnOk result ((level : ℕ) → LevelEndsBefore (address + 1) self.new.inlines level) }
-        ensures lines { OnOk result (EndBefore (address + 1) self.new.lines) }
+        ensures inlines { OnOk result ((level : ℕ) → LevelEndsBefore (piece.last + 1) self.new.inlines level) }
+        ensures lines { OnOk result (EndBefore (piece.last + 1) self.new.lines) }
         ensures found { self.new.found ≡ self.old.found }
         ensures code { self.new.code ≡ self.old.code }
         ensures addresses { (self.new.start ≡ self.old.start) × (self.new.last ≡ self.old.last) }
@@ -130,22 +128,19 @@ impl<'a> FunctionRecords<'a> {
         if self.found.end_rva.is_none() {
             return Ok(());
         }
-        self.inlines.add(address, &self.code.calls)?;
+        self.inlines.add(piece, &self.code.calls)?;
         let Some(place) = self.code.place else {
             return Ok(());
         };
-        add_line(&mut self.lines, address, place, goes_on)
+        add_line(&mut self.lines, piece, place, goes_on)
     }
 
     /// The text of the records, once all addresses are gone through. A function whose end isn't known has a name alone.
-    pub(crate) fn text(&self, alloc: Global) -> Result<String, AllocError> {
-        let start = self.start;
-        let size = u64::from(self.last.saturating_sub(start)) + 1;
+    pub(crate) fn text(&self, alloc: Global) -> Result<String, AllocError>
+        ensures { IfOk result (λ text. string_bytes text ≡ function_text self.now) }
+    {
         let mut text = String::new(alloc);
-        match self.found.end_rva {
-            Some(_) => write!(text, "FUNC {start:x} {size:x} 0 ")?,
-            None => write!(text, "PUBLIC {start:x} 0 ")?,
-        }
+        push_head(&mut text, self.found.end_rva, self.start, self.last)?;
         push_name(&mut text, own_name(&self.found))?;
         self.inlines.push_records(&mut text)?;
         push_lines(&mut text, &self.lines)?;
@@ -153,34 +148,56 @@ impl<'a> FunctionRecords<'a> {
     }
 }
 
-// Adds the place of the code at an address, which stands behind all others.
+// Appends what the record of a function begins with, up to its name.
+fn push_head(text: &mut String, end: Option<u32>, start: u32, last: u32) -> Result<(), AllocError>
+    ensures { OnOk result (string_bytes text.new ≡ string_bytes text.old ++ function_head end start last) }
+{
+    let size = size_between(start, last);
+    match end {
+        Some(_) => write!(text, "FUNC {start:x} {size:x} 0 "),
+        None => write!(text, "PUBLIC {start:x} 0 "),
+    }
+}
+
+// Adds the place of the code over a piece, which stands behind all others.
 fn add_line(
     lines: &mut AddressSpans<Place>,
-    address: u32,
+    piece: Piece,
     place: Place,
     goes_on: bool,
 ) -> Result<(), AllocError>
-    requires order { EndBefore address lines.old }
-    ensures answer { OnOk result (content_at address lines.new ≡ Some place) }
-    ensures unchanged { OnOk result ((a : ℕ) → a < address → content_at a lines.new ≡ content_at a lines.old) }
-    ensures order { OnOk result (EndBefore (address + 1) lines.new) }
+    requires order { EndBefore piece.first lines.old }
+    ensures answer { OnOk result ((a : ℕ) → piece.first ≤ a → a ≤ piece.last
+        → content_at a lines.new ≡ Some place) }
+    ensures unchanged { OnOk result ((a : ℕ) → a < piece.first → content_at a lines.new ≡ content_at a lines.old) }
+    ensures order { OnOk result (EndBefore (piece.last + 1) lines.new) }
 {
-    if goes_on && lines.content_before(address) == Some(place) {
-        lines.lengthen(address)
+    if goes_on && lines.content_before(piece.first) == Some(place) {
+        lines.lengthen(piece)
     } else {
-        lines.begin(address, place)
+        lines.begin(piece, place)
     }
 }
 
 // Appends the records of lines.
-fn push_lines(text: &mut String, lines: &AddressSpans<Place>) -> Result<(), AllocError> {
+fn push_lines(text: &mut String, lines: &AddressSpans<Place>) -> Result<(), AllocError>
+    ensures { OnOk result (string_bytes text.new ≡ string_bytes text.old ++ flat_map line_line lines.now) }
+{
     for span in lines.spans() {
-        let Place { file, line } = span.content;
-        let start = span.start;
-        let size = span.size();
-        write!(text, "{start:x} {size:x} {line} {file}\n")?;
+        push_line(text, span)?;
     }
     Ok(())
+}
+
+// Appends the record of a line.
+#[tactic(auto, unfolding(crate::specs::FunctionTexts::line_line))]
+fn push_line(text: &mut String, span: &Span<Place>) -> Result<(), AllocError>
+    ensures { OnOk result (string_bytes text.new ≡ string_bytes text.old ++ line_line span.now) }
+{
+    let Place { file, line } = span.content;
+    let start = span.start;
+    let size = size_between(start, span.last);
+    write!(text, "{start:x} {size:x} {line} {file}\n")
 }
 
 // The name of the function itself, of an answer whose frames stand from outside to inside.

@@ -1,62 +1,84 @@
-//! The walk over all addresses of functions, and the records of the functions that it comes to.
+//! The walk over all addresses, piece by piece, and the records of the functions that it comes to.
 
-ghost use Rattle.std.specs.Prelude.{◌≡◌, ◌≤◌, ℕ, None, IfOk, IfSome, IfNone};
+ghost use Rattle.std.specs.Prelude.{◌≡◌, ◌+◌, IfOk, OnOk, IfSome};
+ghost use Rattle.std.specs.Option.{option_to_list};
+ghost use Rattle.std.specs.List.{flat_map};
+ghost use Rattle.std.specs.Io.KnownBytes.{Appends};
 ghost use Rattle.pdb_breakpad.specs.FrameSource.{KeepsAnswers};
-ghost use Rattle.pdb_breakpad.specs.Functions.{IsAnswer, Shows};
+ghost use Rattle.pdb_breakpad.specs.Functions.{IsAnswer, IsOpen, StepsOver, WritesFunctions};
+ghost use Rattle.pdb_breakpad.specs.FunctionTexts.{function_text};
+ghost use Rattle.pdb_breakpad.specs.NumberedCode.{KeepsAllNames};
+ghost use Rattle.pdb_breakpad.specs.Pieces.{ArePieces};
 
 use crate::cache_shares::CacheShare;
 use crate::faults::SymbolFileFault;
 use crate::frame_source::FrameSource;
 use crate::function_records::FunctionRecords;
 use crate::numbers::Numbers;
+use crate::pieces::{Piece, piece_at};
 use pdb_addr2line::FunctionFrames;
 use std::alloc::Global;
 use std::io;
 
-/// Writes the records of all functions: from each of these starts on, which ascend, as far as an address has an answer,
-/// each address once.
+/// Writes the records of all functions. The pieces of the program begin at these points, and each is asked once.
 pub(crate) fn write_functions<'a, S: FrameSource<'a>, W: io::Write>(
     alloc: Global,
     out: &mut W,
     source: &mut S,
     numbers: &mut Numbers,
-    starts: &[u32],
-) -> Result<(), SymbolFileFault> {
-    let mut share = CacheShare::new(starts.len());
-    let mut behind = 0;
-    for &start in starts {
-        if behind <= u64::from(start) {
-            behind = write_functions_from(alloc, out, source, numbers, &mut share, start)?;
-        }
+    points: &[u32],
+) -> Result<(), SymbolFileFault>
+    requires pieces { ArePieces S.answers source.old points.now }
+    ensures answer { OnOk result (WritesFunctions S.answers source.old numbers.new
+        (W.contents out.old) (W.contents out.new)) }
+    ensures names { KeepsAllNames numbers.old numbers.new }
+    ensures inputs { KeepsAnswers S.answers source.old source.new }
+{
+    let mut share = CacheShare::new(points.len());
+    let mut walked = None;
+    for position in 0..points.len() {
+        let piece = piece_at(points, position);
+        walked = walk_piece(alloc, out, source, numbers, &mut share, walked, piece)?;
     }
+    write_ended(alloc, out, walked)?;
     source.clear_caches();
     Ok(())
 }
 
-// Writes the records of the functions from an address on, up to the first address without an answer. Answers where
-// the next addresses are that weren't asked for.
-fn write_functions_from<'a, S: FrameSource<'a>, W: io::Write>(
+// Goes over a piece. The function that was walked goes on over it; or it ends, and the function over the piece begins,
+// if there is one.
+fn walk_piece<'a, S: FrameSource<'a>, W: io::Write>(
     alloc: Global,
     out: &mut W,
     source: &mut S,
     numbers: &mut Numbers,
     share: &mut CacheShare,
-    start: u32,
-) -> Result<u64, SymbolFileFault> {
-    let mut address = start;
-    for _ in start..=u32::MAX {
-        let Some(records) = walk_function(alloc, source, numbers, address)? else {
-            return Ok(u64::from(address).saturating_add(1));
-        };
-        let text = records.text(alloc)?;
-        out.write_all(text.as_bytes())?;
-        share.count_function(source);
-        let Some(behind) = records.last().checked_add(1) else {
-            break;
-        };
-        address = behind;
+    walked: Option<FunctionRecords<'a>>,
+    piece: Piece,
+) -> Result<Option<FunctionRecords<'a>>, SymbolFileFault>
+    requires walked { IfSome walked (IsOpen numbers.old piece.first) }
+    ensures step { IfOk result (λ next. StepsOver S.answers source.old numbers.new piece.first piece.last walked.entry next
+        (W.contents out.old) (W.contents out.new)) }
+    ensures open { IfOk result (λ next. IfSome next (IsOpen numbers.new (piece.last + 1))) }
+    ensures names { KeepsAllNames numbers.old numbers.new }
+    ensures inputs { KeepsAnswers S.answers source.old source.new }
+{
+    let Some(answer) = ask(source, piece.first)? else {
+        write_ended(alloc, out, walked)?;
+        return Ok(None);
+    };
+    let Some(mut records) = walked else {
+        let begun = FunctionRecords::new(alloc, numbers, piece, answer)?;
+        return Ok(Some(begun));
+    };
+    if records.is_of(&answer) {
+        records.add(numbers, piece, answer)?;
+        return Ok(Some(records));
     }
-    Ok(u64::from(u32::MAX) + 1)
+    write_function(alloc, out, &records)?;
+    share.count_function(source);
+    let begun = FunctionRecords::new(alloc, numbers, piece, answer)?;
+    Ok(Some(begun))
 }
 
 // The answer at an address, with its frames from outside to inside.
@@ -74,30 +96,30 @@ fn ask<'a, S: FrameSource<'a>>(
     Ok(found)
 }
 
-// The function over an address, as far as the addresses behind it have answers of the same one. `None` where no
-// function is known there. A reader of its records is shown at each of its addresses what the source answers there.
-fn walk_function<'a, S: FrameSource<'a>>(
+// Writes the records of a function that was walked, if one was.
+fn write_ended<W: io::Write>(
     alloc: Global,
-    source: &mut S,
-    numbers: &mut Numbers,
-    start: u32,
-) -> Result<Option<FunctionRecords<'a>>, SymbolFileFault>
-    ensures answer { IfOk result (λ walked. IfSome walked (λ records. (address : ℕ)
-        → start ≤ address → address ≤ records.last
-        → Shows S.answers source.old numbers.new records address)) }
-    ensures start { IfOk result (λ walked. IfSome walked (λ records. records.start ≡ start)) }
-    ensures none { IfOk result (λ walked. IfNone walked (S.answers source.old start None)) }
+    out: &mut W,
+    walked: Option<FunctionRecords<'_>>,
+) -> Result<(), SymbolFileFault>
+    ensures { OnOk result (Appends (W.contents out.old) (W.contents out.new)
+        (flat_map function_text (option_to_list walked.entry))) }
 {
-    let Some(found) = ask(source, start)? else {
-        return Ok(None);
-    };
-    let mut records = FunctionRecords::new(alloc, numbers, start, found)?;
-    for before in start..u32::MAX {
-        let address = before + 1;
-        match ask(source, address)? {
-            Some(answer) if records.is_of(&answer) => records.add(numbers, address, answer)?,
-            _ => return Ok(Some(records)),
-        }
+    match walked {
+        Some(records) => write_function(alloc, out, &records),
+        None => Ok(()),
     }
-    Ok(Some(records))
+}
+
+// Writes the records of a function.
+fn write_function<W: io::Write>(
+    alloc: Global,
+    out: &mut W,
+    records: &FunctionRecords<'_>,
+) -> Result<(), SymbolFileFault>
+    ensures { OnOk result (Appends (W.contents out.old) (W.contents out.new) (function_text records.now)) }
+{
+    let text = records.text(alloc)?;
+    out.write_all(text.as_bytes())?;
+    Ok(())
 }

@@ -1,10 +1,15 @@
 //! The inlined calls of a function, by their levels and addresses.
 
 ghost use Rattle.std.specs.Prelude.{◌≡◌, ◌≢◌, ◌≤◌, ◌<◌, ◌+◌, ◌++◌, ℕ, [], ◌∷◌, true, Some, length, slice_get, OnOk};
+ghost use Rattle.std.specs.Prelude.{map, string_bytes, IfOk};
+ghost use Rattle.std.specs.List.{flat_map};
+ghost use Rattle.pdb_breakpad.specs.FunctionTexts.{inline_line, inline_lines, inline_records_from};
 ghost use Rattle.pdb_breakpad.specs.InlineRecords.{call_at, call_before, calls_at, LevelEndsBefore};
 
-use crate::address_spans::{AddressSpans, Span};
+use crate::address_spans::{AddressSpans, Span, size_between};
 use crate::numbered_code::Place;
+use crate::pieces::Piece;
+use pdb_tables::{Keyed, sort_by_key};
 use std::alloc::{AllocError, Global};
 use std::marker::Model;
 
@@ -23,6 +28,16 @@ struct InlineRecord {
     /// How many calls are outside of it.
     level: usize,
     span: Span<InlinedCall>,
+}
+
+impl Keyed for InlineRecord {
+    type Key = (u32, usize);
+
+    ghost key_of = { λ r. (r.span.start, r.level) };
+
+    fn key(&self) -> (u32, usize) {
+        (self.span.start, self.level)
+    }
 }
 
 /// The inlined calls of a function, as far as its addresses were gone through.
@@ -54,18 +69,19 @@ impl InlineRecords {
         }
     }
 
-    /// Adds the calls at an address behind all others, from outside to inside. A call goes on that stood at its level
+    /// Adds the calls over a piece behind all others, from outside to inside. A call goes on that stood at its level
     /// at the address before, if all outside of it go on.
-    pub(crate) fn add(&mut self, address: u32, calls: &[InlinedCall]) -> Result<(), AllocError>
-        requires order { (level : ℕ) → LevelEndsBefore address self.old level }
-        ensures answer { OnOk result (calls_at address self.new ≡ calls.now) }
-        ensures unchanged { OnOk result ((a : ℕ) → a < address → calls_at a self.new ≡ calls_at a self.old) }
-        ensures order { OnOk result ((level : ℕ) → LevelEndsBefore (address + 1) self.new level) }
+    pub(crate) fn add(&mut self, piece: Piece, calls: &[InlinedCall]) -> Result<(), AllocError>
+        requires order { (level : ℕ) → LevelEndsBefore piece.first self.old level }
+        ensures answer { OnOk result ((a : ℕ) → piece.first ≤ a → a ≤ piece.last
+            → calls_at a self.new ≡ calls.now) }
+        ensures unchanged { OnOk result ((a : ℕ) → a < piece.first → calls_at a self.new ≡ calls_at a self.old) }
+        ensures order { OnOk result ((level : ℕ) → LevelEndsBefore (piece.last + 1) self.new level) }
     {
         let mut goes_on = true;
         for (level, call) in calls.iter().enumerate() {
-            goes_on = goes_on && self.call_before(level, address) == Some(*call);
-            self.add_call(level, address, *call, goes_on)?;
+            goes_on = goes_on && self.call_before(level, piece.first) == Some(*call);
+            self.add_call(level, piece, *call, goes_on)?;
         }
         Ok(())
     }
@@ -77,70 +93,104 @@ impl InlineRecords {
         self.levels.get(level)?.content_before(address)
     }
 
-    // Adds the call at a level at an address, which stands behind all others of its level.
+    // Adds the call at a level over a piece, which stands behind all others of its level.
     fn add_call(
         &mut self,
         level: usize,
-        address: u32,
+        piece: Piece,
         call: InlinedCall,
         goes_on: bool,
     ) -> Result<(), AllocError>
         requires level { level ≤ length self.old }
-        requires order { LevelEndsBefore address self.old level }
-        requires same { goes_on ≡ true → call_before address self.old level ≡ Some call }
-        ensures answer { OnOk result (call_at address self.new level ≡ Some call) }
-        ensures unchanged { OnOk result ((a other : ℕ) → a < address
+        requires order { LevelEndsBefore piece.first self.old level }
+        requires same { goes_on ≡ true → call_before piece.first self.old level ≡ Some call }
+        ensures answer { OnOk result ((a : ℕ) → piece.first ≤ a → a ≤ piece.last
+            → call_at a self.new level ≡ Some call) }
+        ensures unchanged { OnOk result ((a other : ℕ) → a < piece.first
             → call_at a self.new other ≡ call_at a self.old other) }
         ensures others { OnOk result ((other : ℕ) → other ≢ level
             → slice_get self.new other ≡ slice_get self.old other) }
-        ensures order { OnOk result (LevelEndsBefore (address + 1) self.new level) }
+        ensures order { OnOk result (LevelEndsBefore (piece.last + 1) self.new level) }
     {
         let Some(spans) = self.levels.get_mut(level) else {
-            return self.push_level(address, call);
+            return self.push_level(piece, call);
         };
         if goes_on {
-            spans.lengthen(address)
+            spans.lengthen(piece)
         } else {
-            spans.begin(address, call)
+            spans.begin(piece, call)
         }
     }
 
     // Adds a call inside of all others.
-    fn push_level(&mut self, address: u32, call: InlinedCall) -> Result<(), AllocError>
+    fn push_level(&mut self, piece: Piece, call: InlinedCall) -> Result<(), AllocError>
         ensures { OnOk result (self.new
-            ≡ self.old ++ (record { content = call; start = address; last = address } ∷ []) ∷ []) }
+            ≡ self.old ++ (record { content = call; start = piece.first; last = piece.last } ∷ []) ∷ []) }
     {
         let mut spans = AddressSpans::new(self.alloc);
-        spans.begin(address, call)?;
+        spans.begin(piece, call)?;
         self.levels.push(spans)?;
         Ok(())
     }
 
     /// Appends the records, by where they begin, and then from outside to inside.
-    pub(crate) fn push_records(&self, text: &mut String) -> Result<(), AllocError> {
+    pub(crate) fn push_records(&self, text: &mut String) -> Result<(), AllocError>
+        ensures { OnOk result (string_bytes text.new ≡ string_bytes text.old ++ inline_lines self.now) }
+    {
+        let mut records = self.records()?;
+        sort_by_key(&mut records)?;
+        push_all(text, &records)
+    }
+
+    // The records, level by level.
+    fn records(&self) -> Result<Vec<InlineRecord>, AllocError>
+        ensures { IfOk result (λ records. records.items ≡ inline_records_from 0 self.now) }
+    {
         let mut records = Vec::new(self.alloc);
         for (level, spans) in self.levels.iter().enumerate() {
-            for span in spans.spans() {
-                records.push(InlineRecord { level, span: *span })?;
-            }
+            push_level_records(&mut records, level, spans)?;
         }
-        records.sort_by_key(|listed| (listed.span.start, listed.level))?;
-        for inline_record in &records {
-            push_record(text, inline_record)?;
-        }
-        Ok(())
+        Ok(records)
     }
 }
 
+// Adds the records of a level.
+fn push_level_records(
+    records: &mut Vec<InlineRecord>,
+    level: usize,
+    spans: &AddressSpans<InlinedCall>,
+) -> Result<(), AllocError>
+    ensures { OnOk result (records.new.items
+        ≡ records.old.items ++ map (λ span. record { level = level; span = span }) spans.now) }
+{
+    for span in spans.spans() {
+        records.push(InlineRecord { level, span: *span })?;
+    }
+    Ok(())
+}
+
+// Appends the records of inlined calls.
+fn push_all(text: &mut String, inlines: &[InlineRecord]) -> Result<(), AllocError>
+    ensures { OnOk result (string_bytes text.new ≡ string_bytes text.old ++ flat_map inline_line inlines.now) }
+{
+    for inline_record in inlines {
+        push_record(text, inline_record)?;
+    }
+    Ok(())
+}
+
 // Appends the record of an inlined call.
-fn push_record(text: &mut String, inline_record: &InlineRecord) -> Result<(), AllocError> {
+#[tactic(auto, unfolding(crate::specs::FunctionTexts::inline_line))]
+fn push_record(text: &mut String, inline_record: &InlineRecord) -> Result<(), AllocError>
+    ensures { OnOk result (string_bytes text.new ≡ string_bytes text.old ++ inline_line inline_record.now) }
+{
     let InlineRecord { level, span } = inline_record;
     let InlinedCall {
         place: Place { file, line },
         origin,
     } = span.content;
     let start = span.start;
-    let size = span.size();
+    let size = size_between(start, span.last);
     write!(
         text,
         "INLINE {level} {line} {file} {origin} {start:x} {size:x}\n"

@@ -16,6 +16,7 @@ mod module_records;
 mod name_text;
 mod numbered_code;
 mod numbers;
+mod pieces;
 mod symbol_file;
 
 pub use faults::SymbolFileFault;

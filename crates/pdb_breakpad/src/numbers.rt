@@ -4,6 +4,7 @@ ghost use Rattle.std.specs.Prelude.{◌≡◌, ◌++◌, ℕ, List, [], ◌∷�
 ghost use Rattle.std.specs.Prelude.{string_bytes, if◌then◌else◌};
 ghost use Rattle.std.specs.BTreeMap.{get_by_text};
 ghost use Rattle.std.specs.Str.{bytes_eq};
+ghost use Rattle.pdb_breakpad.specs.NameRecords.{keyword, name_record, name_records};
 ghost use Rattle.pdb_breakpad.specs.Numbers.{KeepsNames};
 
 use crate::name_text::push_name;
@@ -13,17 +14,19 @@ use std::marker::Model;
 
 /// What names are of.
 #[derive(Clone, Copy)]
-enum NameKind {
+pub(crate) enum NameKind {
     File,
     InlineOrigin,
 }
 
 impl NameKind {
     /// What the record of such a name begins with.
-    fn keyword(self) -> &'static str {
+    fn keyword(self) -> &'static str
+        ensures { result.now ≡ keyword self }
+    {
         match self {
-            NameKind::File => "FILE",
-            NameKind::InlineOrigin => "INLINE_ORIGIN",
+            NameKind::File => "FILE ",
+            NameKind::InlineOrigin => "INLINE_ORIGIN ",
         }
     }
 }
@@ -31,7 +34,6 @@ impl NameKind {
 /// Names with their numbers.
 #[derive(Drop)]
 pub(crate) struct NumberedNames {
-    kind: NameKind,
     numbers: BTreeMap<String, usize>,
     /// By their numbers.
     names: Vec<String>,
@@ -84,11 +86,10 @@ fn push_copy(names: &mut Vec<String>, name: &str) -> Result<usize, AllocError>
 }
 
 impl NumberedNames {
-    fn new(alloc: Global, kind: NameKind) -> NumberedNames
+    fn new(alloc: Global) -> NumberedNames
         ensures { result ≡ [] }
     {
         NumberedNames {
-            kind,
             numbers: BTreeMap::new(alloc),
             names: Vec::new(alloc),
         }
@@ -117,14 +118,39 @@ impl NumberedNames {
         Ok(number)
     }
 
+    /// How many names have numbers.
+    pub(crate) fn len(&self) -> usize
+        ensures { result ≡ length self.now }
+    {
+        self.names.len()
+    }
+
     /// Appends a record of each name, by their numbers.
-    pub(crate) fn push_records(&self, text: &mut String) -> Result<(), AllocError> {
+    pub(crate) fn push_records(&self, text: &mut String, kind: NameKind) -> Result<(), AllocError>
+        ensures { OnOk result (string_bytes text.new
+            ≡ string_bytes text.old ++ name_records (keyword kind) 0 self.now) }
+    {
         for (number, name) in self.names.iter().enumerate() {
-            write!(text, "{} {number} ", self.kind.keyword())?;
-            push_name(text, name.as_str())?;
+            push_record(text, kind, number, name.as_str())?;
         }
         Ok(())
     }
+}
+
+// Appends the record of a name.
+#[tactic(auto, unfolding(crate::specs::NameRecords::name_record))]
+fn push_record(
+    text: &mut String,
+    kind: NameKind,
+    number: usize,
+    name: &str,
+) -> Result<(), AllocError>
+    ensures { OnOk result (string_bytes text.new
+        ≡ string_bytes text.old ++ name_record (keyword kind) number name.now) }
+{
+    text.push_str(kind.keyword())?;
+    write!(text, "{number} ")?;
+    push_name(text, name)
 }
 
 /// The numbers of a symbol file.
@@ -138,8 +164,8 @@ pub(crate) struct Numbers {
 impl Numbers {
     pub(crate) fn new(alloc: Global) -> Numbers {
         Numbers {
-            files: NumberedNames::new(alloc, NameKind::File),
-            origins: NumberedNames::new(alloc, NameKind::InlineOrigin),
+            files: NumberedNames::new(alloc),
+            origins: NumberedNames::new(alloc),
         }
     }
 }

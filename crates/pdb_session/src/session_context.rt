@@ -1,6 +1,6 @@
 //! Answers over what was read of a file, each as over all of its records.
 
-ghost use Rattle.std.specs.Prelude.{◌≡◌, Err, Ok, IfOk, OnOk, false, true};
+ghost use Rattle.std.specs.Prelude.{◌≡◌, Err, Ok, IfNone, IfOk, IfSome, OnOk, false, true};
 ghost use Rattle.pdb_errors.specs.Outcomes.{Gives, Refuses};
 ghost use Rattle.pdb_records.specs.Records.{Records};
 ghost use Rattle.pdb_addr2line.specs.ContextData.{context_of, records_refusal};
@@ -14,6 +14,7 @@ ghost use Rattle.pdb_session.specs.Session.{LeavesFailed, needs};
 use crate::code_owners::CodeOwners;
 use pdb_addr2line::{Context, ContextPdbData, Error, Function, FunctionFrames, TypeFormatterFlags};
 use pdb_known::KnownRecords;
+use pdb_records::PDB;
 use std::alloc::Global;
 use std::marker::Model;
 
@@ -105,6 +106,20 @@ impl<'s> SessionData<'s> {
     {
         let known = self.known;
         known.all
+    }
+
+    // The records, once all were read.
+    pub(crate) fn all_records(&self) -> Option<&PDB>
+        ensures records { IfSome result (λ records. records.now ≡ self.now.records) }
+        ensures all { IfSome result (λ _. self.now.all ≡ true) }
+        ensures not_read { IfNone result (self.now.all ≡ false) }
+    {
+        let known = self.known;
+        if known.all {
+            Some(&known.records)
+        } else {
+            None
+        }
     }
 
     /// A context over what was read, whose names are printed with these flags.

@@ -1,13 +1,23 @@
-//! Answers that depend on all records of a file: where functions start, and lists of calls.
+//! Answers that depend on all records of a file: the records themselves, where functions start, and lists of calls.
 
-ghost use Rattle.std.specs.Prelude.{◌≡◌, Err, false, true};
+ghost use Rattle.std.specs.Prelude.{◌≡◌, Err, IfNone, IfSome, false, true};
 ghost use Rattle.pdb_session.specs.Session.{EndsCalls, GivesNextStart, GivesStarts};
 ghost use Rattle.pdb_session.specs.declared.session_context.QuestionFault.TheVariants.{NotRead};
 
 use crate::session_context::{QuestionFault, SessionContext};
 use pdb_addr2line::{Answer, Call};
+use pdb_records::PDB;
 
 impl<'a> SessionContext<'a, '_> {
+    /// The records, once all were read.
+    pub fn all_records(&self) -> Option<&PDB>
+        ensures records { IfSome result (λ records. records.now ≡ self.now.known.records) }
+        ensures all { IfSome result (λ _. self.now.known.all ≡ true) }
+        ensures not_read { IfNone result (self.now.known.all ≡ false) }
+    {
+        self.part.all_records()
+    }
+
     /// Where functions start, ascending and each once, once all records were read.
     ///
     /// # Errors

@@ -1,1 +1,10 @@
+mod AnswerExamples
+mod AnswerTextLemmas
+mod AppendLemmas
 mod FaultLemmas
+mod FindingLemmas
+mod FoundTextLemmas
+mod JsonLemmas
+mod NameLemmas
+mod PlaceLemmas
+mod WriteLemmas

@@ -1,3 +1,9 @@
+pub mod Findings
+pub mod FrameTexts
 pub mod HarmlessNames
+pub mod JsonObjects
 pub mod JsonTexts
+pub mod RequestAnswers
 pub mod Requests
+pub mod WantedModules
+pub mod Writes

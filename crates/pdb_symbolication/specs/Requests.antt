@@ -2,7 +2,6 @@
 use Rattle.std.specs.Prelude.{ℕ, ◌<◌, All, vec_len}
 use Rattle.pdb_symbolication.specs.declared.requests.FrameModule.{FrameModule}
 use Rattle.pdb_symbolication.specs.declared.requests.FrameModule.TheVariants.{Unknown, At}
-use Rattle.pdb_symbolication.specs.declared.requests.StackFrame.{StackFrame}
 use Rattle.pdb_symbolication.specs.declared.requests.Stack.{Stack}
 use Rattle.pdb_symbolication.specs.declared.requests.Job.{Job}
 

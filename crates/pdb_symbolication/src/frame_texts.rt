@@ -1,6 +1,14 @@
 //! What an answer says of the addresses of a module: function, file, line and inlined calls, as members of an object.
 
-use crate::json_text::write_quoted;
+ghost use Rattle.std.specs.Prelude.{◌≡◌, [], ◌∷◌, ◌++◌, ◌-◌, map};
+ghost use Rattle.std.specs.Prelude.{string_bytes, slice_get, unwrap_or, IfOk, OnErr, OnOk};
+ghost use Rattle.std.specs.Option.{option_copied};
+ghost use Rattle.pdb_symbolication.specs.FrameTexts.{frame_text, function_members, inlined_call, inlines_member};
+ghost use Rattle.pdb_symbolication.specs.FrameTexts.{line_member, location_members, place_members, text_member};
+ghost use Rattle.pdb_symbolication.specs.FrameTexts.{texts_of};
+ghost use Rattle.pdb_symbolication.specs.JsonObjects.{later, separated};
+
+use crate::json_text::{without_first_comma, write_comma, write_hexadecimal, write_quoted};
 use std::alloc::{AllocError, Global};
 
 /// A function, and where in it the address is; what isn't known is `None`.
@@ -23,97 +31,139 @@ pub struct FoundFunction<'f> {
 /// The texts at offsets of one module, in the order in which they were added.
 #[derive(Drop)]
 pub struct FrameTexts {
-    text: String,
-    /// Where each text ends.
-    ends: Vec<usize>,
+    texts: Vec<String>,
 }
 
 impl FrameTexts {
-    pub fn new(alloc: Global) -> FrameTexts {
+    pub fn new(alloc: Global) -> FrameTexts
+        ensures state { texts_of result ≡ [] }
+    {
         FrameTexts {
-            text: String::new(alloc),
-            ends: Vec::new(alloc),
+            texts: Vec::new(alloc),
         }
     }
 
     /// Adds the text at the next offset, of what was found there.
-    pub fn add(
-        &mut self,
-        offset: u32,
-        found: Option<&FoundFunction<'_>>,
-    ) -> Result<(), AllocError> {
-        if let Some(found) = found {
-            push_found(&mut self.text, offset, found)?;
-        }
-        self.ends.push(self.text.len())?;
+    pub fn add(&mut self, offset: u32, found: Option<&FoundFunction<'_>>) -> Result<(), AllocError>
+        ensures state { OnOk result (texts_of self.new
+            ≡ texts_of self.old ++ frame_text offset (option_copied found.entry) ∷ []) }
+        ensures unchanged_if_refused { OnErr result (texts_of self.new ≡ texts_of self.old) }
+    {
+        let text = text_of(*self.texts.allocator(), offset, found)?;
+        self.texts.push(text)?;
         Ok(())
     }
 
-    /// The text that was added as the one of this number.
-    pub(crate) fn get(&self, number: usize) -> &str {
-        let Some(&end) = self.ends.get(number) else {
-            return "";
-        };
-        let start = match number.checked_sub(1) {
-            Some(before) => self.ends.get(before).copied().unwrap_or(0),
-            None => 0,
-        };
-        self.text.as_str().get(start..end).unwrap_or("")
+    /// The text that was added as the one of this number, or nothing where there is none.
+    pub(crate) fn get(&self, number: usize) -> &str
+        ensures answer { result.now ≡ unwrap_or (slice_get (texts_of self.now) number) [] }
+    {
+        match self.texts.get(number) {
+            Some(text) => text.as_str(),
+            None => "",
+        }
     }
 }
 
+// The text at an offset, of what was found there.
+fn text_of(
+    alloc: Global,
+    offset: u32,
+    found: Option<&FoundFunction<'_>>,
+) -> Result<String, AllocError>
+    ensures { IfOk result (λ text. string_bytes text ≡ frame_text offset (option_copied found.entry)) }
+{
+    let mut text = String::new(alloc);
+    if let Some(found) = found {
+        push_found(&mut text, offset, found)?;
+    }
+    Ok(text)
+}
+
 // Appends the members of what was found, a comma before each.
-fn push_found(text: &mut String, offset: u32, found: &FoundFunction<'_>) -> Result<(), AllocError> {
+fn push_found(text: &mut String, offset: u32, found: &FoundFunction<'_>) -> Result<(), AllocError>
+    ensures { OnOk result (string_bytes text.new ≡ string_bytes text.old
+        ++ later (place_members (offset - found.now.start) found.now.places.items)) }
+{
     let Some((own, inlined)) = found.places.split_last() else {
         return Ok(());
     };
-    if let Some(name) = own.function {
-        push_text(text, "function", name)?;
-        let within = offset.saturating_sub(found.start);
-        write!(text, ",\"function_offset\":\"0x{within:x}\"")?;
-    }
+    push_function(text, own.function, offset.saturating_sub(found.start))?;
     push_location(text, own)?;
     push_inlines(text, inlined)
 }
 
-fn push_inlines(text: &mut String, inlined: &[Place<'_>]) -> Result<(), AllocError> {
-    if inlined.is_empty() {
+// Appends the name of a function, and how many bytes after its start the address is.
+fn push_function(text: &mut String, name: Option<&str>, within: u32) -> Result<(), AllocError>
+    ensures { OnOk result (string_bytes text.new
+        ≡ string_bytes text.old ++ later (function_members name.entry within)) }
+{
+    let Some(known) = name else {
+        return Ok(());
+    };
+    push_text(text, "function", Some(known))?;
+    text.push_str(",\"function_offset\":")?;
+    write_hexadecimal(text, u64::from(within))
+}
+
+fn push_inlines(text: &mut String, calls: &[Place<'_>]) -> Result<(), AllocError>
+    ensures { OnOk result (string_bytes text.new ≡ string_bytes text.old ++ later (inlines_member calls.now)) }
+{
+    if calls.is_empty() {
         return Ok(());
     }
     text.push_str(",\"inlines\":[")?;
-    for (number, place) in inlined.iter().enumerate() {
-        if number > 0 {
-            text.push(',')?;
-        }
-        push_inline(text, place)?;
-    }
+    push_calls(text, calls)?;
     text.push(']')
 }
 
-// Appends an object of an inlined call.
-fn push_inline(text: &mut String, place: &Place<'_>) -> Result<(), AllocError> {
-    let mut members = String::new(*text.allocator());
-    if let Some(name) = place.function {
-        push_text(&mut members, "function", name)?;
+// Appends inlined calls, with a comma between two.
+fn push_calls(text: &mut String, calls: &[Place<'_>]) -> Result<(), AllocError>
+    ensures { OnOk result (string_bytes text.new
+        ≡ string_bytes text.old ++ separated (map inlined_call calls.now)) }
+{
+    for (number, call) in calls.iter().enumerate() {
+        write_comma(text, number == 0)?;
+        push_call(text, call)?;
     }
-    push_location(&mut members, place)?;
+    Ok(())
+}
+
+// Appends an object of an inlined call.
+fn push_call(text: &mut String, call: &Place<'_>) -> Result<(), AllocError>
+    ensures { OnOk result (string_bytes text.new ≡ string_bytes text.old ++ inlined_call call.now) }
+{
+    let mut members = String::new(*text.allocator());
+    push_text(&mut members, "function", call.function)?;
+    push_location(&mut members, call)?;
     text.push('{')?;
-    text.push_str(members.as_str().get(1..).unwrap_or(""))?;
+    text.push_str(without_first_comma(members.as_str()))?;
     text.push('}')
 }
 
-fn push_location(text: &mut String, place: &Place<'_>) -> Result<(), AllocError> {
-    if let Some(file) = place.file {
-        push_text(text, "file", file)?;
-    }
-    match place.line {
+fn push_location(text: &mut String, place: &Place<'_>) -> Result<(), AllocError>
+    ensures { OnOk result (string_bytes text.new ≡ string_bytes text.old ++ later (location_members place.now)) }
+{
+    push_text(text, "file", place.file)?;
+    push_line(text, place.line)
+}
+
+fn push_line(text: &mut String, line: Option<u32>) -> Result<(), AllocError>
+    ensures { OnOk result (string_bytes text.new ≡ string_bytes text.old ++ later (line_member line)) }
+{
+    match line {
         Some(line) => write!(text, ",\"line\":{line}"),
         None => Ok(()),
     }
 }
 
-// Appends a member whose value is a text, with a comma before it.
-fn push_text(text: &mut String, name: &str, value: &str) -> Result<(), AllocError> {
+// Appends a member whose value is a text, with a comma before it, where the text is known.
+fn push_text(text: &mut String, name: &str, value: Option<&str>) -> Result<(), AllocError>
+    ensures { OnOk result (string_bytes text.new ≡ string_bytes text.old ++ later (text_member name.now value.entry)) }
+{
+    let Some(value) = value else {
+        return Ok(());
+    };
     write!(text, ",\"{name}\":")?;
     write_quoted(text, value)
 }

@@ -1,6 +1,7 @@
 //! Texts in quotation marks, as JSON writes them.
 
-ghost use Rattle.std.specs.Prelude.{◌≡◌, ◌++◌, string_bytes, OnOk};
+ghost use Rattle.std.specs.Prelude.{◌≡◌, ℕ, List, ◌++◌, string_bytes, OnOk};
+ghost use Rattle.pdb_symbolication.specs.JsonObjects.{comma_before, hexadecimal, later, separated};
 ghost use Rattle.pdb_symbolication.specs.JsonTexts.{control_character, quoted, quoted_character};
 
 use std::alloc::AllocError;
@@ -34,4 +35,31 @@ fn write_control(out: &mut String, character: u32) -> Result<(), AllocError>
     ensures { OnOk result (string_bytes out.new ≡ string_bytes out.old ++ control_character character) }
 {
     write!(out, "\\u00{:x}{:x}", character / 16, character % 16)
+}
+
+/// Appends a number in hexadecimal digits after `0x`, as a text.
+pub(crate) fn write_hexadecimal(out: &mut String, number: u64) -> Result<(), AllocError>
+    ensures { OnOk result (string_bytes out.new ≡ string_bytes out.old ++ hexadecimal number) }
+{
+    write!(out, "\"0x{number:x}\"")
+}
+
+/// Appends the comma before a value, unless it is the first.
+pub(crate) fn write_comma(out: &mut String, first: bool) -> Result<(), AllocError>
+    ensures { OnOk result (string_bytes out.new ≡ string_bytes out.old ++ comma_before first) }
+{
+    if first {
+        return Ok(());
+    }
+    out.push(',')
+}
+
+/// Values that follow others, without the comma before the first.
+pub(crate) fn without_first_comma(values: &str) -> &str
+    ensures { (each : List (List ℕ)) → values.now ≡ later each → result.now ≡ separated each }
+{
+    match values.strip_prefix(',') {
+        Some(rest) => rest,
+        None => "",
+    }
 }

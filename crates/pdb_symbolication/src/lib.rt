@@ -6,13 +6,16 @@
 //! modules can be files of a folder.
 #![tactic(auto)]
 
+mod findings;
 mod frame_texts;
 mod harmless_names;
 mod json_text;
+mod named_modules;
 mod request_answers;
 mod request_reader;
 mod requests;
 mod wanted_modules;
+mod whole_writes;
 
 pub use frame_texts::{FoundFunction, FrameTexts, Place};
 pub use harmless_names::is_harmless_name;

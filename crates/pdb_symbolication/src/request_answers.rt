@@ -1,11 +1,22 @@
 //! Writes the answer to a request: for each job its stacks, and which of its modules were found.
 
+ghost use Rattle.std.specs.Prelude.{◌≡◌, ◌==◌, ◌++◌, map, slice_get, string_bytes, OnOk, IfOk};
+ghost use Rattle.pdb_symbolication.specs.Findings.{search_of};
+ghost use Rattle.pdb_symbolication.specs.FrameTexts.{texts_of};
+ghost use Rattle.pdb_symbolication.specs.JsonObjects.{comma_before, separated};
+ghost use Rattle.pdb_symbolication.specs.RequestAnswers.{answer_text, error_text, frame_object, frame_objects};
+ghost use Rattle.pdb_symbolication.specs.RequestAnswers.{job_answer, job_answers, job_searches, known_text};
+ghost use Rattle.pdb_symbolication.specs.RequestAnswers.{module_name, module_text, searched_by, searched_job};
+ghost use Rattle.pdb_symbolication.specs.RequestAnswers.{searched_text, stack_array, stacks_end, text_at};
+ghost use Rattle.pdb_symbolication.specs.Writes.{Writes};
+
+use crate::findings::push_found_modules;
 use crate::frame_texts::FrameTexts;
-use crate::json_text::write_quoted;
+use crate::json_text::{self, write_hexadecimal, write_quoted};
 use crate::requests::{FrameModule, Job, Request, Stack, StackFrame};
 use crate::wanted_modules::{Search, WantedModule, WantedModules};
+use crate::whole_writes::{write_comma, write_whole};
 use std::alloc::{AllocError, Global};
-use std::collections::BTreeMap;
 use std::io;
 
 /// The name of a module that isn't known.
@@ -17,32 +28,44 @@ const UNKNOWN: &str = "<unknown>";
 ///
 /// # Errors
 ///
-/// That memory ran out, or that the writer refused a part of the text, of which the parts before it are written.
+/// That memory ran out, or that the writer refused a part of the text. A beginning of the text is written then.
 pub fn write_answer<W: io::Write>(
     alloc: Global,
     out: &mut W,
     request: &Request,
     wanted: &WantedModules,
     found: &[Option<FrameTexts>],
-) -> io::Result<()> {
-    out.write_all(b"{\"results\":[")?;
-    for (number, job) in request.jobs.iter().enumerate() {
-        if number > 0 {
-            out.write_all(b",")?;
-        }
-        let answer = JobAnswer {
-            job,
-            searches: searches_of(wanted, number),
-            modules: &wanted.modules,
-            found,
-        };
-        answer.write(alloc, out)?;
-    }
-    out.write_all(b"]}\n")?;
+) -> io::Result<()>
+    ensures answer { Writes (W.contents out.old) (W.contents out.new) result
+        (answer_text request.now wanted.now found.now) }
+{
+    write_whole(out, b"{\"results\":[")?;
+    write_jobs(alloc, out, request, wanted, found)?;
+    write_whole(out, b"]}\n")?;
     out.flush()
 }
 
-fn searches_of(wanted: &WantedModules, job: usize) -> &[Search] {
+// Writes the answers to the jobs, with a comma between two.
+fn write_jobs<W: io::Write>(
+    alloc: Global,
+    out: &mut W,
+    request: &Request,
+    wanted: &WantedModules,
+    found: &[Option<FrameTexts>],
+) -> io::Result<()>
+    ensures { Writes (W.contents out.old) (W.contents out.new) result
+        (separated (job_answers wanted.now found.now 0 request.now.jobs.items)) }
+{
+    for (number, job) in request.jobs.iter().enumerate() {
+        write_comma(out, number == 0)?;
+        JobAnswer::of(job, number, wanted, found).write(alloc, out)?;
+    }
+    Ok(())
+}
+
+fn searches_of(wanted: &WantedModules, job: usize) -> &[Search]
+    ensures { result.now ≡ job_searches wanted.now job }
+{
     match wanted.searches.get(job) {
         Some(searches) => searches,
         None => &[],
@@ -50,29 +73,13 @@ fn searches_of(wanted: &WantedModules, job: usize) -> &[Search] {
 }
 
 /// The line that answers what is no request: an object with what is wrong, in words.
-pub fn error_line(alloc: Global, why: &str) -> Result<String, AllocError> {
+pub fn error_line(alloc: Global, why: &str) -> Result<String, AllocError>
+    ensures answer { IfOk result (λ line. string_bytes line ≡ error_text why.now) }
+{
     let mut line = String::from_str(alloc, "{\"error\":")?;
     write_quoted(&mut line, why)?;
     line.push_str("}\n")?;
     Ok(line)
-}
-
-/// Whether a module was found. Of several entries with one key the greatest stands.
-#[derive(Clone, Copy, PartialEq, Eq, PartialOrd, Ord)]
-enum Finding {
-    NotAsked,
-    NotFound,
-    Found,
-}
-
-impl Finding {
-    fn json(self) -> &'static str {
-        match self {
-            Finding::NotAsked => "null",
-            Finding::NotFound => "false",
-            Finding::Found => "true",
-        }
-    }
 }
 
 /// What the answer to a job is made of.
@@ -87,19 +94,55 @@ struct JobAnswer<'a> {
 }
 
 impl<'a> JobAnswer<'a> {
-    fn write<W: io::Write>(self, alloc: Global, out: &mut W) -> io::Result<()> {
-        out.write_all(b"{\"stacks\":[")?;
+    // Of the job with this number in its request.
+    fn of(
+        job: &'a Job,
+        number: usize,
+        wanted: &'a WantedModules,
+        found: &'a [Option<FrameTexts>],
+    ) -> JobAnswer<'a>
+        ensures searched { searched_by result ≡ searched_job wanted.now found.now number job.now }
+        ensures job { result.job.now ≡ job.now }
+    {
+        JobAnswer {
+            job,
+            searches: searches_of(wanted, number),
+            modules: &wanted.modules,
+            found,
+        }
+    }
+
+    fn write<W: io::Write>(self, alloc: Global, out: &mut W) -> io::Result<()>
+        ensures { Writes (W.contents out.old) (W.contents out.new) result
+            (job_answer (searched_by self.entry) self.entry.job.now.stacks.items) }
+    {
+        write_whole(out, b"{\"stacks\":[")?;
+        self.write_stacks(alloc, out)?;
+        let end = self.end(alloc)?;
+        write_whole(out, end.as_bytes())
+    }
+
+    // What follows the stacks.
+    fn end(self, alloc: Global) -> Result<String, AllocError>
+        ensures { IfOk result (λ end. string_bytes end ≡ stacks_end (searched_by self.entry)) }
+    {
+        let mut end = String::from_str(alloc, "],\"found_modules\":")?;
+        push_found_modules(&mut end, &self.job.memory_map, self.searches, self.found)?;
+        end.push('}')?;
+        Ok(end)
+    }
+
+    // Writes the stacks, with a comma between two.
+    fn write_stacks<W: io::Write>(self, alloc: Global, out: &mut W) -> io::Result<()>
+        ensures { Writes (W.contents out.old) (W.contents out.new) result
+            (separated (map (stack_array (searched_by self.entry)) self.entry.job.now.stacks.items)) }
+    {
         let mut text = String::new(alloc);
         for (number, stack) in self.job.stacks.iter().enumerate() {
-            if number > 0 {
-                out.write_all(b",")?;
-            }
+            write_comma(out, number == 0)?;
             self.write_stack(out, &mut text, stack)?;
         }
-        let mut end = String::from_str(alloc, "],\"found_modules\":{")?;
-        self.push_findings(&mut end)?;
-        end.push_str("}}")?;
-        out.write_all(end.as_bytes())
+        Ok(())
     }
 
     // Writes a stack, each frame by a text that is made anew.
@@ -108,34 +151,68 @@ impl<'a> JobAnswer<'a> {
         out: &mut W,
         text: &mut String,
         stack: &Stack,
-    ) -> io::Result<()> {
-        out.write_all(b"[")?;
-        for (number, &frame) in stack.frames.iter().enumerate() {
-            text.clear();
-            if number > 0 {
-                text.push(',')?;
-            }
-            self.push_frame(text, number, frame)?;
-            out.write_all(text.as_bytes())?;
-        }
-        out.write_all(b"]")
+    ) -> io::Result<()>
+        ensures { Writes (W.contents out.old) (W.contents out.new) result
+            (stack_array (searched_by self.entry) stack.now) }
+    {
+        write_whole(out, b"[")?;
+        self.write_frames(out, text, stack)?;
+        write_whole(out, b"]")
     }
 
+    fn write_frames<W: io::Write>(
+        self,
+        out: &mut W,
+        text: &mut String,
+        stack: &Stack,
+    ) -> io::Result<()>
+        ensures { Writes (W.contents out.old) (W.contents out.new) result
+            (separated (frame_objects (searched_by self.entry) 0 stack.now.frames.items)) }
+    {
+        for (number, &frame) in stack.frames.iter().enumerate() {
+            self.write_frame(out, text, number, frame)?;
+        }
+        Ok(())
+    }
+
+    // Writes a frame, with a comma before it unless it is the first.
+    fn write_frame<W: io::Write>(
+        self,
+        out: &mut W,
+        text: &mut String,
+        number: usize,
+        frame: StackFrame,
+    ) -> io::Result<()>
+        ensures { Writes (W.contents out.old) (W.contents out.new) result
+            (comma_before (number == 0) ++ frame_object (searched_by self.entry) number frame) }
+    {
+        text.clear();
+        json_text::write_comma(text, number == 0)?;
+        self.push_frame(text, number, frame)?;
+        write_whole(out, text.as_bytes())
+    }
+
+    // Appends a frame.
     fn push_frame(
         self,
         text: &mut String,
         number: usize,
         frame: StackFrame,
-    ) -> Result<(), AllocError> {
+    ) -> Result<(), AllocError>
+        ensures { OnOk result (string_bytes text.new
+            ≡ string_bytes text.old ++ frame_object (searched_by self.entry) number frame) }
+    {
         write!(text, "{{\"frame\":{number},\"module\":")?;
         write_quoted(text, self.module_name(frame))?;
-        let offset = frame.offset;
-        write!(text, ",\"module_offset\":\"0x{offset:x}\"")?;
+        text.push_str(",\"module_offset\":")?;
+        write_hexadecimal(text, frame.offset)?;
         text.push_str(self.frame_text(frame))?;
         text.push('}')
     }
 
-    fn module_name(self, frame: StackFrame) -> &'a str {
+    fn module_name(self, frame: StackFrame) -> &'a str
+        ensures { result.now ≡ module_name self.entry.job.now.memory_map.items frame.module }
+    {
         if let FrameModule::At(index) = frame.module
             && let Some(entry) = self.job.memory_map.get(index)
         {
@@ -145,52 +222,43 @@ impl<'a> JobAnswer<'a> {
     }
 
     // What was found at a frame, or nothing.
-    fn frame_text(self, frame: StackFrame) -> &'a str {
-        if let FrameModule::At(index) = frame.module
-            && let Some(&Search::Module(position)) = self.searches.get(index)
-            && let Some(module) = self.modules.get(position)
+    fn frame_text(self, frame: StackFrame) -> &'a str
+        ensures { result.now ≡ known_text (searched_by self.entry) frame.module frame.offset }
+    {
+        match frame.module {
+            FrameModule::At(index) => self.searched_text(index, frame.offset),
+            FrameModule::Unknown => "",
+        }
+    }
+
+    fn searched_text(self, index: usize, offset: u64) -> &'a str
+        ensures { result.now ≡ searched_text (searched_by self.entry) (search_of self.entry.searches.now index) offset }
+    {
+        match self.searches.get(index) {
+            Some(&Search::Module(position)) => self.module_text(position, offset),
+            _ => "",
+        }
+    }
+
+    // What was found at an offset of the module at this position.
+    fn module_text(self, position: usize, offset: u64) -> &'a str
+        ensures { result.now ≡ module_text (slice_get self.entry.modules.now position)
+            (slice_get self.entry.found.now position) offset }
+    {
+        if let Some(module) = self.modules.get(position)
             && let Some(Some(texts)) = self.found.get(position)
-            && let Ok(offset) = u32::try_from(frame.offset)
-            && let Ok(number) = module.offsets.binary_search(&offset)
         {
-            return texts.get(number);
+            return text_at(module, texts, offset);
         }
         ""
     }
+}
 
-    // Appends which modules were found, by their keys in order.
-    fn push_findings(self, text: &mut String) -> Result<(), AllocError> {
-        let findings = self.findings(*text.allocator())?;
-        for (number, (key, finding)) in findings.iter().enumerate() {
-            if number > 0 {
-                text.push(',')?;
-            }
-            write_quoted(text, key.as_str())?;
-            text.push(':')?;
-            text.push_str(finding.json())?;
-        }
-        Ok(())
-    }
-
-    fn findings(self, alloc: Global) -> Result<BTreeMap<String, Finding>, AllocError> {
-        let mut findings = BTreeMap::new(alloc);
-        for (index, entry) in self.job.memory_map.iter().enumerate() {
-            let key = format!(in alloc; "{}/{}", entry.name, entry.debug_id)?;
-            let before = findings.get(&key).copied().unwrap_or(Finding::NotAsked);
-            findings.insert(key, before.max(self.finding_of(index)))?;
-        }
-        Ok(findings)
-    }
-
-    // Whether the module of the entry at this index was found.
-    fn finding_of(self, index: usize) -> Finding {
-        match self.searches.get(index) {
-            None | Some(Search::NotAsked) => Finding::NotAsked,
-            Some(Search::Impossible) => Finding::NotFound,
-            Some(&Search::Module(position)) => match self.found.get(position) {
-                Some(Some(_)) => Finding::Found,
-                _ => Finding::NotFound,
-            },
-        }
+fn text_at<'a>(wanted: &WantedModule, texts: &'a FrameTexts, offset: u64) -> &'a str
+    ensures { result.now ≡ text_at wanted.now.offsets.items (texts_of texts.now) offset }
+{
+    match wanted.number_of(offset) {
+        Some(number) => texts.get(number),
+        None => "",
     }
 }

@@ -1,13 +1,10 @@
-//! The modules that the frames of a request name, each once, with the offsets at which they ask for it.
+//! Modules that the frames of a request name, each once, with the offsets at which they ask for it.
 
-ghost use Rattle.std.specs.Prelude.{IsTrue, string_bytes};
+ghost use Rattle.std.specs.List.Sorted.{IsStrictlyIncreasing};
+ghost use Rattle.std.specs.Prelude.{◌≡◌, ◌==◌, position, IsTrue, string_bytes};
 ghost use Rattle.pdb_symbolication.specs.HarmlessNames.{is_harmless};
 
-use crate::harmless_names::is_harmless_name;
-use crate::requests::{FrameModule, Job, MemoryMapEntry, Request, StackFrame};
 use pdb_identity::DebugId;
-use std::alloc::{AllocError, Global};
-use std::collections::BTreeMap;
 
 /// A module that frames of a request name. Its name leads from a folder to a file in it, and to nothing else.
 #[derive(Drop)]
@@ -18,6 +15,50 @@ pub struct WantedModule {
     /// left out, since no module has them.
     pub offsets: Vec<u32>,
     pub ghost harmless: { IsTrue (is_harmless (string_bytes name)) },
+    pub ghost ascending: { IsStrictlyIncreasing offsets.items },
+}
+
+impl WantedModule {
+    // Which of the offsets this is, if it is one.
+    pub(crate) fn number_of(&self, offset: u64) -> Option<usize>
+        ensures { result ≡ position (λ at. at == offset) self.now.offsets.items }
+    {
+        number_in(&self.offsets, offset)
+    }
+}
+
+// Which of ascending offsets this is, if it is one.
+fn number_in(offsets: &[u32], offset: u64) -> Option<usize>
+    requires { IsStrictlyIncreasing offsets.now }
+    ensures { result ≡ position (λ at. at == offset) offsets.now }
+{
+    match u32::try_from(offset) {
+        Ok(offset) => offsets.binary_search(&offset).ok(),
+        Err(_) => None,
+    }
+}
+
+/// A module that frames name. Its name leads from a folder to a file in it, and to nothing else.
+#[derive(Drop)]
+pub(crate) struct NamedModule {
+    pub name: String,
+    pub debug_id: DebugId,
+    pub ghost harmless: { IsTrue (is_harmless (string_bytes name)) },
+}
+
+impl NamedModule {
+    // The module with the offsets at which frames ask for it, which then ascend and stand there once.
+    pub(crate) fn wanted(self, mut offsets: Vec<u32>) -> WantedModule
+        ensures { result.name ≡ self.name }
+    {
+        offsets.sort_unstable();
+        offsets.dedup();
+        WantedModule {
+            name: self.name,
+            debug_id: self.debug_id,
+            offsets,
+        }
+    }
 }
 
 /// What the frames of a job ask for of an entry of its memory map.
@@ -37,112 +78,4 @@ pub struct WantedModules {
     pub modules: Vec<WantedModule>,
     /// Of each job, for each entry of its memory map.
     pub(crate) searches: Vec<Vec<Search>>,
-}
-
-impl WantedModules {
-    /// The modules of a request. Entries of the same name and debug id, of whatever job, are one module.
-    pub fn of(alloc: Global, request: &Request) -> Result<WantedModules, AllocError> {
-        let mut collector = Collector {
-            alloc,
-            modules: Vec::new(alloc),
-            positions: BTreeMap::new(alloc),
-        };
-        let mut searches = Vec::new(alloc);
-        for job in &request.jobs {
-            searches.push(collector.add_job(job)?)?;
-        }
-        Ok(WantedModules {
-            modules: collector.finish(),
-            searches,
-        })
-    }
-}
-
-/// The modules of the frames that were gone through.
-#[derive(Drop)]
-struct Collector {
-    alloc: Global,
-    modules: Vec<WantedModule>,
-    /// The positions of the modules, by their names with their debug ids.
-    positions: BTreeMap<String, usize>,
-}
-
-impl Collector {
-    // Adds the frames of a job, and answers what they ask for of each entry of its memory map.
-    fn add_job(&mut self, job: &Job) -> Result<Vec<Search>, AllocError> {
-        let mut searches = vec![in self.alloc; Search::NotAsked; job.memory_map.len()]?;
-        for stack in &job.stacks {
-            for &frame in &stack.frames {
-                self.add_frame(job, &mut searches, frame)?;
-            }
-        }
-        Ok(searches)
-    }
-
-    fn add_frame(
-        &mut self,
-        job: &Job,
-        searches: &mut [Search],
-        frame: StackFrame,
-    ) -> Result<(), AllocError> {
-        let FrameModule::At(index) = frame.module else {
-            return Ok(());
-        };
-        let (Some(entry), Some(search)) = (job.memory_map.get(index), searches.get_mut(index))
-        else {
-            return Ok(());
-        };
-        if let Search::NotAsked = *search {
-            *search = self.search_for(entry)?;
-        }
-        match *search {
-            Search::Module(position) => self.add_offset(position, frame.offset),
-            _ => Ok(()),
-        }
-    }
-
-    // The search for an entry that a frame names.
-    fn search_for(&mut self, entry: &MemoryMapEntry) -> Result<Search, AllocError> {
-        let name = entry.name.as_str();
-        match DebugId::parse(entry.debug_id.as_str()) {
-            Some(debug_id) if is_harmless_name(name) => self.module_of(name, debug_id),
-            _ => Ok(Search::Impossible),
-        }
-    }
-
-    // The module of this name and debug id, which is added where it isn't there.
-    fn module_of(&mut self, name: &str, debug_id: DebugId) -> Result<Search, AllocError>
-        requires harmless { IsTrue (is_harmless name.now) }
-    {
-        let key = format!(in self.alloc; "{name}/{}", debug_id.compact())?;
-        if let Some(&position) = self.positions.get(&key) {
-            return Ok(Search::Module(position));
-        }
-        let position = self.modules.len();
-        self.positions.insert(key, position)?;
-        self.modules.push(WantedModule {
-            name: String::from_str(self.alloc, name)?,
-            debug_id,
-            offsets: Vec::new(self.alloc),
-        })?;
-        Ok(Search::Module(position))
-    }
-
-    fn add_offset(&mut self, position: usize, offset: u64) -> Result<(), AllocError> {
-        if let Some(module) = self.modules.get_mut(position)
-            && let Ok(offset) = u32::try_from(offset)
-        {
-            module.offsets.push(offset)?;
-        }
-        Ok(())
-    }
-
-    // The modules, whose offsets ascend and stand there once.
-    fn finish(mut self) -> Vec<WantedModule> {
-        for module in &mut self.modules {
-            module.offsets.sort_unstable();
-            module.offsets.dedup();
-        }
-        self.modules
-    }
 }

@@ -83,6 +83,9 @@ pub enum Stop {
     /// Something that an answer depends on was not read of the file.
     #[error("not all of the file was read")]
     NotRead,
+    /// The same question was answered otherwise than before.
+    #[error("the answers changed while they were written")]
+    AnswersChanged,
     /// Standard input could not be read.
     #[error("cannot read standard input")]
     CannotReadInput,
@@ -190,6 +193,7 @@ impl From<SymbolFileFault> for Stop {
         match fault {
             SymbolFileFault::Refused(error) => Stop::Refused(error),
             SymbolFileFault::NotRead => Stop::NotRead,
+            SymbolFileFault::AnswersChanged => Stop::AnswersChanged,
             SymbolFileFault::CannotWrite => Stop::CannotWrite,
             SymbolFileFault::ClosedPipe => Stop::ClosedPipe,
         }

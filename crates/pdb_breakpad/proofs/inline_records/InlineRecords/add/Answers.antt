@@ -3,10 +3,11 @@ use Rattle.pdb_breakpad.proofs.InlineRecordLemmas.{calls_at_all_levels, calls_of
 use Rattle.pdb_breakpad.proofs.inline_records.InlineRecords.add.Goals as goal
 
 pub returns-clause-answer : goal.returns-clause-answer
-returns-clause-answer c =
-    calls_of_levels c.args.address c.loop-level.self c.args.calls.now
-    (calls_at_all_levels c.args.address c.loop-level.level c.args.self.now c.loop-level.self c.args.calls.now
-    c.loop-level-test.false c.loop-level.invariant.1 c.loop-level.invariant.2 c.requires.order)
+returns-clause-answer c = λ a from to.
+    calls_of_levels a c.loop-level.self c.args.calls.now
+    (calls_at_all_levels a c.args.piece.first c.loop-level.level c.args.self.now c.loop-level.self c.args.calls.now
+    from c.loop-level-test.false (λ level. c.loop-level.invariant.1 a level from to) c.loop-level.invariant.2
+    c.requires.order)
 
 pub returns-clause-unchanged : goal.returns-clause-unchanged
 returns-clause-unchanged c = λ a below.

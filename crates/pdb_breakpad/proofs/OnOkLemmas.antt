@@ -1,0 +1,9 @@
+-- What holds where a call succeeded.
+use Rattle.std.proofs.Common.{Result, Ok, Err}
+use Rattle.std.specs.Prelude.{OnOk}
+
+-- what two facts give, where they hold
+pub both_on_ok : {E : Type 0} {P Q R : Type 0} (result : Result (Unit {0}) E) → OnOk result P → OnOk result Q
+    → (P → Q → R) → OnOk result R
+both_on_ok (Ok done) p q gives = gives p q
+both_on_ok (Err fault) p q gives = tt

@@ -1,0 +1,18 @@
+-- The pieces of a program: runs of addresses over which the same is answered.
+use Rattle.std.specs.Prelude.{◌≡◌, ◌≤◌, ◌<◌, ◌+◌, ◌^◌, ℕ, List, Option, Some, slice_get, slice_index_or}
+use Rattle.std.specs.List.Sorted.{IsStrictlyIncreasing}
+use Rattle.pdb_frames.specs.Frame.{FramesInfo}
+
+-- the first address behind the piece at a position: where the next one begins, or behind all addresses of 32 bits
+abbrev pub piece_end : List ℕ → ℕ → ℕ
+piece_end points position = slice_index_or points (position + 1) (2 ^ 32)
+
+-- all addresses of 32 bits are in pieces, each of which begins at one of these points, and the answer at the first
+-- address of a piece is the answer at each of its addresses
+pub record ArePieces {S : Type 0} (answers : S → ℕ → Option FramesInfo → Type 0) (source : S) (points : List ℕ)
+    : Type 0 where
+  pub from_zero : slice_get points 0 ≡ Some 0
+  pub ascend : IsStrictlyIncreasing points
+  pub same : (position first address : ℕ) (answer : Option FramesInfo) → slice_get points position ≡ Some first
+      → first ≤ address → address < piece_end points position → address < 2 ^ 32
+      → answers source first answer → answers source address answer

@@ -1,0 +1,13 @@
+pub mod ListLemmas
+pub mod SectionLemmas
+pub mod AddressLemmas
+pub mod FunctionLemmas
+pub mod FoundLemmas
+pub mod OriginLemmas
+pub mod ModuleLemmas
+pub mod MemberLemmas
+pub mod FrameLemmas
+pub mod LawLemmas
+pub mod PieceLemmas
+pub mod ContextLemmas
+pub mod Examples

@@ -1,0 +1,4 @@
+pub mod Points
+pub mod ModulePoints
+pub mod Members
+pub mod ChangePoints

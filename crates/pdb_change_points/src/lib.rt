@@ -1,0 +1,25 @@
+//! The addresses at which frames may change.
+//!
+//! [`change_points`] lists the change points of a program's records: 0, and the addresses at which sections,
+//! contributions, functions, line rows and inline ranges start and end. They divide the addresses into pieces: each
+//! piece goes from one change point up to the next. What lies over an address and its frames are the same at all
+//! addresses of a piece, so a caller that walks over all code asks once per piece, and not once per byte:
+//!
+//! ```
+//! let points = change_points(alloc, &records)?;
+//! for point in &points {
+//!     let found = context.find_frames(*point)?;
+//!     // the same frames at each address below the next change point
+//! }
+//! ```
+//!
+//! The function of [`change_laws`] does nothing. Its contract is the law that frames change at change points alone.
+#![tactic(auto)]
+
+pub mod change_laws;
+mod members;
+mod module_points;
+mod points;
+mod program_points;
+
+pub use program_points::change_points;

@@ -1,0 +1,17 @@
+-- The searches of the jobs so far are for what their frames name, and lead to modules of these names.
+use Rattle.std.proofs.Common.{◌≡◌, ℕ, ◌<◌, [], vec_len, Some}
+use Rattle.std.specs.List.{slice_get}
+use Rattle.std.specs.Option.{option_map_or}
+use Rattle.pdb_symbolication.specs.WantedModules.{AsksFor, LeadToEntries, names_in}
+use Rattle.pdb_symbolication.specs.declared.requests.Job.{Job}
+use Rattle.pdb_symbolication.proofs.wanted_modules.WantedModules.of.Given as goal
+
+abbrev pub invariant-loop-job : goal.invariant-loop-job
+invariant-loop-job l = record {
+  count : vec_len l.searches ≡ l.job-index;
+  each : (number : ℕ) (job : Job) → number < l.job-index → slice_get l.request.jobs.items number ≡ Some job
+      → AsksFor job (option_map_or (λ searches. searches.items) (slice_get l.searches.items number) []);
+  led : (number : ℕ) (job : Job) → number < l.job-index → slice_get l.request.jobs.items number ≡ Some job
+      → LeadToEntries (names_in l.collector) job.memory_map.items
+      (option_map_or (λ searches. searches.items) (slice_get l.searches.items number) []);
+}

@@ -1,0 +1,235 @@
+//! Goes through the frames of a request, and collects the modules that they name.
+
+ghost use Rattle.std.specs.Prelude.{◌≡◌, ◌<◌, ◌||◌, ◌++◌, ◌∷◌, [], ℕ, true};
+ghost use Rattle.std.specs.Prelude.{length, vec_len, slice_get, IfOk, IfSome, IsTrue, OnOk, string_bytes};
+ghost use Rattle.std.specs.Option.{option_copied};
+ghost use Rattle.pdb_symbolication.specs.Findings.{search_of};
+ghost use Rattle.pdb_symbolication.specs.HarmlessNames.{is_harmless};
+ghost use Rattle.pdb_symbolication.specs.WantedModules.{AsksFor, AsksForEach, KeepsNames, LeadToEntries, LeadsTo};
+ghost use Rattle.pdb_symbolication.specs.WantedModules.{is_asked, is_entry, names_in, names_of, stack_names};
+
+use crate::harmless_names::is_harmless_name;
+use crate::requests::{FrameModule, Job, MemoryMapEntry, Request, Stack, StackFrame};
+use crate::wanted_modules::{NamedModule, Search, WantedModule, WantedModules};
+use pdb_identity::DebugId;
+use std::alloc::{AllocError, Global};
+use std::collections::BTreeMap;
+
+impl WantedModules {
+    /// The modules of a request. Entries of the same name and debug id, of whatever job, are one module.
+    pub fn of(alloc: Global, request: &Request) -> Result<WantedModules, AllocError>
+        ensures answer { IfOk result (AsksForEach request.now) }
+    {
+        let mut collector = Collector {
+            alloc,
+            modules: Vec::new(alloc),
+            offsets: Vec::new(alloc),
+            positions: BTreeMap::new(alloc),
+        };
+        let mut searches = Vec::new(alloc);
+        for job in &request.jobs {
+            searches.push(collector.add_job(job)?)?;
+        }
+        Ok(WantedModules {
+            modules: collector.finish()?,
+            searches,
+        })
+    }
+}
+
+/// The modules of the frames that were gone through.
+#[derive(Drop)]
+struct Collector {
+    alloc: Global,
+    modules: Vec<NamedModule>,
+    /// The offsets at which frames ask for each module.
+    offsets: Vec<Vec<u32>>,
+    /// The positions of the modules, by their names with their debug ids.
+    positions: BTreeMap<String, usize>,
+}
+
+impl Collector {
+    // Adds the frames of a job, and answers what they ask for of each entry of its memory map.
+    fn add_job(&mut self, job: &Job) -> Result<Vec<Search>, AllocError>
+        ensures led { IfOk result (λ searches.
+            LeadToEntries (names_in self.new) job.now.memory_map.items searches.items) }
+        ensures kept { OnOk result (KeepsNames (names_in self.old) (names_in self.new)) }
+        ensures asked { IfOk result (λ searches. AsksFor job.now searches.items) }
+    {
+        let mut searches = vec![in self.alloc; Search::NotAsked; job.memory_map.len()]?;
+        for stack in &job.stacks {
+            self.add_stack(job, &mut searches, stack)?;
+        }
+        Ok(searches)
+    }
+
+    fn add_stack(
+        &mut self,
+        job: &Job,
+        searches: &mut [Search],
+        stack: &Stack,
+    ) -> Result<(), AllocError>
+        requires count { length searches.old ≡ vec_len job.now.memory_map }
+        requires led { LeadToEntries (names_in self.old) job.now.memory_map.items searches.old }
+        ensures led { OnOk result (LeadToEntries (names_in self.new) job.now.memory_map.items searches.new) }
+        ensures kept { OnOk result (KeepsNames (names_in self.old) (names_in self.new)) }
+        ensures asked { OnOk result ((index : ℕ) → index < length searches.old → is_asked (search_of searches.new index)
+            ≡ (is_asked (search_of searches.old index) || stack_names index stack.now)) }
+    {
+        for &frame in &stack.frames {
+            self.add_frame(job, searches, frame)?;
+        }
+        Ok(())
+    }
+
+    fn add_frame(
+        &mut self,
+        job: &Job,
+        searches: &mut [Search],
+        frame: StackFrame,
+    ) -> Result<(), AllocError>
+        requires count { length searches.old ≡ vec_len job.now.memory_map }
+        requires led { LeadToEntries (names_in self.old) job.now.memory_map.items searches.old }
+        ensures led { OnOk result (LeadToEntries (names_in self.new) job.now.memory_map.items searches.new) }
+        ensures kept { OnOk result (KeepsNames (names_in self.old) (names_in self.new)) }
+        ensures asked { OnOk result ((index : ℕ) → index < length searches.old → is_asked (search_of searches.new index)
+            ≡ (is_asked (search_of searches.old index) || is_entry index frame.module)) }
+    {
+        let FrameModule::At(index) = frame.module else {
+            return Ok(());
+        };
+        let (Some(entry), Some(&before)) = (job.memory_map.get(index), searches.get(index)) else {
+            return Ok(());
+        };
+        let search = self.made_search(entry, before)?;
+        searches[index] = search;
+        match search {
+            Search::Module(position) => self.add_offset(position, frame.offset),
+            _ => Ok(()),
+        }
+    }
+
+    // The search for an entry that a frame names, which may be made already.
+    fn made_search(&mut self, entry: &MemoryMapEntry, before: Search) -> Result<Search, AllocError>
+        requires { LeadsTo (names_in self.old) (string_bytes entry.now.name) before }
+        ensures asked { IfOk result (λ search. is_asked search ≡ true) }
+        ensures led { IfOk result (LeadsTo (names_in self.new) (string_bytes entry.now.name)) }
+        ensures kept { OnOk result (KeepsNames (names_in self.old) (names_in self.new)) }
+    {
+        match before {
+            Search::NotAsked => self.search_for(entry),
+            _ => Ok(before),
+        }
+    }
+
+    // The search for an entry that a frame names.
+    fn search_for(&mut self, entry: &MemoryMapEntry) -> Result<Search, AllocError>
+        ensures asked { IfOk result (λ search. is_asked search ≡ true) }
+        ensures led { IfOk result (LeadsTo (names_in self.new) (string_bytes entry.now.name)) }
+        ensures kept { OnOk result (KeepsNames (names_in self.old) (names_in self.new)) }
+    {
+        let name = entry.name.as_str();
+        match DebugId::parse(entry.debug_id.as_str()) {
+            Some(debug_id) if is_harmless_name(name) => self.module_of(name, debug_id),
+            _ => Ok(Search::Impossible),
+        }
+    }
+
+    // The module of this name and debug id, which is added where it isn't there.
+    fn module_of(&mut self, name: &str, debug_id: DebugId) -> Result<Search, AllocError>
+        requires harmless { IsTrue (is_harmless name.now) }
+        ensures asked { IfOk result (λ search. is_asked search ≡ true) }
+        ensures led { IfOk result (LeadsTo (names_in self.new) name.now) }
+        ensures kept { OnOk result (KeepsNames (names_in self.old) (names_in self.new)) }
+    {
+        let key = key_of(self.alloc, name, debug_id)?;
+        let known = self.known_position(&key, name, &debug_id);
+        match known {
+            Some(position) => Ok(Search::Module(position)),
+            None => {
+                let position = self.add_module(name, debug_id)?;
+                self.positions.insert(key, position)?;
+                Ok(Search::Module(position))
+            }
+        }
+    }
+
+    // Where the module of this name and debug id is, by its key.
+    fn known_position(&self, key: &String, name: &str, debug_id: &DebugId) -> Option<usize>
+        ensures { IfSome result (λ position. slice_get (names_in self.now) position ≡ Some name.now) }
+    {
+        match self.positions.get(key) {
+            Some(&position) if self.is_at(position, name, debug_id) => Some(position),
+            _ => None,
+        }
+    }
+
+    fn is_at(&self, position: usize, name: &str, debug_id: &DebugId) -> bool
+        ensures { result ≡ true → slice_get (names_in self.now) position ≡ Some name.now }
+    {
+        match self.name_at(position) {
+            Some(known) if known == name => self.has_id(position, debug_id),
+            _ => false,
+        }
+    }
+
+    fn name_at(&self, position: usize) -> Option<&str>
+        ensures { option_copied result ≡ slice_get (names_in self.now) position }
+    {
+        match self.modules.get(position) {
+            Some(module) => Some(module.name.as_str()),
+            None => None,
+        }
+    }
+
+    fn has_id(&self, position: usize, debug_id: &DebugId) -> bool {
+        match self.modules.get(position) {
+            Some(module) => module.debug_id == *debug_id,
+            None => false,
+        }
+    }
+
+    // Adds a module, and answers its position.
+    fn add_module(&mut self, name: &str, debug_id: DebugId) -> Result<usize, AllocError>
+        requires harmless { IsTrue (is_harmless name.now) }
+        ensures added { OnOk result (names_in self.new ≡ names_in self.old ++ name.now ∷ []) }
+        ensures position { IfOk result (λ position. position ≡ length (names_in self.old)) }
+    {
+        let position = self.modules.len();
+        self.offsets.push(Vec::new(self.alloc))?;
+        self.modules.push(NamedModule {
+            name: String::from_str(self.alloc, name)?,
+            debug_id,
+        })?;
+        Ok(position)
+    }
+
+    fn add_offset(&mut self, position: usize, offset: u64) -> Result<(), AllocError>
+        ensures { names_in self.new ≡ names_in self.old }
+    {
+        if let Some(offsets) = self.offsets.get_mut(position)
+            && let Ok(offset) = u32::try_from(offset)
+        {
+            offsets.push(offset)?;
+        }
+        Ok(())
+    }
+
+    // The modules that are wanted.
+    fn finish(self) -> Result<Vec<WantedModule>, AllocError>
+        ensures { IfOk result (λ modules. names_of modules.items ≡ names_in self) }
+    {
+        let mut modules = Vec::new(self.alloc);
+        let mut offsets = self.offsets.into_iter();
+        for module in self.modules {
+            let asked = offsets.next().unwrap_or(Vec::new(self.alloc));
+            modules.push(module.wanted(asked))?;
+        }
+        Ok(modules)
+    }
+}
+
+// The text by which a module is found again.
+fn key_of(alloc: Global, name: &str, debug_id: DebugId) -> Result<String, AllocError> {
+    format!(in alloc; "{name}/{}", debug_id.compact())
+}
