@@ -1,5 +1,5 @@
 #!/usr/bin/env python3
-"""Runs the built programs over records files of each shape, and prints the tables of docs/PERFORMANCE.md.
+"""Runs the built programs over records files of each shape, and prints tables of bench/RESULTS.md.
 
     measure.py CRATES RUNS [SUBJECT ..]
 

@@ -1,12 +1,12 @@
 #!/usr/bin/env python3
-"""Times the built pdb_symbolizer beside llvm-symbolizer of LLVM 22 over a PDB file.
+"""Times the built pdb_symbolizer beside llvm-symbolizer of LLVM 22, over programs and their PDB files.
 
-Usage: symbolizer.py PROGRAM PDB EXE ADDRESSES RUNS
+Usage: symbolizer.py PROGRAM RUNS EXE..
 
-ADDRESSES is a file with an address a line, relative to where the program is loaded. Each program reads them from
-standard input, by turns, and each figure is the least of so many runs: the time of a whole run over the first address
-alone, that of a whole run over all, and the most memory that this one held. Behind llvm-symbolizer's figures stands how
-many times ours they are.
+The PDB file of app.exe is app.pdb beside it. Asked for are one address in the middle of the code, and then the start and
+the middle of each function, as `--dump-syms` lists them. Both programs read addresses from standard input, by turns.
+Each time is the least of so many runs, and each memory the most. Behind llvm-symbolizer's figures stands how many times
+ours they are. The table is one of bench/RESULTS.md, from which bench/plot.py draws.
 """
 import os
 import subprocess
@@ -14,52 +14,71 @@ import sys
 import tempfile
 import time
 
+from reading import functions
+
 MEGABYTE = 1_000_000
-KINDS = ["ms to the first answer", "ms for all", "MB"]
+HEADER = """\
+| PDB file | Addresses | | First answer | Memory | All addresses | Memory |
+|---|---|---|---|---|---|---|"""
 
 
 def commands(program, pdb, exe):
     """How each program is asked, by its name."""
-    return {"pdb_symbolizer": [program, pdb],
-            "llvm-symbolizer": ["llvm-symbolizer-22", f"--obj={exe}", "--relative-address"]}
+    return {"`pdb_symbolizer`": [program, pdb],
+            "`llvm-symbolizer`": ["llvm-symbolizer-22", f"--obj={exe}", "--relative-address"]}
 
 
 def run(words, path):
-    """The milliseconds of a run over a file of addresses, and the megabytes of memory that it held at most."""
+    """The seconds of a run over a file of addresses, and the megabytes of memory that it held at most."""
     with open(path) as addresses, open(os.devnull, "w") as out:
         start = time.perf_counter()
         process = subprocess.Popen(words, stdin=addresses, stdout=out)
         _, status, usage = os.wait4(process.pid, 0)
-        milliseconds = (time.perf_counter() - start) * 1000
+        seconds = time.perf_counter() - start
     process.returncode = os.waitstatus_to_exitcode(status)
     if process.returncode:
         sys.exit(f"{words[0]} ended with {process.returncode}")
-    return milliseconds, usage.ru_maxrss * 1024 / MEGABYTE
+    return seconds, usage.ru_maxrss * 1024 / MEGABYTE
 
 
-def figures(words, first, path):
-    """The figures of one turn of a program."""
-    return run(words, first)[0], *run(words, path)
+def figures(named, runs, paths):
+    """For each program the seconds and megabytes of each question."""
+    turns = [{name: [run(words, path) for path in paths] for name, words in named.items()} for _ in range(runs)]
+    return {name: [(min(turn[name][at][0] for turn in turns), max(turn[name][at][1] for turn in turns))
+                   for at in range(len(paths))] for name in named}
 
 
-def main(program, pdb, exe, path, runs):
-    with tempfile.TemporaryDirectory() as folder:
-        first = os.path.join(folder, "first")
-        with open(path) as addresses, open(first, "w") as out:
-            out.write(addresses.readline())
-        named = commands(program, pdb, exe)
-        turns = [{name: figures(words, first, path) for name, words in named.items()} for _ in range(runs)]
-    with open(path) as addresses:
-        count = sum(1 for _ in addresses)
-    print(f"{os.path.getsize(pdb) / MEGABYTE:.1f} MB, {count} addresses, the least of {runs} runs")
-    least = {name: [min(turn[name][kind] for turn in turns) for kind in range(len(KINDS))] for name in named}
-    ours = least["pdb_symbolizer"]
-    for name, found in least.items():
-        print(name, *(f"{figure:.0f} {kind} ({figure / our:.1f})" for figure, kind, our in zip(found, KINDS, ours)),
-              sep=" | ")
+def asked(folder, addresses):
+    """Files with the addresses of each question."""
+    paths = []
+    for name, some in (("first", addresses[len(addresses) // 2:][:1]), ("all", addresses)):
+        paths.append(os.path.join(folder, name))
+        with open(paths[-1], "w") as out:
+            out.writelines(f"0x{address:x}\n" for address in some)
+    return paths
+
+
+def cells(found, ours):
+    """A row's cells: each figure, and how many times ours it is."""
+    for (seconds, memory), (our_seconds, our_memory) in zip(found, ours):
+        yield f"{seconds * 1000:.0f} ms" + ("" if found is ours else f" ({seconds / our_seconds:.1f})")
+        yield f"{memory:.0f} MB" + ("" if found is ours else f" ({memory / our_memory:.1f})")
+
+
+def main(program, runs, *exes):
+    print(HEADER)
+    for exe in exes:
+        pdb = os.path.splitext(exe)[0] + ".pdb"
+        addresses = functions(program, pdb)
+        with tempfile.TemporaryDirectory() as folder:
+            found = figures(commands(program, pdb, exe), int(runs), asked(folder, addresses))
+        front = f"| {os.path.getsize(pdb) / MEGABYTE:.1f} MB | {len(addresses):,}"
+        for name, figure in found.items():
+            print(front, name, *cells(figure, found["`pdb_symbolizer`"]), sep=" | ", end=" |\n", flush=True)
+            front = "| | "
 
 
 if __name__ == "__main__":
-    if len(sys.argv) != 6:
+    if len(sys.argv) < 4:
         sys.exit(__doc__)
-    main(*sys.argv[1:5], int(sys.argv[5]))
+    main(*sys.argv[1:])

@@ -539,9 +539,7 @@ static inline int64_t limberlime_find(limberlime_find_call call, struct limberli
  *
  * Answers 0, also where no function lies over the address and frames->count is 0, or a number of
  * enum limberlime_refusal: LIMBERLIME_CLOSED_HANDLE, LIMBERLIME_ADDRESS_REFUSED, LIMBERLIME_RECORDS_REFUSED,
- * LIMBERLIME_OUT_OF_MEMORY or LIMBERLIME_NULL_POINTER. Of a PDB file the frames are those that pdb_symbolizer prints,
- * but for one thing: a function whose type can't be read has a null name here, where pdb_symbolizer prints its
- * symbol's.
+ * LIMBERLIME_OUT_OF_MEMORY or LIMBERLIME_NULL_POINTER. Of a PDB file the frames are those that pdb_symbolizer prints.
  */
 LIMBERLIME_FUNCTION int64_t limberlime_find_frames(struct limberlime_handle *handle, uint32_t address,
                                                    struct limberlime_function_frames *frames)

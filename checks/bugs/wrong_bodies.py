@@ -5,11 +5,11 @@ Usage: wrong_bodies.py [CRATE ..]     in the repository; needs `rt`. With no cra
        wrong_bodies.py --count        counts the wrong bodies of each crate, and those that the gate tries
 
 In a copy of the repository the edits in crates/CRATE/wrong-bodies take the place of those in must-fail, and
-`rt ci CRATE ..` tries them. Proofs of these crates and of those below that an earlier `rt ci` passed on this machine are
-kept, and so are answers to edits; what is missing is proved first. Each edit has a line: whether it was refused at an open goal, at a
-written answer that no longer fits, for a name that a proof file lost, or by a limit of the prover; or was proved; or
-can't be applied or compiled; or wasn't tried. Only the first of these says that the contract catches the wrong body.
-The script fails where an edit was proved, or couldn't be tried.
+`rt must-fail CRATE ..` tries them. Libraries that `rt check` or `rt lib` built in this repository are copied too; what is
+missing is proved first. Each edit has a line: whether it was refused at an open goal, at a written answer that no longer
+fits, for a name that a proof file lost, or by a limit of the prover; or was proved; or can't be applied or compiled; or
+wasn't tried. Only the first of these says that the contract catches the wrong body. The script fails if an edit was
+proved or couldn't be tried.
 """
 import collections
 import pathlib
@@ -55,7 +55,7 @@ def copy_with_wrong_bodies(room, names):
     """Copies the repository's crates to a folder, with the wrong bodies of some as their must-fail edits."""
     for name in ("crates.txt", "HANDLES"):
         shutil.copy(ROOT / name, room)
-    shutil.copytree(ROOT / "crates", room / "crates", ignore=shutil.ignore_patterns("out", "must-fail"))
+    shutil.copytree(ROOT / "crates", room / "crates", ignore=shutil.ignore_patterns("incremental", "must-fail"))
     for name in names:
         (room / "crates" / name / "wrong-bodies").rename(room / "crates" / name / "must-fail")
 
@@ -70,7 +70,7 @@ def try_all(names):
     counts = collections.Counter()
     with tempfile.TemporaryDirectory(prefix="wrong-bodies-") as room:
         copy_with_wrong_bodies(pathlib.Path(room), names)
-        run = subprocess.Popen(["rt", "ci", *names], cwd=room, stdout=subprocess.PIPE, stderr=subprocess.STDOUT,
+        run = subprocess.Popen(["rt", "must-fail", *names], cwd=room, stdout=subprocess.PIPE, stderr=subprocess.STDOUT,
                                text=True, errors="replace")
         for line in run.stdout:
             tried = TRIED.match(line)

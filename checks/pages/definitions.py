@@ -1,12 +1,12 @@
 #!/usr/bin/env python3
-"""Makes the lists of docs/DEFINITIONS.md of the comments in `specs`.
+"""Writes docs/DEFINITIONS.md with the lists of all definitions, from the comments in `specs`.
 
-Usage: definitions.py            looks whether the lists are those of the files, and says where they aren't
-       definitions.py --write    writes the lists into the page
+Usage: definitions.py         checks that each definition has a comment, and each crate with definitions a place in the page
+       definitions.py FILE    writes the page with the lists to FILE
 
-A comment stands right in front of each public definition and says it in a sentence. The page has a list for each crate
-between two marks, file by file in the order of `specs/Lib.antt`, with the first line of each file; what joins them is
-written by hand around these lists. The script fails where the page has other lists, or a definition has no comment.
+The comment right above a public definition says it in one sentence. A mark in the page, `<!-- definitions of CRATE -->`,
+says where the list of a crate belongs: file by file in the order of `specs/Lib.antt`, with the first line of each file.
+The script fails if a definition has no comment or a crate with definitions no mark.
 """
 import pathlib
 import re
@@ -16,7 +16,7 @@ from files import told
 
 ROOT = pathlib.Path(__file__).resolve().parents[2]
 PAGE = ROOT / "docs" / "DEFINITIONS.md"
-BEGIN, END = "<!-- definitions of {} -->", "<!-- end of definitions -->"
+PLACE = "<!-- definitions of {} -->"
 MARK = re.compile(r"<!-- definitions of (\w+) -->")
 
 
@@ -74,18 +74,17 @@ def made_list(crate, failures):
 
 
 def main(words):
-    page, failures, crates = PAGE.read_text(encoding="utf-8"), [], MARK.findall(PAGE.read_text(encoding="utf-8"))
-    made = page
+    page, failures = PAGE.read_text(encoding="utf-8"), []
+    made, crates = page, MARK.findall(page)
     for crate in crates:
-        head, rest = made.split(BEGIN.format(crate), 1)
-        made = head + BEGIN.format(crate) + "\n\n" + made_list(crate, failures) + "\n" + END + rest.split(END, 1)[1]
+        place = PLACE.format(crate)
+        made = made.replace(place, place + "\n\n" + made_list(crate, failures).rstrip("\n"))
     with_specs = {path.parent.name for path in (ROOT / "crates").glob("*/specs") if list(path.glob("[A-KM-Z]*.antt"))}
-    failures += [f"{crate}: no list in the page" for crate in sorted(with_specs - set(crates))]
-    if words == ["--write"]:
-        PAGE.write_text(made, encoding="utf-8")
-    elif made != page:
-        failures.append("docs/DEFINITIONS.md has other lists: definitions.py --write")
-    return told(failures, f"{made.count(chr(10) + '- `')} definitions of {len(crates)} crates")
+    failures += [f"{crate}: no place in the page" for crate in sorted(with_specs - set(crates))]
+    if words:
+        pathlib.Path(words[0]).write_text(made, encoding="utf-8")
+    listed = made.count("\n- `") - page.count("\n- `")
+    return told(failures, f"{listed} definitions of {len(crates)} crates")
 
 
 if __name__ == "__main__":

@@ -1,21 +1,28 @@
 #!/usr/bin/env python3
-"""Makes the list of files in docs/ARCHITECTURE.md of each file's first line.
+"""Makes docs/FILES.md, the list of all files of code, from each file's first line.
 
-Usage: files.py            looks whether the list is that of the files, and says where it isn't
-       files.py --write    writes the list into the page
+Usage: files.py            checks whether the page is up to date
+       files.py --write    writes the page
 
 The first line of each file in a crate's `src` is a comment, `//!` or `//`, with one whole sentence on what the file holds.
-The list stands between two marks in the page, a crate a paragraph, those that stand on others above them. The script
-fails where the page has another list, where a file has no such line, and where a crate has no row in the page's table.
+The page has a paragraph for each crate. Crates that depend on others come before them. The script fails if the page is
+out of date, if a file has no such line, or if a crate has no row in the table of docs/ARCHITECTURE.md.
 """
 import pathlib
 import re
 import sys
 
 ROOT = pathlib.Path(__file__).resolve().parents[2]
-PAGE = ROOT / "docs" / "ARCHITECTURE.md"
-BEGIN, END = "<!-- files: made by checks/pages/files.py -->", "<!-- end of files -->"
+PAGE, MAP = ROOT / "docs" / "FILES.md", ROOT / "docs" / "ARCHITECTURE.md"
+HEAD = """# Files
+
+What each file of code holds, by its first line. `checks/pages/files.py --write` makes this page. Crates that depend on
+others come before them. [ARCHITECTURE.md](ARCHITECTURE.md) says what each crate is for.
+
+"""
 FIRST_LINE = re.compile(r"//!? (\S.*\.)")
+# A link to an item, which only the pages of `rt doc` can follow.
+ITEM_LINK = re.compile(r"\[([^]]+)\]\(crate::[^)]*\)")
 
 
 def crates():
@@ -44,7 +51,7 @@ def subject(path):
     """What a file's first line says of it, or None."""
     first = path.read_text(encoding="utf-8").split("\n", 1)[0]
     matched = FIRST_LINE.fullmatch(first)
-    return matched and matched.group(1)
+    return matched and ITEM_LINK.sub(r"\1", matched.group(1))
 
 
 def paragraph(name):
@@ -64,15 +71,13 @@ def main(words):
         lines, without = paragraph(name)
         listed += lines
         failures += [f"{path}: the first line doesn't say what the file holds" for path in without]
-    page = PAGE.read_text(encoding="utf-8")
-    head, rest = page.split(BEGIN, 1)
-    tail = rest.split(END, 1)[1]
-    made = head + BEGIN + "\n\n" + "\n".join(listed) + END + tail
-    failures += [f"{name}: no row in the table of crates" for name in found if f"| `{name}` |" not in head + tail]
+    made = HEAD + "\n".join(listed)
+    table = MAP.read_text(encoding="utf-8")
+    failures += [f"{name}: no row in the table of crates" for name in found if f"| `{name}` |" not in table]
     if words == ["--write"]:
         PAGE.write_text(made, encoding="utf-8")
-    elif made != page:
-        failures.append("docs/ARCHITECTURE.md has another list of files: files.py --write")
+    elif not PAGE.exists() or made != PAGE.read_text(encoding="utf-8"):
+        failures.append("docs/FILES.md is out of date: files.py --write")
     return told(failures, f"{sum(line.startswith('- ') for line in listed)} files")
 
 

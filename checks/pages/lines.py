@@ -3,8 +3,8 @@
 
 Usage: lines.py COUNT SEED [--places]
 
-Lines of `src` are drawn from all crates but those of tests, each with the three lines around it. With the list of files
-in docs/ARCHITECTURE.md alone a reader should place most of them. `--places` prints where they stand, to compare.
+Lines of `src` are drawn from all crates but those of tests, each with the three lines around it. With
+docs/ARCHITECTURE.md and docs/FILES.md alone a reader should place most of them. `--places` prints where they stand, to compare.
 """
 import pathlib
 import random
