@@ -9,6 +9,7 @@ pub mod NameRecords
 pub mod NumberedCode
 pub mod Numbers
 pub mod Pieces
+pub mod RecordTypes
 pub mod SessionAnswers
 pub mod ShownFrames
 pub mod SymbolFile

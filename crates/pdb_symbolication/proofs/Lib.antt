@@ -7,4 +7,4 @@ mod FoundTextLemmas
 mod JsonLemmas
 mod NameLemmas
 mod PlaceLemmas
-mod WriteLemmas
+pub mod WriteLemmas

@@ -24,3 +24,4 @@ pub use pdb_json_values::RecordFault;
 pub use request_answers::{error_line, write_answer};
 pub use requests::{FrameModule, Job, MemoryMapEntry, Request, Stack, StackFrame};
 pub use wanted_modules::{WantedModule, WantedModules};
+pub use whole_writes::write_whole;

@@ -11,7 +11,7 @@ use std::io;
 /// # Errors
 ///
 /// The writer's, after which a beginning of the bytes is written.
-pub(crate) fn write_whole<W: io::Write>(out: &mut W, bytes: &[u8]) -> io::Result<()>
+pub fn write_whole<W: io::Write>(out: &mut W, bytes: &[u8]) -> io::Result<()>
     ensures { Writes (W.contents out.old) (W.contents out.new) result bytes.now }
 {
     let mut rest = bytes;

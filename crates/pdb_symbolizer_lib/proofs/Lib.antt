@@ -1,1 +1,11 @@
+pub mod AnswerLemmas
+pub mod AnsweredTextLemmas
+pub mod FileAnswerLemmas
+pub mod LineAnswerLemmas
+pub mod LineLemmas
+pub mod PassLemmas
+pub mod PublicNameLemmas
+pub mod ReadLemmas
 pub mod RefusalLemmas
+pub mod RunLemmas
+pub mod WordAnswerLemmas

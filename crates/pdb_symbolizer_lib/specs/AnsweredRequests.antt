@@ -1,23 +1,33 @@
--- What is printed for a text that asks for an address, over a session.
-use Rattle.std.specs.Prelude.{◌≡◌, ℕ, false, List, Option, Some, None, Result, Ok, Err}
+-- What is printed for a text that asks for an address, by the frames that are right there.
+use Rattle.std.specs.Prelude.{◌≡◌, ℕ, ◌+◌, Bool, false, List, Option, Some, None, option_map, Result, Ok, Err}
+use Rattle.std.specs.Option.{option_map_or}
 use Rattle.pdb_records.specs.Records.{Records}
 use Rattle.pdb_errors.specs.declared.error.Error.{Error}
+use Rattle.pdb_types.specs.declared.flags.TypeFormatterFlags.{TypeFormatterFlags}
 use Rattle.pdb_frames.specs.Frame.{FramesInfo}
+use Rattle.pdb_msf.specs.StreamMap.{IfFile}
+use Rattle.pdb_container.specs.Records.{records_of}
+use Rattle.pdb_repairs.specs.Repaired.{repaired}
 use Rattle.pdb_addr2line.specs.ContextData.{context_of}
 use Rattle.pdb_addr2line.specs.ContextInputs.{ContextInputs}
-use Rattle.pdb_addr2line.specs.NamedFunctions.{named_frames_answered}
-use Rattle.pdb_known.specs.Known.{IsPartOf, infos_of}
-use Rattle.pdb_session.specs.Session.{ContextOverPart, needs, over}
+use Rattle.pdb_addr2line.specs.Lookups.{frames_at}
+use Rattle.pdb_addr2line.specs.NamedFunctions.{named_answer, symbol_name_at}
+use Rattle.pdb_known.specs.Known.{IsPartOf, Known, infos_of}
+use Rattle.pdb_session.specs.Session.{SessionFile, needs}
 use Rattle.pdb_answer_printer.specs.Answers.{answer_text, unknown_text}
 use Rattle.pdb_answer_printer.specs.FrameNames.{shown_frames}
 use Rattle.pdb_answer_printer.specs.RequestLines.{request_of}
 use Rattle.pdb_answer_printer.specs.Requests.{Question, Target, AtAddress}
 use Rattle.pdb_answer_printer.specs.declared.printer_options.Digits.{Digits}
-use Rattle.pdb_answer_printer.specs.declared.printer_options.PrinterOptions.{PrinterOptions}
+use Rattle.pdb_answer_printer.specs.declared.printer_options.NameStyle.{NameStyle}
+use Rattle.pdb_answer_printer.specs.declared.printer_options.NameStyle.TheVariants.{Short}
 use Rattle.pdb_answer_printer.specs.declared.requests.Sort.{Sort}
 use Rattle.pdb_answer_printer.specs.declared.requests.Sort.TheVariants.{Code}
+use Rattle.pdb_symbolizer_lib.specs.Origins.{relative}
+use Rattle.pdb_symbolizer_lib.specs.PublicNames.{public_named}
 use Rattle.pdb_symbolizer_lib.specs.declared.options.FileNaming.{FileNaming}
 use Rattle.pdb_symbolizer_lib.specs.declared.options.FileNaming.TheVariants as naming
+use Rattle.pdb_symbolizer_lib.specs.declared.questions.Questions.{Questions}
 
 -- the file of requests that name none, where each line doesn't name its own
 abbrev pub file_by : FileNaming → List ℕ → Option (List ℕ)
@@ -28,39 +38,91 @@ file_by named file = Some file
 abbrev pub question_in : FileNaming → Digits → List ℕ → List ℕ → Question
 question_in named digits file text = request_of text (file_by named file) digits
 
+-- what a text asks for, as these questions are asked
+abbrev pub question_by : Questions → List ℕ → Question
+question_by questions text =
+    question_in questions.options.now.naming questions.options.now.digits questions.file.now text
+
+-- the address of code that is asked for, relative to where the program is loaded, where it can lie in the program
+abbrev pub code_address : Sort → Target → (ℕ → Option ℕ) → Option ℕ
+code_address Code (AtAddress given) relative = relative given
+code_address sort target relative = None
+
+-- the same by the text that asks
+abbrev pub asked_address : Questions → List ℕ → Option ℕ
+asked_address questions text =
+    let question = question_by questions text in
+    code_address question.sort question.target (relative questions.origin)
+
+-- something is still to be read for the answer of a text
+abbrev pub asks_more : Known → Questions → List ℕ → Bool
+asks_more known questions text = option_map_or (needs known) (asked_address questions text) false
+
+-- by which flags names are printed: by the usual ones, and short ones without arguments too
+abbrev pub flags_of : NameStyle → TypeFormatterFlags
+flags_of Short = record { 0 = 23 + 32 }
+flags_of names = record { 0 = 23 }
+
 -- frames that are answered, and none where they are refused
 abbrev pub frames_or_none : Result (Option FramesInfo) Error → Option FramesInfo
 frames_or_none (Ok found) = found
 frames_or_none (Err error) = None
 
--- the frames at an address, relative to where the program is loaded, are those over all records of the file, where
--- nothing is still to be read for them
-abbrev pub AreFramesAt : ContextOverPart → ℕ → Option FramesInfo → Type 0
-AreFramesAt context address found =
-    needs context.known address ≡ false → (whole : Records) (inputs : ContextInputs Records)
-    → IsPartOf context.known whole → context_of context.flags whole ≡ Ok inputs
-    → found ≡ frames_or_none (named_frames_answered infos_of (over context.state inputs) address)
+-- the frames at an address by a plain scan of records, whose function goes by its symbol's name where it has no other;
+-- none where they are refused
+abbrev pub scanned_frames : ContextInputs Records → ℕ → Option FramesInfo
+scanned_frames inputs address =
+    frames_or_none (named_answer (symbol_name_at infos_of inputs address) (frames_at infos_of inputs address))
 
--- the same of an address that may lie outside of every program
-abbrev pub AreFrames : ContextOverPart → Option ℕ → Option FramesInfo → Type 0
-AreFrames context None found = found ≡ None
-AreFrames context (Some address) found = AreFramesAt context address found
+-- the frames at an address, relative to where the program is loaded, are those over all records of which a part was
+-- read
+abbrev pub AreFramesOver : Known → TypeFormatterFlags → ℕ → Option FramesInfo → Type 0
+AreFramesOver known flags address found =
+    (whole : Records) (inputs : ContextInputs Records) → IsPartOf known whole → context_of flags whole ≡ Ok inputs
+    → found ≡ scanned_frames inputs address
 
--- a text is the answer of an address of code: the frames there, each with some lines of its source file
-pub record IsAnswer (options : PrinterOptions) (question : Question) (context : ContextOverPart)
+-- the same where nothing is still to be read for them
+abbrev pub AreFramesAt : Known → TypeFormatterFlags → ℕ → Option FramesInfo → Type 0
+AreFramesAt known flags address found = needs known address ≡ false → AreFramesOver known flags address found
+
+-- the frames at an address are those over all records of a session's file, without what is broken in them, where its
+-- source says the bytes of the file
+abbrev pub AreFramesOfFile : SessionFile → TypeFormatterFlags → ℕ → Option FramesInfo → Type 0
+AreFramesOfFile session flags address found = IfFile session.bytes session.file_length (λ file.
+    (whole : Records) (inputs : ContextInputs Records) → records_of file ≡ Ok whole
+    → context_of flags (repaired whole) ≡ Ok inputs → found ≡ scanned_frames inputs address)
+
+-- frames are right at an address that may lie outside of every program: there are none there
+abbrev pub AreFrames : (ℕ → Option FramesInfo → Type 0) → Option ℕ → Option FramesInfo → Type 0
+AreFrames right None found = found ≡ None
+AreFrames right (Some address) found = right address found
+
+-- frames are those that are right at an address, where functions go by their public names as far as these are known
+abbrev pub AreNamedFrames : Questions → (ℕ → Option FramesInfo → Type 0) → Option ℕ → Option FramesInfo → Type 0
+AreNamedFrames questions right address named = (found : Option FramesInfo)
+    × ((named ≡ option_map (public_named questions.names.now) found) × AreFrames right address found)
+
+-- a text is the answer of an address of code: the frames that are right there, each with some lines of its source file
+pub record IsAnswer (questions : Questions) (question : Question) (right : ℕ → Option FramesInfo → Type 0)
     (address : Option ℕ) (text : List ℕ) : Type 0 where
-  pub found : Option FramesInfo
+  pub named : Option FramesInfo
   pub sources : List (List ℕ)
-  pub is : text ≡ answer_text options question (shown_frames options found) sources
-  pub frames : AreFrames context address found
+  pub is : text ≡ answer_text questions.options.now.printer question
+      (shown_frames questions.options.now.printer named) sources
+  pub frames : AreNamedFrames questions right address named
 
 -- a text is the answer of a request: of code at an address the frames there, and else that nothing is known
-abbrev pub IsAnswerBy : Sort → Target → PrinterOptions → (ℕ → Option ℕ) → Question → ContextOverPart → List ℕ → Type 0
-IsAnswerBy Code (AtAddress given) options relative question context text =
-    IsAnswer options question context (relative given) text
-IsAnswerBy sort target options relative question context text = text ≡ unknown_text options question
+abbrev pub IsAnswerBy : Sort → Target → Questions → Question → (ℕ → Option FramesInfo → Type 0) → List ℕ → Type 0
+IsAnswerBy Code (AtAddress given) questions question right text =
+    IsAnswer questions question right (relative questions.origin given) text
+IsAnswerBy sort target questions question right text =
+    text ≡ unknown_text questions.options.now.printer question
 
 -- the same by what is asked for and where
-abbrev pub AnswersQuestion : PrinterOptions → (ℕ → Option ℕ) → Question → ContextOverPart → List ℕ → Type 0
-AnswersQuestion options relative question context text =
-    IsAnswerBy question.sort question.target options relative question context text
+abbrev pub AnswersQuestion : Questions → (ℕ → Option FramesInfo → Type 0) → Question → List ℕ → Type 0
+AnswersQuestion questions right question text =
+    IsAnswerBy question.sort question.target questions question right text
+
+-- the same by the text that asks
+abbrev pub AnswersText : Questions → (ℕ → Option FramesInfo → Type 0) → List ℕ → List ℕ → Type 0
+AnswersText questions right asked text = AnswersQuestion questions right (question_by questions asked) text

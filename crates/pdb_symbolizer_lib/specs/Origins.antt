@@ -1,6 +1,19 @@
 -- What is taken from addresses, so that they are relative to where a program is loaded.
 use Rattle.std.specs.Prelude.{ℕ, ◌+◌, ◌-◌, ◌%◌, ◌^◌, Option, Some, None, unwrap_or, nat_lt, if◌then◌else◌}
 use Rattle.pdb_symbolizer_lib.specs.declared.addresses.Origin.{Origin}
+use Rattle.pdb_symbolizer_lib.specs.declared.options.Base.{Base}
+use Rattle.pdb_symbolizer_lib.specs.declared.options.Base.TheVariants.{Preferred, Relative, At}
+use Rattle.pdb_symbolizer_lib.specs.declared.options.Options.{Options}
+
+-- where a program is loaded that wants to be loaded at this address
+abbrev pub loaded_at : Base → Option ℕ → Option ℕ
+loaded_at Preferred preferred = preferred
+loaded_at Relative preferred = Some 0
+loaded_at (At address) preferred = Some address
+
+-- what is taken from the addresses of a program that wants to be loaded at this address
+abbrev pub origin_of : Options → Option ℕ → Origin
+origin_of options preferred = record { base = loaded_at options.base preferred; adjust = options.adjust }
 
 -- an address of 64 bits less another one, where addresses start again behind the last
 abbrev pub less : ℕ → ℕ → ℕ

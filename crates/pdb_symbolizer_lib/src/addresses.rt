@@ -1,7 +1,7 @@
 //! What addresses are relative to where a program is loaded.
 
 ghost use Rattle.std.specs.Prelude.{◌≡◌};
-ghost use Rattle.pdb_symbolizer_lib.specs.Origins.{relative};
+ghost use Rattle.pdb_symbolizer_lib.specs.Origins.{loaded_at, relative};
 
 use crate::options::Base;
 
@@ -15,7 +15,10 @@ pub struct Origin {
 
 impl Origin {
     /// The origin for a file, which wants to be loaded at this address if it is a program.
-    pub fn new(base: Base, preferred: Option<u64>, adjust: u64) -> Origin {
+    pub fn new(base: Base, preferred: Option<u64>, adjust: u64) -> Origin
+        ensures base { result.base ≡ loaded_at base preferred }
+        ensures adjust { result.adjust ≡ adjust }
+    {
         let base = match base {
             Base::Preferred => preferred,
             Base::Relative => Some(0),

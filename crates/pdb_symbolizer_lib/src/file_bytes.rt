@@ -18,9 +18,9 @@ pub enum FileBytes<F> {
 }
 
 impl<F: Read + Seek + Drop> Source for FileBytes<F> {
-    ghost use Rattle.std.specs.Prelude.{None};
+    ghost use Rattle.pdb_symbolizer_lib.specs.FileContents.{known_bytes};
 
-    ghost bytes = { λ bytes. None };
+    ghost bytes = { known_bytes };
 
     ghost refuses_from = { λ bytes. 0 };
 

@@ -1,13 +1,15 @@
 //! The answer of one request: the frames of an address of code, or that nothing is known.
 
-ghost use Rattle.std.specs.Prelude.{◌≡◌, ℕ, List, [], IfOk, string_bytes};
+ghost use Rattle.std.specs.Prelude.{◌≡◌, ℕ, List, IfOk, option_map, string_bytes};
 ghost use Rattle.pdb_answer_printer.specs.Answers.{answer_text, unknown_text};
 ghost use Rattle.pdb_answer_printer.specs.FrameNames.{shown_frames};
 ghost use Rattle.pdb_answer_printer.specs.Requests.{question_of};
-ghost use Rattle.pdb_symbolizer_lib.specs.AnsweredRequests.{AnswersQuestion, AreFrames, AreFramesAt, question_in};
+ghost use Rattle.pdb_symbolizer_lib.specs.AnsweredRequests.{AnswersQuestion, AnswersText, AreFramesAt, AreNamedFrames};
 ghost use Rattle.pdb_symbolizer_lib.specs.Origins.{relative};
+ghost use Rattle.pdb_symbolizer_lib.specs.PublicNames.{public_named};
 
 use crate::options::Options;
+use crate::public_names::PublicNames;
 use crate::questions::Questions;
 use crate::run_state::RunState;
 use crate::stops::Stop;
@@ -27,10 +29,10 @@ pub fn request_text<R: Files + Eprint + AllocGlobal>(
     state: &mut RunState,
     given: &str,
 ) -> Result<String, Stop>
-    ensures text { questions.now.names.now.places.items ≡ [] → IfOk result (λ text.
-        AnswersQuestion questions.now.options.now.printer (relative questions.now.origin)
-        (question_in questions.now.options.now.naming questions.now.options.now.digits questions.now.file.now
-        given.now) context.old (string_bytes text)) }
+    ensures text { IfOk result (λ text. AnswersText questions.now
+        (AreFramesAt context.old.known context.old.flags) given.now (string_bytes text)) }
+    ensures known { context.new.known ≡ context.old.known }
+    ensures flags { context.new.flags ≡ context.old.flags }
 {
     let request = questions.request(given);
     answer_request(rt, questions, context, state, &request, given)
@@ -45,9 +47,10 @@ fn answer_request<R: Files + Eprint + AllocGlobal>(
     request: &Request<'_>,
     given: &str,
 ) -> Result<String, Stop>
-    ensures text { questions.now.names.now.places.items ≡ [] → IfOk result (λ text.
-        AnswersQuestion questions.now.options.now.printer (relative questions.now.origin) (question_of request.now)
-        context.old (string_bytes text)) }
+    ensures text { IfOk result (λ text. AnswersQuestion questions.now
+        (AreFramesAt context.old.known context.old.flags) (question_of request.now) (string_bytes text)) }
+    ensures known { context.new.known ≡ context.old.known }
+    ensures flags { context.new.flags ≡ context.old.flags }
 {
     match (request.sort, request.place) {
         (Sort::Code, Place::Address(address)) => {
@@ -133,21 +136,33 @@ fn frames_at<'a, R: Eprint + AllocGlobal>(
     state: &mut RunState,
     given: u64,
 ) -> Result<Option<FunctionFrames<'a>>, Error>
-    ensures { questions.now.names.now.places.items ≡ [] → IfOk result (λ found.
-        AreFrames context.old (relative questions.now.origin given) found) }
+    ensures found { IfOk result (λ named. AreNamedFrames questions.now
+        (AreFramesAt context.old.known context.old.flags) (relative questions.now.origin given) named) }
+    ensures known { context.new.known ≡ context.old.known }
+    ensures flags { context.new.flags ≡ context.old.flags }
 {
-    let names = questions.names;
     if !questions.origin.is_known() {
-        state.hint.print(rt, questions.file, names, given);
+        state.hint.print(rt, questions.file, questions.names, given);
     }
     let Some(address) = questions.origin.relative(given) else {
         return Ok(None);
     };
-    let mut found = readable_frames(rt, context, given, address)?;
-    if let Some(frames) = &mut found {
-        names.decorate(rt.alloc(), frames)?;
+    let found = readable_frames(rt, context, given, address)?;
+    Ok(public_named(rt.alloc(), questions.names, found)?)
+}
+
+// Frames whose function goes by its public name, where that is known.
+fn public_named<'a>(
+    alloc: Global,
+    names: &PublicNames,
+    found: Option<FunctionFrames<'a>>,
+) -> Result<Option<FunctionFrames<'a>>, AllocError>
+    ensures { IfOk result (λ named. named ≡ option_map (public_named names.now) found.entry) }
+{
+    match found {
+        Some(found) => Ok(Some(names.decorate(alloc, found)?)),
+        None => Ok(None),
     }
-    Ok(found)
 }
 
 // The frames of an address. Where the records of its module can't be read that is shown on standard error, with the
@@ -158,7 +173,9 @@ fn readable_frames<'a, R: Eprint>(
     given: u64,
     address: u32,
 ) -> Result<Option<FunctionFrames<'a>>, Error>
-    ensures { IfOk result (λ found. AreFramesAt context.old address found) }
+    ensures found { IfOk result (λ found. AreFramesAt context.old.known context.old.flags address found) }
+    ensures known { context.new.known ≡ context.old.known }
+    ensures flags { context.new.flags ≡ context.old.flags }
 {
     match context.find_frames(address) {
         Ok(found) => Ok(found),

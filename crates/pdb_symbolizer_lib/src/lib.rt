@@ -7,6 +7,7 @@
 #![tactic(auto)]
 
 mod addresses;
+mod answer_writes;
 mod arguments;
 mod base_hints;
 mod command_line;
@@ -18,6 +19,7 @@ mod foreign_files;
 mod frame_answers;
 mod identities;
 mod input_files;
+mod line_answers;
 mod line_queue;
 mod named_files;
 mod opened_files;
@@ -38,6 +40,7 @@ mod symbolication;
 mod symbolized_modules;
 mod symbolizer_runs;
 mod unopened_files;
+mod word_answers;
 
 pub use status_line::StatusLine;
 pub use stops::Stop;

@@ -1,17 +1,20 @@
 //! Lines of standard input, as many at once as are ready, so that what they ask for can be read together.
 
+ghost use Rattle.std.specs.Prelude.{◌≡◌, [], Some, drop, option_map, string_bytes, IfNone, IfSome, IfOk, OnOk};
+ghost use Rattle.std.specs.Io.Buffered.{reader_remaining};
+ghost use Rattle.pdb_symbolizer_lib.specs.InputLines.{BeginWith, GivesLine, asked_in_turn, asked_lines, text_of_line};
+
 use crate::stops::Stop;
-use pdb_addr2line::Error;
-use pdb_records_files::ran_out_of_memory;
-use std::alloc::Global;
-use std::io::{self, BufRead, BufReader, Read};
+use std::alloc::{AllocError, Global};
+use std::io::{BufRead, BufReader, ErrorKind, Read};
+use std::marker::Model;
+use std::str;
 
 /// How many bytes of the input are taken at once.
 const CAPACITY: usize = 1 << 16;
 
 /// The lines that were read and not yet answered.
-#[derive(Drop)]
-pub struct LineQueue<T> {
+pub struct LineQueue<T: Read> {
     alloc: Global,
     reader: BufReader<T, Global>,
     lines: Vec<String>,
@@ -19,24 +22,52 @@ pub struct LineQueue<T> {
     next: usize,
 }
 
+impl<T: Read + Drop> Drop for LineQueue<T> {
+    fn drop(self) {
+        let LineQueue {
+            alloc: _,
+            reader: _,
+            lines: _,
+            next: _,
+        } = self;
+    }
+}
+
+// Clauses see a queue as what its lines ask for, where the input is known. Where no line is ready though the input has
+// more, the input could not be read, and what is asked for counts as unknown.
+impl<T: Read> Model for LineQueue<T> {
+    ghost use Rattle.std.specs.Prelude.{List, ℕ, drop, Option};
+    ghost use Rattle.std.specs.Io.Buffered.{reader_remaining};
+    ghost use Rattle.pdb_symbolizer_lib.specs.InputLines.{asked_in_turn};
+
+    ghost Value = { Option (List (List ℕ)) };
+
+    ghost view = { λ q. asked_in_turn (drop q.next q.lines.items) (reader_remaining T.remaining q.reader) };
+}
+
 impl<T: Read + Drop> LineQueue<T> {
     /// A queue with the first lines of an input.
-    pub fn new(alloc: Global, input: T) -> Result<Self, Stop> {
-        let Ok(reader) = BufReader::with_capacity(alloc, CAPACITY, input) else {
-            return Err(Stop::Refused(Error::OutOfMemory));
+    pub fn new(alloc: Global, input: T) -> Result<Self, Stop>
+        ensures { IfOk result (λ queue. IfSome (T.remaining input) (λ bytes. queue ≡ Some (asked_lines bytes))) }
+    {
+        let Ok(mut reader) = BufReader::with_capacity(alloc, CAPACITY, input) else {
+            return Err(Stop::want_of_memory());
         };
-        let mut queue = LineQueue {
+        let mut lines = Vec::new(alloc);
+        fill(alloc, &mut reader, &mut lines)?;
+        Ok(LineQueue {
             alloc,
             reader,
-            lines: Vec::new(alloc),
+            lines,
             next: 0,
-        };
-        queue.fill()?;
-        Ok(queue)
+        })
     }
 
     /// The first line that was not answered, `None` at the end of the input.
-    pub fn first(&self) -> Option<&str> {
+    pub fn first(&self) -> Option<&str>
+        ensures some { IfSome result (λ line. BeginWith self.now line.now) }
+        ensures none { IfNone result (IfSome self.now (λ all. all ≡ [])) }
+    {
         match self.lines.get(self.next) {
             Some(line) => Some(line.as_str().trim()),
             None => None,
@@ -52,42 +83,59 @@ impl<T: Read + Drop> LineQueue<T> {
     }
 
     /// Passes the first line, which was answered. Where it was the last that was ready, more are waited for.
-    pub fn pass(&mut self) -> Result<(), Stop> {
+    pub fn pass(&mut self) -> Result<(), Stop>
+        ensures { OnOk result (IfSome self.old (λ all. self.new ≡ Some (drop 1 all))) }
+    {
         self.next = self.next.saturating_add(1);
         if self.next < self.lines.len() {
             return Ok(());
         }
-        self.fill()
-    }
-
-    // Reads a line, if there is one, and those behind it that are ready.
-    fn fill(&mut self) -> Result<(), Stop> {
-        self.lines.clear();
         self.next = 0;
-        for _ in 0..u64::MAX {
-            let mut line = String::new(self.alloc);
-            if !read_line(&mut self.reader, &mut line)? {
-                break;
-            }
-            self.lines.push(line)?;
-            if !self.reader.buffer().contains(&b'\n') {
-                break;
-            }
-        }
-        Ok(())
+        fill(self.alloc, &mut self.reader, &mut self.lines)
     }
 }
 
-// Reads the next line. Answers whether there is one. What is no text is a line with a question mark.
-fn read_line<B: BufRead>(reader: &mut B, line: &mut String) -> Result<bool, Stop> {
-    match reader.read_line(line) {
-        Ok(length) => Ok(length > 0),
-        Err(error) if matches!(error.kind(), io::ErrorKind::InvalidData) => {
-            line.clear();
-            line.push('?')?;
-            Ok(true)
+// Reads a line, if there is one, and those behind it that are ready, in place of the lines that were there.
+fn fill<T: Read>(
+    alloc: Global,
+    reader: &mut BufReader<T, Global>,
+    lines: &mut Vec<String>,
+) -> Result<(), Stop>
+    ensures { OnOk result (IfSome (reader_remaining T.remaining reader.old) (λ bytes.
+        asked_in_turn lines.new.items (reader_remaining T.remaining reader.new) ≡ Some (asked_lines bytes))) }
+{
+    lines.clear();
+    for _ in 0..u64::MAX {
+        let Some(line) = read_line(alloc, reader)? else {
+            return Ok(());
+        };
+        lines.push(line)?;
+        if !reader.buffer().contains(&b'\n') {
+            return Ok(());
         }
-        Err(error) if ran_out_of_memory(&error) => Err(Stop::Refused(Error::OutOfMemory)),
+    }
+    Ok(())
+}
+
+// Reads the next line, if there is one. What is no text is a line with a question mark.
+fn read_line<B: BufRead>(alloc: Global, reader: &mut B) -> Result<Option<String>, Stop>
+    ensures { IfOk result (λ line.
+        GivesLine (B.remaining reader.old) (B.remaining reader.new) (option_map string_bytes line)) }
+{
+    let mut bytes = Vec::new(alloc);
+    match reader.read_until(b'\n', &mut bytes) {
+        Ok(0) => Ok(None),
+        Ok(_) => Ok(Some(line_text(alloc, &bytes)?)),
+        Err(error) if error.kind() == ErrorKind::OutOfMemory => Err(Stop::want_of_memory()),
         Err(_) => Err(Stop::CannotReadInput),
+    }
+}
+
+fn line_text(alloc: Global, bytes: &[u8]) -> Result<String, AllocError>
+    ensures { IfOk result (λ text. string_bytes text ≡ text_of_line bytes.now) }
+{
+    match str::from_utf8(bytes) {
+        Ok(text) => String::from_str(alloc, text),
+        Err(_) => String::from_str(alloc, "?"),
     }
 }

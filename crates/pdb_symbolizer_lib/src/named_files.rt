@@ -2,8 +2,9 @@
 //!
 //! Those that follow one another and name the same file are answered by one context.
 
-use crate::file_answers::{addresses_of_lines, answer_line, print_answer};
+use crate::answer_writes::write_line_answer;
 use crate::frame_answers::print_lack;
+use crate::line_answers::{addresses_of_lines, answer_line};
 use crate::line_queue::LineQueue;
 use crate::opened_files::{OpenedFile, open_file};
 use crate::options::Options;
@@ -15,7 +16,7 @@ use crate::stops::Stop;
 use crate::unopened_files::answer_unopened;
 use pdb_answer_printer::{Request, parse_request, write_unknown};
 use pdb_session::SessionContext;
-use std::io::{Read, Seek};
+use std::io::{self, Read, Seek, Write};
 use std::rt::Files;
 
 /// Answers the lines of standard input, of which each names its file.
@@ -26,11 +27,12 @@ pub fn answer_named_files<R: Files + Input + Print + Eprint + AllocGlobal>(
 ) -> Result<(), Stop> {
     let mut state = RunState::new(rt.alloc());
     let mut queue = LineQueue::new(rt.alloc(), rt.reader())?;
+    let mut out = io::writer(rt);
     for _ in 0..u64::MAX {
         if queue.first().is_none() {
             break;
         }
-        answer_next_lines(rt, status_line, options, &mut state, &mut queue)?;
+        answer_next_lines(rt, &mut out, status_line, options, &mut state, &mut queue)?;
     }
     if state.unopened {
         return Err(Stop::Unopened);
@@ -39,8 +41,9 @@ pub fn answer_named_files<R: Files + Input + Print + Eprint + AllocGlobal>(
 }
 
 // Answers the first line, and those behind it that name the same file.
-fn answer_next_lines<R: Files + Print + Eprint + AllocGlobal, T: Read + Drop>(
+fn answer_next_lines<R: Files + Print + Eprint + AllocGlobal, W: Write, T: Read + Drop>(
     rt: &R,
+    out: &mut W,
     status_line: &StatusLine,
     options: &Options<'_>,
     state: &mut RunState,
@@ -50,34 +53,41 @@ fn answer_next_lines<R: Files + Print + Eprint + AllocGlobal, T: Read + Drop>(
     let request = parse_request(line.as_str(), None, options.digits);
     if request.is_nowhere() {
         print_lack(rt, &request, line.as_str());
-        answer_none(rt, options, &request)?;
+        answer_none(rt, out, options, &request)?;
         return queue.pass();
     }
     match open_file(rt, status_line, options, request.file) {
-        Ok(mut input) => answer_lines_of(rt, options, request.file, &mut input, state, queue),
+        Ok(mut input) => answer_lines_of(rt, out, options, request.file, &mut input, state, queue),
         Err(cause) if cause.is_want_of_memory() => Err(cause),
         Err(cause) => {
             state.unopened = true;
-            answer_unopened(rt, options, &request, &cause)?;
+            answer_unopened(rt, out, options, &request, &cause)?;
             queue.pass()
         }
     }
 }
 
 // Answers a line that asks for nothing.
-fn answer_none<R: Print + AllocGlobal>(
+fn answer_none<R: AllocGlobal, W: Write>(
     rt: &R,
+    out: &mut W,
     options: &Options<'_>,
     request: &Request<'_>,
 ) -> Result<(), Stop> {
     let mut text = String::new(rt.alloc());
     write_unknown(&mut text, &options.printer, request)?;
-    print_answer(rt, options, text)
+    write_line_answer(out, options.printer.style, text)
 }
 
 // Answers lines that name this file. What is known of the modules that ready lines ask for is read together.
-fn answer_lines_of<R: Files + Print + Eprint + AllocGlobal, F: Read + Seek + Drop, T: Read + Drop>(
+fn answer_lines_of<
+    R: Files + Eprint + AllocGlobal,
+    W: Write,
+    F: Read + Seek + Drop,
+    T: Read + Drop,
+>(
     rt: &R,
+    out: &mut W,
     options: &Options<'_>,
     path: &str,
     input: &mut OpenedFile<F>,
@@ -89,7 +99,7 @@ fn answer_lines_of<R: Files + Print + Eprint + AllocGlobal, F: Read + Seek + Dro
     for _ in 0..u64::MAX {
         let addresses = addresses_of_lines(rt.alloc(), &questions, queue)?;
         input.read_for(rt, &addresses)?;
-        if answer_same_file(rt, &questions, state, input, queue)? == Left::Nothing {
+        if answer_same_file(rt, out, &questions, state, input, queue)? == Left::Nothing {
             break;
         }
     }
@@ -106,8 +116,14 @@ enum Left {
 }
 
 // Answers lines by one context, up to the first one that names another file, or whose module was not read.
-fn answer_same_file<R: Files + Print + Eprint + AllocGlobal, F: Read + Seek + Drop, T: Read + Drop>(
+fn answer_same_file<
+    R: Files + Eprint + AllocGlobal,
+    W: Write,
+    F: Read + Seek + Drop,
+    T: Read + Drop,
+>(
     rt: &R,
+    out: &mut W,
     questions: &Questions<'_, '_>,
     state: &mut RunState,
     input: &OpenedFile<F>,
@@ -116,32 +132,16 @@ fn answer_same_file<R: Files + Print + Eprint + AllocGlobal, F: Read + Seek + Dr
     let data = input.session.data()?;
     let mut context = data.context(questions.options.flags())?;
     for _ in 0..u64::MAX {
-        let Some(line) = queue.first() else {
-            break;
-        };
-        if questions.needs_more(&context, line) {
-            return Ok(Left::Lines);
-        }
-        if !answer_if_same(rt, questions, &mut context, state, line)? {
-            break;
+        match queue.first() {
+            Some(line) if !questions.names_other_file(line) => {
+                if questions.needs_more(&context, line) {
+                    return Ok(Left::Lines);
+                }
+                answer_line(rt, out, questions, &mut context, state, line)?;
+            }
+            _ => break,
         }
         queue.pass()?;
     }
     Ok(Left::Nothing)
-}
-
-// Answers a line, unless it names another file. Answers whether it did.
-fn answer_if_same<R: Files + Print + Eprint + AllocGlobal>(
-    rt: &R,
-    questions: &Questions<'_, '_>,
-    context: &mut SessionContext<'_, '_>,
-    state: &mut RunState,
-    line: &str,
-) -> Result<bool, Stop> {
-    let request = questions.request(line);
-    if request.file != questions.file && !request.is_nowhere() {
-        return Ok(false);
-    }
-    answer_line(rt, questions, context, state, line)?;
-    Ok(true)
 }

@@ -1,5 +1,8 @@
 //! Files that are opened for answers. What is broken in their records is taken out, and printed on standard error.
 
+ghost use Rattle.std.specs.Prelude.{◌≡◌, true, IsOk, OnOk};
+ghost use Rattle.pdb_session.specs.Session.{SameFile, needs_none};
+
 use crate::file_bytes::FileBytes;
 use crate::input_files::{
     NamedFile, SourceFile, find_file, open_stop, read_records_file, unreadable,
@@ -32,7 +35,9 @@ pub struct OpenedFile<F: Read + Seek + Drop> {
 
 impl<F: Read + Seek + Drop> OpenedFile<F> {
     /// The records that were read so far.
-    pub fn records(&self) -> &PDB {
+    pub fn records(&self) -> &PDB
+        ensures { result.now ≡ self.now.session.known.records }
+    {
         self.session.records()
     }
 
@@ -41,7 +46,10 @@ impl<F: Read + Seek + Drop> OpenedFile<F> {
         &mut self,
         rt: &R,
         addresses: &[u32],
-    ) -> Result<(), Stop> {
+    ) -> Result<(), Stop>
+        ensures enough { OnOk result (needs_none self.new.session.known addresses.now ≡ true) }
+        ensures file { SameFile self.old.session self.new.session }
+    {
         let read = self.session.read_for(addresses);
         self.print_read(rt, read)
     }
@@ -57,7 +65,9 @@ impl<F: Read + Seek + Drop> OpenedFile<F> {
         &self,
         rt: &R,
         read: Result<Vec<Repair>, SourceFault>,
-    ) -> Result<(), Stop> {
+    ) -> Result<(), Stop>
+        ensures { OnOk result (IsOk read) }
+    {
         match read {
             Ok(repairs) => print_repairs(rt, self.path.as_str(), self.records(), &repairs),
             Err(SourceFault::OutOfMemory) => Err(Stop::Refused(Error::OutOfMemory)),

@@ -1,5 +1,9 @@
 //! What a command line asks for: styles, names, bases of addresses, files to write.
 
+ghost use Rattle.std.specs.Prelude.{◌≡◌};
+ghost use Rattle.pdb_symbolizer_lib.specs.AnsweredRequests.{flags_of};
+ghost use Rattle.pdb_symbolizer_lib.specs.PublicNames.{shows_decorated_names};
+
 use crate::identities::ExpectedBuild;
 use bitflags::Flags;
 use pdb_addr2line::TypeFormatterFlags;
@@ -96,8 +100,10 @@ pub struct Options<'w> {
 
 impl Options<'_> {
     /// Whether functions go by the names of their public symbols: not where a name is to be short, or none.
-    pub fn shows_decorated_names(&self) -> bool {
-        self.decorated && self.printer.names == NameStyle::Signature
+    pub fn shows_decorated_names(&self) -> bool
+        ensures { result ≡ shows_decorated_names self.now }
+    {
+        self.decorated && matches!(self.printer.names, NameStyle::Signature)
     }
 
     /// How many lines of the source file are shown around each place. None are shown where file, line and column have
@@ -110,7 +116,9 @@ impl Options<'_> {
     }
 
     /// How names are printed.
-    pub fn flags(&self) -> TypeFormatterFlags {
+    pub fn flags(&self) -> TypeFormatterFlags
+        ensures { result ≡ flags_of self.now.printer.names }
+    {
         let flags = TypeFormatterFlags::default();
         match self.printer.names {
             NameStyle::Short => flags.union(TypeFormatterFlags::NO_ARGUMENTS),

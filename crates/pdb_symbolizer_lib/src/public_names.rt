@@ -1,20 +1,83 @@
 //! Public symbols of a program as the records have them: their names, for `--no-demangle`, and the sections they lie in.
 
-ghost use Rattle.std.specs.Prelude.{◌≡◌, [], OnOk};
+ghost use Rattle.std.specs.Prelude.{◌≡◌, ℕ, Some, None, option_map, string_bytes, IfOk, OnOk, if◌then◌else◌};
+ghost use Rattle.std.specs.Option.{option_or};
+ghost use Rattle.pdb_records.specs.Addresses.{internal_offset, is_same_section_offset};
+ghost use Rattle.pdb_records.specs.Names.{lossy};
+ghost use Rattle.pdb_records.specs.declared.addresses.PdbInternalSectionOffset.{PdbInternalSectionOffset};
+ghost use Rattle.pdb_symbolizer_lib.specs.PublicNames.{decorated, decorated_frame, function_name, known_name, name_in};
+ghost use Rattle.pdb_symbolizer_lib.specs.PublicNames.{public_name, public_name_in, sections_of, wanted_name};
 
 use crate::options::Options;
 use crate::repairs::text_of;
-use pdb_addr2line::FunctionFrames;
-use pdb_addr2line::pdb::{AddressMap, PDB, PdbInternalSectionOffset, RawString, Rva, SymbolData};
+use pdb_frames::{Frame, FunctionFrames};
+use pdb_records::{AddressMap, PDB, PdbInternalSectionOffset, RawString, Rva, Symbol, SymbolData};
+use pdb_tables::insert_first;
 use std::alloc::{AllocError, Global};
+use std::collections::BTreeMap;
+
+/// The names of what starts at section offsets, as the records have them.
+type NamesOfStarts = BTreeMap<PdbInternalSectionOffset, RawString>;
 
 /// The sections of a program, and the names of its public symbols, by where these stand.
 #[derive(Drop)]
 pub struct PublicNames {
     address_map: AddressMap,
-    names: Vec<RawString>,
-    /// The section, the offset and the position of the name of each symbol, ascending.
-    places: Vec<(u16, u32, usize)>,
+    names: NamesOfStarts,
+}
+
+// The sections of these records. Records that don't say where code lies have none.
+fn address_map_of(alloc: Global, records: &PDB) -> Result<AddressMap, AllocError>
+    ensures { IfOk result (λ map. map ≡ sections_of records.now.address_map) }
+{
+    let sections = match &records.address_map {
+        Ok(map) => Vec::from_slice(alloc, &map.sections)?,
+        Err(_) => Vec::new(alloc),
+    };
+    Ok(AddressMap { sections })
+}
+
+// Adds the names of public symbols, of each section offset the first.
+fn add_names(alloc: Global, names: &mut NamesOfStarts, symbols: &[Symbol]) -> Result<(), AllocError>
+    ensures { OnOk result ((start : PdbInternalSectionOffset) → name_in names.new start
+        ≡ option_or (name_in names.old start) (public_name symbols.now start)) }
+{
+    for symbol in symbols {
+        if let Some(SymbolData::Public(symbol)) = &symbol.content {
+            add_name(alloc, names, symbol.offset, &symbol.name)?;
+        }
+    }
+    Ok(())
+}
+
+// Adds a name, unless one is known of what starts there.
+fn add_name(
+    alloc: Global,
+    names: &mut NamesOfStarts,
+    start: PdbInternalSectionOffset,
+    name: &RawString,
+) -> Result<(), AllocError>
+    ensures { OnOk result ((asked : PdbInternalSectionOffset) → name_in names.new asked
+        ≡ option_or (name_in names.old asked)
+        (if is_same_section_offset start asked then Some (lossy name.now) else None)) }
+{
+    if names.contains_key(&start) {
+        return Ok(());
+    }
+    let copy = RawString(Vec::from_slice(alloc, name.0.as_slice())?);
+    insert_first(names, start, copy)
+}
+
+// The names of the public symbols of these records. Records without public symbols have none.
+fn names_of(alloc: Global, records: &PDB) -> Result<NamesOfStarts, AllocError>
+    ensures { IfOk result (λ names. (start : PdbInternalSectionOffset)
+        → name_in names start ≡ public_name_in records.now start) }
+{
+    let mut names = BTreeMap::new(alloc);
+    if let Ok(table) = &records.global_symbols {
+        add_names(alloc, &mut names, &table.symbols.items)?;
+    }
+    Ok(names)
 }
 
 impl PublicNames {
@@ -24,50 +87,26 @@ impl PublicNames {
         alloc: Global,
         options: &Options<'_>,
         records: &PDB,
-    ) -> Result<Self, AllocError> {
-        let sections = match &records.address_map {
-            Ok(map) => Vec::from_slice(alloc, &map.sections)?,
-            Err(_) => Vec::new(alloc),
+    ) -> Result<Self, AllocError>
+        ensures sections { IfOk result (λ known. known.address_map ≡ sections_of records.now.address_map) }
+        ensures names { IfOk result (λ known. (start : PdbInternalSectionOffset)
+            → name_in known.names start ≡ wanted_name options.now records.now start) }
+        ensures functions { IfOk result (λ known. (start : ℕ)
+            → known_name known start ≡ function_name options.now records.now start) }
+    {
+        let address_map = address_map_of(alloc, records)?;
+        let names = if options.shows_decorated_names() {
+            names_of(alloc, records)?
+        } else {
+            BTreeMap::new(alloc)
         };
-        let mut public = PublicNames {
-            address_map: AddressMap { sections },
-            names: Vec::new(alloc),
-            places: Vec::new(alloc),
-        };
-        if options.shows_decorated_names() {
-            public.add_all(alloc, records)?;
-        }
-        Ok(public)
-    }
-
-    // Adds the names that the records have. Records without public symbols have none.
-    fn add_all(&mut self, alloc: Global, records: &PDB) -> Result<(), AllocError> {
-        let Ok(table) = &records.global_symbols else {
-            return Ok(());
-        };
-        for symbol in &table.symbols.items {
-            if let Some(SymbolData::Public(symbol)) = &symbol.content {
-                self.add(alloc, symbol.offset, &symbol.name)?;
-            }
-        }
-        self.places.sort_unstable();
-        Ok(())
-    }
-
-    fn add(
-        &mut self,
-        alloc: Global,
-        offset: PdbInternalSectionOffset,
-        name: &RawString,
-    ) -> Result<(), AllocError> {
-        let place = (offset.section, offset.offset, self.names.len());
-        self.names
-            .push(RawString(Vec::from_slice(alloc, name.0.as_slice())?))?;
-        Ok(self.places.push(place)?)
+        Ok(PublicNames { address_map, names })
     }
 
     // The section offset of an address that is relative to where the program is loaded.
-    fn section_offset(&self, address: u32) -> Option<PdbInternalSectionOffset> {
+    fn section_offset(&self, address: u32) -> Option<PdbInternalSectionOffset>
+        ensures { result ≡ internal_offset self.now.address_map (record { 0 = address }) }
+    {
         Rva(address).to_internal_offset(&self.address_map)
     }
 
@@ -79,38 +118,62 @@ impl PublicNames {
         }
     }
 
-    /// Has the function of these frames go by the public symbol at its start, if there is one whose name is known here.
-    pub fn decorate(&self, alloc: Global, found: &mut FunctionFrames<'_>) -> Result<(), AllocError>
-        ensures { self.now.places.items ≡ [] → OnOk result (found.new ≡ found.old) }
-    {
-        if self.places.is_empty() {
-            return Ok(());
-        }
-        if let Some(start) = self.section_offset(found.start_rva)
-            && let Some(frame) = found.frames.last_mut()
-            && let Some(name) = self.name_at(alloc, start)?
-        {
-            frame.function = Some(name);
-        }
-        Ok(())
-    }
-
-    // The name of the first public symbol that stands at a section offset.
-    fn name_at(
+    /// These frames, whose function goes by the public symbol at its start, if there is one whose name is known here.
+    pub fn decorate<'a>(
         &self,
         alloc: Global,
-        offset: PdbInternalSectionOffset,
-    ) -> Result<Option<String>, AllocError> {
-        let first = self.places.partition_point(|&(section, start, _)| {
-            (section, start) < (offset.section, offset.offset)
-        });
-        let Some(&(section, start, position)) = self.places.get(first) else {
+        found: FunctionFrames<'a>,
+    ) -> Result<FunctionFrames<'a>, AllocError>
+        ensures { IfOk result (λ named. named ≡ decorated (known_name self.now found.entry.start_rva) found.entry) }
+    {
+        let FunctionFrames {
+            start_rva,
+            end_rva,
+            mut frames,
+        } = found;
+        if let Some(last) = frames.pop() {
+            frames.push(self.decorated_frame(alloc, start_rva, last)?)?;
+        }
+        Ok(FunctionFrames {
+            start_rva,
+            end_rva,
+            frames,
+        })
+    }
+
+    // A frame, which goes by the name that is known of the function that starts at an address.
+    fn decorated_frame<'a>(
+        &self,
+        alloc: Global,
+        start: u32,
+        frame: Frame<'a>,
+    ) -> Result<Frame<'a>, AllocError>
+        ensures { IfOk result (λ named. named ≡ decorated_frame (known_name self.now start) frame.entry) }
+    {
+        let Frame {
+            function,
+            file,
+            line,
+        } = frame;
+        let function = match self.name_of(alloc, start)? {
+            Some(name) => Some(name),
+            None => function,
+        };
+        Ok(Frame {
+            function,
+            file,
+            line,
+        })
+    }
+
+    // The name that is known of the function that starts at an address.
+    fn name_of(&self, alloc: Global, start: u32) -> Result<Option<String>, AllocError>
+        ensures { IfOk result (λ name. option_map string_bytes name ≡ known_name self.now start) }
+    {
+        let Some(start) = self.section_offset(start) else {
             return Ok(None);
         };
-        if section != offset.section || start != offset.offset {
-            return Ok(None);
-        }
-        match self.names.get(position) {
+        match self.names.get(&start) {
             Some(name) => Ok(Some(text_of(alloc, name)?)),
             None => Ok(None),
         }

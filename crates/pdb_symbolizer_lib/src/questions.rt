@@ -2,7 +2,8 @@
 
 ghost use Rattle.std.specs.Prelude.{◌≡◌};
 ghost use Rattle.pdb_answer_printer.specs.Requests.{question_of};
-ghost use Rattle.pdb_symbolizer_lib.specs.AnsweredRequests.{question_in};
+ghost use Rattle.pdb_symbolizer_lib.specs.AnsweredRequests.{asked_address, asks_more, question_by};
+ghost use Rattle.pdb_symbolizer_lib.specs.Origins.{origin_of};
 
 use crate::addresses::Origin;
 use crate::opened_files::OpenedFile;
@@ -29,7 +30,12 @@ impl<'q, 'w> Questions<'q, 'w> {
         file: &'q str,
         input: &OpenedFile<F>,
         names: &'q PublicNames,
-    ) -> Self {
+    ) -> Self
+        ensures options { result.options.now ≡ options.now }
+        ensures file { result.file.now ≡ file.now }
+        ensures origin { result.origin ≡ origin_of options.now input.now.image_base }
+        ensures names { result.names.now ≡ names.now }
+    {
         Questions {
             options,
             file,
@@ -42,8 +48,7 @@ impl<'q, 'w> Questions<'q, 'w> {
 impl Questions<'_, '_> {
     /// The request of a text, which names its file where the command line names none.
     pub fn request<'t>(&'t self, text: &'t str) -> Request<'t>
-        ensures { question_of result
-            ≡ question_in self.now.options.now.naming self.now.options.now.digits self.now.file.now text.now }
+        ensures { question_of result ≡ question_by self.now text.now }
     {
         let file = match self.options.naming {
             FileNaming::ByEachLine => None,
@@ -52,20 +57,27 @@ impl Questions<'_, '_> {
         parse_request(text, file, self.options.digits)
     }
 
-    /// The address of code that a text asks for in the file, relative to where the program is loaded, where it can lie
-    /// there.
-    pub fn address_in(&self, text: &str) -> Option<u32> {
-        let request = self.request(text.trim());
+    /// The address of code that a text asks for, relative to where the program is loaded, where it can lie there.
+    pub fn address_in(&self, text: &str) -> Option<u32>
+        ensures { result ≡ asked_address self.now text.now }
+    {
+        let request = self.request(text);
         match (request.sort, request.place) {
-            (Sort::Code, Place::Address(given)) if request.file == self.file => {
-                self.origin.relative(given)
-            }
+            (Sort::Code, Place::Address(given)) => self.origin.relative(given),
             _ => None,
         }
     }
 
+    /// Whether a text asks for something in another file.
+    pub fn names_other_file(&self, text: &str) -> bool {
+        let request = self.request(text);
+        request.file != self.file && !request.is_nowhere()
+    }
+
     /// Whether something is still to be read for the answer of a text.
-    pub fn needs_more(&self, context: &SessionContext<'_, '_>, text: &str) -> bool {
+    pub fn needs_more(&self, context: &SessionContext<'_, '_>, text: &str) -> bool
+        ensures { result ≡ asks_more context.now.known self.now text.now }
+    {
         match self.address_in(text) {
             Some(address) => context.needs(address),
             None => false,

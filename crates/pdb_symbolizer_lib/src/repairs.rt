@@ -1,5 +1,8 @@
 //! The lines on standard error that say what of a PDB file is broken and was left out.
 
+ghost use Rattle.std.specs.Prelude.{◌≡◌, string_bytes, IfOk};
+ghost use Rattle.pdb_records.specs.Names.{lossy};
+
 use crate::stops::Stop;
 use pdb_addr2line::pdb::{Module, PDB, RawString, StreamError};
 use pdb_container::faults::fault_text;
@@ -107,6 +110,8 @@ fn module_at(records: &PDB, module_index: usize) -> Option<&Module> {
 }
 
 /// A name as text.
-pub fn text_of(alloc: Global, name: &RawString) -> Result<String, AllocError> {
+pub fn text_of(alloc: Global, name: &RawString) -> Result<String, AllocError>
+    ensures { IfOk result (λ text. string_bytes text ≡ lossy name.now) }
+{
     name.to_string_lossy(alloc)?.into_owned(alloc)
 }

@@ -1,5 +1,8 @@
 //! Why a run ended early, in words, and the exit status that goes with it.
 
+ghost use Rattle.std.specs.Prelude.{◌≡◌, if◌then◌else◌};
+ghost use Rattle.pdb_symbolizer_lib.specs.ExitStatuses.{asks_for_help, status_of};
+
 use crate::arguments::EXAMPLES;
 use crate::foreign_files::ForeignFile;
 use crate::identities::ExpectedBuild;
@@ -113,7 +116,9 @@ impl Stop {
     }
 
     /// Prints why the run ended, which is on standard error but for the help and the version, and answers its status.
-    pub fn print<R: Print + Eprint + AllocGlobal>(&self, rt: &R) -> u8 {
+    pub fn print<R: Print + Eprint + AllocGlobal>(&self, rt: &R) -> u8
+        ensures { result ≡ status_of self.now }
+    {
         match self {
             Stop::Words(error) if error.use_stderr() => print_wrong_words(rt, error),
             Stop::Words(error) => {
@@ -136,9 +141,11 @@ impl Stop {
     }
 
     /// The exit status that goes with it.
-    fn status(&self) -> u8 {
+    fn status(&self) -> u8
+        ensures { result ≡ status_of self.now }
+    {
         match self {
-            Stop::Words(error) if !error.use_stderr() => 0,
+            Stop::Words(error) => status_of_words(error.kind()),
             Stop::ClosedPipe => 0,
             Stop::Refused(_)
             | Stop::PdbFile(..)
@@ -148,6 +155,16 @@ impl Stop {
             | Stop::Unopened => 1,
             _ => 2,
         }
+    }
+}
+
+// The status of words that were not taken as they stand: 0 where they ask for the help or the version.
+fn status_of_words(kind: ErrorKind) -> u8
+    ensures { result ≡ if asks_for_help kind then 0 else 2 }
+{
+    match kind {
+        ErrorKind::DisplayHelp | ErrorKind::DisplayVersion => 0,
+        _ => 2,
     }
 }
 

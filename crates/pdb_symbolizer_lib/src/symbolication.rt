@@ -1,6 +1,6 @@
 //! Answers to requests of the symbolication API on standard input: one request, or one on each line.
 
-use crate::file_answers::write_out;
+use crate::answer_writes::write_text;
 use crate::options::{Options, RequestForm};
 use crate::stops::Stop;
 use crate::symbolized_modules::texts_of_modules;
@@ -116,7 +116,8 @@ fn answer_text<R: Files + Print + Eprint + AllocGlobal>(
 }
 
 fn refuse<R: Print + AllocGlobal>(rt: &R, why: String) -> Result<Outcome, Stop> {
-    write_out(rt, error_line(rt.alloc(), why.as_str())?.as_str())?;
+    let line = error_line(rt.alloc(), why.as_str())?;
+    write_text(&mut io::writer(rt), line.as_str())?;
     Ok(Outcome::Refused(why))
 }
 

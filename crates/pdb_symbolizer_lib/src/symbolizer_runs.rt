@@ -1,5 +1,8 @@
 //! A run of `pdb_symbolizer`: reads the file, and answers each address of the words or of standard input.
 
+ghost use Rattle.std.specs.Prelude.{◌≡◌};
+ghost use Rattle.pdb_symbolizer_lib.specs.ExitStatuses.{exit_status};
+
 use crate::command_line::parse;
 use crate::environment::words_of_run;
 use crate::export_files::write_files;
@@ -21,7 +24,15 @@ pub fn run_words<R: Env + Files + Input + Print + Eprint + Clock + AllocGlobal>(
     status_line: &mut StatusLine,
     words: &[String],
 ) -> u8 {
-    match run(rt, status_line, words) {
+    let ended = run(rt, status_line, words);
+    exit_status(rt, &ended)
+}
+
+// The exit status of a run, of which is printed why it ended early.
+fn exit_status<R: Print + Eprint + AllocGlobal>(rt: &R, ended: &Result<(), Stop>) -> u8
+    ensures { result ≡ exit_status ended.now }
+{
+    match ended {
         Ok(()) => 0,
         Err(stop) => stop.print(rt),
     }

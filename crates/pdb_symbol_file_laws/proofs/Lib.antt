@@ -1,0 +1,15 @@
+pub mod AnswerLemmas
+pub mod CallLookups
+pub mod CallsFound
+pub mod FileLemmas
+pub mod FoundFunctions
+pub mod FrontLemmas
+pub mod FunctionLookups
+pub mod LineLemmas
+pub mod NameLemmas
+pub mod NameLookups
+pub mod OrderLemmas
+pub mod RecordLemmas
+pub mod SmallFileLemmas
+pub mod TextLemmas
+pub mod WordLemmas

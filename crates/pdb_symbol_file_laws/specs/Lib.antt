@@ -1,0 +1,5 @@
+pub mod RecordReader
+pub mod SmallFile
+pub mod SymbolFileRecords
+pub mod SymbolTextReader
+pub mod TextAnswers

@@ -1,0 +1,119 @@
+-- A plain reader of the text of a Breakpad symbol file: line by line, and each line by its words. It knows nothing of
+-- how the text was written.
+use Rattle.std.specs.Prelude.{ℕ, List, [], ◌∷◌, map, Bool, true, false, ◌&&◌, nat_lt, ◌==◌, codes, if◌then◌else◌}
+use Rattle.std.specs.Char.{digit_value}
+use Rattle.std.specs.Str.{bytes_eq}
+use Rattle.std.specs.Str.Parse.{digits_value}
+
+-- what a line says
+pub data SymbolLine : Type 0 where
+  -- a source file has a number
+  File : (number : ℕ) (name : List ℕ) → SymbolLine
+  -- the name of an inlined function has a number
+  InlineOrigin : (number : ℕ) (name : List ℕ) → SymbolLine
+  -- a function lies over so many addresses
+  Func : (start size : ℕ) (name : List ℕ) → SymbolLine
+  -- a function begins at an address
+  Public : (start : ℕ) (name : List ℕ) → SymbolLine
+  -- a call from this line of a file is inlined, which has so many calls outside of it, of the function with a number
+  Inline : (level line file origin start size : ℕ) → SymbolLine
+  -- code is from this line of a file
+  CodeLine : (start size line file : ℕ) → SymbolLine
+  -- none of all this
+  OtherLine : SymbolLine
+
+-- a byte in front of the first of some lines, or in a line of its own where there is none
+abbrev pub in_front_of : ℕ → List (List ℕ) → List (List ℕ)
+in_front_of byte [] = (byte ∷ []) ∷ []
+in_front_of byte (line ∷ lines) = (byte ∷ line) ∷ lines
+
+-- the lines of a text, without the line breaks at their ends; the last one may have none
+abbrev pub lines : List ℕ → List (List ℕ)
+lines [] = []
+lines (byte ∷ bytes) = if byte == 10 then [] ∷ lines bytes else in_front_of byte (lines bytes)
+
+-- the first word of a line: what stands before its first space
+abbrev pub first_word : List ℕ → List ℕ
+first_word [] = []
+first_word (byte ∷ bytes) = if byte == 32 then [] else byte ∷ first_word bytes
+
+-- the rest of a line: what stands behind its first space
+abbrev pub rest_of : List ℕ → List ℕ
+rest_of [] = []
+rest_of (byte ∷ bytes) = if byte == 32 then bytes else rest_of bytes
+
+-- whether each byte is a digit in a base; the letters from a to f may be small or capital
+abbrev pub are_digits : ℕ → List ℕ → Bool
+are_digits base [] = true
+are_digits base (byte ∷ bytes) = nat_lt (digit_value byte) base && are_digits base bytes
+
+-- whether a word is a number in a base: it has digits, and nothing else
+abbrev pub is_number : ℕ → List ℕ → Bool
+is_number base [] = false
+is_number base (byte ∷ bytes) = are_digits base (byte ∷ bytes)
+
+-- a line that goes on with a number, a space and more: what it says by that number and by what stands behind the space.
+-- It is none of the records where its next word is no number
+unfoldable pub number_and_more : ℕ → List ℕ → (ℕ → List ℕ → SymbolLine) → SymbolLine
+number_and_more base text says =
+    if is_number base (first_word text) then says (digits_value base (first_word text)) (rest_of text) else OtherLine
+
+-- a line that ends with a number: what it says by that number. It is none of the records where there is no number
+unfoldable pub number_at_end : ℕ → List ℕ → (ℕ → SymbolLine) → SymbolLine
+number_at_end base text says = if is_number base text then says (digits_value base text) else OtherLine
+
+-- `NUMBER NAME` behind `FILE`
+abbrev pub read_file : List ℕ → SymbolLine
+read_file text = number_and_more 10 text λ number name. File number name
+
+-- `NUMBER NAME` behind `INLINE_ORIGIN`
+abbrev pub read_origin : List ℕ → SymbolLine
+read_origin text = number_and_more 10 text λ number name. InlineOrigin number name
+
+-- `START SIZE PARAMETERS NAME` behind `FUNC`, with the numbers in hexadecimal digits
+abbrev pub read_func : List ℕ → SymbolLine
+read_func text =
+    number_and_more 16 text λ start text.
+    number_and_more 16 text λ size text.
+    number_and_more 16 text λ parameters name. Func start size name
+
+-- `START PARAMETERS NAME` behind `PUBLIC`, with the numbers in hexadecimal digits
+abbrev pub read_public : List ℕ → SymbolLine
+read_public text =
+    number_and_more 16 text λ start text.
+    number_and_more 16 text λ parameters name. Public start name
+
+-- `LEVEL LINE FILE ORIGIN START SIZE` behind `INLINE`, with the last two in hexadecimal digits
+abbrev pub read_inline : List ℕ → SymbolLine
+read_inline text =
+    number_and_more 10 text λ level text.
+    number_and_more 10 text λ line text.
+    number_and_more 10 text λ file text.
+    number_and_more 10 text λ origin text.
+    number_and_more 16 text λ start text.
+    number_at_end 16 text λ size. Inline level line file origin start size
+
+-- `START SIZE LINE FILE`, with the first two in hexadecimal digits
+abbrev pub read_code_line : List ℕ → SymbolLine
+read_code_line text =
+    number_and_more 16 text λ start text.
+    number_and_more 16 text λ size text.
+    number_and_more 10 text λ line text.
+    number_at_end 10 text λ file. CodeLine start size line file
+
+-- whether the first word of a line is this one
+abbrev pub begins_with : List ℕ → List ℕ → Bool
+begins_with line word = bytes_eq (first_word line) word
+
+-- what a line says, by its first word; a line with none of these words may be one of four numbers
+unfoldable pub read_line : List ℕ → SymbolLine
+read_line line =
+    if begins_with line (codes "FILE") then read_file (rest_of line) else
+    (if begins_with line (codes "INLINE_ORIGIN") then read_origin (rest_of line) else
+    (if begins_with line (codes "FUNC") then read_func (rest_of line) else
+    (if begins_with line (codes "PUBLIC") then read_public (rest_of line) else
+    (if begins_with line (codes "INLINE") then read_inline (rest_of line) else read_code_line line))))
+
+-- what a text says, line by line
+unfoldable pub read_text : List ℕ → List SymbolLine
+read_text text = map read_line (lines text)

@@ -1,0 +1,52 @@
+-- What a reader of a symbol file's text is shown, beside what is answered.
+use Rattle.std.specs.Prelude.{ℕ, ◌≡◌, ◌≤◌, List, [], ◌∷◌, map, Bool, true, false, not, nat_lt, Option, Some, None}
+use Rattle.std.specs.Prelude.{option_map}
+use Rattle.std.specs.Prelude.{◌⊎◌}
+use Rattle.std.specs.List.{All}
+use Rattle.pdb_frames.specs.Frame.{FramesInfo}
+use Rattle.pdb_breakpad.specs.RecordTypes.{FunctionRecords, Span}
+use Rattle.pdb_breakpad.specs.Functions.{turned}
+use Rattle.pdb_breakpad.specs.ShownFrames.{ShownFrame, ShownPlace, answer_shown}
+use Rattle.pdb_symbol_file_laws.specs.RecordReader.{shown_by_text}
+use Rattle.pdb_symbol_file_laws.specs.SymbolFileRecords.{on_one_line}
+
+-- a place with its file's name on one line
+abbrev pub place_on_one_line : ShownPlace → ShownPlace
+place_on_one_line place = record { file = on_one_line place.file; line = place.line }
+
+-- a frame with its names on one line
+abbrev pub frame_on_one_line : ShownFrame → ShownFrame
+frame_on_one_line frame =
+    record { function = on_one_line frame.function; place = option_map place_on_one_line frame.place }
+
+-- spans begin one after the other, and none ends before it begins
+abbrev pub Ascend : {T : Type 0} → List (Span T) → Type 0
+Ascend [] = Unit {0}
+Ascend (span ∷ spans) =
+    (span.start ≤ span.last) × (All (λ later. span.start ≤ later.start) spans × Ascend spans)
+
+-- the spans of each level of a function's inlined calls ascend, and no line ends before it begins
+pub record InlinesAscend (records : FunctionRecords) : Type 0 where
+  pub inlines : All Ascend records.inlines
+  pub lines : All (λ span. span.start ≤ span.last) records.lines
+
+-- whether the first of these functions begins at an address or before it
+abbrev pub begins_by : ℕ → List FunctionRecords → Bool
+begins_by address [] = false
+begins_by address (records ∷ functions) = not (nat_lt address records.start)
+
+-- no function whose end isn't known is the last that begins at an address or before it
+abbrev pub NoneOpen : ℕ → List FunctionRecords → Type 0
+NoneOpen address [] = Unit {0}
+NoneOpen address (records ∷ functions) =
+    (records.found.end_rva ≡ None → records.start ≤ address → begins_by address functions ≡ true)
+    × NoneOpen address functions
+
+-- a reader of a text is shown at an address what is answered there, with names on one line; and nothing where nothing
+-- is answered, unless the last function before the address is one whose end isn't known
+abbrev pub TextShows : {S : Type 0} → (S → ℕ → Option FramesInfo → Type 0) → S → List FunctionRecords → List ℕ → ℕ
+    → Type 0
+TextShows answers source functions text address =
+    ((answer : FramesInfo) × (answers source address (Some answer)
+    × (shown_by_text text address ≡ Some (map frame_on_one_line (answer_shown (turned answer))))))
+    ⊎ (answers source address None × (NoneOpen address functions → shown_by_text text address ≡ None))

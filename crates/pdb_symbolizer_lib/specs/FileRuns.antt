@@ -1,0 +1,45 @@
+-- What a run over one file prints.
+use Rattle.std.specs.Prelude.{◌≡◌, ℕ, List, [], ◌∷◌, map, Option, option_map, Result, IsErr, ◌⊎◌}
+use Rattle.std.specs.Borrow.{Bor}
+use Rattle.std.specs.Io.KnownBytes.{Keeps}
+use Rattle.pdb_records.specs.Records.{Records}
+use Rattle.pdb_session.specs.Session.{SessionFile}
+use Rattle.pdb_symbolizer_lib.specs.AnsweredRequests.{AnswersText, AreFramesOfFile, flags_of}
+use Rattle.pdb_symbolizer_lib.specs.AnswersInOrder.{AnswersAllLines, AnswersInOrder, words_text}
+use Rattle.pdb_symbolizer_lib.specs.InputLines.{asked_lines}
+use Rattle.pdb_symbolizer_lib.specs.Origins.{origin_of}
+use Rattle.pdb_symbolizer_lib.specs.PublicNames.{function_name, known_name}
+use Rattle.pdb_symbolizer_lib.specs.declared.options.Options.{Options}
+use Rattle.pdb_symbolizer_lib.specs.declared.questions.Questions.{Questions}
+
+-- questions are asked of a file as the options say: of the file as it was named, with addresses relative to where its
+-- program is loaded, and with the public names of these records where functions go by them
+pub record AskOf (options : Options) (path : List ℕ) (base : Option ℕ) (records : Records) (questions : Questions)
+    : Type 0 where
+  pub given : questions.options.now ≡ options
+  pub named : questions.file.now ≡ path
+  pub loaded : questions.origin ≡ origin_of options base
+  pub names : (start : ℕ) → known_name questions.names.now start ≡ function_name options records start
+
+-- a text answers what is asked, by the frames over all records of a session's file
+abbrev pub AnswersOfFile : Questions → SessionFile → List ℕ → List ℕ → Type 0
+AnswersOfFile questions session =
+    AnswersText questions (AreFramesOfFile session (flags_of questions.options.now.printer.names))
+
+-- what is asked is answered in order: the words of the command line, or where there are none the lines of the input
+abbrev pub AnswersAsked : {A E : Type 0} → List (Bor (List ℕ)) → Questions → SessionFile → Option (List ℕ) → Result A E
+    → Option (List ℕ) → Option (List ℕ) → Type 0
+AnswersAsked [] questions session input result old new =
+    AnswersAllLines (AnswersOfFile questions session) questions.options.now.printer.style
+    (option_map asked_lines input) result old new
+AnswersAsked (word ∷ words) questions session input result old new =
+    AnswersInOrder (AnswersOfFile questions session) (words_text questions.options.now.printer.style)
+    (map (λ word. word.now) (word ∷ words)) result old new
+
+-- a run over a file answers what is asked of it as the options say; or it ends before, and prints nothing
+abbrev pub RunsOver : {A E : Type 0} → Options → List ℕ → Option ℕ → SessionFile → Option (List ℕ) → Result A E
+    → Option (List ℕ) → Option (List ℕ) → Type 0
+RunsOver options path base session input result old new =
+    ((questions : Questions) × (AskOf options path base session.known.records questions
+    × AnswersAsked options.addresses.items questions session input result old new))
+    ⊎ (IsErr result × Keeps old new)

@@ -1,0 +1,127 @@
+//! Answers to lines of an input, over one file.
+
+ghost use Rattle.std.specs.Prelude.{◌≡◌, ◌∷◌, []};
+ghost use Rattle.pdb_symbolizer_lib.specs.AnsweredRequests.{AnswersText, AreFramesAt, AreFramesOver};
+ghost use Rattle.pdb_symbolizer_lib.specs.FileRuns.{AnswersOfFile};
+ghost use Rattle.pdb_symbolizer_lib.specs.AnswersInOrder.{AnswersAllLines, AnswersInOrder, AnswersLines, lines_text};
+
+use crate::answer_writes::write_line_answer;
+use crate::frame_answers::request_text;
+use crate::line_queue::LineQueue;
+use crate::opened_files::OpenedFile;
+use crate::questions::Questions;
+use crate::run_state::RunState;
+use crate::stops::Stop;
+use pdb_session::SessionContext;
+use std::alloc::{AllocError, Global};
+use std::io::{Read, Seek, Write};
+use std::rt::Files;
+
+/// Answers the lines of an input. What is known of the modules that ready lines ask for is read together.
+pub fn answer_input<
+    R: Files + Eprint + AllocGlobal,
+    W: Write,
+    F: Read + Seek + Drop,
+    T: Read + Drop,
+>(
+    rt: &R,
+    out: &mut W,
+    questions: &Questions<'_, '_>,
+    state: &mut RunState,
+    input: &mut OpenedFile<F>,
+    queue: &mut LineQueue<T>,
+) -> Result<(), Stop>
+    ensures { AnswersAllLines (AnswersOfFile questions.now input.old.session)
+        questions.now.options.now.printer.style queue.old result (W.contents out.old) (W.contents out.new) }
+{
+    for _ in 0..u64::MAX {
+        let addresses = addresses_of_lines(rt.alloc(), questions, queue)?;
+        input.read_for(rt, &addresses)?;
+        answer_lines(rt, out, questions, state, input, queue)?;
+        if queue.first().is_none() {
+            return Ok(());
+        }
+    }
+    Err(Stop::CannotReadInput)
+}
+
+/// The addresses that ready lines ask for in the file, up to the first line that names another one.
+pub fn addresses_of_lines<T: Read + Drop>(
+    alloc: Global,
+    questions: &Questions<'_, '_>,
+    queue: &LineQueue<T>,
+) -> Result<Vec<u32>, AllocError> {
+    let mut addresses = Vec::new(alloc);
+    for line in queue.ready() {
+        let text = line.as_str().trim();
+        if questions.names_other_file(text) {
+            break;
+        }
+        if let Some(address) = questions.address_in(text) {
+            addresses.push(address)?;
+        }
+    }
+    Ok(addresses)
+}
+
+// Answers lines by one context, up to the first one whose module was not read.
+fn answer_lines<R: Files + Eprint + AllocGlobal, W: Write, F: Read + Seek + Drop, T: Read + Drop>(
+    rt: &R,
+    out: &mut W,
+    questions: &Questions<'_, '_>,
+    state: &mut RunState,
+    input: &OpenedFile<F>,
+    queue: &mut LineQueue<T>,
+) -> Result<(), Stop>
+    ensures { AnswersLines (AnswersOfFile questions.now input.now.session)
+        questions.now.options.now.printer.style queue.old queue.new result
+        (W.contents out.old) (W.contents out.new) }
+{
+    let data = input.session.data()?;
+    let mut context = data.context(questions.options.flags())?;
+    answer_read_lines(rt, out, questions, state, &mut context, queue)
+}
+
+// The same by a context that was made.
+fn answer_read_lines<R: Files + Eprint + AllocGlobal, W: Write, T: Read + Drop>(
+    rt: &R,
+    out: &mut W,
+    questions: &Questions<'_, '_>,
+    state: &mut RunState,
+    context: &mut SessionContext<'_, '_>,
+    queue: &mut LineQueue<T>,
+) -> Result<(), Stop>
+    ensures { AnswersLines (AnswersText questions.now (AreFramesOver context.old.known context.old.flags))
+        questions.now.options.now.printer.style queue.old queue.new result
+        (W.contents out.old) (W.contents out.new) }
+{
+    for _ in 0..u64::MAX {
+        match queue.first() {
+            Some(line) if !questions.needs_more(context, line) => {
+                answer_line(rt, out, questions, context, state, line)?;
+            }
+            _ => break,
+        }
+        queue.pass()?;
+    }
+    Ok(())
+}
+
+/// Answers a line.
+pub fn answer_line<R: Files + Eprint + AllocGlobal, W: Write>(
+    rt: &R,
+    out: &mut W,
+    questions: &Questions<'_, '_>,
+    context: &mut SessionContext<'_, '_>,
+    state: &mut RunState,
+    line: &str,
+) -> Result<(), Stop>
+    ensures answer { AnswersInOrder (AnswersText questions.now (AreFramesAt context.old.known context.old.flags))
+        (lines_text questions.now.options.now.printer.style) (line.now ∷ []) result
+        (W.contents out.old) (W.contents out.new) }
+    ensures known { context.new.known ≡ context.old.known }
+    ensures flags { context.new.flags ≡ context.old.flags }
+{
+    let text = request_text(rt, questions, context, state, line)?;
+    write_line_answer(out, questions.options.printer.style, text)
+}

@@ -1,0 +1,111 @@
+//! Answers to the addresses of a command line, over one file.
+
+ghost use Rattle.std.specs.Prelude.{◌≡◌, map, IfOk};
+ghost use Rattle.std.specs.List.{filter_map};
+ghost use Rattle.pdb_symbolizer_lib.specs.AnsweredRequests.{AnswersText, AreFramesAt, asked_address};
+ghost use Rattle.pdb_symbolizer_lib.specs.FileRuns.{AnswersOfFile};
+ghost use Rattle.pdb_symbolizer_lib.specs.AnswersInOrder.{AnswersInOrder, list_end, list_start, separator, words_text};
+
+use crate::answer_writes::write_text;
+use crate::frame_answers::request_text;
+use crate::opened_files::OpenedFile;
+use crate::questions::Questions;
+use crate::run_state::RunState;
+use crate::stops::Stop;
+use pdb_answer_printer::Style;
+use pdb_session::SessionContext;
+use std::alloc::{AllocError, Global};
+use std::io::{Read, Seek, Write};
+use std::rt::Files;
+
+/// Answers the addresses of the command line. What is known of the modules that they lie in is read before.
+pub fn answer_words<R: Files + Eprint + AllocGlobal, W: Write, F: Read + Seek + Drop>(
+    rt: &R,
+    out: &mut W,
+    questions: &Questions<'_, '_>,
+    state: &mut RunState,
+    input: &mut OpenedFile<F>,
+) -> Result<(), Stop>
+    ensures { AnswersInOrder (AnswersOfFile questions.now input.old.session)
+        (words_text questions.now.options.now.printer.style)
+        (map (λ word. word.now) questions.now.options.now.addresses.items)
+        result (W.contents out.old) (W.contents out.new) }
+{
+    let words = questions.options.addresses.as_slice();
+    let addresses = addresses_of_words(rt.alloc(), questions, words)?;
+    input.read_for(rt, &addresses)?;
+    let data = input.session.data()?;
+    let mut context = data.context(questions.options.flags())?;
+    write_words(rt, out, questions, &mut context, state, words)
+}
+
+// The addresses of code that the words ask for.
+fn addresses_of_words(
+    alloc: Global,
+    questions: &Questions<'_, '_>,
+    words: &[&str],
+) -> Result<Vec<u32>, AllocError>
+    ensures { IfOk result (λ addresses. addresses.items
+        ≡ filter_map (asked_address questions.now) (map (λ word. word.now) words.now)) }
+{
+    let mut addresses = Vec::new(alloc);
+    for word in words {
+        if let Some(address) = questions.address_in(word) {
+            addresses.push(address)?;
+        }
+    }
+    Ok(addresses)
+}
+
+// Writes the answers to the words, by one context. In JSON they are one array.
+fn write_words<R: Files + Eprint + AllocGlobal, W: Write>(
+    rt: &R,
+    out: &mut W,
+    questions: &Questions<'_, '_>,
+    context: &mut SessionContext<'_, '_>,
+    state: &mut RunState,
+    words: &[&str],
+) -> Result<(), Stop>
+    ensures { AnswersInOrder (AnswersText questions.now (AreFramesAt context.old.known context.old.flags))
+        (words_text questions.now.options.now.printer.style) (map (λ word. word.now) words.now)
+        result (W.contents out.old) (W.contents out.new) }
+{
+    let style = questions.options.printer.style;
+    write_text(out, list_start(style))?;
+    for (position, given) in words.iter().enumerate() {
+        let text = request_text(rt, questions, context, state, given)?;
+        write_text(out, separator(style, position == 0))?;
+        write_text(out, text.as_str())?;
+    }
+    write_text(out, list_end(style))
+}
+
+// What stands before the answers to words.
+fn list_start(style: Style) -> &'static str
+    ensures { result.now ≡ list_start style }
+{
+    match style {
+        Style::Json => "[",
+        Style::Llvm | Style::Gnu => "",
+    }
+}
+
+// What stands before an answer, which may be the first.
+fn separator(style: Style, first: bool) -> &'static str
+    ensures { result.now ≡ separator style first }
+{
+    match style {
+        Style::Json if !first => ",",
+        _ => "",
+    }
+}
+
+// What stands behind the answers to words.
+fn list_end(style: Style) -> &'static str
+    ensures { result.now ≡ list_end style }
+{
+    match style {
+        Style::Json => "]\n",
+        Style::Llvm | Style::Gnu => "",
+    }
+}
