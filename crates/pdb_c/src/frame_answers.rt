@@ -23,7 +23,8 @@ use pdb_addr2line::{Context, ContextPdbData, Error, Function, FunctionFrames};
 use pdb_report_lib::Command;
 use std::alloc::Global;
 
-// The frames over an address, whose function goes by its symbol's name where it has no other. What the context met broken on the way is broken.
+// The frames over an address, whose function goes by its symbol's name where it has no other. What the context met broken
+// on the way is broken.
 fn look_up_frames<'a>(
     context: &mut Context<'a, ContextPdbData<'static>>,
     address: u32,
