@@ -44,8 +44,8 @@ NoneOpen address (records ∷ functions) =
 
 -- a reader of a text is shown at an address what is answered there, with names on one line; and nothing where nothing
 -- is answered, unless the last function before the address is one whose end isn't known
-abbrev pub TextShows : {S : Type 0} → (S → ℕ → Option FramesInfo → Type 0) → S → List FunctionRecords → List ℕ → ℕ
-    → Type 0
+abbrev pub TextShows : {S : Type 0} → (S → ℕ → Option FramesInfo → Type 0) → S → List FunctionRecords → List ℕ
+    → ℕ → Type 0
 TextShows answers source functions text address =
     ((answer : FramesInfo) × (answers source address (Some answer)
     × (shown_by_text text address ≡ Some (map frame_on_one_line (answer_shown (turned answer))))))

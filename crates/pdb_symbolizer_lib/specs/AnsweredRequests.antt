@@ -112,7 +112,8 @@ pub record IsAnswer (questions : Questions) (question : Question) (right : ℕ �
   pub frames : AreNamedFrames questions right address named
 
 -- a text is the answer of a request: of code at an address the frames there, and else that nothing is known
-abbrev pub IsAnswerBy : Sort → Target → Questions → Question → (ℕ → Option FramesInfo → Type 0) → List ℕ → Type 0
+abbrev pub IsAnswerBy : Sort → Target → Questions → Question → (ℕ → Option FramesInfo → Type 0) → List ℕ
+    → Type 0
 IsAnswerBy Code (AtAddress given) questions question right text =
     IsAnswer questions question right (relative questions.origin given) text
 IsAnswerBy sort target questions question right text =

@@ -59,8 +59,8 @@ pub record Answered (answers : List ℕ → List ℕ → Type 0) (form : List (L
   pub written : Appends old new (form texts)
 
 -- the first of what was asked is answered, and a beginning of the texts of these answers was written
-pub record AnsweredFirst (answers : List ℕ → List ℕ → Type 0) (form : List (List ℕ) → List ℕ) (asked : List (List ℕ))
-    (old new : Option (List ℕ)) : Type 0 where
+pub record AnsweredFirst (answers : List ℕ → List ℕ → Type 0) (form : List (List ℕ) → List ℕ)
+    (asked : List (List ℕ)) (old new : Option (List ℕ)) : Type 0 where
   pub first : List (List ℕ)
   pub left : List (List ℕ)
   pub order : first ++ left ≡ asked
@@ -69,8 +69,8 @@ pub record AnsweredFirst (answers : List ℕ → List ℕ → Type 0) (form : Li
   pub written : AppendsBeginning old new (form texts)
 
 -- what was asked is answered in order: all of it, or its first where the run ends early
-abbrev pub AnswersInOrder : {A E : Type 0} → (List ℕ → List ℕ → Type 0) → (List (List ℕ) → List ℕ) → List (List ℕ)
-    → Result A E → Option (List ℕ) → Option (List ℕ) → Type 0
+abbrev pub AnswersInOrder : {A E : Type 0} → (List ℕ → List ℕ → Type 0) → (List (List ℕ) → List ℕ)
+    → List (List ℕ) → Result A E → Option (List ℕ) → Option (List ℕ) → Type 0
 AnswersInOrder answers form asked result old new =
     MatchResult result (λ _. Answered answers form asked old new) (λ _. AnsweredFirst answers form asked old new)
 

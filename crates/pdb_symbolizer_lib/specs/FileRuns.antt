@@ -27,8 +27,8 @@ AnswersOfFile questions session =
     AnswersText questions (AreFramesOfFile session (flags_of questions.options.now.printer.names))
 
 -- what is asked is answered in order: the words of the command line, or where there are none the lines of the input
-abbrev pub AnswersAsked : {A E : Type 0} → List (Bor (List ℕ)) → Questions → SessionFile → Option (List ℕ) → Result A E
-    → Option (List ℕ) → Option (List ℕ) → Type 0
+abbrev pub AnswersAsked : {A E : Type 0} → List (Bor (List ℕ)) → Questions → SessionFile → Option (List ℕ)
+    → Result A E → Option (List ℕ) → Option (List ℕ) → Type 0
 AnswersAsked [] questions session input result old new =
     AnswersAllLines (AnswersOfFile questions session) questions.options.now.printer.style
     (option_map asked_lines input) result old new
