@@ -1,0 +1,3 @@
+pub mod NumbersAt
+pub mod Image
+pub mod ExceptionDirectory

@@ -1,0 +1,396 @@
+//! The headers of a program (an EXE or a DLL, PE32 or PE32+) and the bytes at its addresses.
+
+ghost use Rattle.std.specs.Prelude.{◌≡◌, ◌≤◌, ◌<◌, ◌==◌, ◌+◌, ◌*◌, ◌^◌, drop, find, length, take, IfOk, IfSome};
+ghost use Rattle.pe_image.specs.NumbersAt.{entries};
+ghost use Rattle.pe_image.specs.Image.{coff_header, data_directory, directories_at, directory_count_at, headers_at};
+ghost use Rattle.pe_image.specs.Image.{headers_of, holds, image_base, optional_form, program_of};
+ghost use Rattle.pe_image.specs.Image.{section_bytes, section_header, sections_at};
+
+use crate::numbers_at::{bytes_at, u16_at, u32_at, u64_at};
+use byteorder::{ByteOrder, LittleEndian};
+use std::alloc::{AllocError, Global};
+use std::marker::Model;
+
+/// IMAGE_DOS_SIGNATURE, the letters `MZ`.
+const IMAGE_DOS_SIGNATURE: u16 = 0x5a4d;
+
+/// IMAGE_NT_SIGNATURE, the letters `PE` and two zeros.
+const IMAGE_NT_SIGNATURE: u32 = 0x4550;
+
+/// Where e_lfanew is in the file: the offset of the headers.
+const E_LFANEW: usize = 0x3c;
+
+/// The size of the COFF file header in bytes.
+const FILE_HEADER: usize = 20;
+
+/// The size of a section's header in bytes.
+const SECTION_HEADER: usize = 40;
+
+/// The size of an entry of the data directories in bytes.
+const DIRECTORY: usize = 8;
+
+/// How many data directories a program has at most.
+const IMAGE_NUMBEROF_DIRECTORY_ENTRIES: u32 = 16;
+
+/// How many sections a program has at most that systems load.
+const MOST_SECTIONS: u16 = 96;
+
+/// The machine of programs for x64.
+pub const IMAGE_FILE_MACHINE_AMD64: u16 = 0x8664;
+
+/// A section of a program.
+#[derive(Debug, Clone, Copy, PartialEq, Eq)]
+pub struct Section {
+    /// The address of its start, relative to the image base.
+    pub rva: u32,
+    /// Its size in bytes when it is loaded.
+    pub size: u32,
+    /// The offset of its bytes in the file.
+    pub file_offset: u32,
+    /// The number of its bytes in the file.
+    pub file_size: u32,
+}
+
+/// An entry of the data directories: where one of the program's tables is.
+#[derive(Debug, Clone, Copy, PartialEq, Eq)]
+pub struct DataDirectory {
+    /// The address of the table, relative to the image base.
+    pub rva: u32,
+    /// The size of the table in bytes.
+    pub size: u32,
+}
+
+/// A program: the bytes of its file, and what its headers say.
+#[derive(Drop)]
+pub struct Image<'a> {
+    pub file: &'a [u8],
+    /// [`IMAGE_FILE_MACHINE_AMD64`] for x64.
+    pub machine: u16,
+    /// The address that the program is linked for.
+    pub image_base: u64,
+    /// SizeOfImage: the size of the loaded program in bytes.
+    pub image_size: u32,
+    pub sections: Vec<Section>,
+    pub directories: Vec<DataDirectory>,
+}
+
+impl<'a> Model for Image<'a> {
+    ghost use Rattle.pe_image.specs.Image.{Program};
+
+    ghost Value = { Program };
+
+    ghost view = { λ image. record {
+      file = image.file.now;
+      machine = image.machine;
+      image_base = image.image_base;
+      image_size = image.image_size;
+      sections = image.sections.items;
+      directories = image.directories.items;
+    } };
+}
+
+/// PE32 or PE32+.
+#[derive(Clone, Copy)]
+enum OptionalForm {
+    Pe32,
+    Pe32Plus,
+}
+
+/// Where a table of the headers is in the file, in bytes, and how many entries it has.
+#[derive(Clone, Copy)]
+struct Table {
+    at: usize,
+    count: usize,
+}
+
+/// What the headers of a program say, apart from their tables.
+#[derive(Clone, Copy)]
+struct Headers {
+    machine: u16,
+    image_base: u64,
+    image_size: u32,
+    sections: Table,
+    directories: Table,
+}
+
+/// The program that a file is, or `None` if it is no EXE or DLL, or one that no system loads (more than 96
+/// sections, headers that reach past the end of the file).
+pub fn read_image(alloc: Global, file: &[u8]) -> Result<Option<Image<'_>>, AllocError>
+    ensures answer { IfOk result (λ image. image ≡ program_of file.now) }
+{
+    let Some(headers) = headers_of(file) else {
+        return Ok(None);
+    };
+    let Some(sections) = bytes_at(
+        file,
+        headers.sections.at,
+        SECTION_HEADER * headers.sections.count,
+    ) else {
+        return Ok(None);
+    };
+    let Some(directories) = bytes_at(
+        file,
+        headers.directories.at,
+        DIRECTORY * headers.directories.count,
+    ) else {
+        return Ok(None);
+    };
+    Ok(Some(Image {
+        file,
+        machine: headers.machine,
+        image_base: headers.image_base,
+        image_size: headers.image_size,
+        sections: sections_in(alloc, sections, headers.sections.count)?,
+        directories: directories_in(alloc, directories, headers.directories.count)?,
+    }))
+}
+
+impl<'a> Image<'a> {
+    ghost use Rattle.pe_image.specs.Image.{bytes_from, directory, image_file_machine_amd64};
+
+    /// Whether the program is for x64.
+    pub fn is_x64(&self) -> bool
+        ensures answer { result ≡ (self.now.machine == image_file_machine_amd64) }
+    {
+        self.machine == IMAGE_FILE_MACHINE_AMD64
+    }
+
+    /// The bytes from an address on, relative to the image base, up to the end of its section in the file. None where
+    /// no section holds the address.
+    pub fn bytes_from(&self, rva: u32) -> &'a [u8]
+        ensures answer { result.now ≡ bytes_from self.now rva }
+    {
+        match section_over(&self.sections, rva) {
+            None => &[],
+            Some(section) => section_bytes(self.file, rva, section),
+        }
+    }
+
+    /// The data directory at a position, such as 3 for the exception directory.
+    pub fn directory(&self, position: usize) -> Option<DataDirectory>
+        ensures answer { result ≡ directory self.now position }
+    {
+        self.directories.get(position).copied()
+    }
+}
+
+// What the headers of a program say.
+fn headers_of(file: &[u8]) -> Option<Headers>
+    ensures answer { result ≡ headers_of file.now }
+    ensures sections { IfSome result (λ headers. headers.sections.at < 2 ^ 33) }
+    ensures section_count { IfSome result (λ headers. headers.sections.count ≤ 96) }
+    ensures directories { IfSome result (λ headers. headers.directories.at < 2 ^ 33) }
+    ensures directory_count { IfSome result (λ headers. headers.directories.count ≤ 16) }
+{
+    headers_at(file, coff_header(file)?)
+}
+
+// The offset of the COFF file header.
+fn coff_header(file: &[u8]) -> Option<usize>
+    ensures answer { result ≡ coff_header file.now }
+    ensures near { IfSome result (λ at. at < 2 ^ 32 + 4) }
+{
+    let magic = u16_at(file, 0)?;
+    let at = u32_at(file, E_LFANEW)? as usize;
+    let signature = u32_at(file, at)?;
+    if magic == IMAGE_DOS_SIGNATURE && signature == IMAGE_NT_SIGNATURE {
+        return Some(at + 4);
+    }
+    None
+}
+
+// What the headers say that begin at this offset of the COFF file header.
+fn headers_at(file: &[u8], coff: usize) -> Option<Headers>
+    requires { coff < 2 ^ 32 + 4 }
+    ensures answer { result ≡ headers_at file.now coff }
+    ensures sections { IfSome result (λ headers. headers.sections.at < 2 ^ 33) }
+    ensures section_count { IfSome result (λ headers. headers.sections.count ≤ 96) }
+    ensures directories { IfSome result (λ headers. headers.directories.at < 2 ^ 33) }
+    ensures directory_count { IfSome result (λ headers. headers.directories.count ≤ 16) }
+{
+    let machine = u16_at(file, coff)?;
+    let magic = u16_at(file, coff + FILE_HEADER)?;
+    let form = optional_form(magic)?;
+    let image_base = image_base(form, file, coff + FILE_HEADER)?;
+    let image_size = u32_at(file, coff + 76)?;
+    let sections = sections_at(file, coff)?;
+    let directories = directories_at(form, file, coff + FILE_HEADER)?;
+    Some(Headers {
+        machine,
+        image_base,
+        image_size,
+        sections,
+        directories,
+    })
+}
+
+// PE32 or PE32+, by the number that the optional header begins with.
+fn optional_form(magic: u16) -> Option<OptionalForm>
+    ensures answer { result ≡ optional_form magic }
+{
+    match magic {
+        0x10b => Some(OptionalForm::Pe32),
+        0x20b => Some(OptionalForm::Pe32Plus),
+        _ => None,
+    }
+}
+
+// The image base.
+fn image_base(form: OptionalForm, file: &[u8], optional: usize) -> Option<u64>
+    requires { optional < 2 ^ 33 }
+    ensures answer { result ≡ image_base form file.now optional }
+{
+    match form {
+        OptionalForm::Pe32 => {
+            let base = u32_at(file, optional + 28)?;
+            Some(u64::from(base))
+        }
+        OptionalForm::Pe32Plus => u64_at(file, optional + 24),
+    }
+}
+
+// Where NumberOfRvaAndSizes is in the optional header.
+fn directory_count_at(form: OptionalForm) -> usize
+    ensures answer { result ≡ directory_count_at form }
+    ensures near { result ≤ 108 }
+{
+    match form {
+        OptionalForm::Pe32 => 92,
+        OptionalForm::Pe32Plus => 108,
+    }
+}
+
+// Where the data directories are, and how many.
+fn directories_at(form: OptionalForm, file: &[u8], optional: usize) -> Option<Table>
+    requires { optional < 2 ^ 32 + 24 }
+    ensures answer { result ≡ directories_at form file.now optional }
+    ensures at { IfSome result (λ table. table.at < 2 ^ 33) }
+    ensures count { IfSome result (λ table. table.count ≤ 16) }
+{
+    let at = optional + directory_count_at(form);
+    let count = u32_at(file, at)?;
+    Some(Table {
+        at: at + 4,
+        count: count.min(IMAGE_NUMBEROF_DIRECTORY_ENTRIES) as usize,
+    })
+}
+
+// Where the headers of the sections are, and how many.
+fn sections_at(file: &[u8], coff: usize) -> Option<Table>
+    requires { coff < 2 ^ 32 + 4 }
+    ensures answer { result ≡ sections_at file.now coff }
+    ensures at { IfSome result (λ table. table.at < 2 ^ 33) }
+    ensures count { IfSome result (λ table. table.count ≤ 96) }
+{
+    let count = u16_at(file, coff + 2)?;
+    let size = u16_at(file, coff + 16)?;
+    if count > MOST_SECTIONS {
+        return None;
+    }
+    Some(Table {
+        at: coff + FILE_HEADER + usize::from(size),
+        count: usize::from(count),
+    })
+}
+
+// The section whose header these bytes begin with.
+fn section_header(bytes: &[u8]) -> Section
+    requires { 40 ≤ length bytes.now }
+    ensures { result ≡ section_header bytes.now }
+{
+    Section {
+        rva: LittleEndian::read_u32(&bytes[12..]),
+        size: LittleEndian::read_u32(&bytes[8..]),
+        file_offset: LittleEndian::read_u32(&bytes[20..]),
+        file_size: LittleEndian::read_u32(&bytes[16..]),
+    }
+}
+
+// The data directory whose entry these bytes begin with.
+fn data_directory(bytes: &[u8]) -> DataDirectory
+    requires { 8 ≤ length bytes.now }
+    ensures { result ≡ data_directory bytes.now }
+{
+    DataDirectory {
+        rva: LittleEndian::read_u32(bytes),
+        size: LittleEndian::read_u32(&bytes[4..]),
+    }
+}
+
+// The sections whose headers are in these bytes.
+fn sections_in(alloc: Global, bytes: &[u8], count: usize) -> Result<Vec<Section>, AllocError>
+    requires { 40 * count ≤ length bytes.now }
+    ensures { IfOk result (λ read. read.items ≡ entries section_header 40 count bytes.now) }
+{
+    let mut read = Vec::with_capacity(alloc, count)?;
+    for position in 0..count {
+        read.push(section_header(&bytes[SECTION_HEADER * position..]))?;
+    }
+    Ok(read)
+}
+
+// The data directories whose entries are in these bytes.
+fn directories_in(
+    alloc: Global,
+    bytes: &[u8],
+    count: usize,
+) -> Result<Vec<DataDirectory>, AllocError>
+    requires { 8 * count ≤ length bytes.now }
+    ensures { IfOk result (λ read. read.items ≡ entries data_directory 8 count bytes.now) }
+{
+    let mut read = Vec::with_capacity(alloc, count)?;
+    for position in 0..count {
+        read.push(data_directory(&bytes[DIRECTORY * position..]))?;
+    }
+    Ok(read)
+}
+
+// Whether a section holds an address.
+fn holds(rva: u32, section: Section) -> bool
+    ensures { result ≡ holds rva section }
+{
+    section.rva <= rva && rva - section.rva < section.file_size
+}
+
+// The first section that holds an address.
+fn section_over(sections: &[Section], rva: u32) -> Option<Section>
+    ensures { result ≡ find (holds rva) sections.now }
+{
+    sections
+        .iter()
+        .copied()
+        .find(|section| holds(rva, *section))
+}
+
+// The bytes of a section from an address on.
+fn section_bytes(file: &[u8], rva: u32, section: Section) -> &[u8]
+    ensures { result.now ≡ section_bytes file.now rva section }
+{
+    let bytes = first_bytes(
+        bytes_behind(file, section.file_offset as usize),
+        section.file_size as usize,
+    );
+    bytes_behind(bytes, rva.saturating_sub(section.rva) as usize)
+}
+
+// The bytes from an offset on, none where there are not so many.
+fn bytes_behind(bytes: &[u8], at: usize) -> &[u8]
+    ensures { result.now ≡ drop at bytes.now }
+{
+    if bytes.len() < at {
+        return &[];
+    }
+    let (_, rest) = bytes.split_at(at);
+    rest
+}
+
+// So many bytes, or all where there are fewer.
+fn first_bytes(bytes: &[u8], count: usize) -> &[u8]
+    ensures { result.now ≡ take count bytes.now }
+{
+    if bytes.len() < count {
+        return bytes;
+    }
+    let (first, _) = bytes.split_at(count);
+    first
+}

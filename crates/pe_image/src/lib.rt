@@ -1,0 +1,13 @@
+//! The headers of a program (an EXE or a DLL, PE32 or PE32+), the bytes at its addresses, and its exception directory.
+//!
+//! What each call answers is a definition over the bytes of the file, in specs/Image.antt and
+//! specs/ExceptionDirectory.antt, and each call is proved to answer it, whatever the bytes are.
+#![tactic(auto)]
+
+mod exception_directory;
+mod image;
+mod numbers_at;
+
+pub use exception_directory::{FunctionEntry, function_entries, function_entry_at};
+pub use image::{DataDirectory, IMAGE_FILE_MACHINE_AMD64, Image, Section, read_image};
+pub use numbers_at::{bytes_at, u16_at, u32_at, u64_at};

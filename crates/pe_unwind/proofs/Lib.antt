@@ -1,0 +1,6 @@
+mod Examples
+pub mod LineLemmas
+pub mod ListLemmas
+pub mod PlaceLemmas
+pub mod PopLemmas
+pub mod RecordLemmas

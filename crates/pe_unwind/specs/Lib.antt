@@ -1,0 +1,11 @@
+pub mod Faults
+pub mod Registers
+pub mod UnwindCodes
+pub mod UnwindInfo
+pub mod Rules
+pub mod Epilogues
+pub mod ListedEpilogues
+pub mod Functions
+pub mod CfiLines
+pub mod CfiRecords
+pub mod CfiText

@@ -1,0 +1,105 @@
+//! The lines that show a function's rules: one for each change.
+
+ghost use Rattle.std.specs.Prelude.{◌≡◌, ◌≤◌, ℕ, ◌+◌, ◌-◌, ◌<◌, length, IfErr, IfOk, IsTrue, OnOk, Some};
+ghost use Rattle.pe_unwind.specs.CfiLines.{Ascend, Show, shown};
+ghost use Rattle.pe_unwind.specs.CfiRecords.{AreWhole, LetKnow, records};
+ghost use Rattle.pe_unwind.specs.Faults.{Fails};
+ghost use Rattle.pe_unwind.specs.Functions.{function_at, rule_at};
+
+use crate::faults::UnwindFault;
+use crate::functions::{code_of, is_plain, read_function, rule_at};
+use crate::rules::{FunctionUnwind, Place, Rules, is_same_rules};
+use pe_image::{FunctionEntry, Image};
+use std::alloc::{AllocError, Global};
+
+/// Rules that hold from an offset of a function on, up to the next line.
+#[derive(Debug, Clone, Copy)]
+pub struct CfiLine {
+    /// In bytes from the function's start.
+    pub offset: u32,
+    pub rules: Rules,
+}
+
+/// The lines of the function of an entry: at each of its offsets they show the function's rules there. `reach` is the
+/// end of the functions before it.
+///
+/// # Errors
+///
+/// Answers why the entry is left out, or that memory ran out.
+#[tactic(auto, using(crate::proofs::RecordLemmas::let_know))]
+pub fn function_lines(
+    alloc: Global,
+    image: &Image<'_>,
+    reach: u32,
+    entry: FunctionEntry,
+) -> Result<Vec<CfiLine>, UnwindFault>
+    ensures answer { IfOk result (λ lines. Show lines.items (function_at image.now reach entry)) }
+    ensures ascending { IfOk result (λ lines. Ascend lines.items (entry.end - entry.begin)) }
+    ensures records { IfOk result (λ lines. LetKnow (records lines.items) (function_at image.now reach entry)) }
+    ensures refused { IfErr result (λ fault. Fails fault (function_at image.now reach entry)) }
+{
+    let code = code_of(image, reach, entry)?;
+    let function = read_function(alloc, image, entry)?;
+    Ok(lines_of(alloc, &function, code)?)
+}
+
+/// The lines of a function, by its code: at each of its offsets they show the function's rules there.
+pub fn lines_of(
+    alloc: Global,
+    function: &FunctionUnwind,
+    code: &[u8],
+) -> Result<Vec<CfiLine>, AllocError>
+    requires { length code.now + function.now.begin ≡ function.now.end }
+    ensures answer { IfOk result (λ lines. (offset : ℕ) → offset < length code.now
+        → shown lines.items offset ≡ Some (rule_at function.now code.now offset)) }
+    ensures ascending { IfOk result (λ lines. Ascend lines.items (length code.now)) }
+    ensures whole { IfOk result (λ lines. AreWhole lines.items) }
+{
+    let size = function.end.saturating_sub(function.begin);
+    let mut lines = Vec::new(alloc);
+    let mut last: Option<Rules> = None;
+    let mut was_plain = false;
+    for offset in 0..size {
+        let plain = is_plain(function, code, offset);
+        if !plain || !was_plain {
+            let rules = rule_at(function, code, offset);
+            push_change(&mut lines, last, offset, rules)?;
+            last = Some(rules);
+        }
+        was_plain = plain;
+    }
+    Ok(lines)
+}
+
+// Appends a line at an offset, unless the last rules are these.
+fn push_change(
+    lines: &mut Vec<CfiLine>,
+    last: Option<Rules>,
+    offset: u32,
+    rules: Rules,
+) -> Result<(), AllocError>
+    requires last { (at : ℕ) → offset ≤ at → shown lines.old.items at ≡ last }
+    requires ascend { Ascend lines.old.items offset }
+    requires whole { AreWhole lines.old.items }
+    ensures before { OnOk result ((at : ℕ) → at < offset → shown lines.new.items at ≡ shown lines.old.items at) }
+    ensures on { OnOk result ((at : ℕ) → offset ≤ at → shown lines.new.items at ≡ Some rules) }
+    ensures ascend { OnOk result (Ascend lines.new.items (offset + 1)) }
+    ensures whole { OnOk result (AreWhole lines.new.items) }
+{
+    let saved: &[Option<Place>] = &rules.saved;
+    prove!(saved.len() == 16);
+    if !is_same(last, rules) {
+        lines.push(CfiLine { offset, rules })?;
+    }
+    Ok(())
+}
+
+// Whether the last rules are these.
+fn is_same(last: Option<Rules>, rules: Rules) -> bool
+    ensures { IsTrue result → last ≡ Some rules }
+{
+    match last {
+        None => false,
+        Some(last) => is_same_rules(last, rules),
+    }
+}

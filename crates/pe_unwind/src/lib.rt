@@ -1,0 +1,28 @@
+//! What the unwind tables of an x64 program say: how the caller of a function is found, at each of its addresses.
+//!
+//! [`function_lines`] reads the function of an entry of the exception directory, and [`push_entry`] writes its lines as
+//! STACK CFI records of a Breakpad symbol file. What a function's rules are at an offset is a definition, `rule_at`
+//! in specs/Functions.antt, and the lines and records are proved to show it at each offset, whatever the bytes are.
+#![tactic(auto)]
+
+mod cfi_lines;
+mod cfi_records;
+mod cfi_text;
+mod epilogues;
+mod faults;
+mod functions;
+mod listed_epilogues;
+mod registers;
+mod rules;
+mod unwind_codes;
+mod unwind_info;
+
+pub use cfi_lines::{CfiLine, function_lines, lines_of};
+pub use cfi_records::{Found, Item, first_items, later_items, records_keep_places};
+pub use cfi_text::{push_entry, push_function};
+pub use faults::{Refusal, UnwindFault};
+pub use functions::{code_of, reach_behind, read_function, rule_at};
+pub use registers::Register;
+pub use rules::{Cfa, FunctionUnwind, Place, Rules};
+pub use unwind_codes::{Operation, UnwindCode};
+pub use unwind_info::{Frame, UnwindInfo};

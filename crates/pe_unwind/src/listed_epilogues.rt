@@ -1,0 +1,170 @@
+//! Epilogues of version 2, which the first unwind codes of an info list.
+
+ghost use Rattle.std.specs.Prelude.{◌≡◌};
+ghost use Rattle.pe_unwind.specs.ListedEpilogues.{all_left, code_left, codes_left, distance_of, epilogue_info};
+ghost use Rattle.pe_unwind.specs.ListedEpilogues.{in_listed, in_others, infos_left, listed_rules, offset_in, pop_left};
+ghost use Rattle.pe_unwind.specs.ListedEpilogues.{pop_size, pushed, rules_left};
+
+use crate::registers::{Register, index};
+use crate::rules::{FunctionUnwind, Rules, Unwound, at_first, popped, rules_of, with_saved};
+use crate::unwind_codes::{Operation, UnwindCode};
+use crate::unwind_info::UnwindInfo;
+
+/// What is left of an epilogue's pops.
+#[derive(Clone, Copy)]
+struct Popping {
+    /// How many bytes of the next pops have run.
+    run: u32,
+    /// What the pops before undo that haven't run.
+    unwound: Unwound,
+}
+
+/// The rules at an offset of a function, if it is in an epilogue that is listed.
+pub(crate) fn listed_rules(function: &FunctionUnwind, offset: u32) -> Option<Rules>
+    ensures answer { result ≡ listed_rules function.now offset }
+{
+    let size = function.end.saturating_sub(function.begin);
+    let behind_start = in_listed(size, offset, &function.own.codes)?;
+    Some(rules_left(function, behind_start))
+}
+
+// The operation info of a code that lists an epilogue.
+fn epilogue_info(operation: Operation) -> Option<u8>
+    ensures { result ≡ epilogue_info operation }
+{
+    match operation {
+        Operation::Epilogue(info) => Some(info),
+        _ => None,
+    }
+}
+
+// The register of a code that says that one was pushed.
+fn pushed(operation: Operation) -> Option<Register>
+    ensures { result ≡ pushed operation }
+{
+    match operation {
+        Operation::Push(register) => Some(register),
+        _ => None,
+    }
+}
+
+// How far an offset is behind the start of an epilogue, if it is in that epilogue.
+fn offset_in(function_size: u32, size: u8, distance: u32, offset: u32) -> Option<u32>
+    ensures { result ≡ offset_in function_size size distance offset }
+{
+    if function_size < distance {
+        return None;
+    }
+    let start = function_size - distance;
+    if start <= offset && offset - start < u32::from(size) {
+        return Some(offset - start);
+    }
+    None
+}
+
+// How far before the function's end an epilogue starts that a code behind the first one lists.
+fn distance_of(low: u8, high: u8) -> u32
+    ensures { result ≡ distance_of low high }
+{
+    u32::from(low) + u32::from(high) * 256
+}
+
+// The same for the epilogues that codes behind the first one list.
+fn in_others(function_size: u32, size: u8, offset: u32, codes: &[UnwindCode]) -> Option<u32>
+    ensures { result ≡ in_others function_size size offset codes.now }
+{
+    for &code in codes {
+        let info = epilogue_info(code.operation)?;
+        let distance = distance_of(code.offset, info);
+        if let Some(found) = offset_in(function_size, size, distance, offset) {
+            return Some(found);
+        }
+    }
+    None
+}
+
+// The same for all epilogues that are listed.
+fn in_listed(function_size: u32, offset: u32, codes: &[UnwindCode]) -> Option<u32>
+    ensures { result ≡ in_listed function_size offset codes.now }
+{
+    let (first, others) = codes.split_first()?;
+    let info = epilogue_info(first.operation)?;
+    let size = first.offset;
+    if info % 2 == 1
+        && let Some(found) = offset_in(function_size, size, u32::from(size), offset)
+    {
+        return Some(found);
+    }
+    in_others(function_size, size, offset, others)
+}
+
+// The size of the pop of a register in bytes.
+fn pop_size(register: Register) -> u32
+    ensures { result ≡ pop_size register }
+{
+    if index(register) < 8 { 1 } else { 2 }
+}
+
+// What the pop of a register undoes, by how many bytes of it and of the pops behind it have run.
+fn pop_left(run: u32, register: Register, unwound: Unwound) -> Unwound
+    ensures { result ≡ pop_left run register unwound }
+{
+    if pop_size(register) <= run {
+        return unwound;
+    }
+    popped(8, with_saved(register, unwound.stack, unwound))
+}
+
+// The same, for a code of a register that was pushed.
+fn code_left(register: Option<Register>, popping: Popping) -> Popping
+    ensures { result ≡ code_left register popping }
+{
+    match register {
+        None => popping,
+        Some(register) => Popping {
+            run: popping.run.saturating_sub(pop_size(register)),
+            unwound: pop_left(popping.run, register, popping.unwound),
+        },
+    }
+}
+
+// The same for some codes.
+fn codes_left(codes: &[UnwindCode], popping: Popping) -> Popping
+    ensures { result ≡ codes_left codes.now popping }
+{
+    let mut left = popping;
+    for &code in codes {
+        left = code_left(pushed(code.operation), left);
+    }
+    left
+}
+
+// The same for the codes of some infos.
+fn infos_left(infos: &[UnwindInfo], popping: Popping) -> Popping
+    ensures { result ≡ infos_left infos.now popping }
+{
+    let mut left = popping;
+    for info in infos {
+        left = codes_left(&info.codes, left);
+    }
+    left
+}
+
+// Nothing is undone, and so many bytes of an epilogue have run.
+fn all_left(run: u32) -> Popping
+    ensures { result ≡ all_left run }
+{
+    Popping {
+        run,
+        unwound: at_first(),
+    }
+}
+
+// The rules so many bytes behind the start of an epilogue.
+fn rules_left(function: &FunctionUnwind, run: u32) -> Rules
+    ensures { result ≡ rules_left function.now run }
+{
+    let own = codes_left(&function.own.codes, all_left(run));
+    let popping = infos_left(&function.parents, own);
+    rules_of(popping.unwound)
+}

@@ -1,0 +1,380 @@
+//! What unwind infos say at an offset: where the caller's stack pointer, return address and registers are.
+
+ghost use Rattle.std.specs.Prelude.{◌≡◌, ◌↔◌, IsTrue, true};
+ghost use Rattle.std.specs.List.{list_any};
+ghost use Rattle.pe_unwind.specs.Registers.{index};
+ghost use Rattle.pe_unwind.specs.Rules.{above, at_first, at_frame, body_rules, code_undone, codes_undone, counts};
+ghost use Rattle.pe_unwind.specs.Rules.{frame_start, info_undone, less, parents_undone, popped, prologue_offset};
+ghost use Rattle.pe_unwind.specs.Rules.{rules_of, saves_from, sets_frame, stack_top, start_once, undone, with_saved};
+
+use crate::registers::{Register, index};
+use crate::unwind_codes::{Operation, UnwindCode};
+use crate::unwind_info::{Frame, UnwindInfo};
+
+/// A place in memory: so many bytes above where a register points.
+#[derive(Debug, Clone, Copy, PartialEq, Eq)]
+pub struct Place {
+    pub register: Register,
+    /// In bytes. A negative offset stands as its two's complement.
+    pub offset: u64,
+}
+
+/// Where the caller's stack pointer is, which is the canonical frame address.
+#[derive(Debug, Clone, Copy, PartialEq, Eq)]
+pub enum Cfa {
+    /// It is the address of this place.
+    Sum(Place),
+    /// It is stored at this place.
+    Loaded(Place),
+}
+
+/// How a function's caller is found from one of its addresses.
+#[derive(Debug, Clone, Copy, PartialEq, Eq)]
+pub struct Rules {
+    pub cfa: Cfa,
+    /// Where the return address is stored.
+    pub return_address: Place,
+    /// Where each register is stored, by its number. `None` if the caller has the register's value still.
+    pub saved: [Option<Place>; 16],
+}
+
+/// What has been undone of a function's prologue.
+#[derive(Clone, Copy)]
+pub(crate) struct Unwound {
+    /// Where the stack pointer points.
+    pub(crate) stack: Place,
+    pub(crate) saved: [Option<Place>; 16],
+    /// Whether a machine frame was undone, behind which nothing follows.
+    pub(crate) is_trapped: bool,
+}
+
+/// The unwind info of a function.
+#[derive(Drop)]
+pub struct FunctionUnwind {
+    /// The address of its first byte, relative to the image base.
+    pub begin: u32,
+    /// The address behind its last byte.
+    pub end: u32,
+    pub own: UnwindInfo,
+    /// The infos that its own is chained to, one after the other.
+    pub parents: Vec<UnwindInfo>,
+}
+
+impl std::marker::Model for FunctionUnwind {
+    ghost use Rattle.pe_unwind.specs.Rules.{Function};
+
+    ghost Value = { Function };
+
+    ghost view = { λ f. record { begin = f.begin; end = f.end; own = f.own; parents = f.parents.items } };
+}
+
+/// A place so many bytes above another.
+pub(crate) fn above(place: Place, bytes: u64) -> Place
+    ensures { result ≡ above place bytes }
+{
+    Place {
+        register: place.register,
+        offset: place.offset.wrapping_add(bytes),
+    }
+}
+
+/// Before anything is undone.
+pub(crate) fn at_first() -> Unwound
+    ensures { result ≡ at_first }
+{
+    Unwound {
+        stack: stack_top(),
+        saved: [None; 16],
+        is_trapped: false,
+    }
+}
+
+/// With a register saved at a place.
+pub(crate) fn with_saved(register: Register, place: Place, unwound: Unwound) -> Unwound
+    ensures { result ≡ with_saved register place unwound }
+{
+    let mut saved = unwound.saved;
+    saved[index(register)] = Some(place);
+    Unwound {
+        stack: unwound.stack,
+        saved,
+        is_trapped: unwound.is_trapped,
+    }
+}
+
+/// With the stack pointer so many bytes higher.
+pub(crate) fn popped(bytes: u64, unwound: Unwound) -> Unwound
+    ensures { result ≡ popped bytes unwound }
+{
+    let saved = unwound.saved;
+    Unwound {
+        stack: above(unwound.stack, bytes),
+        saved,
+        is_trapped: unwound.is_trapped,
+    }
+}
+
+/// The rules where so much is undone.
+pub(crate) fn rules_of(unwound: Unwound) -> Rules
+    ensures { result ≡ rules_of unwound }
+{
+    let cfa = if unwound.is_trapped {
+        Cfa::Loaded(above(unwound.stack, 24))
+    } else {
+        Cfa::Sum(above(unwound.stack, 8))
+    };
+    let saved = unwound.saved;
+    Rules {
+        cfa,
+        return_address: unwound.stack,
+        saved,
+    }
+}
+
+/// An offset in the prologue of an info, or `None` behind it.
+pub(crate) fn prologue_offset(info: &UnwindInfo, offset: u32) -> Option<u32>
+    ensures { result ≡ prologue_offset info.now offset }
+{
+    if offset < u32::from(info.prologue_size) {
+        return Some(offset);
+    }
+    None
+}
+
+/// The rules at an offset in the prologue, or behind it (`None`), outside of epilogues.
+pub(crate) fn body_rules(function: &FunctionUnwind, offset: Option<u32>) -> Rules
+    ensures { result ≡ body_rules function.now offset }
+{
+    let own = info_undone(offset, &function.own, at_first());
+    rules_of(parents_undone(&function.parents, own))
+}
+
+/// Where the stack pointer points before anything is undone.
+pub(crate) fn stack_top() -> Place
+    ensures { result ≡ stack_top }
+{
+    Place {
+        register: Register::Rsp,
+        offset: 0,
+    }
+}
+
+// The place where a frame begins.
+fn frame_start(frame: Frame) -> Place
+    ensures { result ≡ frame_start frame }
+{
+    Place {
+        register: frame.register,
+        offset: less(0, u64::from(frame.offset)),
+    }
+}
+
+/// A number taken off an address.
+pub(crate) fn less(address: u64, bytes: u64) -> u64
+    ensures { result ≡ less address bytes }
+{
+    address.wrapping_sub(bytes)
+}
+
+// The stack pointer where a code set the frame register.
+fn at_frame(frame: Option<Frame>, unwound: Unwound) -> Unwound
+    ensures { result ≡ at_frame frame unwound }
+{
+    match frame {
+        None => unwound,
+        Some(frame) => {
+            let saved = unwound.saved;
+            Unwound {
+                stack: frame_start(frame),
+                saved,
+                is_trapped: unwound.is_trapped,
+            }
+        }
+    }
+}
+
+// With a machine frame undone.
+fn trapped(unwound: Unwound) -> Unwound
+    ensures { result ≡ record unwound { is_trapped = true } }
+{
+    let saved = unwound.saved;
+    Unwound {
+        stack: unwound.stack,
+        saved,
+        is_trapped: true,
+    }
+}
+
+// What one operation undoes.
+fn undone(frame: Option<Frame>, start: Place, operation: Operation, unwound: Unwound) -> Unwound
+    ensures { result ≡ undone frame start operation unwound }
+{
+    match operation {
+        Operation::Push(register) => popped(8, with_saved(register, unwound.stack, unwound)),
+        Operation::Allocate(bytes) => popped(u64::from(bytes), unwound),
+        Operation::SetFrame => at_frame(frame, unwound),
+        Operation::Save(register, offset) => with_saved(
+            register,
+            above(start, u64::from(offset)),
+            unwound,
+        ),
+        Operation::MachineFrame(true) => trapped(popped(8, unwound)),
+        Operation::MachineFrame(false) => trapped(popped(0, unwound)),
+        Operation::Epilogue(_) | Operation::Unseen => unwound,
+    }
+}
+
+// Whether a code counts at an offset in the prologue, or behind it.
+fn counts(offset: Option<u32>, code: UnwindCode) -> bool
+    ensures { result ≡ counts offset code }
+{
+    match offset {
+        None => true,
+        Some(offset) => u32::from(code.offset) <= offset,
+    }
+}
+
+// What one code undoes.
+fn code_undone(
+    frame: Option<Frame>,
+    start: Place,
+    offset: Option<u32>,
+    code: UnwindCode,
+    unwound: Unwound,
+) -> Unwound
+    ensures { result ≡ code_undone frame start offset code unwound }
+{
+    if unwound.is_trapped || !counts(offset, code) {
+        return unwound;
+    }
+    undone(frame, start, code.operation, unwound)
+}
+
+// What some codes undo, one after the other.
+fn codes_undone(
+    frame: Option<Frame>,
+    start: Place,
+    offset: Option<u32>,
+    codes: &[UnwindCode],
+    unwound: Unwound,
+) -> Unwound
+    ensures { result ≡ codes_undone frame start offset codes.now unwound }
+{
+    let mut after = unwound;
+    for &code in codes {
+        after = code_undone(frame, start, offset, code, after);
+    }
+    after
+}
+
+// Whether a code that counts sets the frame register.
+fn sets_frame(offset: Option<u32>, code: UnwindCode) -> bool
+    ensures { result ≡ sets_frame offset code }
+{
+    matches!(code.operation, Operation::SetFrame) && counts(offset, code)
+}
+
+// Whether one of the codes that count sets the frame register.
+fn any_sets_frame(offset: Option<u32>, codes: &[UnwindCode]) -> bool
+    ensures { result ≡ list_any (sets_frame offset) codes.now }
+{
+    codes.iter().any(|code| sets_frame(offset, *code))
+}
+
+// The place that a frame with this register begins at, once the register is set.
+fn start_once(frame: Option<Frame>, set: bool) -> Place
+    ensures { result ≡ start_once frame set }
+{
+    match frame {
+        Some(frame) if set => frame_start(frame),
+        _ => stack_top(),
+    }
+}
+
+// The place that SAVE codes count from.
+fn saves_from(offset: Option<u32>, info: &UnwindInfo) -> Place
+    ensures { result ≡ saves_from offset info.now }
+{
+    let set = offset.is_none() || info.parent.is_some() || any_sets_frame(offset, &info.codes);
+    start_once(info.frame, set)
+}
+
+// What an info undoes at an offset in its prologue, or behind it.
+fn info_undone(offset: Option<u32>, info: &UnwindInfo, unwound: Unwound) -> Unwound
+    ensures { result ≡ info_undone offset info.now unwound }
+{
+    codes_undone(
+        info.frame,
+        saves_from(offset, info),
+        offset,
+        &info.codes,
+        unwound,
+    )
+}
+
+// What the parents of a chained info undo.
+fn parents_undone(parents: &[UnwindInfo], unwound: Unwound) -> Unwound
+    ensures { result ≡ parents_undone parents.now unwound }
+{
+    let mut after = unwound;
+    for parent in parents {
+        after = info_undone(None, parent, after);
+    }
+    after
+}
+
+/// Whether two places are the same.
+pub(crate) fn is_same_place(a: Option<Place>, b: Option<Place>) -> bool
+    ensures { IsTrue result ↔ (a ≡ b) }
+{
+    match (a, b) {
+        (None, None) => true,
+        (Some(a), Some(b)) => a == b,
+        _ => false,
+    }
+}
+
+// Whether the same registers are saved at the same places.
+fn is_same_saved(a: &[Option<Place>], b: &[Option<Place>]) -> bool
+    ensures { IsTrue result → a.now ≡ b.now }
+{
+    if a.len() != b.len() {
+        return false;
+    }
+    for position in 0..a.len() {
+        if !is_same_place(a[position], b[position]) {
+            return false;
+        }
+    }
+    true
+}
+
+// Whether the caller's stack pointer is at the same place.
+fn is_same_cfa(a: Cfa, b: Cfa) -> bool
+    ensures { IsTrue result → a ≡ b }
+{
+    match (a, b) {
+        (Cfa::Sum(a), Cfa::Sum(b)) | (Cfa::Loaded(a), Cfa::Loaded(b)) => a == b,
+        _ => false,
+    }
+}
+
+// Whether the return address is at the same place.
+fn is_same_return(a: Place, b: Place) -> bool
+    ensures { IsTrue result → a ≡ b }
+{
+    a == b
+}
+
+/// Whether rules are the same.
+pub(crate) fn is_same_rules(a: Rules, b: Rules) -> bool
+    ensures { IsTrue result → a ≡ b }
+{
+    if !is_same_cfa(a.cfa, b.cfa) {
+        return false;
+    }
+    if !is_same_return(a.return_address, b.return_address) {
+        return false;
+    }
+    is_same_saved(&a.saved, &b.saved)
+}
