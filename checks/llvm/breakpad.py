@@ -24,6 +24,7 @@ RECORDS = {
     "INLINE_ORIGIN": re.compile(f"INLINE_ORIGIN {NUMBER} (.+)"),
     "FUNC": re.compile(f"FUNC (m )?{HEX} {HEX} {HEX} (.+)"),
     "PUBLIC": re.compile(f"PUBLIC (m )?{HEX} {HEX} (.+)"),
+    "STACK": re.compile(f"STACK CFI (INIT {HEX} {HEX}|{HEX})( \\S.*)"),
     "INLINE": re.compile(f"INLINE {NUMBER} {NUMBER} {NUMBER} {NUMBER}((?: {HEX} {HEX})+)"),
 }
 LINE = re.compile(f"{HEX} {HEX} {NUMBER} {NUMBER}")
@@ -98,11 +99,11 @@ class SymbolFile:
             self.functions.append(Function(int(found[2], 16), int(found[3], 16), found[5]))
         elif keyword == "PUBLIC":
             self.publics.append((int(found[2], 16), found[4]))
-        elif keyword != "INFO" and not self.functions:
+        elif keyword not in ("INFO", "STACK") and not self.functions:
             self.faults.append(f"before all functions: {line}")
         elif keyword == "INLINE":
             self.inline(line, found)
-        elif keyword != "INFO":
+        elif keyword not in ("INFO", "STACK"):
             self.line(line, found)
 
     def inline(self, line, found):

@@ -2,6 +2,9 @@ pub mod AddressSpanLemmas
 pub mod FunctionLemmas
 pub mod FunctionRecordLemmas
 pub mod InlineRecordLemmas
+pub mod ModuleRecordLemmas
 pub mod NumberLemmas
 pub mod OnOkLemmas
 pub mod SessionLemmas
+pub mod WalkLemmas
+pub mod WrittenRecordLemmas

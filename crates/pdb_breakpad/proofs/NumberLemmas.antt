@@ -1,7 +1,7 @@
 -- Names behind which one more stands.
 use Rattle.std.proofs.Common.{◌≡◌, ◌∙◌, ◌<◌, ◌+◌, ℕ, zero, suc, Bool, true, false, cond, List, [], ◌∷◌, ◌++◌, length}
 use Rattle.std.proofs.Common.{slice_get, get_or, drop, Option, Some, refl, sym, ap, arith, add-one, append_assoc, drop-cons}
-use Rattle.std.specs.Prelude.{String}
+use Rattle.std.specs.Prelude.{String, map, string_bytes}
 use Rattle.std.specs.BTreeMap.{BTreeMap, get_by_text}
 use Rattle.std.specs.Bool.{Decides}
 use Rattle.std.specs.Str.{bytes_eq}
@@ -67,10 +67,11 @@ one_name_more start number names name text more all below is pushed before =
     ∙ append_assoc text (name_record start number name) (name_records start (number + 1) (drop (number + 1) names))
     ∙ ap (λ rest. text ++ name_records start number rest) (sym next) ∙ before
 
--- where no name is new, each number has the name that it had
-pub names_back : (old new : List (List ℕ)) → KeepsNames old new → length new ≡ length old → KeepsNames new old
-names_back old new keeps same number name is =
-    let below : number < length old = omega (arith, same, slice_get_within new number name is) in
-    let known : slice_get old number ≡ Some (get_or old number []) = slice_get-get_or old number [] below in
-    let there : slice_get new number ≡ Some (get_or old number []) = keeps number (get_or old number []) known in
-    known ∙ sym there ∙ is
+-- the name at a position of some texts, by the text that stands there
+pub name_at : {Y : Type 0} (names : List (String Y)) (number : ℕ) (known : String Y) (name : List ℕ)
+    → slice_get names number ≡ Some known → string_bytes known ≡ name
+    → slice_get (map string_bytes names) number ≡ Some name
+name_at [] number known name there is = absurd (cc)
+name_at (first ∷ names) zero known name there is =
+    let same : first ≡ known = cc in ap Some (ap string_bytes same ∙ is)
+name_at (first ∷ names) (suc number) known name there is = name_at names number known name there is

@@ -1,5 +1,6 @@
 -- What holds at an address, by the spans over it.
-use Rattle.std.specs.Prelude.{ℕ, ◌+◌, ◌<◌, ◌==◌, nat_lt, ◌&&◌, not, Bool, List, Option, Some, None}
+use Rattle.std.specs.Prelude.{ℕ, ◌+◌, ◌<◌, ◌≤◌, ◌==◌, nat_lt, ◌&&◌, not, Bool, List, [], ◌∷◌}
+use Rattle.std.specs.Prelude.{Option, Some, None}
 use Rattle.std.specs.Prelude.{option_map, option_and_then, find, slice_get, length, ◌-◌, if◌then◌else◌}
 use Rattle.std.specs.List.{All}
 use Rattle.pdb_breakpad.specs.declared.address_spans.Span.{Span}
@@ -23,3 +24,9 @@ ending_before address span = if span.last + 1 == address then Some span.content 
 -- what holds at the address before this one: the content of the last span, if it ends there
 abbrev pub content_before : {T : Type 0} → ℕ → List (Span T) → Option T
 content_before address spans = option_and_then (ending_before address) (slice_get spans (length spans - 1))
+
+-- spans begin one after the other, and none ends before it begins
+abbrev pub Ascend : {T : Type 0} → List (Span T) → Type 0
+Ascend [] = Unit {0}
+Ascend (span ∷ spans) =
+    (span.start ≤ span.last) × (All (λ later. span.start ≤ later.start) spans × Ascend spans)

@@ -22,9 +22,13 @@ hexadecimal number = digits 16 false number
 abbrev pub name_character : ℕ → List ℕ
 name_character c = if (c == 10) || (c == 13) then codes " " else encode_utf8 c
 
+-- a text as a part of a line: a line break is written as a space
+abbrev pub line_text : List ℕ → List ℕ
+line_text text = flat_map name_character (chars text)
+
 -- a name as the last word of a record, and the end of the line
 unfoldable pub name_line : List ℕ → List ℕ
-name_line name = flat_map name_character (chars name) ++ codes "\n"
+name_line name = line_text name ++ codes "\n"
 
 -- how many addresses stand from one to another, both of them included
 abbrev pub size_between : ℕ → ℕ → ℕ

@@ -2,7 +2,7 @@
 use Rattle.std.specs.Prelude.{◌≡◌, ◌≤◌, ◌<◌, ◌+◌, ◌^◌, ℕ, List, [], ◌∷◌, Bool, not, nat_lt, ◌&&◌, find, reverse}
 use Rattle.std.specs.Prelude.{Option, Some, None, IfSome, ◌⊎◌}
 use Rattle.std.specs.Option.{option_to_list}
-use Rattle.std.specs.List.{flat_map}
+use Rattle.std.specs.List.{All, flat_map}
 use Rattle.std.specs.Io.KnownBytes.{Appends}
 use Rattle.pdb_frames.specs.Frame.{FramesInfo}
 use Rattle.pdb_breakpad.specs.declared.function_records.FunctionRecords.{FunctionRecords}
@@ -12,6 +12,7 @@ use Rattle.pdb_breakpad.specs.FunctionRecords.{InOrder, IsNumbered, Reads}
 use Rattle.pdb_breakpad.specs.FunctionTexts.{function_text}
 use Rattle.pdb_breakpad.specs.InlineRecords.{calls_at}
 use Rattle.pdb_breakpad.specs.ShownFrames.{answer_shown, own_name}
+use Rattle.pdb_breakpad.specs.WrittenRecords.{AreReadable}
 
 -- an answer with its frames the other way round
 abbrev pub turned : FramesInfo → FramesInfo
@@ -110,16 +111,18 @@ ReadsAnswer answers source numbers first last (Some records) = (answer : FramesI
     × ((address : ℕ) → first ≤ address → address ≤ last
     → Reads numbers records address (answer_shown (turned answer)))
 
--- a walk goes over a piece: what is over it is read as it is answered, and the texts of functions that end are written
+-- a walk goes over a piece: what is over it is read as it is answered, and the texts of functions that end are written,
+-- as they may be read
 pub record StepsOver {S : Type 0} (answers : S → ℕ → Option FramesInfo → Type 0) (source : S) (numbers : Numbers)
     (first last : ℕ) (walked next : Option FunctionRecords) (old new : Option (List ℕ)) : Type 0 where
   pub ended : List FunctionRecords
   pub is_next : IsNext first last walked next ended
   pub reads : ReadsAnswer answers source numbers first last next
+  pub readable : All AreReadable ended
   pub written : Appends old new (flat_map function_text ended)
 
 -- a walk came up to an address: the functions so far are right below the start of the one that is walked, and their
--- texts are written
+-- texts are written, as they may be read
 pub record IsWalked {S : Type 0} (answers : S → ℕ → Option FramesInfo → Type 0) (source : S) (numbers : Numbers)
     (next : ℕ) (walked : Option FunctionRecords) (old new : Option (List ℕ)) : Type 0 where
   pub functions : List FunctionRecords
@@ -128,11 +131,13 @@ pub record IsWalked {S : Type 0} (answers : S → ℕ → Option FramesInfo → 
   pub goes_on : IfSome walked (IsOpen numbers next)
   pub shows : IfSome walked (λ records. (address : ℕ) → records.start ≤ address → address ≤ records.last
       → Shows answers source numbers records address)
+  pub readable : All AreReadable functions
   pub written : Appends old new (flat_map function_text functions)
 
--- all functions of a program are written, and right
+-- all functions of a program are written, as they may be read, and right
 pub record WritesFunctions {S : Type 0} (answers : S → ℕ → Option FramesInfo → Type 0) (source : S)
     (numbers : Numbers) (old new : Option (List ℕ)) : Type 0 where
   pub functions : List FunctionRecords
   pub are : AreFunctions answers source numbers functions
+  pub readable : All AreReadable functions
   pub written : Appends old new (flat_map function_text functions)

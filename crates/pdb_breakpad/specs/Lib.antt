@@ -5,6 +5,7 @@ pub mod FunctionRecords
 pub mod Functions
 pub mod FunctionTexts
 pub mod InlineRecords
+pub mod ModuleRecords
 pub mod NameRecords
 pub mod NumberedCode
 pub mod Numbers
@@ -13,3 +14,4 @@ pub mod RecordTypes
 pub mod SessionAnswers
 pub mod ShownFrames
 pub mod SymbolFile
+pub mod WrittenRecords

@@ -1,28 +1,37 @@
 -- A symbol file whole: its text, and what a reader of it is shown.
 use Rattle.std.specs.Prelude.{ℕ, List, ◌++◌, codes, Option}
 use Rattle.std.specs.Io.KnownBytes.{Appends}
-use Rattle.std.specs.List.{flat_map}
+use Rattle.std.specs.List.{All, flat_map}
 use Rattle.pdb_frames.specs.Frame.{FramesInfo}
 use Rattle.pdb_breakpad.specs.declared.function_records.FunctionRecords.{FunctionRecords}
+use Rattle.pdb_breakpad.specs.declared.module_records.ModuleIdentity.{ModuleIdentity}
 use Rattle.pdb_breakpad.specs.declared.numbers.Numbers.{Numbers}
 use Rattle.pdb_breakpad.specs.FunctionTexts.{function_text}
 use Rattle.pdb_breakpad.specs.Functions.{AreFunctions}
+use Rattle.pdb_breakpad.specs.ModuleRecords.{AreModuleRecords}
 use Rattle.pdb_breakpad.specs.NameRecords.{name_records}
+use Rattle.pdb_breakpad.specs.WrittenRecords.{FitNumbers, FitTypes, InlinesAscend}
 
 -- the records of files, and those of inlined functions' names, by their numbers
 abbrev pub names_text : Numbers → List ℕ
-names_text numbers = name_records (codes "FILE ") 0 numbers.files ++ name_records (codes "INLINE_ORIGIN ") 0 numbers.origins
+names_text numbers =
+    name_records (codes "FILE ") 0 numbers.files ++ name_records (codes "INLINE_ORIGIN ") 0 numbers.origins
 
 -- the text of a symbol file: the records of its module, those of files and names, and then those of functions
 abbrev pub symbol_file_text : List ℕ → Numbers → List FunctionRecords → List ℕ
 symbol_file_text front numbers functions = front ++ (names_text numbers ++ flat_map function_text functions)
 
--- the text of a symbol file was written whose functions are right at each address by the numbers that files and names
--- have in it
+-- the text of a symbol file was written: behind the records of this module those of files and names, by numbers that
+-- fit, and those of functions that are right at each address by these numbers, fit their types and have inlined calls
+-- that ascend
 pub record WritesSymbolFile {S : Type 0} (answers : S → ℕ → Option FramesInfo → Type 0) (source : S)
-    (old new : Option (List ℕ)) : Type 0 where
+    (identity : ModuleIdentity) (old new : Option (List ℕ)) : Type 0 where
   pub front : List ℕ
   pub numbers : Numbers
   pub functions : List FunctionRecords
+  pub begins : AreModuleRecords identity front
+  pub numbers_fit : FitNumbers numbers
   pub are : AreFunctions answers source numbers functions
+  pub fit : All FitTypes functions
+  pub ascend : All InlinesAscend functions
   pub written : Appends old new (symbol_file_text front numbers functions)

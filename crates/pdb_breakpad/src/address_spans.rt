@@ -1,8 +1,8 @@
 //! What holds over addresses, by ranges of them that follow one another.
 
-ghost use Rattle.std.specs.Prelude.{◌≡◌, ◌<◌, ◌≤◌, ◌+◌, ◌++◌, ℕ, [], ◌∷◌, Some, IsSome, OnOk};
+ghost use Rattle.std.specs.Prelude.{◌≡◌, ◌≤◌, ◌<◌, ◌+◌, ◌++◌, ℕ, [], ◌∷◌, Some, IsSome, OnOk};
 ghost use Rattle.pdb_breakpad.specs.FunctionTexts.{size_between};
-ghost use Rattle.pdb_breakpad.specs.AddressSpans.{EndBefore, content_at, content_before};
+ghost use Rattle.pdb_breakpad.specs.AddressSpans.{Ascend, EndBefore, content_at, content_before};
 
 use crate::pieces::Piece;
 use std::alloc::{AllocError, Global};
@@ -31,15 +31,15 @@ pub(crate) struct AddressSpans<T: Copy> {
 }
 
 impl<T: Copy> Model for AddressSpans<T> {
-    ghost use Rattle.std.specs.Prelude.{◌≤◌, List};
-    ghost use Rattle.std.specs.List.{All};
+    ghost use Rattle.std.specs.Prelude.{List};
     ghost use Rattle.pdb_breakpad.specs.declared.address_spans.Span.{Span};
+    ghost use Rattle.pdb_breakpad.specs.AddressSpans.{Ascend};
 
     ghost Value = { List (Span T) };
 
     ghost view = { λ s. s.spans.items };
 
-    ghost invariant = { λ s. All (λ span. span.start ≤ span.last) s.spans.items };
+    ghost invariant = { λ s. Ascend s.spans.items };
 }
 
 impl<T: Copy> AddressSpans<T> {
@@ -54,7 +54,8 @@ impl<T: Copy> AddressSpans<T> {
 
     /// The spans, by where they begin.
     pub(crate) fn spans(&self) -> &[Span<T>]
-        ensures { result.now ≡ self.now }
+        ensures answer { result.now ≡ self.now }
+        ensures order { Ascend self.now }
     {
         &self.spans
     }
@@ -83,10 +84,12 @@ impl<T: Copy> AddressSpans<T> {
         let Some(before) = self.spans.pop() else {
             return Ok(());
         };
-        self.push(Span {
+        let longer = Span {
             last: piece.last,
             ..before
-        })
+        };
+        self.spans.push(longer)?;
+        Ok(())
     }
 
     /// Has this hold over a piece. All other addresses stand before it.
@@ -100,19 +103,11 @@ impl<T: Copy> AddressSpans<T> {
         ensures state { OnOk result (self.new
             ≡ self.old ++ record { content = content; start = piece.first; last = piece.last } ∷ []) }
     {
-        self.push(Span {
+        self.spans.push(Span {
             content,
             start: piece.first,
             last: piece.last,
-        })
-    }
-
-    // Adds a span behind all others.
-    fn push(&mut self, span: Span<T>) -> Result<(), AllocError>
-        requires { span.start ≤ span.last }
-        ensures { OnOk result (self.new ≡ self.old ++ span ∷ []) }
-    {
-        self.spans.push(span)?;
+        })?;
         Ok(())
     }
 }

@@ -14,9 +14,6 @@ pub enum SymbolFileFault {
     /// Something that an answer depends on was not read of the file.
     #[error("not all of the file was read")]
     NotRead,
-    /// The source answered otherwise than before.
-    #[error("the answers changed while they were written")]
-    AnswersChanged,
     /// The writer refused what was written.
     #[error("cannot write")]
     CannotWrite,

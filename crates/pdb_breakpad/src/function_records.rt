@@ -1,14 +1,15 @@
 //! The records of a function: where it lies, its inlined calls and its lines, made address by address.
 
 ghost use Rattle.std.specs.Prelude.{◌≡◌, ◌≤◌, ◌<◌, ◌+◌, ℕ, List, [], true, Some, None, is_some, IfOk, OnOk};
-ghost use Rattle.std.specs.Prelude.{◌++◌, string_bytes, if◌then◌else◌};
+ghost use Rattle.std.specs.Prelude.{◌++◌, All, string_bytes, if◌then◌else◌};
 ghost use Rattle.std.specs.List.{flat_map};
-ghost use Rattle.pdb_breakpad.specs.AddressSpans.{EndBefore, content_at};
+ghost use Rattle.pdb_breakpad.specs.AddressSpans.{Ascend, EndBefore, content_at};
 ghost use Rattle.pdb_breakpad.specs.InlineRecords.{LevelEndsBefore, calls_at};
 ghost use Rattle.pdb_breakpad.specs.FunctionTexts.{function_head, function_text, line_line};
 ghost use Rattle.pdb_breakpad.specs.FunctionRecords.{InOrder, IsNumbered, IsOf, Reads};
 ghost use Rattle.pdb_breakpad.specs.NumberedCode.{KeepsAllNames};
 ghost use Rattle.pdb_breakpad.specs.ShownFrames.{answer_shown, own_name};
+ghost use Rattle.pdb_breakpad.specs.WrittenRecords.{AreReadable, FitsPlace, FitsSpan};
 
 use crate::address_spans::{AddressSpans, Span, size_between};
 use crate::frame_texts::{are_equal, function_name};
@@ -137,7 +138,8 @@ impl<'a> FunctionRecords<'a> {
 
     /// The text of the records, once all addresses are gone through. A function whose end isn't known has a name alone.
     pub(crate) fn text(&self, alloc: Global) -> Result<String, AllocError>
-        ensures { IfOk result (λ text. string_bytes text ≡ function_text self.now) }
+        ensures answer { IfOk result (λ text. string_bytes text ≡ function_text self.now) }
+        ensures readable { IfOk result (λ text. AreReadable self.now) }
     {
         let mut text = String::new(alloc);
         push_head(&mut text, self.found.end_rva, self.start, self.last)?;
@@ -181,7 +183,9 @@ fn add_line(
 
 // Appends the records of lines.
 fn push_lines(text: &mut String, lines: &AddressSpans<Place>) -> Result<(), AllocError>
-    ensures { OnOk result (string_bytes text.new ≡ string_bytes text.old ++ flat_map line_line lines.now) }
+    ensures state { OnOk result (string_bytes text.new ≡ string_bytes text.old ++ flat_map line_line lines.now) }
+    ensures order { Ascend lines.now }
+    ensures fits { OnOk result (All (FitsSpan FitsPlace) lines.now) }
 {
     for span in lines.spans() {
         push_line(text, span)?;
@@ -192,7 +196,8 @@ fn push_lines(text: &mut String, lines: &AddressSpans<Place>) -> Result<(), Allo
 // Appends the record of a line.
 #[tactic(auto, unfolding(crate::specs::FunctionTexts::line_line))]
 fn push_line(text: &mut String, span: &Span<Place>) -> Result<(), AllocError>
-    ensures { OnOk result (string_bytes text.new ≡ string_bytes text.old ++ line_line span.now) }
+    ensures state { OnOk result (string_bytes text.new ≡ string_bytes text.old ++ line_line span.now) }
+    ensures fits { FitsSpan FitsPlace span.now }
 {
     let Place { file, line } = span.content;
     let start = span.start;

@@ -1,6 +1,6 @@
 //! The walk over all addresses, piece by piece, and the records of the functions that it comes to.
 
-ghost use Rattle.std.specs.Prelude.{◌≡◌, ◌+◌, IfOk, OnOk, IfSome};
+ghost use Rattle.std.specs.Prelude.{◌≡◌, ◌+◌, All, IfOk, OnOk, IfSome};
 ghost use Rattle.std.specs.Option.{option_to_list};
 ghost use Rattle.std.specs.List.{flat_map};
 ghost use Rattle.std.specs.Io.KnownBytes.{Appends};
@@ -9,6 +9,7 @@ ghost use Rattle.pdb_breakpad.specs.Functions.{IsAnswer, IsOpen, StepsOver, Writ
 ghost use Rattle.pdb_breakpad.specs.FunctionTexts.{function_text};
 ghost use Rattle.pdb_breakpad.specs.NumberedCode.{KeepsAllNames};
 ghost use Rattle.pdb_breakpad.specs.Pieces.{ArePieces};
+ghost use Rattle.pdb_breakpad.specs.WrittenRecords.{AreReadable};
 
 use crate::cache_shares::CacheShare;
 use crate::faults::SymbolFileFault;
@@ -57,8 +58,8 @@ fn walk_piece<'a, S: FrameSource<'a>, W: io::Write>(
     piece: Piece,
 ) -> Result<Option<FunctionRecords<'a>>, SymbolFileFault>
     requires walked { IfSome walked (IsOpen numbers.old piece.first) }
-    ensures step { IfOk result (λ next. StepsOver S.answers source.old numbers.new piece.first piece.last walked.entry next
-        (W.contents out.old) (W.contents out.new)) }
+    ensures step { IfOk result (λ next. StepsOver S.answers source.old numbers.new piece.first piece.last
+        walked.entry next (W.contents out.old) (W.contents out.new)) }
     ensures open { IfOk result (λ next. IfSome next (IsOpen numbers.new (piece.last + 1))) }
     ensures names { KeepsAllNames numbers.old numbers.new }
     ensures inputs { KeepsAnswers S.answers source.old source.new }
@@ -102,8 +103,9 @@ fn write_ended<W: io::Write>(
     out: &mut W,
     walked: Option<FunctionRecords<'_>>,
 ) -> Result<(), SymbolFileFault>
-    ensures { OnOk result (Appends (W.contents out.old) (W.contents out.new)
+    ensures written { OnOk result (Appends (W.contents out.old) (W.contents out.new)
         (flat_map function_text (option_to_list walked.entry))) }
+    ensures readable { OnOk result (All AreReadable (option_to_list walked.entry)) }
 {
     match walked {
         Some(records) => write_function(alloc, out, &records),
@@ -117,7 +119,8 @@ fn write_function<W: io::Write>(
     out: &mut W,
     records: &FunctionRecords<'_>,
 ) -> Result<(), SymbolFileFault>
-    ensures { OnOk result (Appends (W.contents out.old) (W.contents out.new) (function_text records.now)) }
+    ensures written { OnOk result (Appends (W.contents out.old) (W.contents out.new) (function_text records.now)) }
+    ensures readable { OnOk result (AreReadable records.now) }
 {
     let text = records.text(alloc)?;
     out.write_all(text.as_bytes())?;

@@ -1,10 +1,12 @@
 //! The inlined calls of a function, by their levels and addresses.
 
-ghost use Rattle.std.specs.Prelude.{◌≡◌, ◌≢◌, ◌≤◌, ◌<◌, ◌+◌, ◌++◌, ℕ, [], ◌∷◌, true, Some, length, slice_get, OnOk};
-ghost use Rattle.std.specs.Prelude.{map, string_bytes, IfOk};
+ghost use Rattle.std.specs.Prelude.{◌≡◌, ◌≢◌, ◌≤◌, ◌<◌, ◌+◌, ◌^◌, ◌++◌, ℕ, [], ◌∷◌, true, Some, length, slice_get};
+ghost use Rattle.std.specs.Prelude.{All, map, string_bytes, IfOk, OnOk};
 ghost use Rattle.std.specs.List.{flat_map};
+ghost use Rattle.pdb_breakpad.specs.AddressSpans.{Ascend};
 ghost use Rattle.pdb_breakpad.specs.FunctionTexts.{inline_line, inline_lines, inline_records_from};
 ghost use Rattle.pdb_breakpad.specs.InlineRecords.{call_at, call_before, calls_at, LevelEndsBefore};
+ghost use Rattle.pdb_breakpad.specs.WrittenRecords.{FitsCall, FitsSpan};
 
 use crate::address_spans::{AddressSpans, Span, size_between};
 use crate::numbered_code::Place;
@@ -135,7 +137,10 @@ impl InlineRecords {
 
     /// Appends the records, by where they begin, and then from outside to inside.
     pub(crate) fn push_records(&self, text: &mut String) -> Result<(), AllocError>
-        ensures { OnOk result (string_bytes text.new ≡ string_bytes text.old ++ inline_lines self.now) }
+        ensures state { OnOk result (string_bytes text.new ≡ string_bytes text.old ++ inline_lines self.now) }
+        ensures order { OnOk result (All Ascend self.now) }
+        ensures levels { OnOk result (length self.now ≤ 2 ^ 64) }
+        ensures fits { OnOk result (All (All (FitsSpan FitsCall)) self.now) }
     {
         let mut records = self.records()?;
         sort_by_key(&mut records)?;
@@ -144,7 +149,9 @@ impl InlineRecords {
 
     // The records, level by level.
     fn records(&self) -> Result<Vec<InlineRecord>, AllocError>
-        ensures { IfOk result (λ records. records.items ≡ inline_records_from 0 self.now) }
+        ensures answer { IfOk result (λ records. records.items ≡ inline_records_from 0 self.now) }
+        ensures order { IfOk result (λ records. All Ascend self.now) }
+        ensures levels { IfOk result (λ records. length self.now ≤ 2 ^ 64) }
     {
         let mut records = Vec::new(self.alloc);
         for (level, spans) in self.levels.iter().enumerate() {
@@ -160,8 +167,9 @@ fn push_level_records(
     level: usize,
     spans: &AddressSpans<InlinedCall>,
 ) -> Result<(), AllocError>
-    ensures { OnOk result (records.new.items
+    ensures state { OnOk result (records.new.items
         ≡ records.old.items ++ map (λ span. record { level = level; span = span }) spans.now) }
+    ensures order { Ascend spans.now }
 {
     for span in spans.spans() {
         records.push(InlineRecord { level, span: *span })?;
@@ -171,7 +179,8 @@ fn push_level_records(
 
 // Appends the records of inlined calls.
 fn push_all(text: &mut String, inlines: &[InlineRecord]) -> Result<(), AllocError>
-    ensures { OnOk result (string_bytes text.new ≡ string_bytes text.old ++ flat_map inline_line inlines.now) }
+    ensures state { OnOk result (string_bytes text.new ≡ string_bytes text.old ++ flat_map inline_line inlines.now) }
+    ensures fits { OnOk result (All (λ inlined. FitsSpan FitsCall inlined.span) inlines.now) }
 {
     for inline_record in inlines {
         push_record(text, inline_record)?;
@@ -182,7 +191,8 @@ fn push_all(text: &mut String, inlines: &[InlineRecord]) -> Result<(), AllocErro
 // Appends the record of an inlined call.
 #[tactic(auto, unfolding(crate::specs::FunctionTexts::inline_line))]
 fn push_record(text: &mut String, inline_record: &InlineRecord) -> Result<(), AllocError>
-    ensures { OnOk result (string_bytes text.new ≡ string_bytes text.old ++ inline_line inline_record.now) }
+    ensures state { OnOk result (string_bytes text.new ≡ string_bytes text.old ++ inline_line inline_record.now) }
+    ensures fits { FitsSpan FitsCall inline_record.now.span }
 {
     let InlineRecord { level, span } = inline_record;
     let InlinedCall {

@@ -1,11 +1,12 @@
 //! The numbers of files and of inlined functions' names, in the order in which they are met.
 
-ghost use Rattle.std.specs.Prelude.{◌≡◌, ◌++◌, ℕ, List, [], ◌∷◌, Some, IfOk, OnOk, OnErr, length, map, slice_get};
+ghost use Rattle.std.specs.Prelude.{◌≡◌, ◌++◌, ℕ, List, [], ◌∷◌, Some, IfOk, IfSome, OnOk, OnErr, length, map, slice_get};
 ghost use Rattle.std.specs.Prelude.{string_bytes, if◌then◌else◌};
 ghost use Rattle.std.specs.BTreeMap.{get_by_text};
 ghost use Rattle.std.specs.Str.{bytes_eq};
 ghost use Rattle.pdb_breakpad.specs.NameRecords.{keyword, name_record, name_records};
 ghost use Rattle.pdb_breakpad.specs.Numbers.{KeepsNames};
+ghost use Rattle.pdb_breakpad.specs.WrittenRecords.{FitNumbers};
 
 use crate::name_text::push_name;
 use std::alloc::{AllocError, Global};
@@ -31,12 +32,18 @@ impl NameKind {
     }
 }
 
+/// How many numbers of names that were asked for lately are kept.
+const SLOTS: usize = 1 << 12;
+
 /// Names with their numbers.
 #[derive(Drop)]
 pub(crate) struct NumberedNames {
     numbers: BTreeMap<String, usize>,
     /// By their numbers.
     names: Vec<String>,
+    /// The numbers of names that were asked for lately, each in the slot of its name. Another name may have the same
+    /// slot, so a number is right only if it is that of the name that is asked for.
+    recent: Vec<usize>,
 }
 
 // Clauses see the names, by their numbers.
@@ -85,6 +92,16 @@ fn push_copy(names: &mut Vec<String>, name: &str) -> Result<usize, AllocError>
     Ok(position)
 }
 
+// The slot of a name, by its length and its last characters.
+fn slot_of(name: &str) -> usize {
+    let bytes = name.as_bytes();
+    let mut hash = bytes.len();
+    for &byte in bytes.iter().rev().take(32) {
+        hash = hash.wrapping_mul(31).wrapping_add(usize::from(byte));
+    }
+    hash % SLOTS
+}
+
 impl NumberedNames {
     fn new(alloc: Global) -> NumberedNames
         ensures { result ≡ [] }
@@ -92,6 +109,7 @@ impl NumberedNames {
         NumberedNames {
             numbers: BTreeMap::new(alloc),
             names: Vec::new(alloc),
+            recent: Vec::new(alloc),
         }
     }
 
@@ -100,10 +118,42 @@ impl NumberedNames {
         ensures answer { IfOk result (λ number. slice_get self.new number ≡ Some name.now) }
         ensures state { KeepsNames self.old self.new }
     {
-        match number_in(&self.numbers, name) {
-            Some(number) => Ok(number),
-            None => self.add(name),
+        let slot = slot_of(name);
+        if let Some(number) = self.recent_number(slot, name) {
+            return Ok(number);
         }
+        let number = match number_in(&self.numbers, name) {
+            Some(number) => number,
+            None => self.add(name)?,
+        };
+        self.keep_recent(slot, number)?;
+        Ok(number)
+    }
+
+    // The number in a slot, if it is that of this name.
+    fn recent_number(&self, slot: usize, name: &str) -> Option<usize>
+        ensures { IfSome result (λ number. slice_get self.now number ≡ Some name.now) }
+    {
+        let number = *self.recent.get(slot)?;
+        let known = self.names.get(number)?;
+        if known.as_str() == name {
+            Some(number)
+        } else {
+            None
+        }
+    }
+
+    // Puts a number into a slot.
+    fn keep_recent(&mut self, slot: usize, number: usize) -> Result<(), AllocError>
+        ensures unchanged { self.new ≡ self.old }
+    {
+        if self.recent.is_empty() {
+            self.recent.resize(SLOTS, 0)?;
+        }
+        if let Some(recent) = self.recent.get_mut(slot) {
+            *recent = number;
+        }
+        Ok(())
     }
 
     // Gives a name the next number.
@@ -167,5 +217,12 @@ impl Numbers {
             files: NumberedNames::new(alloc),
             origins: NumberedNames::new(alloc),
         }
+    }
+
+    /// Nothing is done: a list has no more names than its type can count, so their numbers fit that type.
+    pub(crate) fn fit(&self)
+        ensures { FitNumbers self.now }
+    {
+        let _counts = (self.files.len(), self.origins.len());
     }
 }

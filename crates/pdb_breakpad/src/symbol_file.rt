@@ -1,11 +1,12 @@
 //! Writes a symbol file whole: what stands in front, files and names by their numbers, functions.
 
-ghost use Rattle.std.specs.Prelude.{◌≡◌, ◌++◌, ℕ, List, IfOk, OnOk, string_bytes};
+ghost use Rattle.std.specs.Prelude.{◌≡◌, ◌++◌, ℕ, List, [], Some, IfOk, OnOk, string_bytes};
 ghost use Rattle.std.specs.Io.KnownBytes.{Appends};
-ghost use Rattle.pdb_breakpad.specs.FrameSource.{KeepsAnswers};
 ghost use Rattle.pdb_breakpad.specs.Functions.{WritesFunctions};
+ghost use Rattle.pdb_breakpad.specs.ModuleRecords.{AreModuleRecords};
 ghost use Rattle.pdb_breakpad.specs.Pieces.{ArePieces};
 ghost use Rattle.pdb_breakpad.specs.SymbolFile.{WritesSymbolFile, names_text};
+ghost use Rattle.pdb_breakpad.specs.WrittenRecords.{FitNumbers};
 
 use crate::faults::SymbolFileFault;
 use crate::frame_source::FrameSource;
@@ -15,11 +16,11 @@ use crate::numbers::{NameKind, Numbers};
 use std::alloc::{AllocError, Global};
 use std::io;
 
-/// Writes the symbol file of a program to a writer, and has it hand on what it holds back.
+/// Writes the symbol file of a program to a writer, and flushes the writer.
 ///
-/// The program is gone over twice, piece by piece: first the files and the names get their numbers, and then the
-/// functions are written, one after the other. So no more is held than where the pieces begin, these numbers, one
-/// function's records, and what the source caches of a share of the functions.
+/// The program is gone over once, piece by piece. Files and names get their numbers as they are met, and the records of
+/// functions are kept as text, because the file has the names before the functions. So what is held is the text, where
+/// the pieces begin, the numbers, and what the source caches of a share of the functions.
 ///
 /// # Errors
 ///
@@ -28,64 +29,48 @@ use std::io;
 pub fn write_symbol_file<'a, S: FrameSource<'a>, W: io::Write>(
     alloc: Global,
     out: &mut W,
-    module: &ModuleIdentity<'_>,
+    identity: &ModuleIdentity<'_>,
     source: &mut S,
 ) -> Result<(), SymbolFileFault>
-    ensures { OnOk result (WritesSymbolFile S.answers source.old (W.contents out.old) (W.contents out.new)) }
+    ensures { OnOk result (WritesSymbolFile S.answers source.old identity.now
+        (W.contents out.old) (W.contents out.new)) }
 {
     let points = source.piece_starts(alloc)?;
-    let mut numbers = number_names(alloc, source, &points)?;
-    write_front(alloc, out, module, &numbers)?;
-    write_numbered(alloc, out, source, &mut numbers, &points)?;
+    let mut numbers = Numbers::new(alloc);
+    let functions = functions_text(alloc, source, &mut numbers, &points)?;
+    numbers.fit();
+    write_front(alloc, out, identity, &numbers)?;
+    out.write_all(&functions)?;
     out.flush()?;
     Ok(())
 }
 
-// Gives the files and the names of a program their numbers, in the order in which they are met.
-fn number_names<'a, S: FrameSource<'a>>(
+// The text of all functions. Their files and names get numbers in the order in which they are met.
+fn functions_text<'a, S: FrameSource<'a>>(
     alloc: Global,
-    source: &mut S,
-    points: &[u32],
-) -> Result<Numbers, SymbolFileFault>
-    requires pieces { ArePieces S.answers source.old points.now }
-    ensures inputs { KeepsAnswers S.answers source.old source.new }
-{
-    let mut numbers = Numbers::new(alloc);
-    write_functions(alloc, &mut io::sink(), source, &mut numbers, points)?;
-    Ok(numbers)
-}
-
-// Writes the functions by numbers that all their files and names have.
-fn write_numbered<'a, S: FrameSource<'a>, W: io::Write>(
-    alloc: Global,
-    out: &mut W,
     source: &mut S,
     numbers: &mut Numbers,
     points: &[u32],
-) -> Result<(), SymbolFileFault>
+) -> Result<Vec<u8>, SymbolFileFault>
     requires pieces { ArePieces S.answers source.old points.now }
-    ensures { OnOk result (WritesFunctions S.answers source.old numbers.old
-        (W.contents out.old) (W.contents out.new)) }
+    ensures { IfOk result (λ text. WritesFunctions S.answers source.old numbers.new (Some []) (Some text.items)) }
 {
-    let (files, origins) = (numbers.files.len(), numbers.origins.len());
-    write_functions(alloc, out, source, numbers, points)?;
-    if numbers.files.len() != files || numbers.origins.len() != origins {
-        return Err(SymbolFileFault::AnswersChanged);
-    }
-    Ok(())
+    let mut text = Vec::new(alloc);
+    write_functions(alloc, &mut text, source, numbers, points)?;
+    Ok(text)
 }
 
 // Writes what stands before the functions.
 fn write_front<W: io::Write>(
     alloc: Global,
     out: &mut W,
-    module: &ModuleIdentity<'_>,
+    identity: &ModuleIdentity<'_>,
     numbers: &Numbers,
 ) -> Result<(), SymbolFileFault>
-    ensures { OnOk result ((front : List ℕ)
+    ensures { OnOk result ((front : List ℕ) × AreModuleRecords identity.now front
         × Appends (W.contents out.old) (W.contents out.new) (front ++ names_text numbers.now)) }
 {
-    let text = front_text(alloc, module, numbers)?;
+    let text = front_text(alloc, identity, numbers)?;
     out.write_all(text.as_bytes())?;
     Ok(())
 }
@@ -93,12 +78,13 @@ fn write_front<W: io::Write>(
 // What stands before the functions.
 fn front_text(
     alloc: Global,
-    module: &ModuleIdentity<'_>,
+    identity: &ModuleIdentity<'_>,
     numbers: &Numbers,
 ) -> Result<String, AllocError>
-    ensures { IfOk result (λ text. (front : List ℕ) × (string_bytes text ≡ front ++ names_text numbers.now)) }
+    ensures { IfOk result (λ text. (front : List ℕ) × AreModuleRecords identity.now front
+        × (string_bytes text ≡ front ++ names_text numbers.now)) }
 {
-    let mut text = module_records(alloc, module)?;
+    let mut text = module_records(alloc, identity)?;
     numbers.files.push_records(&mut text, NameKind::File)?;
     numbers
         .origins

@@ -14,13 +14,15 @@ use Rattle.pdb_breakpad.specs.NumberedCode.{AreCalls, IsOptionalPlace, IsPlace}
 use Rattle.pdb_breakpad.specs.ShownFrames.{ShownCall, ShownFrame, ShownPlace, answer_shown, own_name, stack_read}
 use Rattle.pdb_breakpad.specs.SymbolFile.{symbol_file_text}
 use Rattle.pdb_breakpad.specs.FunctionTexts.{inline_before, inline_records_from}
+use Rattle.pdb_breakpad.specs.ModuleRecords.{IsModuleLine, with_breaks}
+use Rattle.pdb_breakpad.specs.WrittenRecords.{FitNumbers, FitTypes, InlinesAscend}
 use Rattle.pdb_tables.specs.InOrder.{in_order}
 use Rattle.pdb_symbol_file_laws.specs.RecordReader.{frames_read, function_at, place_read}
 use Rattle.pdb_symbol_file_laws.specs.RecordReader.{shown_by_records}
-use Rattle.pdb_symbol_file_laws.specs.SymbolFileRecords.{FitNumbers, FitTypes, IsModuleLine, function_read, inline_read}
-use Rattle.pdb_symbol_file_laws.specs.SymbolFileRecords.{line_read, names_read, numbered, on_one_line, with_breaks}
+use Rattle.pdb_symbol_file_laws.specs.SymbolFileRecords.{function_read, inline_read}
+use Rattle.pdb_symbol_file_laws.specs.SymbolFileRecords.{line_read, names_read, numbered, on_one_line}
 use Rattle.pdb_symbol_file_laws.specs.SymbolTextReader.{File, InlineOrigin, OtherLine, SymbolLine, read_text}
-use Rattle.pdb_symbol_file_laws.specs.TextAnswers.{InlinesAscend, NoneOpen, TextShows, frame_on_one_line}
+use Rattle.pdb_symbol_file_laws.specs.TextAnswers.{NoneOpen, TextShows, frame_on_one_line}
 use Rattle.pdb_symbol_file_laws.specs.TextAnswers.{place_on_one_line}
 use Rattle.pdb_symbol_file_laws.proofs.CallLookups.{call_shown, place_shown}
 use Rattle.pdb_symbol_file_laws.proofs.CallsFound.{calls_found}

@@ -12,7 +12,8 @@ use Rattle.pdb_breakpad.specs.InlineRecords.{call_at, calls_at, with_inner}
 use Rattle.pdb_symbol_file_laws.specs.RecordReader.{and_inner, call_read, calls_read}
 use Rattle.pdb_symbol_file_laws.specs.SymbolFileRecords.{inline_read, line_read}
 use Rattle.pdb_symbol_file_laws.specs.SymbolTextReader.{SymbolLine}
-use Rattle.pdb_symbol_file_laws.specs.TextAnswers.{Ascend, InlinesAscend}
+use Rattle.pdb_breakpad.specs.AddressSpans.{Ascend}
+use Rattle.pdb_breakpad.specs.WrittenRecords.{InlinesAscend}
 use Rattle.pdb_symbol_file_laws.proofs.CallLookups.{IsOrdered, call_shown, content, first_call, is_at, level_found}
 use Rattle.pdb_symbol_file_laws.proofs.CallLookups.{not_before, on_level}
 use Rattle.pdb_symbol_file_laws.proofs.FunctionLookups.{parts_of}

@@ -3,8 +3,9 @@ use Rattle.std.proofs.Common.{◌≡◌, ◌∙◌, ℕ, List, ◌++◌, All, ap
 use Rattle.pdb_breakpad.specs.RecordTypes.{FunctionRecords, Numbers}
 use Rattle.pdb_breakpad.specs.FunctionTexts.{function_text}
 use Rattle.pdb_breakpad.specs.SymbolFile.{names_text, symbol_file_text}
-use Rattle.pdb_symbol_file_laws.specs.SymbolFileRecords.{FitNumbers, FitTypes, IsModuleLine, function_read, names_read}
-use Rattle.pdb_symbol_file_laws.specs.SymbolFileRecords.{with_breaks}
+use Rattle.pdb_breakpad.specs.ModuleRecords.{IsModuleLine, with_breaks}
+use Rattle.pdb_breakpad.specs.WrittenRecords.{FitNumbers, FitTypes}
+use Rattle.pdb_symbol_file_laws.specs.SymbolFileRecords.{function_read, names_read}
 use Rattle.pdb_symbol_file_laws.specs.SymbolTextReader.{OtherLine, read_text}
 use Rattle.pdb_symbol_file_laws.proofs.FrontLemmas.{front_read}
 use Rattle.pdb_symbol_file_laws.proofs.TextLemmas.{records_read}

@@ -2,7 +2,7 @@
 use Rattle.std.proofs.Common.{◌≡◌, ◌≢◌, ◌∙◌, ℕ, ◌==◌, Bool, true, false, List, [], ◌∷◌, ◌++◌, codes, refl, sym}
 use Rattle.std.proofs.Common.{ap, subst, ne_eqb, map, All, append_assoc, append-nil, inl, inr, ◌⊎◌, if◌then◌else◌}
 use Rattle.std.specs.List.{AllByRecursion}
-use Rattle.pdb_symbol_file_laws.specs.SymbolFileRecords.{IsModuleLine, with_breaks}
+use Rattle.pdb_breakpad.specs.ModuleRecords.{IsModuleLine, with_breaks}
 use Rattle.pdb_symbol_file_laws.specs.SymbolTextReader.{OtherLine, in_front_of, lines, number_and_more}
 use Rattle.pdb_symbol_file_laws.specs.SymbolTextReader.{read_line, read_text}
 use Rattle.pdb_symbol_file_laws.proofs.LineLemmas.{HasNone, IsLine, IsReadAs, both_read, line_end, line_reads}

@@ -6,6 +6,7 @@ pub mod FoundFunctions
 pub mod FrontLemmas
 pub mod FunctionLookups
 pub mod LineLemmas
+pub mod ModuleLineLemmas
 pub mod NameLemmas
 pub mod NameLookups
 pub mod OrderLemmas

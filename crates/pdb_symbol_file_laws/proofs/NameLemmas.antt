@@ -7,7 +7,7 @@ use Rattle.std.proofs.lemmas.Str.{encodes-chars}
 use Rattle.std.specs.Char.{encode_utf8}
 use Rattle.std.specs.List.{AllByRecursion}
 use Rattle.std.specs.Str.{chars, encode_utf8_all}
-use Rattle.pdb_breakpad.specs.FunctionTexts.{name_character, name_line}
+use Rattle.pdb_breakpad.specs.FunctionTexts.{line_text, name_character, name_line}
 use Rattle.pdb_symbol_file_laws.specs.SymbolFileRecords.{on_one_line, without_break}
 use Rattle.pdb_symbol_file_laws.proofs.LineLemmas.{HasNone, IsLine, line_end, none_in_both, with_word}
 
@@ -62,6 +62,10 @@ characters_none [] = tt
 characters_none (c ∷ cs) =
     none_in_both 10 (encode_utf8 (without_break c)) (encode_utf8_all (map without_break cs))
     (encoded_none (without_break c) (without_none c)) (characters_none cs)
+
+-- a text as a part of a line has no line break
+pub line_text_none : (text : List ℕ) → HasNone 10 (line_text text)
+line_text_none text = subst (HasNone 10) (sym (characters_are (chars text))) (characters_none (chars text))
 
 -- the end of a line with a name is the name on one line
 pub name_is_line : (name : List ℕ) → IsLine (name_line name) (on_one_line name)

@@ -6,7 +6,8 @@ use Rattle.pdb_breakpad.specs.RecordTypes.{InlineRecord, Place, Span}
 use Rattle.pdb_breakpad.specs.FunctionTexts.{function_head, hexadecimal, inline_line, line_line, name_line}
 use Rattle.pdb_breakpad.specs.FunctionTexts.{size_between}
 use Rattle.pdb_breakpad.specs.NameRecords.{name_record}
-use Rattle.pdb_symbol_file_laws.specs.SymbolFileRecords.{FitsCall, FitsPlace, FitsSpan, head_read, inline_read}
+use Rattle.pdb_breakpad.specs.WrittenRecords.{FitsCall, FitsPlace, FitsSpan}
+use Rattle.pdb_symbol_file_laws.specs.SymbolFileRecords.{head_read, inline_read}
 use Rattle.pdb_symbol_file_laws.specs.SymbolFileRecords.{line_read}
 use Rattle.pdb_symbol_file_laws.specs.SymbolFileRecords.{on_one_line}
 use Rattle.pdb_symbol_file_laws.specs.SymbolTextReader.{SymbolLine, File, InlineOrigin, Func, Public, Inline, CodeLine}

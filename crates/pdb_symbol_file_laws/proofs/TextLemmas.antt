@@ -10,7 +10,7 @@ use Rattle.pdb_breakpad.specs.FunctionTexts.{inline_lines, line_line, name_line}
 use Rattle.pdb_breakpad.specs.NameRecords.{name_record, name_records}
 use Rattle.pdb_breakpad.specs.ShownFrames.{own_name}
 use Rattle.pdb_breakpad.specs.SymbolFile.{names_text}
-use Rattle.pdb_symbol_file_laws.specs.SymbolFileRecords.{FitNumbers, FitTypes, FitsCall, FitsPlace, FitsSpan}
+use Rattle.pdb_breakpad.specs.WrittenRecords.{FitNumbers, FitTypes, FitsCall, FitsPlace, FitsSpan}
 use Rattle.pdb_symbol_file_laws.specs.SymbolFileRecords.{function_read}
 use Rattle.pdb_symbol_file_laws.specs.SymbolFileRecords.{inline_read, line_read, names_read, numbered, on_one_line}
 use Rattle.pdb_symbol_file_laws.specs.SymbolTextReader.{SymbolLine, File, InlineOrigin, read_text}

@@ -1,10 +1,8 @@
 -- The records of a symbol file, as a reader of its text is to find them.
-use Rattle.std.specs.Prelude.{ℕ, ◌≡◌, ◌≢◌, ◌≤◌, ◌<◌, ◌+◌, ◌^◌, ◌==◌, ◌||◌, ◌⊎◌, List, [], ◌∷◌, ◌++◌, map, length, codes}
-use Rattle.std.specs.Prelude.{Option, Some, None, if◌then◌else◌}
-use Rattle.std.specs.List.{All}
+use Rattle.std.specs.Prelude.{ℕ, ◌+◌, ◌==◌, ◌||◌, List, [], ◌∷◌, ◌++◌, map, Option, Some, None, if◌then◌else◌}
 use Rattle.std.specs.Str.{chars, encode_utf8_all}
 use Rattle.pdb_tables.specs.InOrder.{in_order}
-use Rattle.pdb_breakpad.specs.RecordTypes.{FunctionRecords, InlineRecord, InlinedCall, Numbers, Place, Span}
+use Rattle.pdb_breakpad.specs.RecordTypes.{FunctionRecords, InlineRecord, Numbers, Place, Span}
 use Rattle.pdb_breakpad.specs.FunctionTexts.{inline_before, inline_records_from, size_between}
 use Rattle.pdb_breakpad.specs.ShownFrames.{own_name}
 use Rattle.pdb_symbol_file_laws.specs.SymbolTextReader.{SymbolLine, File, InlineOrigin, Func, Public, Inline, CodeLine}
@@ -46,37 +44,3 @@ abbrev pub function_read : FunctionRecords → List SymbolLine
 function_read records =
     head_read records.found.end_rva records.start records.last (on_one_line (own_name records.found.frames))
     ∷ (map inline_read (in_order inline_before (inline_records_from 0 records.inlines)) ++ map line_read records.lines)
-
--- what a span is of fits its type, and so do its addresses
-abbrev pub FitsSpan : {T : Type 0} → (T → Type 0) → Span T → Type 0
-FitsSpan Fits span = (span.start < 2 ^ 32) × (span.last < 2 ^ 32) × Fits span.content
-
--- a place fits its type
-abbrev pub FitsPlace : Place → Type 0
-FitsPlace place = (place.file < 2 ^ 64) × (place.line < 2 ^ 32)
-
--- an inlined call fits its type
-abbrev pub FitsCall : InlinedCall → Type 0
-FitsCall call = FitsPlace call.place × (call.origin < 2 ^ 64)
-
--- all numbers of a function's records are within the ranges of their types
-pub record FitTypes (records : FunctionRecords) : Type 0 where
-  pub start : records.start < 2 ^ 32
-  pub last : records.last < 2 ^ 32
-  pub levels : length records.inlines ≤ 2 ^ 64
-  pub inlines : All (All (FitsSpan FitsCall)) records.inlines
-  pub lines : All (FitsSpan FitsPlace) records.lines
-
--- names have numbers that are within the range of their type
-abbrev pub FitNumbers : Numbers → Type 0
-FitNumbers numbers = (length numbers.files ≤ 2 ^ 64) × (length numbers.origins ≤ 2 ^ 64)
-
--- a line says which module a file is of
-abbrev pub IsModuleLine : List ℕ → Type 0
-IsModuleLine line = (text : List ℕ) × (All (λ byte. byte ≢ 10) text)
-    × ((line ≡ codes "MODULE " ++ text) ⊎ (line ≡ codes "INFO " ++ text))
-
--- lines, each with a line break at its end
-abbrev pub with_breaks : List (List ℕ) → List ℕ
-with_breaks [] = []
-with_breaks (line ∷ lines) = line ++ (codes "\n" ++ with_breaks lines)

@@ -1,10 +1,9 @@
 -- What a reader of a symbol file's text is shown, beside what is answered.
-use Rattle.std.specs.Prelude.{ℕ, ◌≡◌, ◌≤◌, List, [], ◌∷◌, map, Bool, true, false, not, nat_lt, Option, Some, None}
-use Rattle.std.specs.Prelude.{option_map}
-use Rattle.std.specs.Prelude.{◌⊎◌}
-use Rattle.std.specs.List.{All}
+use Rattle.std.specs.Prelude.{ℕ, ◌≡◌, ◌≤◌, ◌<◌, ◌^◌, ◌⊎◌, List, [], ◌∷◌, map, Bool, true, false, not, nat_lt}
+use Rattle.std.specs.Prelude.{Option, Some, None, option_map}
+use Rattle.std.specs.Io.KnownBytes.{Appends}
 use Rattle.pdb_frames.specs.Frame.{FramesInfo}
-use Rattle.pdb_breakpad.specs.RecordTypes.{FunctionRecords, Span}
+use Rattle.pdb_breakpad.specs.RecordTypes.{FunctionRecords}
 use Rattle.pdb_breakpad.specs.Functions.{turned}
 use Rattle.pdb_breakpad.specs.ShownFrames.{ShownFrame, ShownPlace, answer_shown}
 use Rattle.pdb_symbol_file_laws.specs.RecordReader.{shown_by_text}
@@ -18,17 +17,6 @@ place_on_one_line place = record { file = on_one_line place.file; line = place.l
 abbrev pub frame_on_one_line : ShownFrame → ShownFrame
 frame_on_one_line frame =
     record { function = on_one_line frame.function; place = option_map place_on_one_line frame.place }
-
--- spans begin one after the other, and none ends before it begins
-abbrev pub Ascend : {T : Type 0} → List (Span T) → Type 0
-Ascend [] = Unit {0}
-Ascend (span ∷ spans) =
-    (span.start ≤ span.last) × (All (λ later. span.start ≤ later.start) spans × Ascend spans)
-
--- the spans of each level of a function's inlined calls ascend, and no line ends before it begins
-pub record InlinesAscend (records : FunctionRecords) : Type 0 where
-  pub inlines : All Ascend records.inlines
-  pub lines : All (λ span. span.start ≤ span.last) records.lines
 
 -- whether the first of these functions begins at an address or before it
 abbrev pub begins_by : ℕ → List FunctionRecords → Bool
@@ -50,3 +38,11 @@ TextShows answers source functions text address =
     ((answer : FramesInfo) × (answers source address (Some answer)
     × (shown_by_text text address ≡ Some (map frame_on_one_line (answer_shown (turned answer))))))
     ⊎ (answers source address None × (NoneOpen address functions → shown_by_text text address ≡ None))
+
+-- a text was appended by which a reader is shown at each address of 32 bits what is answered there
+pub record AppendsAnswers {S : Type 0} (answers : S → ℕ → Option FramesInfo → Type 0) (source : S)
+    (old new : Option (List ℕ)) : Type 0 where
+  pub text : List ℕ
+  pub functions : List FunctionRecords
+  pub appended : Appends old new text
+  pub shows : (address : ℕ) → address < 2 ^ 32 → TextShows answers source functions text address

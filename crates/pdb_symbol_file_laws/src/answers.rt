@@ -1,17 +1,19 @@
 //! What a reader of a symbol file's text is shown at an address.
 
-ghost use Rattle.std.specs.Prelude.{◌≡◌, ◌<◌, ◌+◌, ◌++◌, ◌^◌, ℕ, List, All, Some, None, map};
+ghost use Rattle.std.specs.Prelude.{◌≡◌, ◌<◌, ◌+◌, ◌++◌, ◌^◌, ℕ, List, All, Option, Some, None, map};
 ghost use Rattle.std.specs.List.{flat_map};
+ghost use Rattle.pdb_breakpad.specs.declared.module_records.ModuleIdentity.{ModuleIdentity};
 ghost use Rattle.pdb_breakpad.specs.RecordTypes.{FunctionRecords, Numbers};
 ghost use Rattle.pdb_breakpad.specs.FunctionRecords.{Reads};
 ghost use Rattle.pdb_breakpad.specs.Functions.{AreFunctions, StandBetween, function_over};
+ghost use Rattle.pdb_breakpad.specs.ModuleRecords.{IsModuleLine, with_breaks};
 ghost use Rattle.pdb_breakpad.specs.ShownFrames.{ShownFrame};
-ghost use Rattle.pdb_breakpad.specs.SymbolFile.{symbol_file_text};
+ghost use Rattle.pdb_breakpad.specs.SymbolFile.{WritesSymbolFile, symbol_file_text};
+ghost use Rattle.pdb_breakpad.specs.WrittenRecords.{FitNumbers, FitTypes, InlinesAscend};
 ghost use Rattle.pdb_symbol_file_laws.specs.RecordReader.{shown_by_records};
-ghost use Rattle.pdb_symbol_file_laws.specs.SymbolFileRecords.{FitNumbers, FitTypes, IsModuleLine, function_read};
-ghost use Rattle.pdb_symbol_file_laws.specs.SymbolFileRecords.{names_read, with_breaks};
+ghost use Rattle.pdb_symbol_file_laws.specs.SymbolFileRecords.{function_read, names_read};
 ghost use Rattle.pdb_symbol_file_laws.specs.SymbolTextReader.{OtherLine};
-ghost use Rattle.pdb_symbol_file_laws.specs.TextAnswers.{InlinesAscend, NoneOpen, TextShows, frame_on_one_line};
+ghost use Rattle.pdb_symbol_file_laws.specs.TextAnswers.{AppendsAnswers, NoneOpen, TextShows, frame_on_one_line};
 
 use pdb_breakpad::FrameSource;
 
@@ -40,4 +42,12 @@ pub fn text_shows_answers<'a, S: FrameSource<'a>>()
         → AreFunctions S.answers source numbers functions → All IsModuleLine front → FitNumbers numbers
         → All FitTypes functions → All InlinesAscend functions → address < 2 ^ 32
         → TextShows S.answers source functions (symbol_file_text (with_breaks front) numbers functions) address }
+{}
+
+/// Whatever `write_symbol_file` writes if it succeeds, a reader of the text is shown at each address of 32 bits what
+/// the source answers there, with names on one line; and nothing where nothing is answered, unless the last function
+/// before the address is one whose end isn't known.
+pub fn a_written_file_shows_answers<'a, S: FrameSource<'a>>()
+    ensures { (source : S) (identity : ModuleIdentity) (old new : Option (List ℕ))
+        → WritesSymbolFile S.answers source identity old new → AppendsAnswers S.answers source old new }
 {}

@@ -5,9 +5,10 @@ ghost use Rattle.std.specs.List.{flat_map};
 ghost use Rattle.std.specs.Str.{IsUtf8};
 ghost use Rattle.pdb_breakpad.specs.RecordTypes.{FunctionRecords, Numbers};
 ghost use Rattle.pdb_breakpad.specs.FunctionTexts.{function_text};
+ghost use Rattle.pdb_breakpad.specs.ModuleRecords.{IsModuleLine, with_breaks};
 ghost use Rattle.pdb_breakpad.specs.SymbolFile.{names_text, symbol_file_text};
-ghost use Rattle.pdb_symbol_file_laws.specs.SymbolFileRecords.{FitNumbers, FitTypes, IsModuleLine, function_read};
-ghost use Rattle.pdb_symbol_file_laws.specs.SymbolFileRecords.{names_read, on_one_line, with_breaks};
+ghost use Rattle.pdb_breakpad.specs.WrittenRecords.{FitNumbers, FitTypes};
+ghost use Rattle.pdb_symbol_file_laws.specs.SymbolFileRecords.{function_read, names_read, on_one_line};
 ghost use Rattle.pdb_symbol_file_laws.specs.SymbolTextReader.{OtherLine, read_text};
 
 /// A reader of the text of names and functions finds the records of the names by their numbers, and then for each

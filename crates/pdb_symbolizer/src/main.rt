@@ -6,7 +6,7 @@
 //! read as a records file.
 #![tactic(auto)]
 
-use pdb_symbolizer_lib::{StatusLine, Stop, run_words};
+use pdb_symbolizer_lib::{RunError, StatusLine, run_words};
 use std::env;
 use std::io::IsTerminal;
 use std::process::ExitCode;
@@ -18,15 +18,15 @@ fn main(rt: HostRuntime) -> ExitCode {
             let mut status_line = StatusLine::new(&rt, rt.stderr().is_terminal());
             run_words(&rt, &mut status_line, &words)
         }
-        Err(stop) => stop.print(&rt),
+        Err(error) => error.print(&rt),
     };
     ExitCode::from(status)
 }
 
 /// The words of the command line.
-fn words<R: Env + AllocGlobal>(rt: &R) -> Result<Vec<String>, Stop> {
+fn words<R: Env + AllocGlobal>(rt: &R) -> Result<Vec<String>, RunError> {
     match env::args(rt) {
         Ok(words) => Ok(words.collect(rt.alloc())?),
-        Err(error) => Err(Stop::without_words(&error)),
+        Err(error) => Err(RunError::without_words(&error)),
     }
 }

@@ -1,5 +1,6 @@
 pub mod AnswerLemmas
 pub mod AnsweredTextLemmas
+pub mod EarlyEndLemmas
 pub mod FileAnswerLemmas
 pub mod LineAnswerLemmas
 pub mod LineLemmas

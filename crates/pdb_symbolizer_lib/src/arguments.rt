@@ -10,7 +10,7 @@ Examples:
   pdb_symbolizer -p app.pdb 1136               of one that is relative to where the program is loaded
   pdb_symbolizer -p --base 0x7ff6a0000000 app.pdb <addresses    of addresses in memory, a line each
   pdb_symbolizer --output-style=JSON --obj=app.exe 0x140001136  as llvm-symbolizer is asked
-  pdb_symbolizer --dump-syms app.exe >app.sym  a Breakpad symbol file, without unwind records
+  pdb_symbolizer --dump-syms app.exe >app.sym  a Breakpad symbol file
 Addresses are hexadecimal, and come from standard input, a line each, where no word gives one.
 Each option may be said again, and the last counts. Options of llvm-symbolizer that change nothing: --cache-size,
 --default-arch, --dwp, --no-untag-addresses, --skip-line-zero. docs/CONTAINER.md says more.

@@ -3,7 +3,7 @@
 use crate::arguments::command;
 use crate::identities::ExpectedBuild;
 use crate::options::{Base, Export, FileNaming, Options, Purpose, RequestForm, SymbolFilePlace};
-use crate::stops::Stop;
+use crate::run_errors::RunError;
 use clap::ArgMatches;
 use pdb_answer_printer::{
     Detail, Digits, NameStyle, PrinterOptions, Style, parse_address, parse_number,
@@ -13,9 +13,9 @@ use std::alloc::Global;
 /// The option for lines of source files.
 const SOURCE_LINES: &str = "print-source-context-lines";
 
-/// Whose defaults are meant, by the name that the program is called by.
+/// Which program's defaults apply, by the name under which this one is called.
 #[derive(Clone, Copy, PartialEq, Eq)]
-pub enum Habit {
+pub enum Personality {
     /// Its own.
     Own,
     /// Of `llvm-symbolizer`: digits go by what stands before them.
@@ -25,40 +25,40 @@ pub enum Habit {
 }
 
 /// What the words of a command line ask for.
-pub fn parse<'w>(alloc: Global, words: &'w [String]) -> Result<Options<'w>, Stop> {
+pub fn parse<'w>(alloc: Global, words: &'w [String]) -> Result<Options<'w>, RunError> {
     let command = command(alloc)?;
     let matches = command.try_get_matches_from(words)?;
-    options_of(alloc, habit_of(words), &matches)
+    options_of(alloc, personality_of(words), &matches)
 }
 
-/// Whose defaults are meant by words, of which the first is the program's name.
-pub fn habit_of(words: &[String]) -> Habit {
+/// Which program's defaults apply, by the first of these words, which is the name of the program that was called.
+pub fn personality_of(words: &[String]) -> Personality {
     let Some(program) = words.first() else {
-        return Habit::Own;
+        return Personality::Own;
     };
     let name = match program.as_str().rsplit_once('/') {
         Some((_, name)) => name,
         None => program.as_str(),
     };
     match name {
-        "addr2line" | "llvm-addr2line" => Habit::Addr2line,
-        "llvm-symbolizer" => Habit::LlvmSymbolizer,
-        _ => Habit::Own,
+        "addr2line" | "llvm-addr2line" => Personality::Addr2line,
+        "llvm-symbolizer" => Personality::LlvmSymbolizer,
+        _ => Personality::Own,
     }
 }
 
 fn options_of<'w>(
     alloc: Global,
-    habit: Habit,
+    personality: Personality,
     matches: &ArgMatches<'w>,
-) -> Result<Options<'w>, Stop> {
-    let printer = printer_options(alloc, habit, matches)?;
+) -> Result<Options<'w>, RunError> {
+    let printer = printer_options(alloc, personality, matches)?;
     let base = base(alloc, matches)?;
     let adjust = adjustment(alloc, matches)?;
     let source_lines = source_lines(alloc, matches)?;
     let expected = expected_build(alloc, matches)?;
     let pdb_dirs = Vec::from_slice(alloc, matches.get_strs("pdb-dir").unwrap_or(&[]))?;
-    let naming = file_naming(habit, matches);
+    let naming = file_naming(personality, matches);
     let words = matches.get_strs("WORD").unwrap_or(&[]);
     let (file, addresses) = match (naming, words) {
         (FileNaming::ByWord, [file, addresses @ ..]) => (Some(*file), addresses),
@@ -71,7 +71,7 @@ fn options_of<'w>(
         printer,
         decorated: matches.get_flag("no-demangle"),
         source_lines,
-        digits: digits(habit, naming),
+        digits: digits(personality, naming),
         naming,
         base,
         adjust,
@@ -82,12 +82,12 @@ fn options_of<'w>(
 
 fn printer_options(
     alloc: Global,
-    habit: Habit,
+    personality: Personality,
     matches: &ArgMatches<'_>,
-) -> Result<PrinterOptions, Stop> {
-    let names = name_style(alloc, habit, matches)?;
-    let inlines = inlines(alloc, habit, matches)?;
-    let style = style(alloc, habit, matches)?;
+) -> Result<PrinterOptions, RunError> {
+    let names = name_style(alloc, personality, matches)?;
+    let inlines = inlines(alloc, personality, matches)?;
+    let style = style(alloc, personality, matches)?;
     Ok(PrinterOptions {
         style,
         names,
@@ -100,15 +100,19 @@ fn printer_options(
 }
 
 // What names the file: an option, the first word, or else each line.
-fn file_naming(habit: Habit, matches: &ArgMatches<'_>) -> FileNaming {
-    match (habit, matches.get_str("obj"), matches.get_strs("WORD")) {
+fn file_naming(personality: Personality, matches: &ArgMatches<'_>) -> FileNaming {
+    match (
+        personality,
+        matches.get_str("obj"),
+        matches.get_strs("WORD"),
+    ) {
         (_, Some(_), _) => FileNaming::ByOption,
-        (Habit::Own, None, Some([_, ..])) => FileNaming::ByWord,
+        (Personality::Own, None, Some([_, ..])) => FileNaming::ByWord,
         _ => FileNaming::ByEachLine,
     }
 }
 
-fn base(alloc: Global, matches: &ArgMatches<'_>) -> Result<Base, Stop> {
+fn base(alloc: Global, matches: &ArgMatches<'_>) -> Result<Base, RunError> {
     match matches.get_str("base").unwrap_or("") {
         "" if matches.get_flag("relative-address") => Ok(Base::Relative),
         "" => Ok(Base::Preferred),
@@ -120,28 +124,32 @@ fn base(alloc: Global, matches: &ArgMatches<'_>) -> Result<Base, Stop> {
 }
 
 // Where an option names the file, or each line does, digits are as `llvm-symbolizer` has them.
-fn digits(habit: Habit, naming: FileNaming) -> Digits {
-    match (habit, naming) {
-        (Habit::Addr2line, _) | (Habit::Own, FileNaming::ByWord) => Digits::Hexadecimal,
+fn digits(personality: Personality, naming: FileNaming) -> Digits {
+    match (personality, naming) {
+        (Personality::Addr2line, _) | (Personality::Own, FileNaming::ByWord) => Digits::Hexadecimal,
         _ => Digits::ByPrefix,
     }
 }
 
 // What is taken from each address, by both options together. That of `llvm-symbolizer` has digits as it has them.
-fn adjustment(alloc: Global, matches: &ArgMatches<'_>) -> Result<u64, Stop> {
+fn adjustment(alloc: Global, matches: &ArgMatches<'_>) -> Result<u64, RunError> {
     let own = number(alloc, matches, "adjust", Digits::Hexadecimal)?;
     Ok(own.wrapping_add(number(alloc, matches, "adjust-vma", Digits::ByPrefix)?))
 }
 
-fn source_lines(alloc: Global, matches: &ArgMatches<'_>) -> Result<u32, Stop> {
+fn source_lines(alloc: Global, matches: &ArgMatches<'_>) -> Result<u32, RunError> {
     let lines = number(alloc, matches, SOURCE_LINES, Digits::ByPrefix)?;
     Ok(u32::try_from(lines).unwrap_or(u32::MAX))
 }
 
-// Whether functions that were inlined are answered: as `--inlining` says, else as the flags and the habit do.
-fn inlines(alloc: Global, habit: Habit, matches: &ArgMatches<'_>) -> Result<bool, Stop> {
+// Whether functions that were inlined are answered: as `--inlining` says, else as the flags and the personality do.
+fn inlines(
+    alloc: Global,
+    personality: Personality,
+    matches: &ArgMatches<'_>,
+) -> Result<bool, RunError> {
     match matches.get_str("inlining").unwrap_or("") {
-        "" if habit == Habit::Addr2line => Ok(matches.get_flag("inlines")),
+        "" if personality == Personality::Addr2line => Ok(matches.get_flag("inlines")),
         "" => Ok(!matches.get_flag("no-inlines")),
         "true" => Ok(true),
         "false" => Ok(false),
@@ -178,7 +186,10 @@ fn symbol_file_place<'w>(matches: &ArgMatches<'w>) -> SymbolFilePlace<'w> {
     }
 }
 
-fn expected_build(alloc: Global, matches: &ArgMatches<'_>) -> Result<Option<ExpectedBuild>, Stop> {
+fn expected_build(
+    alloc: Global,
+    matches: &ArgMatches<'_>,
+) -> Result<Option<ExpectedBuild>, RunError> {
     let Some(text) = matches.get_str("expect-id") else {
         return Ok(None);
     };
@@ -188,9 +199,13 @@ fn expected_build(alloc: Global, matches: &ArgMatches<'_>) -> Result<Option<Expe
     }
 }
 
-fn name_style(alloc: Global, habit: Habit, matches: &ArgMatches<'_>) -> Result<NameStyle, Stop> {
+fn name_style(
+    alloc: Global,
+    personality: Personality,
+    matches: &ArgMatches<'_>,
+) -> Result<NameStyle, RunError> {
     match matches.get_str("functions").unwrap_or("") {
-        "" if habit == Habit::Addr2line => Ok(NameStyle::None),
+        "" if personality == Personality::Addr2line => Ok(NameStyle::None),
         "" => Ok(NameStyle::Signature),
         "none" => Ok(NameStyle::None),
         "short" => Ok(NameStyle::Short),
@@ -199,9 +214,13 @@ fn name_style(alloc: Global, habit: Habit, matches: &ArgMatches<'_>) -> Result<N
     }
 }
 
-fn style(alloc: Global, habit: Habit, matches: &ArgMatches<'_>) -> Result<Style, Stop> {
+fn style(
+    alloc: Global,
+    personality: Personality,
+    matches: &ArgMatches<'_>,
+) -> Result<Style, RunError> {
     match matches.get_str("output-style").unwrap_or("") {
-        "" if habit == Habit::Addr2line => Ok(Style::Gnu),
+        "" if personality == Personality::Addr2line => Ok(Style::Gnu),
         "" => Ok(Style::Llvm),
         "LLVM" => Ok(Style::Llvm),
         "GNU" => Ok(Style::Gnu),
@@ -216,7 +235,7 @@ fn number(
     matches: &ArgMatches<'_>,
     name: &'static str,
     digits: Digits,
-) -> Result<u64, Stop> {
+) -> Result<u64, RunError> {
     let value = matches.get_str(name).unwrap_or("0");
     match parse_address(value, digits) {
         Some(number) => Ok(number),
@@ -224,9 +243,9 @@ fn number(
     }
 }
 
-fn no_such_value(alloc: Global, name: &'static str, value: &str) -> Stop {
+fn no_such_value(alloc: Global, name: &'static str, value: &str) -> RunError {
     match String::from_str(alloc, value) {
-        Ok(value) => Stop::NoSuchValue(name, value),
-        Err(error) => Stop::from(error),
+        Ok(value) => RunError::NoSuchValue(name, value),
+        Err(error) => RunError::from(error),
     }
 }

@@ -1,8 +1,8 @@
 //! The words of a run: those of the environment in front of those of the command line.
 
-use crate::command_line::{Habit, habit_of};
+use crate::command_line::{Personality, personality_of};
 use crate::response_files::{expand_words, push_words};
-use crate::stops::Stop;
+use crate::run_errors::RunError;
 use std::alloc::Global;
 use std::env::{self, VarError};
 use std::rt::{Env, Files};
@@ -12,7 +12,7 @@ use std::rt::{Env, Files};
 pub fn words_of_run<R: Env + Files + AllocGlobal>(
     rt: &R,
     words: &[String],
-) -> Result<Vec<String>, Stop> {
+) -> Result<Vec<String>, RunError> {
     let mut all = Vec::new(rt.alloc());
     let (program, words) = words.split_at_checked(1).unwrap_or((&[], words));
     for name in program {
@@ -25,8 +25,8 @@ pub fn words_of_run<R: Env + Files + AllocGlobal>(
 
 // The name of the environment variable for a program of this name.
 fn variable_of(program: &[String]) -> &'static str {
-    match habit_of(program) {
-        Habit::Addr2line => "LLVM_ADDR2LINE_OPTS",
+    match personality_of(program) {
+        Personality::Addr2line => "LLVM_ADDR2LINE_OPTS",
         _ => "LLVM_SYMBOLIZER_OPTS",
     }
 }
@@ -37,11 +37,11 @@ fn push_variable<R: Env + Alloc<A = Global>>(
     alloc: Global,
     name: &str,
     words: &mut Vec<String>,
-) -> Result<(), Stop> {
+) -> Result<(), RunError> {
     match env::var(rt, name) {
         Ok(text) => Ok(push_words(alloc, text.as_str(), words)?),
         Err(VarError::NotPresent) => Ok(()),
-        Err(VarError::OutOfMemory) => Err(Stop::want_of_memory()),
-        Err(VarError::NotUnicode) => Err(Stop::NoText),
+        Err(VarError::OutOfMemory) => Err(RunError::want_of_memory()),
+        Err(VarError::NotUnicode) => Err(RunError::NoText),
     }
 }

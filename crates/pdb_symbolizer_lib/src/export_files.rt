@@ -1,8 +1,8 @@
 //! The records file, and the files of modules, that `--export` writes.
 
 use crate::options::Export;
+use crate::run_errors::RunError;
 use crate::status_line::{StatusLine, Watched};
-use crate::stops::Stop;
 use pdb_addr2line::Error;
 use pdb_addr2line::pdb::{ModuleInfo, PDB};
 use pdb_export::{ExportFault, write_module, write_records};
@@ -18,7 +18,7 @@ pub fn write_files<R: Files + Eprint + Clock + AllocGlobal>(
     status_line: &mut StatusLine,
     export: Export<'_>,
     records: &PDB,
-) -> Result<(), Stop> {
+) -> Result<(), RunError> {
     let names = match export.modules {
         Some(folder) => write_modules(rt, status_line, export.records, folder, records)?,
         None => Vec::new(rt.alloc()),
@@ -46,7 +46,7 @@ fn write_modules<R: Files + Eprint + Clock + AllocGlobal>(
     path: &str,
     folder: &str,
     records: &PDB,
-) -> Result<Vec<String>, Stop> {
+) -> Result<Vec<String>, RunError> {
     make_folder(rt, path, folder)?;
     let mut names = Vec::new(rt.alloc());
     for (position, info) in records.module_infos.iter().enumerate() {
@@ -59,7 +59,7 @@ fn write_modules<R: Files + Eprint + Clock + AllocGlobal>(
     Ok(names)
 }
 
-fn make_folder<R: Files + AllocGlobal>(rt: &R, path: &str, folder: &str) -> Result<(), Stop> {
+fn make_folder<R: Files + AllocGlobal>(rt: &R, path: &str, folder: &str) -> Result<(), RunError> {
     let folder = module_path(rt.alloc(), path, folder)?;
     let outcome = match fs::create_dir_all(rt, folder.as_str()) {
         Ok(()) => Ok(()),
@@ -74,7 +74,7 @@ fn write_beside<R: Files + Eprint + Clock + AllocGlobal>(
     path: &str,
     name: &str,
     info: &ModuleInfo,
-) -> Result<(), Stop> {
+) -> Result<(), RunError> {
     let path = module_path(rt.alloc(), path, name)?;
     let outcome = write_module_file(rt, status_line, path.as_str(), info);
     written_to(rt.alloc(), path.as_str(), outcome)
@@ -115,10 +115,10 @@ fn fault_of(error: &io::Error) -> ExportFault {
 }
 
 /// What the outcome of writing to this path means for the run.
-fn written_to(alloc: Global, path: &str, outcome: Result<(), ExportFault>) -> Result<(), Stop> {
+fn written_to(alloc: Global, path: &str, outcome: Result<(), ExportFault>) -> Result<(), RunError> {
     match outcome {
         Ok(()) => Ok(()),
-        Err(ExportFault::OutOfMemory) => Err(Stop::Refused(Error::OutOfMemory)),
-        Err(fault) => Err(Stop::Export(String::from_str(alloc, path)?, fault)),
+        Err(ExportFault::OutOfMemory) => Err(RunError::Refused(Error::OutOfMemory)),
+        Err(fault) => Err(RunError::Export(String::from_str(alloc, path)?, fault)),
     }
 }

@@ -1,19 +1,23 @@
 //! Answers over one file: it is opened, and answers the words of the command line or the lines of an input.
 
+ghost use Rattle.std.specs.Prelude.{string_bytes, IfErr};
+ghost use Rattle.pdb_symbolizer_lib.specs.AnsweredRequests.{flags_of};
+ghost use Rattle.pdb_symbolizer_lib.specs.EarlyEnds.{EndsAnswers, reads_input};
 ghost use Rattle.pdb_symbolizer_lib.specs.FileRuns.{RunsOver};
 
 use crate::line_answers::answer_input;
 use crate::line_queue::LineQueue;
 use crate::opened_files::{OpenedFile, open_file};
 use crate::options::{FileNaming, Options};
+use crate::outputs::{ByteStream, Output};
 use crate::public_names::PublicNames;
 use crate::questions::Questions;
+use crate::run_errors::RunError;
 use crate::run_state::RunState;
 use crate::status_line::StatusLine;
-use crate::stops::Stop;
 use crate::unopened_files::end_unopened;
 use crate::word_answers::answer_words;
-use std::io::{self, Read, Seek, Write};
+use std::io::{self, Read, Seek};
 use std::rt::Files;
 
 /// Answers the addresses of the command line, or else the lines of standard input, over one file.
@@ -22,29 +26,31 @@ pub fn answer_file<R: Files + Input + Print + Eprint + AllocGlobal>(
     status_line: &StatusLine,
     options: &Options<'_>,
     path: &str,
-) -> Result<(), Stop> {
-    let mut out = io::writer(rt);
+) -> Result<(), RunError> {
+    let mut out = ByteStream(io::writer(rt));
     match open_file(rt, status_line, options, path) {
         Ok(mut input) => answer_over(rt, &mut out, options, path, &mut input, rt.reader()),
         Err(cause) if options.naming == FileNaming::ByOption && !cause.is_want_of_memory() => {
             end_unopened(rt, &mut out, options, path, &cause)?;
-            Err(Stop::Unopened)
+            Err(RunError::Unopened)
         }
         Err(cause) => Err(cause),
     }
 }
 
 // Answers what is asked over a file that was opened: the words, or else the lines of this input.
-fn answer_over<R: Files + Eprint + AllocGlobal, W: Write, F: Read + Seek + Drop, T: Read + Drop>(
+fn answer_over<R: Files + Eprint + AllocGlobal, W: Output, F: Read + Seek + Drop, T: Read + Drop>(
     rt: &R,
     out: &mut W,
     options: &Options<'_>,
     path: &str,
     input: &mut OpenedFile<F>,
     lines: T,
-) -> Result<(), Stop>
-    ensures { RunsOver options.now path.now input.old.image_base input.old.session (T.remaining lines) result
+) -> Result<(), RunError>
+    ensures answer { RunsOver options.now path.now input.old.image_base input.old.session (T.remaining lines) result
         (W.contents out.old) (W.contents out.new) }
+    ensures early { IfErr result (EndsAnswers (W.takes_all out.old) (reads_input options.now)
+        (string_bytes input.old.path) (flags_of options.now.printer.names) input.new.session.known.records) }
 {
     let names = PublicNames::for_answers(rt.alloc(), options, input.records())?;
     let questions = Questions::new(options, path, input, &names);

@@ -1,18 +1,19 @@
 //! The answer of one request: the frames of an address of code, or that nothing is known.
 
-ghost use Rattle.std.specs.Prelude.{◌≡◌, ℕ, List, IfOk, option_map, string_bytes};
+ghost use Rattle.std.specs.Prelude.{◌≡◌, ℕ, List, IfErr, IfOk, option_map, string_bytes};
 ghost use Rattle.pdb_answer_printer.specs.Answers.{answer_text, unknown_text};
 ghost use Rattle.pdb_answer_printer.specs.FrameNames.{shown_frames};
 ghost use Rattle.pdb_answer_printer.specs.Requests.{question_of};
 ghost use Rattle.pdb_symbolizer_lib.specs.AnsweredRequests.{AnswersQuestion, AnswersText, AreFramesAt, AreNamedFrames};
+ghost use Rattle.pdb_symbolizer_lib.specs.EarlyEnds.{out_of_memory};
 ghost use Rattle.pdb_symbolizer_lib.specs.Origins.{relative};
 ghost use Rattle.pdb_symbolizer_lib.specs.PublicNames.{public_named};
 
 use crate::options::Options;
 use crate::public_names::PublicNames;
 use crate::questions::Questions;
+use crate::run_errors::RunError;
 use crate::run_state::RunState;
-use crate::stops::Stop;
 use pdb_addr2line::{Error, Frame, FunctionFrames};
 use pdb_answer_printer::{
     Place, Request, Sort, file_of, shown_frames, write_answer, write_unknown,
@@ -28,9 +29,10 @@ pub fn request_text<R: Files + Eprint + AllocGlobal>(
     context: &mut SessionContext<'_, '_>,
     state: &mut RunState,
     given: &str,
-) -> Result<String, Stop>
+) -> Result<String, RunError>
     ensures text { IfOk result (λ text. AnswersText questions.now
         (AreFramesAt context.old.known context.old.flags) given.now (string_bytes text)) }
+    ensures memory { IfErr result (λ error. error ≡ out_of_memory) }
     ensures known { context.new.known ≡ context.old.known }
     ensures flags { context.new.flags ≡ context.old.flags }
 {
@@ -46,9 +48,10 @@ fn answer_request<R: Files + Eprint + AllocGlobal>(
     state: &mut RunState,
     request: &Request<'_>,
     given: &str,
-) -> Result<String, Stop>
+) -> Result<String, RunError>
     ensures text { IfOk result (λ text. AnswersQuestion questions.now
         (AreFramesAt context.old.known context.old.flags) (question_of request.now) (string_bytes text)) }
+    ensures memory { IfErr result (λ error. error ≡ out_of_memory) }
     ensures known { context.new.known ≡ context.old.known }
     ensures flags { context.new.flags ≡ context.old.flags }
 {
@@ -138,6 +141,7 @@ fn frames_at<'a, R: Eprint + AllocGlobal>(
 ) -> Result<Option<FunctionFrames<'a>>, Error>
     ensures found { IfOk result (λ named. AreNamedFrames questions.now
         (AreFramesAt context.old.known context.old.flags) (relative questions.now.origin given) named) }
+    ensures memory { IfErr result (λ error. error ≡ Error.OutOfMemory) }
     ensures known { context.new.known ≡ context.old.known }
     ensures flags { context.new.flags ≡ context.old.flags }
 {
@@ -174,6 +178,7 @@ fn readable_frames<'a, R: Eprint>(
     address: u32,
 ) -> Result<Option<FunctionFrames<'a>>, Error>
     ensures found { IfOk result (λ found. AreFramesAt context.old.known context.old.flags address found) }
+    ensures memory { IfErr result (λ error. error ≡ Error.OutOfMemory) }
     ensures known { context.new.known ≡ context.old.known }
     ensures flags { context.new.flags ≡ context.old.flags }
 {

@@ -1,9 +1,9 @@
 //! Which build files are of: the lines of `--show-id`, and the check of `--expect-id`.
 
 use crate::file_bytes::FileBytes;
-use crate::input_files::{open_named_file, open_stop};
+use crate::input_files::{open_error, open_named_file};
 use crate::options::Options;
-use crate::stops::Stop;
+use crate::run_errors::RunError;
 use pdb_container::{DebugId, Machine, PdbIdentity, read_identity_of};
 use pdb_identity::{ProgramFile, read_program};
 use std::alloc::Global;
@@ -58,9 +58,9 @@ impl fmt::Display for ExpectedBuild {
 pub fn print_identities<R: Files + Print + AllocGlobal>(
     rt: &R,
     options: &Options<'_>,
-) -> Result<(), Stop> {
+) -> Result<(), RunError> {
     let Some(file) = options.file else {
-        return Err(Stop::NoFile);
+        return Err(RunError::NoFile);
     };
     print_identity(rt, file)?;
     for &file in &options.addresses {
@@ -69,7 +69,7 @@ pub fn print_identities<R: Files + Print + AllocGlobal>(
     Ok(())
 }
 
-fn print_identity<R: Files + Print + AllocGlobal>(rt: &R, file: &str) -> Result<(), Stop> {
+fn print_identity<R: Files + Print + AllocGlobal>(rt: &R, file: &str) -> Result<(), RunError> {
     let mut bytes = open_named_file(rt, file)?;
     if let FileBytes::InMemory(bytes) = &bytes
         && let Some(program) = read_program(bytes)
@@ -84,10 +84,10 @@ fn print_program<R: Print + AllocGlobal>(
     rt: &R,
     file: &str,
     program: &ProgramFile<'_>,
-) -> Result<(), Stop> {
+) -> Result<(), RunError> {
     match &program.code_view {
         Some(code_view) => print_line(rt, file, code_view.debug_id, Some(program.machine)),
-        None => Err(Stop::NoIdentity(String::from_str(rt.alloc(), file)?)),
+        None => Err(RunError::NoIdentity(String::from_str(rt.alloc(), file)?)),
     }
 }
 
@@ -96,14 +96,14 @@ fn print_line<R: Print>(
     file: &str,
     id: DebugId,
     machine: Option<Machine>,
-) -> Result<(), Stop> {
+) -> Result<(), RunError> {
     let printed = match machine {
         Some(machine) => println!(rt; "{file} {} {} {machine}", id.compact(), id.age),
         None => println!(rt; "{file} {} {} ??", id.compact(), id.age),
     };
     match printed {
         Ok(()) => Ok(()),
-        Err(_) => Err(Stop::CannotWrite),
+        Err(_) => Err(RunError::CannotWrite),
     }
 }
 
@@ -113,7 +113,7 @@ pub fn check_identity<F: Read + Seek + Drop>(
     options: &Options<'_>,
     file: &str,
     bytes: &mut FileBytes<F>,
-) -> Result<(), Stop> {
+) -> Result<(), RunError> {
     let Some(expected) = options.expected else {
         return Ok(());
     };
@@ -121,17 +121,17 @@ pub fn check_identity<F: Read + Seek + Drop>(
     if expected.is_of(found) {
         return Ok(());
     }
-    Err(Stop::OtherBuild(String::from_str(alloc, file)?, found, expected))
+    Err(RunError::OtherBuild(String::from_str(alloc, file)?, found, expected))
 }
 
 fn identity_of<F: Read + Seek + Drop>(
     alloc: Global,
     file: &str,
     bytes: &mut FileBytes<F>,
-) -> Result<PdbIdentity, Stop> {
+) -> Result<PdbIdentity, RunError> {
     match identity_in(alloc, file, bytes)? {
         Some(identity) => Ok(identity),
-        None => Err(Stop::NoIdentity(String::from_str(alloc, file)?)),
+        None => Err(RunError::NoIdentity(String::from_str(alloc, file)?)),
     }
 }
 
@@ -140,10 +140,10 @@ pub fn identity_in<F: Read + Seek + Drop>(
     alloc: Global,
     file: &str,
     bytes: &mut FileBytes<F>,
-) -> Result<Option<PdbIdentity>, Stop> {
+) -> Result<Option<PdbIdentity>, RunError> {
     let length = bytes.length();
     match read_identity_of(alloc, bytes, length) {
         Ok(identity) => Ok(identity),
-        Err(fault) => Err(open_stop(alloc, file, fault)),
+        Err(fault) => Err(open_error(alloc, file, fault)),
     }
 }

@@ -1,12 +1,14 @@
 //! The file that the words name: its bytes, and the records of a PDB file or of a records file with its module files.
 
+ghost use Rattle.pdb_symbolizer_lib.specs.EarlyEnds.{EndsRead};
+
 use crate::file_bytes::{FileBytes, open_bytes};
 use crate::foreign_files::ForeignFile;
 use crate::identities::check_identity;
 use crate::options::Options;
 use crate::programs::find_pdb;
+use crate::run_errors::RunError;
 use crate::status_line::StatusLine;
-use crate::stops::Stop;
 use pdb_addr2line::Error;
 use pdb_addr2line::pdb::PDB;
 use pdb_container::{ContainerFault, OpenFault, read_pdb};
@@ -41,7 +43,7 @@ pub fn find_file<R: Files + Eprint + AllocGlobal>(
     status_line: &StatusLine,
     options: &Options<'_>,
     path: &str,
-) -> Result<SourceFile<R::File>, Stop> {
+) -> Result<SourceFile<R::File>, RunError> {
     let bytes = open_named_file(rt, path)?;
     status_line.print_size(rt, path, bytes.length());
     let found = match &bytes {
@@ -59,7 +61,7 @@ pub fn find_file<R: Files + Eprint + AllocGlobal>(
 pub fn open_named_file<R: Files + AllocGlobal>(
     rt: &R,
     path: &str,
-) -> Result<FileBytes<R::File>, Stop> {
+) -> Result<FileBytes<R::File>, RunError> {
     match open_bytes(rt, path) {
         Ok(bytes) => Ok(bytes),
         Err(error) => Err(cannot_read(rt.alloc(), path, error)),
@@ -72,12 +74,12 @@ fn find_for_program<R: Files + AllocGlobal>(
     options: &Options<'_>,
     path: &str,
     bytes: &[u8],
-) -> Result<Option<SourceFile<R::File>>, Stop> {
+) -> Result<Option<SourceFile<R::File>>, RunError> {
     let Some(program) = read_program(bytes) else {
         return Ok(None);
     };
     let Some(code_view) = &program.code_view else {
-        return Err(Stop::NoPdbFile(format!(in rt.alloc(); "{path}: it names no PDB file")?));
+        return Err(RunError::NoPdbFile(format!(in rt.alloc(); "{path}: it names no PDB file")?));
     };
     let mut found = find_pdb(rt, path, code_view, options)?;
     found.file.image_base = Some(program.image_base);
@@ -90,7 +92,7 @@ fn check_source<F: Read + Seek + Drop>(
     alloc: Global,
     options: &Options<'_>,
     mut source: SourceFile<F>,
-) -> Result<SourceFile<F>, Stop> {
+) -> Result<SourceFile<F>, RunError> {
     check_identity(alloc, options, source.file.path.as_str(), &mut source.bytes)?;
     Ok(source)
 }
@@ -102,14 +104,14 @@ pub fn read_all_records<R: Files + Eprint + AllocGlobal>(
     status_line: &StatusLine,
     options: &Options<'_>,
     path: &str,
-) -> Result<PDB, Stop> {
+) -> Result<PDB, RunError> {
     let source = find_file(rt, status_line, options, path)?;
     let is_pdb_file = source.bytes.is_pdb_file();
     let (file, bytes) = source.read(rt.alloc())?;
     if is_pdb_file {
         match read_pdb(rt.alloc(), &bytes) {
             Ok(records) => Ok(records),
-            Err(fault) => Err(container_stop(rt.alloc(), file.path.as_str(), fault)),
+            Err(fault) => Err(container_error(rt.alloc(), file.path.as_str(), fault)),
         }
     } else {
         read_records_file(rt, file.path.as_str(), &bytes)
@@ -128,7 +130,7 @@ impl<F: Read + Seek + Drop> SourceFile<F> {
     }
 
     /// All bytes of the file, and what is known of it beside them.
-    pub fn read(self, alloc: Global) -> Result<(NamedFile, Vec<u8>), Stop> {
+    pub fn read(self, alloc: Global) -> Result<(NamedFile, Vec<u8>), RunError> {
         let SourceFile { file, bytes } = self;
         match bytes.into_memory(alloc) {
             Ok(bytes) => Ok((file, bytes)),
@@ -137,34 +139,36 @@ impl<F: Read + Seek + Drop> SourceFile<F> {
     }
 }
 
-fn container_stop(alloc: Global, path: &str, fault: ContainerFault) -> Stop {
+fn container_error(alloc: Global, path: &str, fault: ContainerFault) -> RunError {
     match (String::from_str(alloc, path), fault) {
-        (_, ContainerFault::OutOfMemory) => Stop::Refused(Error::OutOfMemory),
-        (Ok(path), fault) => Stop::Container(path, fault),
-        (Err(_), _) => Stop::Refused(Error::OutOfMemory),
+        (_, ContainerFault::OutOfMemory) => RunError::Refused(Error::OutOfMemory),
+        (Ok(path), fault) => RunError::Container(path, fault),
+        (Err(_), _) => RunError::Refused(Error::OutOfMemory),
     }
 }
 
 /// Why a run ends over a file that can't be opened.
-pub fn open_stop(alloc: Global, path: &str, fault: OpenFault) -> Stop {
+pub fn open_error(alloc: Global, path: &str, fault: OpenFault) -> RunError {
     match fault {
-        OpenFault::Container(fault) => container_stop(alloc, path, fault),
+        OpenFault::Container(fault) => container_error(alloc, path, fault),
         OpenFault::Unreadable => unreadable(alloc, path),
     }
 }
 
 /// Why a run ends over a file that can't be read further.
-pub fn unreadable(alloc: Global, path: &str) -> Stop {
+pub fn unreadable(alloc: Global, path: &str) -> RunError
+    ensures { EndsRead path.now result }
+{
     match String::from_str(alloc, path) {
-        Ok(path) => Stop::Unreadable(path),
-        Err(_) => Stop::Refused(Error::OutOfMemory),
+        Ok(path) => RunError::Unreadable(path),
+        Err(_) => RunError::Refused(Error::OutOfMemory),
     }
 }
 
-fn cannot_read(alloc: Global, path: &str, error: io::Error) -> Stop {
+fn cannot_read(alloc: Global, path: &str, error: io::Error) -> RunError {
     match String::from_str(alloc, path) {
-        Ok(path) if !ran_out_of_memory(&error) => Stop::CannotRead(path, error),
-        _ => Stop::Refused(Error::OutOfMemory),
+        Ok(path) if !ran_out_of_memory(&error) => RunError::CannotRead(path, error),
+        _ => RunError::Refused(Error::OutOfMemory),
     }
 }
 
@@ -173,13 +177,13 @@ pub fn read_records_file<R: Files + AllocGlobal>(
     rt: &R,
     path: &str,
     bytes: &[u8],
-) -> Result<PDB, Stop> {
+) -> Result<PDB, RunError> {
     if let Some(foreign) = ForeignFile::of_bytes(bytes) {
-        return Err(Stop::Foreign(String::from_str(rt.alloc(), path)?, foreign));
+        return Err(RunError::Foreign(String::from_str(rt.alloc(), path)?, foreign));
     }
     match RecordsFile::from_slice(rt.alloc(), bytes) {
         Ok(file) => read_module_records(rt, path, file),
-        Err(fault) => Err(Stop::Records(String::from_str(rt.alloc(), path)?, fault)),
+        Err(fault) => Err(RunError::Records(String::from_str(rt.alloc(), path)?, fault)),
     }
 }
 
@@ -187,19 +191,19 @@ fn read_module_records<R: Files + AllocGlobal>(
     rt: &R,
     path: &str,
     file: RecordsFile,
-) -> Result<PDB, Stop> {
+) -> Result<PDB, RunError> {
     let files = match read_module_files(rt, path, &file) {
         Ok(files) => files,
-        Err(fault) => return Err(module_file_stop(rt.alloc(), path, fault)),
+        Err(fault) => return Err(module_file_error(rt.alloc(), path, fault)),
     };
     match file.read_records(&files) {
         Ok(records) => Ok(records),
-        Err(fault) => Err(Stop::Records(String::from_str(rt.alloc(), path)?, fault)),
+        Err(fault) => Err(RunError::Records(String::from_str(rt.alloc(), path)?, fault)),
     }
 }
 
 /// The bytes of a file that the words name.
-pub fn read_file<R: Files + AllocGlobal>(rt: &R, path: &str) -> Result<Vec<u8>, Stop> {
+pub fn read_file<R: Files + AllocGlobal>(rt: &R, path: &str) -> Result<Vec<u8>, RunError> {
     match fs::read(rt, path) {
         Ok(bytes) => Ok(bytes),
         Err(error) => Err(cannot_read(rt.alloc(), path, error)),
@@ -207,13 +211,13 @@ pub fn read_file<R: Files + AllocGlobal>(rt: &R, path: &str) -> Result<Vec<u8>, 
 }
 
 /// Why a run ends over a records file whose module files can't be read.
-fn module_file_stop(alloc: Global, path: &str, fault: ModuleFileFault) -> Stop {
+fn module_file_error(alloc: Global, path: &str, fault: ModuleFileFault) -> RunError {
     match fault {
-        ModuleFileFault::OutOfMemory => Stop::Refused(Error::OutOfMemory),
-        ModuleFileFault::CannotRead(path) => Stop::Unreadable(path),
+        ModuleFileFault::OutOfMemory => RunError::Refused(Error::OutOfMemory),
+        ModuleFileFault::CannotRead(path) => RunError::Unreadable(path),
         ModuleFileFault::Records(fault) => match String::from_str(alloc, path) {
-            Ok(path) => Stop::Records(path, fault),
-            Err(_) => Stop::Refused(Error::OutOfMemory),
+            Ok(path) => RunError::Records(path, fault),
+            Err(_) => RunError::Refused(Error::OutOfMemory),
         },
     }
 }

@@ -7,7 +7,6 @@
 #![tactic(auto)]
 
 mod addresses;
-mod answer_writes;
 mod arguments;
 mod base_hints;
 mod command_line;
@@ -24,24 +23,26 @@ mod line_queue;
 mod named_files;
 mod opened_files;
 mod options;
+mod outputs;
 mod paths;
 mod programs;
 mod public_names;
 mod questions;
 mod repairs;
 mod response_files;
+mod run_errors;
 mod run_state;
 mod source_lines;
 mod status_line;
-mod stops;
 mod symbol_files;
 mod symbol_stores;
 mod symbolication;
 mod symbolized_modules;
 mod symbolizer_runs;
 mod unopened_files;
+mod unwind_records;
 mod word_answers;
 
+pub use run_errors::RunError;
 pub use status_line::StatusLine;
-pub use stops::Stop;
 pub use symbolizer_runs::run_words;

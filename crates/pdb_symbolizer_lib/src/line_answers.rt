@@ -1,26 +1,27 @@
 //! Answers to lines of an input, over one file.
 
-ghost use Rattle.std.specs.Prelude.{◌≡◌, ◌∷◌, []};
-ghost use Rattle.pdb_symbolizer_lib.specs.AnsweredRequests.{AnswersText, AreFramesAt, AreFramesOver};
+ghost use Rattle.std.specs.Prelude.{◌≡◌, ◌∷◌, [], true, string_bytes, IfErr};
+ghost use Rattle.pdb_symbolizer_lib.specs.AnsweredRequests.{AnswersText, AreFramesAt, AreFramesOver, flags_of};
+ghost use Rattle.pdb_symbolizer_lib.specs.EarlyEnds.{EndsAnswers, EndsLines, EndsWrite};
 ghost use Rattle.pdb_symbolizer_lib.specs.FileRuns.{AnswersOfFile};
 ghost use Rattle.pdb_symbolizer_lib.specs.AnswersInOrder.{AnswersAllLines, AnswersInOrder, AnswersLines, lines_text};
 
-use crate::answer_writes::write_line_answer;
 use crate::frame_answers::request_text;
 use crate::line_queue::LineQueue;
 use crate::opened_files::OpenedFile;
+use crate::outputs::{Output, write_line_answer};
 use crate::questions::Questions;
+use crate::run_errors::RunError;
 use crate::run_state::RunState;
-use crate::stops::Stop;
 use pdb_session::SessionContext;
 use std::alloc::{AllocError, Global};
-use std::io::{Read, Seek, Write};
+use std::io::{Read, Seek};
 use std::rt::Files;
 
 /// Answers the lines of an input. What is known of the modules that ready lines ask for is read together.
 pub fn answer_input<
     R: Files + Eprint + AllocGlobal,
-    W: Write,
+    W: Output,
     F: Read + Seek + Drop,
     T: Read + Drop,
 >(
@@ -30,9 +31,11 @@ pub fn answer_input<
     state: &mut RunState,
     input: &mut OpenedFile<F>,
     queue: &mut LineQueue<T>,
-) -> Result<(), Stop>
-    ensures { AnswersAllLines (AnswersOfFile questions.now input.old.session)
+) -> Result<(), RunError>
+    ensures answer { AnswersAllLines (AnswersOfFile questions.now input.old.session)
         questions.now.options.now.printer.style queue.old result (W.contents out.old) (W.contents out.new) }
+    ensures early { IfErr result (EndsAnswers (W.takes_all out.old) true (string_bytes input.old.path)
+        (flags_of questions.now.options.now.printer.names) input.new.session.known.records) }
 {
     for _ in 0..u64::MAX {
         let addresses = addresses_of_lines(rt.alloc(), questions, queue)?;
@@ -42,7 +45,7 @@ pub fn answer_input<
             return Ok(());
         }
     }
-    Err(Stop::CannotReadInput)
+    Err(RunError::CannotReadInput)
 }
 
 /// The addresses that ready lines ask for in the file, up to the first line that names another one.
@@ -65,17 +68,20 @@ pub fn addresses_of_lines<T: Read + Drop>(
 }
 
 // Answers lines by one context, up to the first one whose module was not read.
-fn answer_lines<R: Files + Eprint + AllocGlobal, W: Write, F: Read + Seek + Drop, T: Read + Drop>(
+fn answer_lines<R: Files + Eprint + AllocGlobal, W: Output, F: Read + Seek + Drop, T: Read + Drop>(
     rt: &R,
     out: &mut W,
     questions: &Questions<'_, '_>,
     state: &mut RunState,
     input: &OpenedFile<F>,
     queue: &mut LineQueue<T>,
-) -> Result<(), Stop>
-    ensures { AnswersLines (AnswersOfFile questions.now input.now.session)
+) -> Result<(), RunError>
+    ensures answer { AnswersLines (AnswersOfFile questions.now input.now.session)
         questions.now.options.now.printer.style queue.old queue.new result
         (W.contents out.old) (W.contents out.new) }
+    ensures early { IfErr result (EndsAnswers (W.takes_all out.old) true (string_bytes input.now.path)
+        (flags_of questions.now.options.now.printer.names) input.now.session.known.records) }
+    ensures takes { W.takes_all out.new ≡ W.takes_all out.old }
 {
     let data = input.session.data()?;
     let mut context = data.context(questions.options.flags())?;
@@ -83,17 +89,19 @@ fn answer_lines<R: Files + Eprint + AllocGlobal, W: Write, F: Read + Seek + Drop
 }
 
 // The same by a context that was made.
-fn answer_read_lines<R: Files + Eprint + AllocGlobal, W: Write, T: Read + Drop>(
+fn answer_read_lines<R: Files + Eprint + AllocGlobal, W: Output, T: Read + Drop>(
     rt: &R,
     out: &mut W,
     questions: &Questions<'_, '_>,
     state: &mut RunState,
     context: &mut SessionContext<'_, '_>,
     queue: &mut LineQueue<T>,
-) -> Result<(), Stop>
-    ensures { AnswersLines (AnswersText questions.now (AreFramesOver context.old.known context.old.flags))
+) -> Result<(), RunError>
+    ensures answer { AnswersLines (AnswersText questions.now (AreFramesOver context.old.known context.old.flags))
         questions.now.options.now.printer.style queue.old queue.new result
         (W.contents out.old) (W.contents out.new) }
+    ensures early { IfErr result (EndsLines (W.takes_all out.old)) }
+    ensures takes { W.takes_all out.new ≡ W.takes_all out.old }
 {
     for _ in 0..u64::MAX {
         match queue.first() {
@@ -108,17 +116,19 @@ fn answer_read_lines<R: Files + Eprint + AllocGlobal, W: Write, T: Read + Drop>(
 }
 
 /// Answers a line.
-pub fn answer_line<R: Files + Eprint + AllocGlobal, W: Write>(
+pub fn answer_line<R: Files + Eprint + AllocGlobal, W: Output>(
     rt: &R,
     out: &mut W,
     questions: &Questions<'_, '_>,
     context: &mut SessionContext<'_, '_>,
     state: &mut RunState,
     line: &str,
-) -> Result<(), Stop>
+) -> Result<(), RunError>
     ensures answer { AnswersInOrder (AnswersText questions.now (AreFramesAt context.old.known context.old.flags))
         (lines_text questions.now.options.now.printer.style) (line.now ∷ []) result
         (W.contents out.old) (W.contents out.new) }
+    ensures early { IfErr result (EndsWrite (W.takes_all out.old)) }
+    ensures takes { W.takes_all out.new ≡ W.takes_all out.old }
     ensures known { context.new.known ≡ context.old.known }
     ensures flags { context.new.flags ≡ context.old.flags }
 {

@@ -1,10 +1,11 @@
 //! Lines of standard input, as many at once as are ready, so that what they ask for can be read together.
 
-ghost use Rattle.std.specs.Prelude.{◌≡◌, [], Some, drop, option_map, string_bytes, IfNone, IfSome, IfOk, OnOk};
+ghost use Rattle.std.specs.Prelude.{◌≡◌, [], Some, drop, option_map, string_bytes, IfErr, IfNone, IfSome, IfOk, OnOk};
 ghost use Rattle.std.specs.Io.Buffered.{reader_remaining};
+ghost use Rattle.pdb_symbolizer_lib.specs.EarlyEnds.{EndsInput};
 ghost use Rattle.pdb_symbolizer_lib.specs.InputLines.{BeginWith, GivesLine, asked_in_turn, asked_lines, text_of_line};
 
-use crate::stops::Stop;
+use crate::run_errors::RunError;
 use std::alloc::{AllocError, Global};
 use std::io::{BufRead, BufReader, ErrorKind, Read};
 use std::marker::Model;
@@ -47,11 +48,13 @@ impl<T: Read> Model for LineQueue<T> {
 
 impl<T: Read + Drop> LineQueue<T> {
     /// A queue with the first lines of an input.
-    pub fn new(alloc: Global, input: T) -> Result<Self, Stop>
-        ensures { IfOk result (λ queue. IfSome (T.remaining input) (λ bytes. queue ≡ Some (asked_lines bytes))) }
+    pub fn new(alloc: Global, input: T) -> Result<Self, RunError>
+        ensures answer { IfOk result (λ queue.
+            IfSome (T.remaining input) (λ bytes. queue ≡ Some (asked_lines bytes))) }
+        ensures early { IfErr result EndsInput }
     {
         let Ok(mut reader) = BufReader::with_capacity(alloc, CAPACITY, input) else {
-            return Err(Stop::want_of_memory());
+            return Err(RunError::want_of_memory());
         };
         let mut lines = Vec::new(alloc);
         fill(alloc, &mut reader, &mut lines)?;
@@ -83,8 +86,9 @@ impl<T: Read + Drop> LineQueue<T> {
     }
 
     /// Passes the first line, which was answered. Where it was the last that was ready, more are waited for.
-    pub fn pass(&mut self) -> Result<(), Stop>
-        ensures { OnOk result (IfSome self.old (λ all. self.new ≡ Some (drop 1 all))) }
+    pub fn pass(&mut self) -> Result<(), RunError>
+        ensures state { OnOk result (IfSome self.old (λ all. self.new ≡ Some (drop 1 all))) }
+        ensures early { IfErr result EndsInput }
     {
         self.next = self.next.saturating_add(1);
         if self.next < self.lines.len() {
@@ -100,9 +104,10 @@ fn fill<T: Read>(
     alloc: Global,
     reader: &mut BufReader<T, Global>,
     lines: &mut Vec<String>,
-) -> Result<(), Stop>
-    ensures { OnOk result (IfSome (reader_remaining T.remaining reader.old) (λ bytes.
+) -> Result<(), RunError>
+    ensures answer { OnOk result (IfSome (reader_remaining T.remaining reader.old) (λ bytes.
         asked_in_turn lines.new.items (reader_remaining T.remaining reader.new) ≡ Some (asked_lines bytes))) }
+    ensures early { IfErr result EndsInput }
 {
     lines.clear();
     for _ in 0..u64::MAX {
@@ -118,16 +123,17 @@ fn fill<T: Read>(
 }
 
 // Reads the next line, if there is one. What is no text is a line with a question mark.
-fn read_line<B: BufRead>(alloc: Global, reader: &mut B) -> Result<Option<String>, Stop>
-    ensures { IfOk result (λ line.
+fn read_line<B: BufRead>(alloc: Global, reader: &mut B) -> Result<Option<String>, RunError>
+    ensures answer { IfOk result (λ line.
         GivesLine (B.remaining reader.old) (B.remaining reader.new) (option_map string_bytes line)) }
+    ensures early { IfErr result EndsInput }
 {
     let mut bytes = Vec::new(alloc);
     match reader.read_until(b'\n', &mut bytes) {
         Ok(0) => Ok(None),
         Ok(_) => Ok(Some(line_text(alloc, &bytes)?)),
-        Err(error) if error.kind() == ErrorKind::OutOfMemory => Err(Stop::want_of_memory()),
-        Err(_) => Err(Stop::CannotReadInput),
+        Err(error) if error.kind() == ErrorKind::OutOfMemory => Err(RunError::want_of_memory()),
+        Err(_) => Err(RunError::CannotReadInput),
     }
 }
 

@@ -2,21 +2,21 @@
 //!
 //! Those that follow one another and name the same file are answered by one context.
 
-use crate::answer_writes::write_line_answer;
 use crate::frame_answers::print_lack;
 use crate::line_answers::{addresses_of_lines, answer_line};
 use crate::line_queue::LineQueue;
 use crate::opened_files::{OpenedFile, open_file};
 use crate::options::Options;
+use crate::outputs::{ByteStream, Output, write_line_answer};
 use crate::public_names::PublicNames;
 use crate::questions::Questions;
+use crate::run_errors::RunError;
 use crate::run_state::RunState;
 use crate::status_line::StatusLine;
-use crate::stops::Stop;
 use crate::unopened_files::answer_unopened;
 use pdb_answer_printer::{Request, parse_request, write_unknown};
 use pdb_session::SessionContext;
-use std::io::{self, Read, Seek, Write};
+use std::io::{self, Read, Seek};
 use std::rt::Files;
 
 /// Answers the lines of standard input, of which each names its file.
@@ -24,10 +24,10 @@ pub fn answer_named_files<R: Files + Input + Print + Eprint + AllocGlobal>(
     rt: &R,
     status_line: &StatusLine,
     options: &Options<'_>,
-) -> Result<(), Stop> {
+) -> Result<(), RunError> {
     let mut state = RunState::new(rt.alloc());
     let mut queue = LineQueue::new(rt.alloc(), rt.reader())?;
-    let mut out = io::writer(rt);
+    let mut out = ByteStream(io::writer(rt));
     for _ in 0..u64::MAX {
         if queue.first().is_none() {
             break;
@@ -35,20 +35,20 @@ pub fn answer_named_files<R: Files + Input + Print + Eprint + AllocGlobal>(
         answer_next_lines(rt, &mut out, status_line, options, &mut state, &mut queue)?;
     }
     if state.unopened {
-        return Err(Stop::Unopened);
+        return Err(RunError::Unopened);
     }
     Ok(())
 }
 
 // Answers the first line, and those behind it that name the same file.
-fn answer_next_lines<R: Files + Print + Eprint + AllocGlobal, W: Write, T: Read + Drop>(
+fn answer_next_lines<R: Files + Print + Eprint + AllocGlobal, W: Output, T: Read + Drop>(
     rt: &R,
     out: &mut W,
     status_line: &StatusLine,
     options: &Options<'_>,
     state: &mut RunState,
     queue: &mut LineQueue<T>,
-) -> Result<(), Stop> {
+) -> Result<(), RunError> {
     let line = String::from_str(rt.alloc(), queue.first().unwrap_or(""))?;
     let request = parse_request(line.as_str(), None, options.digits);
     if request.is_nowhere() {
@@ -68,12 +68,12 @@ fn answer_next_lines<R: Files + Print + Eprint + AllocGlobal, W: Write, T: Read 
 }
 
 // Answers a line that asks for nothing.
-fn answer_none<R: AllocGlobal, W: Write>(
+fn answer_none<R: AllocGlobal, W: Output>(
     rt: &R,
     out: &mut W,
     options: &Options<'_>,
     request: &Request<'_>,
-) -> Result<(), Stop> {
+) -> Result<(), RunError> {
     let mut text = String::new(rt.alloc());
     write_unknown(&mut text, &options.printer, request)?;
     write_line_answer(out, options.printer.style, text)
@@ -82,7 +82,7 @@ fn answer_none<R: AllocGlobal, W: Write>(
 // Answers lines that name this file. What is known of the modules that ready lines ask for is read together.
 fn answer_lines_of<
     R: Files + Eprint + AllocGlobal,
-    W: Write,
+    W: Output,
     F: Read + Seek + Drop,
     T: Read + Drop,
 >(
@@ -93,7 +93,7 @@ fn answer_lines_of<
     input: &mut OpenedFile<F>,
     state: &mut RunState,
     queue: &mut LineQueue<T>,
-) -> Result<(), Stop> {
+) -> Result<(), RunError> {
     let names = PublicNames::for_answers(rt.alloc(), options, input.records())?;
     let questions = Questions::new(options, path, input, &names);
     for _ in 0..u64::MAX {
@@ -118,7 +118,7 @@ enum Left {
 // Answers lines by one context, up to the first one that names another file, or whose module was not read.
 fn answer_same_file<
     R: Files + Eprint + AllocGlobal,
-    W: Write,
+    W: Output,
     F: Read + Seek + Drop,
     T: Read + Drop,
 >(
@@ -128,7 +128,7 @@ fn answer_same_file<
     state: &mut RunState,
     input: &OpenedFile<F>,
     queue: &mut LineQueue<T>,
-) -> Result<Left, Stop> {
+) -> Result<Left, RunError> {
     let data = input.session.data()?;
     let mut context = data.context(questions.options.flags())?;
     for _ in 0..u64::MAX {

@@ -1,16 +1,17 @@
 //! Files that are opened for answers. What is broken in their records is taken out, and printed on standard error.
 
-ghost use Rattle.std.specs.Prelude.{◌≡◌, true, IsOk, OnOk};
+ghost use Rattle.std.specs.Prelude.{◌≡◌, true, string_bytes, IfErr, IsOk, OnOk};
 ghost use Rattle.pdb_session.specs.Session.{SameFile, needs_none};
+ghost use Rattle.pdb_symbolizer_lib.specs.EarlyEnds.{EndsRead};
 
 use crate::file_bytes::FileBytes;
 use crate::input_files::{
-    NamedFile, SourceFile, find_file, open_stop, read_records_file, unreadable,
+    NamedFile, SourceFile, find_file, open_error, read_records_file, unreadable,
 };
 use crate::options::Options;
 use crate::repairs::print_repairs;
+use crate::run_errors::RunError;
 use crate::status_line::StatusLine;
-use crate::stops::Stop;
 use pdb_addr2line::Error;
 use pdb_addr2line::pdb::PDB;
 use pdb_container::SourceFault;
@@ -46,16 +47,18 @@ impl<F: Read + Seek + Drop> OpenedFile<F> {
         &mut self,
         rt: &R,
         addresses: &[u32],
-    ) -> Result<(), Stop>
+    ) -> Result<(), RunError>
         ensures enough { OnOk result (needs_none self.new.session.known addresses.now ≡ true) }
         ensures file { SameFile self.old.session self.new.session }
+        ensures path { self.new.path ≡ self.old.path }
+        ensures early { IfErr result (EndsRead (string_bytes self.old.path)) }
     {
         let read = self.session.read_for(addresses);
         self.print_read(rt, read)
     }
 
     /// Reads everything that is left.
-    pub fn read_all<R: Eprint + AllocGlobal>(&mut self, rt: &R) -> Result<(), Stop> {
+    pub fn read_all<R: Eprint + AllocGlobal>(&mut self, rt: &R) -> Result<(), RunError> {
         let read = self.session.read_all();
         self.print_read(rt, read)
     }
@@ -65,12 +68,13 @@ impl<F: Read + Seek + Drop> OpenedFile<F> {
         &self,
         rt: &R,
         read: Result<Vec<Repair>, SourceFault>,
-    ) -> Result<(), Stop>
-        ensures { OnOk result (IsOk read) }
+    ) -> Result<(), RunError>
+        ensures read { OnOk result (IsOk read) }
+        ensures early { IfErr result (EndsRead (string_bytes self.now.path)) }
     {
         match read {
             Ok(repairs) => print_repairs(rt, self.path.as_str(), self.records(), &repairs),
-            Err(SourceFault::OutOfMemory) => Err(Stop::Refused(Error::OutOfMemory)),
+            Err(SourceFault::OutOfMemory) => Err(RunError::Refused(Error::OutOfMemory)),
             Err(SourceFault::Unreadable) => Err(unreadable(rt.alloc(), self.path.as_str())),
         }
     }
@@ -83,7 +87,7 @@ pub fn open_file<R: Files + Eprint + AllocGlobal>(
     status_line: &StatusLine,
     options: &Options<'_>,
     path: &str,
-) -> Result<OpenedFile<R::File>, Stop> {
+) -> Result<OpenedFile<R::File>, RunError> {
     let source = find_file(rt, status_line, options, path)?;
     open_source(rt, source)
 }
@@ -92,13 +96,13 @@ pub fn open_file<R: Files + Eprint + AllocGlobal>(
 pub fn open_source<R: Files + Eprint + AllocGlobal>(
     rt: &R,
     source: SourceFile<R::File>,
-) -> Result<OpenedFile<R::File>, Stop> {
+) -> Result<OpenedFile<R::File>, RunError> {
     if source.bytes.is_pdb_file() {
         let SourceFile { file, bytes } = source;
         let length = bytes.length();
         match PdbSession::open(rt.alloc(), bytes, length) {
             Ok(opened) => opened_file(rt, file, opened),
-            Err(fault) => Err(session_stop(rt.alloc(), file.path.as_str(), fault)),
+            Err(fault) => Err(session_error(rt.alloc(), file.path.as_str(), fault)),
         }
     } else {
         let (file, bytes) = source.read(rt.alloc())?;
@@ -112,7 +116,7 @@ fn opened_file<R: Eprint + AllocGlobal, F: Read + Seek + Drop>(
     rt: &R,
     file: NamedFile,
     opened: Opened<FileBytes<F>>,
-) -> Result<OpenedFile<F>, Stop> {
+) -> Result<OpenedFile<F>, RunError> {
     let NamedFile {
         path,
         image_base,
@@ -138,13 +142,13 @@ fn opened_file<R: Eprint + AllocGlobal, F: Read + Seek + Drop>(
 }
 
 // Why a run ends over a file over which no session can be opened.
-fn session_stop(alloc: Global, path: &str, fault: SessionFault) -> Stop {
+fn session_error(alloc: Global, path: &str, fault: SessionFault) -> RunError {
     match fault {
-        SessionFault::File(fault) => open_stop(alloc, path, fault),
-        SessionFault::Records(error) => Stop::Refused(error),
+        SessionFault::File(fault) => open_error(alloc, path, fault),
+        SessionFault::Records(error) => RunError::Refused(error),
         SessionFault::Refused(refusal) => match String::from_str(alloc, path) {
-            Ok(path) => Stop::PdbFile(path, refusal),
-            Err(_) => Stop::Refused(Error::OutOfMemory),
+            Ok(path) => RunError::PdbFile(path, refusal),
+            Err(_) => RunError::Refused(Error::OutOfMemory),
         },
     }
 }

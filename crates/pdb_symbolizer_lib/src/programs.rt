@@ -4,7 +4,7 @@ use crate::file_bytes::{FileBytes, open_regular_bytes};
 use crate::input_files::SourceFile;
 use crate::options::Options;
 use crate::paths::file_name;
-use crate::stops::Stop;
+use crate::run_errors::RunError;
 use pdb_addr2line::Error;
 use pdb_container::{ContainerFault, DebugId, OpenFault, read_identity_of};
 use pdb_identity::CodeView;
@@ -15,24 +15,24 @@ use std::io::{Read, Seek};
 use std::rt::Files;
 use std::str;
 
-/// The PDB file of a program: the first of these places with one of its GUID and age. One of another build is passed
-/// over, and where none is left the refusal names each place that was looked at, and why it was passed over.
+/// The PDB file of a program: the first of these places with one of its GUID and age. One of another build is rejected.
+/// If all are rejected, the error names each place, and why it was rejected.
 pub fn find_pdb<R: Files + AllocGlobal>(
     rt: &R,
     program: &str,
     code_view: &CodeView<'_>,
     options: &Options<'_>,
-) -> Result<SourceFile<R::File>, Stop> {
+) -> Result<SourceFile<R::File>, RunError> {
     let places = places(rt.alloc(), program, code_view, options)?;
     let mut looked = String::new(rt.alloc());
     for path in places {
         match look_at(rt, path.as_str(), code_view.debug_id)? {
             Look::Found(bytes) => return Ok(SourceFile::new(path, bytes)),
-            Look::PassedOver(why) => write!(looked, "\n    {path}: {why}")?,
+            Look::Rejected(why) => write!(looked, "\n    {path}: {why}")?,
         }
     }
     let id = code_view.debug_id;
-    Err(Stop::NoPdbFile(format!(in rt.alloc(); "{program}: no PDB file of {id}{looked}")?))
+    Err(RunError::NoPdbFile(format!(in rt.alloc(); "{program}: no PDB file of {id}{looked}")?))
 }
 
 /// The PDB file of a module that a request asks for: the first of its name and its debug id in the folders.
@@ -40,7 +40,7 @@ pub fn find_in_folders<R: Files + AllocGlobal>(
     rt: &R,
     options: &Options<'_>,
     module: &WantedModule,
-) -> Result<Option<SourceFile<R::File>>, Stop> {
+) -> Result<Option<SourceFile<R::File>>, RunError> {
     let name = module.name.as_str();
     let mut places = Vec::new(rt.alloc());
     push_folder_places(rt.alloc(), &mut places, options, name, module.debug_id)?;
@@ -57,18 +57,18 @@ pub fn find_in_folders<R: Files + AllocGlobal>(
 enum Look<F> {
     Found(FileBytes<F>),
     /// Why it is none that is looked for.
-    PassedOver(String),
+    Rejected(String),
 }
 
 fn look_at<R: Files + AllocGlobal>(
     rt: &R,
     path: &str,
     wanted: DebugId,
-) -> Result<Look<R::File>, Stop> {
+) -> Result<Look<R::File>, RunError> {
     match open_regular_bytes(rt, path) {
         Ok(bytes) => look_into(rt.alloc(), bytes, wanted),
-        Err(error) if ran_out_of_memory(&error) => Err(Stop::Refused(Error::OutOfMemory)),
-        Err(error) => Ok(Look::PassedOver(format!(in rt.alloc(); "{error}")?)),
+        Err(error) if ran_out_of_memory(&error) => Err(RunError::Refused(Error::OutOfMemory)),
+        Err(error) => Ok(Look::Rejected(format!(in rt.alloc(); "{error}")?)),
     }
 }
 
@@ -76,25 +76,25 @@ fn look_into<F: Read + Seek + Drop>(
     alloc: Global,
     mut bytes: FileBytes<F>,
     wanted: DebugId,
-) -> Result<Look<F>, Stop> {
+) -> Result<Look<F>, RunError> {
     let length = bytes.length();
     match read_identity_of(alloc, &mut bytes, length) {
         Ok(Some(identity)) if identity.debug_id == wanted => Ok(Look::Found(bytes)),
-        Ok(Some(identity)) => Ok(Look::PassedOver(format!(in alloc;
+        Ok(Some(identity)) => Ok(Look::Rejected(format!(in alloc;
             "its id is {}",
             identity.debug_id
         )?)),
-        Ok(None) => passed_over(alloc, "no id"),
+        Ok(None) => rejected(alloc, "no id"),
         Err(OpenFault::Container(ContainerFault::OutOfMemory)) => {
-            Err(Stop::Refused(Error::OutOfMemory))
+            Err(RunError::Refused(Error::OutOfMemory))
         }
-        Err(OpenFault::Container(fault)) => { Ok(Look::PassedOver(format!(in alloc; "{fault}")?)) }
-        Err(OpenFault::Unreadable) => passed_over(alloc, "can't be read"),
+        Err(OpenFault::Container(fault)) => { Ok(Look::Rejected(format!(in alloc; "{fault}")?)) }
+        Err(OpenFault::Unreadable) => rejected(alloc, "can't be read"),
     }
 }
 
-fn passed_over<F: Drop>(alloc: Global, why: &str) -> Result<Look<F>, Stop> {
-    Ok(Look::PassedOver(String::from_str(alloc, why)?))
+fn rejected<F: Drop>(alloc: Global, why: &str) -> Result<Look<F>, RunError> {
+    Ok(Look::Rejected(String::from_str(alloc, why)?))
 }
 
 // Where the PDB file is looked for: at the path that the program names; under that path's last part beside the program;

@@ -1,9 +1,10 @@
 //! The lines on standard error that say what of a PDB file is broken and was left out.
 
-ghost use Rattle.std.specs.Prelude.{◌≡◌, string_bytes, IfOk};
+ghost use Rattle.std.specs.Prelude.{◌≡◌, string_bytes, IfErr, IfOk};
 ghost use Rattle.pdb_records.specs.Names.{lossy};
+ghost use Rattle.pdb_symbolizer_lib.specs.EarlyEnds.{out_of_memory};
 
-use crate::stops::Stop;
+use crate::run_errors::RunError;
 use pdb_addr2line::pdb::{Module, PDB, RawString, StreamError};
 use pdb_container::faults::fault_text;
 use pdb_repairs::Repair;
@@ -15,7 +16,9 @@ pub fn print_repairs<R: Eprint + AllocGlobal>(
     file: &str,
     records: &PDB,
     repairs: &[Repair],
-) -> Result<(), Stop> {
+) -> Result<(), RunError>
+    ensures memory { IfErr result (λ error. error ≡ out_of_memory) }
+{
     for &repair in repairs {
         let text = repair_text(rt.alloc(), records, repair)?;
         let _ = eprintln!(rt; "pdb_symbolizer: {file}: {text}");

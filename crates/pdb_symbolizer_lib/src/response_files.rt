@@ -1,7 +1,7 @@
 //! Response files: the words of a file, which a word names behind an `@`, stand in that word's place.
 
 use crate::input_files::read_file;
-use crate::stops::Stop;
+use crate::run_errors::RunError;
 use std::alloc::{AllocError, Global};
 use std::rt::Files;
 
@@ -13,7 +13,7 @@ pub fn expand_words<R: Files + AllocGlobal>(
     rt: &R,
     words: &[String],
     expanded: &mut Vec<String>,
-) -> Result<(), Stop> {
+) -> Result<(), RunError> {
     let alloc = rt.alloc();
     for word in words {
         match word.as_str().strip_prefix(RESPONSE_FILE) {

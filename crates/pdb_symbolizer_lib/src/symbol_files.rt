@@ -5,10 +5,11 @@ use crate::input_files::{SourceFile, find_file};
 use crate::opened_files::{OpenedFile, open_source};
 use crate::options::{Options, SymbolFilePlace};
 use crate::paths::last_part;
+use crate::run_errors::RunError;
 use crate::status_line::StatusLine;
-use crate::stops::Stop;
-use crate::symbol_stores::{make_place, write_whole};
-use pdb_breakpad::{ModuleIdentity, ProgramIdentity, SymbolFileFault, write_symbol_file};
+use crate::symbol_stores::{make_place, write_records, write_whole};
+use crate::unwind_records::unwind_records;
+use pdb_breakpad::{ModuleIdentity, ProgramIdentity, SymbolFileFault};
 use pdb_container::PdbIdentity;
 use pdb_session::SessionData;
 use std::alloc::Global;
@@ -22,25 +23,26 @@ pub fn dump_symbols<R: Files + Print + Eprint + AllocGlobal>(
     options: &Options<'_>,
     place: SymbolFilePlace<'_>,
     path: &str,
-) -> Result<(), Stop> {
+) -> Result<(), RunError> {
     if !options.addresses.is_empty() {
-        return Err(Stop::AnswersNone("dump-syms"));
+        return Err(RunError::AnswersNone("dump-syms"));
     }
     let mut source = find_file(rt, status_line, options, path)?;
     let identity = identity_of_source(rt.alloc(), &mut source)?;
     let mut input = open_source(rt, source)?;
     input.read_all(rt)?;
     let Some(identity) = identity else {
-        return Err(Stop::NoIdentity(String::from_str(rt.alloc(), input.path.as_str())?));
+        return Err(RunError::NoIdentity(String::from_str(rt.alloc(), input.path.as_str())?));
     };
-    dump_over(rt, options, place, path, &input, identity)
+    let unwind = unwind_records(rt, path)?;
+    dump_over(rt, options, place, path, &input, identity, unwind.as_str())
 }
 
 // Which build a file is of, if it is a PDB file that says so.
 fn identity_of_source<F: Read + Seek + Drop>(
     alloc: Global,
     source: &mut SourceFile<F>,
-) -> Result<Option<PdbIdentity>, Stop> {
+) -> Result<Option<PdbIdentity>, RunError> {
     if !source.bytes.is_pdb_file() {
         return Ok(None);
     }
@@ -54,7 +56,8 @@ fn dump_over<R: Files + Print + Eprint + AllocGlobal, F: Read + Seek + Drop>(
     path: &str,
     input: &OpenedFile<F>,
     identity: PdbIdentity,
-) -> Result<(), Stop> {
+    unwind: &str,
+) -> Result<(), RunError> {
     let module = ModuleIdentity {
         machine: identity.machine,
         debug_id: identity.debug_id,
@@ -66,8 +69,12 @@ fn dump_over<R: Files + Print + Eprint + AllocGlobal, F: Read + Seek + Drop>(
     };
     let data = input.session.data()?;
     match place {
-        SymbolFilePlace::StandardOutput => { Ok(dump_all(rt, options, None, &module, &data)?) }
-        SymbolFilePlace::Store(store) => { dump_into_store(rt, options, store, &module, &data) }
+        SymbolFilePlace::StandardOutput => {
+            Ok(dump_all(rt, options, None, &module, &data, unwind)?)
+        }
+        SymbolFilePlace::Store(store) => {
+            dump_into_store(rt, options, store, &module, &data, unwind)
+        }
     }
 }
 
@@ -77,27 +84,35 @@ fn dump_into_store<R: Files + Print + Eprint + AllocGlobal>(
     store: &str,
     module: &ModuleIdentity<'_>,
     data: &SessionData<'_>,
-) -> Result<(), Stop> {
+    unwind: &str,
+) -> Result<(), RunError> {
     let path = make_place(rt, store, module)?;
-    match dump_all(rt, options, Some(path.as_str()), module, data) {
+    match dump_all(rt, options, Some(path.as_str()), module, data, unwind) {
         Err(SymbolFileFault::CannotWrite) => {
-            Err(Stop::SymbolFile(path, SymbolFileFault::CannotWrite))
+            Err(RunError::SymbolFile(path, SymbolFileFault::CannotWrite))
         }
         written => Ok(written?),
     }
 }
 
-// Writes all functions to this path, or else on standard output.
+// Writes all functions and unwind records to this path, or else on standard output.
 fn dump_all<R: Files + Print + Eprint + AllocGlobal>(
     rt: &R,
     options: &Options<'_>,
     path: Option<&str>,
     module: &ModuleIdentity<'_>,
     data: &SessionData<'_>,
+    unwind: &str,
 ) -> Result<(), SymbolFileFault> {
     let mut context = data.context(options.flags())?;
     match path {
-        Some(path) => write_whole(rt, path, module, &mut context),
-        None => write_symbol_file(rt.alloc(), &mut io::writer(rt), module, &mut context),
+        Some(path) => write_whole(rt, path, module, &mut context, unwind),
+        None => write_records(
+            rt.alloc(),
+            &mut io::writer(rt),
+            module,
+            &mut context,
+            unwind,
+        ),
     }
 }

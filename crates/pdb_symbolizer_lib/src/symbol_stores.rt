@@ -1,11 +1,11 @@
 //! A symbol store: a folder in which a symbol file stands under the name of its PDB file and its debug id.
 
 use crate::paths::file_name;
-use crate::stops::Stop;
+use crate::run_errors::RunError;
 use pdb_breakpad::{FrameSource, ModuleIdentity, SymbolFileFault, write_symbol_file};
 use std::alloc::{AllocError, Global};
 use std::fs;
-use std::io::BufWriter;
+use std::io::{BufWriter, Write};
 use std::rt::Files;
 
 /// The path of a module's symbol file in a store, `STORE/app.pdb/DEBUGID/app.sym`. Folders that aren't there are made.
@@ -13,11 +13,11 @@ pub fn make_place<R: Files + AllocGlobal>(
     rt: &R,
     store: &str,
     module: &ModuleIdentity<'_>,
-) -> Result<String, Stop> {
+) -> Result<String, RunError> {
     let folder = store_folder(rt.alloc(), store, module)?;
     let path = format!(in rt.alloc(); "{folder}/{}.sym", stem(module.pdb_name))?;
     if file_name(module.pdb_name).is_none() || fs::create_dir_all(rt, folder.as_str()).is_err() {
-        return Err(Stop::SymbolFile(path, SymbolFileFault::CannotWrite));
+        return Err(RunError::SymbolFile(path, SymbolFileFault::CannotWrite));
     }
     Ok(path)
 }
@@ -29,9 +29,10 @@ pub fn write_whole<'a, R: Files + AllocGlobal, S: FrameSource<'a>>(
     path: &str,
     module: &ModuleIdentity<'_>,
     source: &mut S,
+    unwind: &str,
 ) -> Result<(), SymbolFileFault> {
     let part = format!(in rt.alloc(); "{path}.part")?;
-    let outcome = write_and_rename(rt, part.as_str(), path, module, source);
+    let outcome = write_and_rename(rt, part.as_str(), path, module, source, unwind);
     if outcome.is_err() {
         let _ = fs::remove_file(rt, part.as_str());
     }
@@ -44,11 +45,26 @@ fn write_and_rename<'a, R: Files + AllocGlobal, S: FrameSource<'a>>(
     path: &str,
     module: &ModuleIdentity<'_>,
     source: &mut S,
+    unwind: &str,
 ) -> Result<(), SymbolFileFault> {
     let mut out = BufWriter::new(rt.alloc(), fs::create(rt, part)?)?;
-    write_symbol_file(rt.alloc(), &mut out, module, source)?;
+    write_records(rt.alloc(), &mut out, module, source, unwind)?;
     drop(out);
     fs::rename(rt, part, path)?;
+    Ok(())
+}
+
+/// Writes the records of all functions, and then unwind records.
+pub fn write_records<'a, S: FrameSource<'a>, W: Write>(
+    alloc: Global,
+    out: &mut W,
+    module: &ModuleIdentity<'_>,
+    source: &mut S,
+    unwind: &str,
+) -> Result<(), SymbolFileFault> {
+    write_symbol_file(alloc, out, module, source)?;
+    out.write_all(unwind.as_bytes())?;
+    out.flush()?;
     Ok(())
 }
 

@@ -1,8 +1,8 @@
 //! Answers to requests of the symbolication API on standard input: one request, or one on each line.
 
-use crate::answer_writes::write_text;
 use crate::options::{Options, RequestForm};
-use crate::stops::Stop;
+use crate::outputs::{ByteStream, Output};
+use crate::run_errors::RunError;
 use crate::symbolized_modules::texts_of_modules;
 use pdb_addr2line::Error;
 use pdb_records_files::ran_out_of_memory;
@@ -26,9 +26,9 @@ pub fn symbolicate<R: Files + Input + Print + Eprint + AllocGlobal>(
     rt: &R,
     options: &Options<'_>,
     form: RequestForm,
-) -> Result<(), Stop> {
+) -> Result<(), RunError> {
     if options.file.is_some() || !options.addresses.is_empty() {
-        return Err(Stop::TakesNone("symbolicate"));
+        return Err(RunError::TakesNone("symbolicate"));
     }
     match form {
         RequestForm::Whole => answer_input(rt, options),
@@ -40,12 +40,12 @@ pub fn symbolicate<R: Files + Input + Print + Eprint + AllocGlobal>(
 fn answer_input<R: Files + Input + Print + Eprint + AllocGlobal>(
     rt: &R,
     options: &Options<'_>,
-) -> Result<(), Stop> {
+) -> Result<(), RunError> {
     let mut bytes = Vec::new(rt.alloc());
     known_input(rt.reader().read_to_end(&mut bytes))?;
     match answer_text(rt, options, bytes)? {
         Outcome::Answered => Ok(()),
-        Outcome::Refused(why) => Err(Stop::NoRequest(why)),
+        Outcome::Refused(why) => Err(RunError::NoRequest(why)),
     }
 }
 
@@ -53,9 +53,9 @@ fn answer_input<R: Files + Input + Print + Eprint + AllocGlobal>(
 fn answer_lines<R: Files + Input + Print + Eprint + AllocGlobal>(
     rt: &R,
     options: &Options<'_>,
-) -> Result<(), Stop> {
+) -> Result<(), RunError> {
     let Ok(mut reader) = BufReader::new(rt.alloc(), rt.reader()) else {
-        return Err(Stop::Refused(Error::OutOfMemory));
+        return Err(RunError::Refused(Error::OutOfMemory));
     };
     let mut refused = 0u64;
     for _ in 0..u64::MAX {
@@ -67,7 +67,7 @@ fn answer_lines<R: Files + Input + Print + Eprint + AllocGlobal>(
     }
     match refused {
         0 => Ok(()),
-        _ => Err(Stop::NoRequests(refused)),
+        _ => Err(RunError::NoRequests(refused)),
     }
 }
 
@@ -76,7 +76,7 @@ fn answer_next_line<R: Files + Print + Eprint + AllocGlobal, B: BufRead>(
     rt: &R,
     options: &Options<'_>,
     reader: &mut B,
-) -> Result<Option<Outcome>, Stop> {
+) -> Result<Option<Outcome>, RunError> {
     let mut line = Vec::new(rt.alloc());
     let mut limited = (&mut *reader).take(LONGEST_LINE);
     known_input(limited.read_until(b'\n', &mut line))?;
@@ -92,11 +92,11 @@ fn answer_next_line<R: Files + Print + Eprint + AllocGlobal, B: BufRead>(
 }
 
 // What was read, unless the input can't be read or there was no memory.
-fn known_input(read: io::Result<usize>) -> Result<(), Stop> {
+fn known_input(read: io::Result<usize>) -> Result<(), RunError> {
     match read {
         Ok(_) => Ok(()),
-        Err(error) if ran_out_of_memory(&error) => Err(Stop::Refused(Error::OutOfMemory)),
-        Err(_) => Err(Stop::CannotReadInput),
+        Err(error) if ran_out_of_memory(&error) => Err(RunError::Refused(Error::OutOfMemory)),
+        Err(_) => Err(RunError::CannotReadInput),
     }
 }
 
@@ -105,19 +105,19 @@ fn answer_text<R: Files + Print + Eprint + AllocGlobal>(
     rt: &R,
     options: &Options<'_>,
     text: Vec<u8>,
-) -> Result<Outcome, Stop> {
+) -> Result<Outcome, RunError> {
     let request = Request::from_slice(rt.alloc(), &text);
     drop(text);
     match request {
         Ok(request) => answer_request(rt, options, &request),
-        Err(RecordFault::OutOfMemory) => Err(Stop::Refused(Error::OutOfMemory)),
+        Err(RecordFault::OutOfMemory) => Err(RunError::Refused(Error::OutOfMemory)),
         Err(fault) => refuse(rt, format!(in rt.alloc(); "{fault}")?),
     }
 }
 
-fn refuse<R: Print + AllocGlobal>(rt: &R, why: String) -> Result<Outcome, Stop> {
+fn refuse<R: Print + AllocGlobal>(rt: &R, why: String) -> Result<Outcome, RunError> {
     let line = error_line(rt.alloc(), why.as_str())?;
-    write_text(&mut io::writer(rt), line.as_str())?;
+    ByteStream(io::writer(rt)).write_text(line.as_str())?;
     Ok(Outcome::Refused(why))
 }
 
@@ -125,7 +125,7 @@ fn answer_request<R: Files + Print + Eprint + AllocGlobal>(
     rt: &R,
     options: &Options<'_>,
     request: &Request,
-) -> Result<Outcome, Stop> {
+) -> Result<Outcome, RunError> {
     let wanted = WantedModules::of(rt.alloc(), request)?;
     let found = texts_of_modules(rt, options, &wanted.modules)?;
     let mut writer = BufWriter::new(rt.alloc(), io::writer(rt))?;

@@ -3,7 +3,7 @@
 use crate::opened_files::{OpenedFile, open_source};
 use crate::options::Options;
 use crate::programs::find_in_folders;
-use crate::stops::Stop;
+use crate::run_errors::RunError;
 use pdb_addr2line::{Error, Frame, FunctionFrames};
 use pdb_session::{SessionContext, SessionData};
 use pdb_symbolication::{FoundFunction, FrameTexts, Place, WantedModule};
@@ -17,7 +17,7 @@ pub fn texts_of_modules<R: Files + Eprint + Print + AllocGlobal>(
     rt: &R,
     options: &Options<'_>,
     modules: &[WantedModule],
-) -> Result<Vec<Option<FrameTexts>>, Stop> {
+) -> Result<Vec<Option<FrameTexts>>, RunError> {
     let mut texts = Vec::new(rt.alloc());
     for module in modules {
         texts.push(texts_of_module(rt, options, module)?)?;
@@ -30,11 +30,11 @@ fn texts_of_module<R: Files + Eprint + Print + AllocGlobal>(
     rt: &R,
     options: &Options<'_>,
     module: &WantedModule,
-) -> Result<Option<FrameTexts>, Stop> {
+) -> Result<Option<FrameTexts>, RunError> {
     match texts_of_file(rt, options, module) {
-        Err(Stop::Refused(Error::OutOfMemory)) => Err(Stop::Refused(Error::OutOfMemory)),
-        Err(stop) => {
-            stop.print(rt);
+        Err(RunError::Refused(Error::OutOfMemory)) => Err(RunError::Refused(Error::OutOfMemory)),
+        Err(error) => {
+            error.print(rt);
             Ok(None)
         }
         texts => texts,
@@ -45,7 +45,7 @@ fn texts_of_file<R: Files + Eprint + AllocGlobal>(
     rt: &R,
     options: &Options<'_>,
     module: &WantedModule,
-) -> Result<Option<FrameTexts>, Stop> {
+) -> Result<Option<FrameTexts>, RunError> {
     let Some(found) = find_in_folders(rt, options, module)? else {
         return Ok(None);
     };
@@ -58,7 +58,7 @@ fn texts_over<R: Eprint + AllocGlobal, F: Read + Seek + Drop>(
     options: &Options<'_>,
     module: &WantedModule,
     input: &mut OpenedFile<F>,
-) -> Result<FrameTexts, Stop> {
+) -> Result<FrameTexts, RunError> {
     input.read_for(rt, &module.offsets)?;
     let data = input.session.data()?;
     texts_by(rt.alloc(), options, module, &data)
@@ -69,7 +69,7 @@ fn texts_by(
     options: &Options<'_>,
     module: &WantedModule,
     data: &SessionData<'_>,
-) -> Result<FrameTexts, Stop> {
+) -> Result<FrameTexts, RunError> {
     let mut context = data.context(options.flags())?;
     let mut texts = FrameTexts::new(alloc);
     for &offset in &module.offsets {
@@ -84,7 +84,7 @@ fn add_text(
     texts: &mut FrameTexts,
     context: &mut SessionContext<'_, '_>,
     offset: u32,
-) -> Result<(), Stop> {
+) -> Result<(), RunError> {
     match context.find_frames(offset)? {
         Some(found) => {
             let function = function_of(alloc, &found)?;

@@ -11,8 +11,8 @@ use crate::identities::print_identities;
 use crate::input_files::read_all_records;
 use crate::named_files::answer_named_files;
 use crate::options::{Export, Options, Purpose};
+use crate::run_errors::RunError;
 use crate::status_line::StatusLine;
-use crate::stops::Stop;
 use crate::symbol_files::dump_symbols;
 use crate::symbolication::symbolicate;
 use std::rt::{Env, Files};
@@ -29,12 +29,12 @@ pub fn run_words<R: Env + Files + Input + Print + Eprint + Clock + AllocGlobal>(
 }
 
 // The exit status of a run, of which is printed why it ended early.
-fn exit_status<R: Print + Eprint + AllocGlobal>(rt: &R, ended: &Result<(), Stop>) -> u8
+fn exit_status<R: Print + Eprint + AllocGlobal>(rt: &R, ended: &Result<(), RunError>) -> u8
     ensures { result ≡ exit_status ended.now }
 {
     match ended {
         Ok(()) => 0,
-        Err(stop) => stop.print(rt),
+        Err(error) => error.print(rt),
     }
 }
 
@@ -42,7 +42,7 @@ fn run<R: Env + Files + Input + Print + Eprint + Clock + AllocGlobal>(
     rt: &R,
     status_line: &mut StatusLine,
     words: &[String],
-) -> Result<(), Stop> {
+) -> Result<(), RunError> {
     let words = words_of_run(rt, words)?;
     let options = parse(rt.alloc(), &words)?;
     run_over(rt, status_line, &options)
@@ -52,7 +52,7 @@ fn run_over<R: Files + Input + Print + Eprint + Clock + AllocGlobal>(
     rt: &R,
     status_line: &mut StatusLine,
     options: &Options<'_>,
-) -> Result<(), Stop> {
+) -> Result<(), RunError> {
     match (options.purpose, options.file) {
         (Purpose::Identities, _) => print_identities(rt, options),
         (Purpose::Export(export), Some(file)) => {
@@ -62,7 +62,7 @@ fn run_over<R: Files + Input + Print + Eprint + Clock + AllocGlobal>(
         (Purpose::SymbolFile(place), Some(file)) => {
             dump_symbols(rt, status_line, options, place, file)
         }
-        (Purpose::Export(_) | Purpose::SymbolFile(_), None) => Err(Stop::NoFile),
+        (Purpose::Export(_) | Purpose::SymbolFile(_), None) => Err(RunError::NoFile),
         (Purpose::Answers, Some(file)) => answer_file(rt, status_line, options, file),
         (Purpose::Answers, None) => answer_named_files(rt, status_line, options),
     }
@@ -74,9 +74,9 @@ fn export_file<R: Files + Eprint + Clock + AllocGlobal>(
     options: &Options<'_>,
     export: Export<'_>,
     file: &str,
-) -> Result<(), Stop> {
+) -> Result<(), RunError> {
     if !options.addresses.is_empty() {
-        return Err(Stop::AnswersNone("export"));
+        return Err(RunError::AnswersNone("export"));
     }
     let records = read_all_records(rt, status_line, options, file)?;
     write_files(rt, status_line, export, &records)

@@ -1,19 +1,18 @@
 //! Answers where a file can't be opened.
 
-use crate::answer_writes::write_line_answer;
 use crate::options::Options;
-use crate::stops::Stop;
+use crate::outputs::{Output, write_line_answer};
+use crate::run_errors::RunError;
 use pdb_answer_printer::{Place, Request, Sort, Style, write_json_error, write_unknown};
-use std::io::Write;
 
 /// Ends a run whose file an option names: by why it can't be opened, in JSON as an object.
-pub fn end_unopened<R: Print + Eprint + AllocGlobal, W: Write>(
+pub fn end_unopened<R: Print + Eprint + AllocGlobal, W: Output>(
     rt: &R,
     out: &mut W,
     options: &Options<'_>,
     path: &str,
-    cause: &Stop,
-) -> Result<(), Stop> {
+    cause: &RunError,
+) -> Result<(), RunError> {
     if options.printer.style != Style::Json {
         cause.print(rt);
         return Ok(());
@@ -28,13 +27,13 @@ pub fn end_unopened<R: Print + Eprint + AllocGlobal, W: Write>(
 
 /// Answers the request of a line that names such a file: as unknown behind why it can't be opened, in JSON by an object
 /// that says why.
-pub fn answer_unopened<R: Print + Eprint + AllocGlobal, W: Write>(
+pub fn answer_unopened<R: Print + Eprint + AllocGlobal, W: Output>(
     rt: &R,
     out: &mut W,
     options: &Options<'_>,
     request: &Request<'_>,
-    cause: &Stop,
-) -> Result<(), Stop> {
+    cause: &RunError,
+) -> Result<(), RunError> {
     if options.printer.style == Style::Json {
         return write_error(rt, out, options, request, cause);
     }
@@ -44,13 +43,13 @@ pub fn answer_unopened<R: Print + Eprint + AllocGlobal, W: Write>(
     write_line_answer(out, options.printer.style, text)
 }
 
-fn write_error<R: AllocGlobal, W: Write>(
+fn write_error<R: AllocGlobal, W: Output>(
     rt: &R,
     out: &mut W,
     options: &Options<'_>,
     request: &Request<'_>,
-    cause: &Stop,
-) -> Result<(), Stop> {
+    cause: &RunError,
+) -> Result<(), RunError> {
     let why = format!(in rt.alloc(); "{cause}")?;
     let mut text = String::new(rt.alloc());
     write_json_error(&mut text, request, why.as_str())?;

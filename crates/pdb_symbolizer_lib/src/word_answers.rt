@@ -1,35 +1,38 @@
 //! Answers to the addresses of a command line, over one file.
 
-ghost use Rattle.std.specs.Prelude.{◌≡◌, map, IfOk};
+ghost use Rattle.std.specs.Prelude.{◌≡◌, false, map, string_bytes, IfErr, IfOk};
 ghost use Rattle.std.specs.List.{filter_map};
-ghost use Rattle.pdb_symbolizer_lib.specs.AnsweredRequests.{AnswersText, AreFramesAt, asked_address};
+ghost use Rattle.pdb_symbolizer_lib.specs.AnsweredRequests.{AnswersText, AreFramesAt, asked_address, flags_of};
+ghost use Rattle.pdb_symbolizer_lib.specs.EarlyEnds.{EndsAnswers, EndsWrite};
 ghost use Rattle.pdb_symbolizer_lib.specs.FileRuns.{AnswersOfFile};
 ghost use Rattle.pdb_symbolizer_lib.specs.AnswersInOrder.{AnswersInOrder, list_end, list_start, separator, words_text};
 
-use crate::answer_writes::write_text;
 use crate::frame_answers::request_text;
 use crate::opened_files::OpenedFile;
+use crate::outputs::Output;
 use crate::questions::Questions;
+use crate::run_errors::RunError;
 use crate::run_state::RunState;
-use crate::stops::Stop;
 use pdb_answer_printer::Style;
 use pdb_session::SessionContext;
 use std::alloc::{AllocError, Global};
-use std::io::{Read, Seek, Write};
+use std::io::{Read, Seek};
 use std::rt::Files;
 
 /// Answers the addresses of the command line. What is known of the modules that they lie in is read before.
-pub fn answer_words<R: Files + Eprint + AllocGlobal, W: Write, F: Read + Seek + Drop>(
+pub fn answer_words<R: Files + Eprint + AllocGlobal, W: Output, F: Read + Seek + Drop>(
     rt: &R,
     out: &mut W,
     questions: &Questions<'_, '_>,
     state: &mut RunState,
     input: &mut OpenedFile<F>,
-) -> Result<(), Stop>
-    ensures { AnswersInOrder (AnswersOfFile questions.now input.old.session)
+) -> Result<(), RunError>
+    ensures answer { AnswersInOrder (AnswersOfFile questions.now input.old.session)
         (words_text questions.now.options.now.printer.style)
         (map (λ word. word.now) questions.now.options.now.addresses.items)
         result (W.contents out.old) (W.contents out.new) }
+    ensures early { IfErr result (EndsAnswers (W.takes_all out.old) false (string_bytes input.old.path)
+        (flags_of questions.now.options.now.printer.names) input.new.session.known.records) }
 {
     let words = questions.options.addresses.as_slice();
     let addresses = addresses_of_words(rt.alloc(), questions, words)?;
@@ -58,26 +61,27 @@ fn addresses_of_words(
 }
 
 // Writes the answers to the words, by one context. In JSON they are one array.
-fn write_words<R: Files + Eprint + AllocGlobal, W: Write>(
+fn write_words<R: Files + Eprint + AllocGlobal, W: Output>(
     rt: &R,
     out: &mut W,
     questions: &Questions<'_, '_>,
     context: &mut SessionContext<'_, '_>,
     state: &mut RunState,
     words: &[&str],
-) -> Result<(), Stop>
-    ensures { AnswersInOrder (AnswersText questions.now (AreFramesAt context.old.known context.old.flags))
+) -> Result<(), RunError>
+    ensures answer { AnswersInOrder (AnswersText questions.now (AreFramesAt context.old.known context.old.flags))
         (words_text questions.now.options.now.printer.style) (map (λ word. word.now) words.now)
         result (W.contents out.old) (W.contents out.new) }
+    ensures early { IfErr result (EndsWrite (W.takes_all out.old)) }
 {
     let style = questions.options.printer.style;
-    write_text(out, list_start(style))?;
+    out.write_text(list_start(style))?;
     for (position, given) in words.iter().enumerate() {
         let text = request_text(rt, questions, context, state, given)?;
-        write_text(out, separator(style, position == 0))?;
-        write_text(out, text.as_str())?;
+        out.write_text(separator(style, position == 0))?;
+        out.write_text(text.as_str())?;
     }
-    write_text(out, list_end(style))
+    out.write_text(list_end(style))
 }
 
 // What stands before the answers to words.

@@ -25,6 +25,7 @@ import sys
 from inline_faults import inline_fault_cases
 from overlapping_sections import overlapping_section_cases
 from request_cases import request_cases
+from stack_records import stack_records
 from stacks import procedure_at, stacks, with_arguments
 from symbol_file_texts import symbol_file
 
@@ -473,11 +474,12 @@ def symbol_file_cases(folder):
     program = "INFO CODE_ID 000000006000 shapes.exe"
     short = stacks(folder)
     whole = dict(with_arguments(short))
-    yield "pdb_symbolizer --dump-syms shapes.exe", symbol_file([module, program], whole) + ENDED
+    unwind = "".join(f"{row}\n" for row in stack_records((HERE / "shapes.exe").read_bytes())[0])
+    yield "pdb_symbolizer --dump-syms shapes.exe", symbol_file([module, program], whole) + unwind + ENDED
     yield "pdb_symbolizer --dump-syms --functions=short ./shapes.pdb", symbol_file([module], short) + ENDED
     yield "pdb_symbolizer --dump-syms --base 140000000 --adjust 1 -s -p --pdb-dir symbols -e other.exe", symbol_file(
         [module.replace("6B32B94164959A524C4C44205044422E", "A9D98A29E7C186D04C4C44205044422E"),
-         program.replace("shapes", "other")], whole) + ENDED
+         program.replace("shapes", "other")], whole) + unwind + ENDED
     yield "pdb_symbolizer --dump-syms broken_parts.pdb", broken_symbols(
         "broken_parts.pdb", "FUNC 1000 20 0 <name omitted>", "FUNC 1020 60 0 ?f@@YAXXZ", "FUNC 1200 10 0 <name omitted>",
         "FUNC 1304 40 0 <name omitted>", "FUNC 1420 4 0 <name omitted>", "FUNC 1424 8 0 <name omitted>")
@@ -487,7 +489,7 @@ def symbol_file_cases(folder):
         "PUBLIC fffffc28 0 ?f@@YAXXZ")
     stored = "store/shapes.pdb/6B32B94164959A524C4C44205044422E1/shapes.sym"
     yield "pdb_symbolizer --dump-syms --store store shapes.exe", ENDED
-    yield f"cat {stored}", symbol_file([module, program], whole)
+    yield f"cat {stored}", symbol_file([module, program], whole) + unwind
     yield "pdb_symbolizer --dump-syms --functions=short --store=./store shapes.pdb", ENDED
     yield f"cat {stored}", symbol_file([module], short)
     yield "pdb_symbolizer --dump-syms --store shapes.exe shapes.pdb", error(

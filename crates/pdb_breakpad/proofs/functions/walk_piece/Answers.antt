@@ -1,14 +1,16 @@
 -- What a walk comes to over a piece.
-use Rattle.std.proofs.Common.{subst, sym}
+use Rattle.std.proofs.Common.{[], subst, sym}
 use Rattle.std.specs.Prelude.{Some}
 use Rattle.std.specs.Io.KnownBytes.{Appends}
-use Rattle.std.specs.List.{flat_map}
+use Rattle.std.specs.List.{All, flat_map}
 use Rattle.std.specs.Option.{option_to_list}
 use Rattle.std.proofs.KnownBytes.{Appends-nil}
 use Rattle.std.proofs.lemmas.List.{append-nil}
+use Rattle.std.proofs.lemmas.List.Elements.{All-cons, All-nil}
 use Rattle.pdb_breakpad.specs.Functions.{IsAnswer, StepsOver}
 use Rattle.pdb_breakpad.specs.FunctionTexts.{function_text}
-use Rattle.pdb_breakpad.proofs.FunctionLemmas.{stepped_anew, stepped_on}
+use Rattle.pdb_breakpad.specs.WrittenRecords.{AreReadable}
+use Rattle.pdb_breakpad.proofs.WalkLemmas.{stepped_anew, stepped_on}
 use Rattle.pdb_breakpad.proofs.functions.walk_piece.Goals as goal
 
 pub returns-in_default-walked-clause-step : goal.returns-in_default-walked-clause-step
@@ -19,6 +21,7 @@ returns-in_default-walked-clause-step g c =
     c.in_ok-begun.begun c.in-Some.answer held held
     (subst (IsAnswer answers c.args.source.now c.args.piece.first) c.in-Some.is c.in_ok-answer.ensures.answer)
     c.in_ok-begun.ensures.addresses c.in_ok-begun.ensures.answer
+    (subst (λ walked. All AreReadable (option_to_list walked)) (sym c.in_default-walked.is) (All-nil AreReadable))
     (subst (λ walked. Appends held held (flat_map function_text (option_to_list walked))) (sym c.in_default-walked.is)
     (Appends-nil held))
 
@@ -49,5 +52,6 @@ returns-clause-step g c =
     (Some c.in-Some-walked.records) c.in_ok-begun-2.begun c.in-Some.answer before after
     (subst (IsAnswer answers c.args.source.now c.args.piece.first) c.in-Some.is c.in_ok-answer.ensures.answer)
     c.in_ok-begun-2.ensures.addresses c.in_ok-begun-2.ensures.answer
+    (All-cons AreReadable c.in-Some-walked.records [] c.in_ok-write_function.ensures.readable (All-nil AreReadable))
     (subst (Appends before after) (sym (append-nil (function_text c.in-Some-walked.records)))
-    c.in_ok-write_function.ensures))
+    c.in_ok-write_function.ensures.written))

@@ -4,7 +4,7 @@ use Rattle.std.specs.Prelude.{Some}
 use Rattle.std.proofs.lemmas.List.{get_or_default, get_or_past}
 use Rattle.std.proofs.lemmas.Option.{get_or_from_slice_get, slice_get-get_or}
 use Rattle.pdb_breakpad.specs.Functions.{IsWalked}
-use Rattle.pdb_breakpad.proofs.FunctionLemmas.{not_walked, piece_fits, walked_all, walked_on}
+use Rattle.pdb_breakpad.proofs.WalkLemmas.{not_walked, piece_fits, walked_all, walked_on}
 use Rattle.pdb_breakpad.proofs.functions.write_functions.Goals as goal
 
 pub loop-position-init : goal.loop-position-init
@@ -69,4 +69,4 @@ returns-clause-answer g c =
     (subst (λ next. IsWalked answers c.args.source.now c.loop-position.numbers next c.loop-position.walked
     (g.W.Write.contents c.args.out.now) (g.W.Write.contents c.loop-position.out)) end
     c.loop-position.invariant.walked)
-    c.in_ok-write_ended.ensures
+    c.in_ok-write_ended.ensures.readable c.in_ok-write_ended.ensures.written

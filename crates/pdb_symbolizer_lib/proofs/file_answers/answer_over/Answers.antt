@@ -7,8 +7,8 @@ use Rattle.pdb_symbolizer_lib.specs.PublicNames.{function_name, known_name}
 use Rattle.pdb_symbolizer_lib.proofs.RunLemmas.{is_empty_list, is_some_list, lines_are_asked, words_are_asked}
 use Rattle.pdb_symbolizer_lib.proofs.file_answers.answer_over.Goals as goal
 
-pub returns-in_ok-queue : goal.returns-in_ok-queue
-returns-in_ok-queue g c =
+pub returns-in_ok-queue-clause-answer : goal.returns-in_ok-queue-clause-answer
+returns-in_ok-queue-clause-answer g c =
     let questions = c.new-questions.result in
     let options = c.args.options.now in
     let session = c.args.input.now.session in
@@ -29,13 +29,13 @@ returns-in_ok-queue g c =
       (
         as_given,
         lines_are_asked options.addresses.items questions session
-            (g.T.Read.remaining c.args.lines) c.in_ok-queue.queue c.answer_input.result (g.W.Write.contents c.args.out.now)
-            (g.W.Write.contents c.answer_input.new.out) none c.in_ok-queue.ensures c.answer_input.ensures,
+            (g.T.Read.remaining c.args.lines) c.in_ok-queue.queue c.answer_input.result (g.W.Output.contents c.args.out.now)
+            (g.W.Output.contents c.answer_input.new.out) none c.in_ok-queue.ensures.answer c.answer_input.ensures.answer,
       ),
     )
 
-pub returns-else-is_empty : goal.returns-else-is_empty
-returns-else-is_empty g c =
+pub returns-else-is_empty-clause-answer : goal.returns-else-is_empty-clause-answer
+returns-else-is_empty-clause-answer g c =
     let questions = c.new-questions.result in
     let options = c.args.options.now in
     let session = c.args.input.now.session in
@@ -51,8 +51,8 @@ returns-else-is_empty g c =
     let some = is_some_list options.addresses.items
     (ap (λ items. length items == 0) (sym c.as_slice-words.ensures.value)
     ∙ (sym c.is_empty.ensures ∙ c.if-is_empty.false)) in
-    let old = g.W.Write.contents c.args.out.now in
-    let new = g.W.Write.contents c.answer_words.new.out in
+    let old = g.W.Output.contents c.args.out.now in
+    let new = g.W.Output.contents c.answer_words.new.out in
     inl (
       questions,
       (
@@ -61,6 +61,6 @@ returns-else-is_empty g c =
             (g.T.Read.remaining c.args.lines) c.answer_words.result old new some
             (subst (λ options. AnswersInOrder (AnswersOfFile questions session)
             (words_text questions.options.now.printer.style) (map (λ word. word.now) options.addresses.items)
-            c.answer_words.result old new) c.new-questions.ensures.options c.answer_words.ensures),
+            c.answer_words.result old new) c.new-questions.ensures.options c.answer_words.ensures.answer),
       ),
     )

@@ -21,31 +21,32 @@ none_said P (Some line) none said = absurd (cc)
 pub loop-init : goal.loop-init
 loop-init g c = (
   no_lines c.args.questions.now.options.now.printer.style c.args.queue.now
-      (g.W.Write.contents c.args.out.now),
+      (g.W.Output.contents c.args.out.now),
+  (refl, refl),
   (refl, refl),
 )
 
-pub returns-in_err-addresses : goal.returns-in_err-addresses
-returns-in_err-addresses g c =
+pub returns-in_err-addresses-clause-answer : goal.returns-in_err-addresses-clause-answer
+returns-in_err-addresses-clause-answer g c =
     let answers = AnswersOfFile c.args.questions.now c.args.input.now.session in
     let style = c.args.questions.now.options.now.printer.style in
-    let old = g.W.Write.contents c.args.out.now in
-    let new = g.W.Write.contents c.loop.out in
+    let old = g.W.Output.contents c.args.out.now in
+    let new = g.W.Output.contents c.loop.out in
     stops_early answers style c.args.queue.now old new c.from_residual.result c.from_residual.ensures.0
     (lines_stop answers style c.args.queue.now c.loop.queue old new c.loop.invariant.0)
 
-pub returns-in_err-read_for : goal.returns-in_err-read_for
-returns-in_err-read_for g c =
+pub returns-in_err-read_for-clause-answer : goal.returns-in_err-read_for-clause-answer
+returns-in_err-read_for-clause-answer g c =
     let answers = AnswersOfFile c.args.questions.now c.args.input.now.session in
     let style = c.args.questions.now.options.now.printer.style in
-    let old = g.W.Write.contents c.args.out.now in
-    let new = g.W.Write.contents c.loop.out in
+    let old = g.W.Output.contents c.args.out.now in
+    let new = g.W.Output.contents c.loop.out in
     stops_early answers style c.args.queue.now old new c.from_residual-in_err-read_for.result
     c.from_residual-in_err-read_for.ensures.0
     (lines_stop answers style c.args.queue.now c.loop.queue old new c.loop.invariant.0)
 
-pub returns-in_err-answer_lines : goal.returns-in_err-answer_lines
-returns-in_err-answer_lines g c =
+pub returns-in_err-answer_lines-clause-answer : goal.returns-in_err-answer_lines-clause-answer
+returns-in_err-answer_lines-clause-answer g c =
     let questions = c.args.questions.now in
     let first = c.args.input.now.session in
     let here = c.read_for.new.self.session in
@@ -53,18 +54,18 @@ returns-in_err-answer_lines g c =
     let style = questions.options.now.printer.style in
     let flags = flags_of questions.options.now.printer.names in
     let same = same_still first c.loop.input.session here c.loop.invariant.1 c.read_for.ensures.file in
-    let old = g.W.Write.contents c.args.out.now in
-    let middle = g.W.Write.contents c.loop.out in
-    let new = g.W.Write.contents c.answer_lines.new.out in
+    let old = g.W.Output.contents c.args.out.now in
+    let middle = g.W.Output.contents c.loop.out in
+    let new = g.W.Output.contents c.answer_lines.new.out in
     stops_early answers style c.args.queue.now old new c.from_residual-in_err-answer_lines.result
     c.from_residual-in_err-answer_lines.ensures.0
     (lines_stop_amid answers style c.args.queue.now c.loop.queue old middle new c.loop.invariant.0
     (first_lines_better (AnswersOfFile questions here) answers style c.loop.queue middle new
     (λ asked text answer. same_file_text first here flags questions asked text same answer)
-    c.in_err-answer_lines.ensures))
+    c.in_err-answer_lines.ensures.answer))
 
-pub returns-then-is_none : goal.returns-then-is_none
-returns-then-is_none g c =
+pub returns-then-is_none-clause-answer : goal.returns-then-is_none-clause-answer
+returns-then-is_none-clause-answer g c =
     let questions = c.args.questions.now in
     let first = c.args.input.now.session in
     let here = c.read_for.new.self.session in
@@ -72,14 +73,14 @@ returns-then-is_none g c =
     let style = questions.options.now.printer.style in
     let flags = flags_of questions.options.now.printer.names in
     let same = same_still first c.loop.input.session here c.loop.invariant.1 c.read_for.ensures.file in
-    let old = g.W.Write.contents c.args.out.now in
-    let middle = g.W.Write.contents c.loop.out in
-    let new = g.W.Write.contents c.answer_lines.new.out in
+    let old = g.W.Output.contents c.args.out.now in
+    let middle = g.W.Output.contents c.loop.out in
+    let new = g.W.Output.contents c.answer_lines.new.out in
     lines_end answers style c.args.queue.now c.answer_lines.new.queue old new
     (lines_more answers style c.args.queue.now c.loop.queue c.answer_lines.new.queue old middle new c.loop.invariant.0
     (taken_lines_better (AnswersOfFile questions here) answers style c.loop.queue c.answer_lines.new.queue middle new
     (λ asked text answer. same_file_text first here flags questions asked text same answer)
-    c.in_ok-answer_lines.ensures))
+    c.in_ok-answer_lines.ensures.answer))
     (none_said (IfSome c.answer_lines.new.queue (λ all. all ≡ [])) c.first.result c.if-is_none.ensures
     c.first.ensures.none)
 
@@ -92,19 +93,23 @@ loop-preserved g c =
     let style = questions.options.now.printer.style in
     let flags = flags_of questions.options.now.printer.names in
     let same = same_still first c.loop.input.session here c.loop.invariant.1 c.read_for.ensures.file in
-    let old = g.W.Write.contents c.args.out.now in
-    let middle = g.W.Write.contents c.loop.out in
-    let new = g.W.Write.contents c.answer_lines.new.out in (
+    let old = g.W.Output.contents c.args.out.now in
+    let middle = g.W.Output.contents c.loop.out in
+    let new = g.W.Output.contents c.answer_lines.new.out in (
       lines_more answers style c.args.queue.now c.loop.queue c.answer_lines.new.queue old middle new c.loop.invariant.0
           (taken_lines_better (AnswersOfFile questions here) answers style c.loop.queue c.answer_lines.new.queue middle new
           (λ asked text answer. same_file_text first here flags questions asked text same answer)
-          c.in_ok-answer_lines.ensures),
+          c.in_ok-answer_lines.ensures.answer),
       same,
+      (
+        c.read_for.ensures.path ∙ c.loop.invariant.2.0,
+        c.in_ok-answer_lines.ensures.takes ∙ c.loop.invariant.2.1,
+      ),
     )
 
-pub returns : goal.returns
-returns g c =
+pub returns-clause-answer : goal.returns-clause-answer
+returns-clause-answer g c =
     let answers = AnswersOfFile c.args.questions.now c.args.input.now.session in
     let style = c.args.questions.now.options.now.printer.style in
-    lines_stop answers style c.args.queue.now c.loop.queue (g.W.Write.contents c.args.out.now)
-    (g.W.Write.contents c.loop.out) c.loop.invariant.0
+    lines_stop answers style c.args.queue.now c.loop.queue (g.W.Output.contents c.args.out.now)
+    (g.W.Output.contents c.loop.out) c.loop.invariant.0

@@ -21,40 +21,41 @@ over_all questions here there line text known flags enough answer =
 pub loop-init : goal.loop-init
 loop-init g c = (
   no_lines c.args.questions.now.options.now.printer.style c.args.queue.now
-      (g.W.Write.contents c.args.out.now),
+      (g.W.Output.contents c.args.out.now),
   (refl, refl),
+  refl,
 )
 
-pub returns-in_err-answer_line-in-Some : goal.returns-in_err-answer_line-in-Some
-returns-in_err-answer_line-in-Some g c =
+pub returns-in_err-answer_line-in-Some-clause-answer : goal.returns-in_err-answer_line-in-Some-clause-answer
+returns-in_err-answer_line-in-Some-clause-answer g c =
     let questions = c.args.questions.now in
     let style = questions.options.now.printer.style in
     let first = c.args.context.now in
     let enough : asks_more c.loop.context.known questions c.in-Some.line.now ≡ false
     = sym c.needs_more.ensures ∙ c.if-not-needs_more.true in
-    let old = g.W.Write.contents c.args.out.now in
-    let new = g.W.Write.contents c.answer_line.new.out in
+    let old = g.W.Output.contents c.args.out.now in
+    let new = g.W.Output.contents c.answer_line.new.out in
     ends_early (AnswersText questions (AreFramesOver first.known first.flags)) style c.args.queue.now c.loop.queue
     old new c.from_residual.result c.from_residual.ensures.0
-    (line_ends style c.args.queue.now c.loop.queue c.in-Some.line.now old (g.W.Write.contents c.loop.out) new
+    (line_ends style c.args.queue.now c.loop.queue c.in-Some.line.now old (g.W.Output.contents c.loop.out) new
     c.loop.invariant.0 c.in-Some.ensures.some
     (answered_first_too c.in-Some.line.now
     (λ text answer. over_all questions c.loop.context first c.in-Some.line.now text c.loop.invariant.1.0
     c.loop.invariant.1.1 enough answer)
     c.in_err-answer_line-in-Some.ensures.answer))
 
-pub returns-in_err-pass : goal.returns-in_err-pass
-returns-in_err-pass g c =
+pub returns-in_err-pass-clause-answer : goal.returns-in_err-pass-clause-answer
+returns-in_err-pass-clause-answer g c =
     let questions = c.args.questions.now in
     let style = questions.options.now.printer.style in
     let first = c.args.context.now in
     let enough : asks_more c.loop.context.known questions c.in-Some.line.now ≡ false
     = sym c.needs_more.ensures ∙ c.if-not-needs_more.true in
-    let old = g.W.Write.contents c.args.out.now in
-    let new = g.W.Write.contents c.answer_line.new.out in
+    let old = g.W.Output.contents c.args.out.now in
+    let new = g.W.Output.contents c.answer_line.new.out in
     ends_early (AnswersText questions (AreFramesOver first.known first.flags)) style c.args.queue.now
     c.pass.new.self old new c.from_residual-in_err-pass.result c.from_residual-in_err-pass.ensures.0
-    (line_last style c.args.queue.now c.loop.queue c.in-Some.line.now old (g.W.Write.contents c.loop.out) new
+    (line_last style c.args.queue.now c.loop.queue c.in-Some.line.now old (g.W.Output.contents c.loop.out) new
     c.loop.invariant.0 c.in-Some.ensures.some
     (answered_too c.in-Some.line.now
     (λ text answer. over_all questions c.loop.context first c.in-Some.line.now text c.loop.invariant.1.0
@@ -68,8 +69,8 @@ loop-preserved g c =
     let enough : asks_more c.loop.context.known questions c.in-Some.line.now ≡ false
     = sym c.needs_more.ensures ∙ c.if-not-needs_more.true in (
       line_more questions.options.now.printer.style c.args.queue.now c.loop.queue c.pass.new.self
-          c.in-Some.line.now (g.W.Write.contents c.args.out.now) (g.W.Write.contents c.loop.out)
-          (g.W.Write.contents c.answer_line.new.out) c.loop.invariant.0 c.in-Some.ensures.some c.in_ok-pass.ensures
+          c.in-Some.line.now (g.W.Output.contents c.args.out.now) (g.W.Output.contents c.loop.out)
+          (g.W.Output.contents c.answer_line.new.out) c.loop.invariant.0 c.in-Some.ensures.some c.in_ok-pass.ensures.state
           (answered_too c.in-Some.line.now
           (λ text answer. over_all questions c.loop.context first c.in-Some.line.now text c.loop.invariant.1.0
           c.loop.invariant.1.1 enough answer)
@@ -78,4 +79,5 @@ loop-preserved g c =
         c.in_ok-answer_line-in-Some.ensures.known ∙ c.loop.invariant.1.0,
         c.in_ok-answer_line-in-Some.ensures.flags ∙ c.loop.invariant.1.1,
       ),
+      c.in_ok-answer_line-in-Some.ensures.takes ∙ c.loop.invariant.2,
     )

@@ -11,48 +11,48 @@ use Rattle.pdb_symbolizer_lib.proofs.FileAnswerLemmas.{none_of_words, words_of_f
 use Rattle.pdb_symbolizer_lib.proofs.WordAnswerLemmas.{words_end_early}
 use Rattle.pdb_symbolizer_lib.proofs.word_answers.answer_words.Goals as goal
 
-pub returns-in_err-addresses : goal.returns-in_err-addresses
-returns-in_err-addresses g c =
+pub returns-in_err-addresses-clause-answer : goal.returns-in_err-addresses-clause-answer
+returns-in_err-addresses-clause-answer g c =
     let questions = c.args.questions.now in
     let style = questions.options.now.printer.style in
     let words = map (λ word. word.now) questions.options.now.addresses.items in
     let answers = AnswersOfFile questions c.args.input.now.session in
-    let held = g.W.Write.contents c.args.out.now in
+    let held = g.W.Output.contents c.args.out.now in
     words_end_early answers style words held held c.from_residual.result c.from_residual.ensures.0
     (none_of_words answers style words held)
 
-pub returns-in_err-read_for : goal.returns-in_err-read_for
-returns-in_err-read_for g c =
+pub returns-in_err-read_for-clause-answer : goal.returns-in_err-read_for-clause-answer
+returns-in_err-read_for-clause-answer g c =
     let questions = c.args.questions.now in
     let style = questions.options.now.printer.style in
     let words = map (λ word. word.now) questions.options.now.addresses.items in
     let answers = AnswersOfFile questions c.args.input.now.session in
-    let held = g.W.Write.contents c.args.out.now in
+    let held = g.W.Output.contents c.args.out.now in
     words_end_early answers style words held held c.from_residual-in_err-read_for.result
     c.from_residual-in_err-read_for.ensures.0 (none_of_words answers style words held)
 
-pub returns-in_err-data : goal.returns-in_err-data
-returns-in_err-data g c =
+pub returns-in_err-data-clause-answer : goal.returns-in_err-data-clause-answer
+returns-in_err-data-clause-answer g c =
     let questions = c.args.questions.now in
     let style = questions.options.now.printer.style in
     let words = map (λ word. word.now) questions.options.now.addresses.items in
     let answers = AnswersOfFile questions c.args.input.now.session in
-    let held = g.W.Write.contents c.args.out.now in
+    let held = g.W.Output.contents c.args.out.now in
     words_end_early answers style words held held c.from_residual-in_err-data.result
     c.from_residual-in_err-data.ensures.0 (none_of_words answers style words held)
 
-pub returns-in_err-context : goal.returns-in_err-context
-returns-in_err-context g c =
+pub returns-in_err-context-clause-answer : goal.returns-in_err-context-clause-answer
+returns-in_err-context-clause-answer g c =
     let questions = c.args.questions.now in
     let style = questions.options.now.printer.style in
     let words = map (λ word. word.now) questions.options.now.addresses.items in
     let answers = AnswersOfFile questions c.args.input.now.session in
-    let held = g.W.Write.contents c.args.out.now in
+    let held = g.W.Output.contents c.args.out.now in
     words_end_early answers style words held held c.from_residual-in_err-context.result
     c.from_residual-in_err-context.ensures.0 (none_of_words answers style words held)
 
-pub returns : goal.returns
-returns g c =
+pub returns-clause-answer : goal.returns-clause-answer
+returns-clause-answer g c =
     let questions = c.args.questions.now in
     let style = questions.options.now.printer.style in
     let words = map (λ word. word.now) questions.options.now.addresses.items in
@@ -72,11 +72,11 @@ returns g c =
     = subst (λ addresses. needs_none known addresses ≡ true) asked
     (subst (λ known. needs_none known c.deref.result.now ≡ true) (sym read) c.in_ok-read_for.ensures.enough) in
     let same : c.in_ok-context.context.flags ≡ flags = c.in_ok-context.ensures.flags ∙ c.flags.ensures in
-    let old = g.W.Write.contents c.args.out.now in
-    let new = g.W.Write.contents c.write_words.new.out in
+    let old = g.W.Output.contents c.args.out.now in
+    let new = g.W.Output.contents c.write_words.new.out in
     words_of_file first known flags questions style words old new c.write_words.result enough part
     (subst (λ flags. AnswersInOrder (AnswersText questions (AreFramesAt known flags)) (words_text style) words
     c.write_words.result old new) same
     (subst (λ items. AnswersInOrder (AnswersText questions (AreFramesAt known c.in_ok-context.context.flags))
     (words_text style) (map (λ word. word.now) items) c.write_words.result old new) c.as_slice-words.ensures.value
-    c.write_words.ensures))
+    c.write_words.ensures.answer))

@@ -13,21 +13,21 @@ use Rattle.pdb_symbolizer_lib.proofs.WordAnswerLemmas.{words_end_early, words_re
 use Rattle.pdb_symbolication.proofs.WriteLemmas.{goes_amid, goes_on}
 use Rattle.pdb_symbolizer_lib.proofs.word_answers.write_words.Goals as goal
 
-pub returns-in_err-write_text : goal.returns-in_err-write_text
-returns-in_err-write_text g c =
+pub returns-in_err-write_text-clause-answer : goal.returns-in_err-write_text-clause-answer
+returns-in_err-write_text-clause-answer g c =
     let answers = AnswersText c.args.questions.now (AreFramesAt c.args.context.now.known c.args.context.now.flags) in
     let style = c.args.questions.now.options.now.printer.style in
-    words_refused answers style (map (λ word. word.now) c.args.words.now) (g.W.Write.contents c.args.out.now)
-    (g.W.Write.contents c.write_text.new.out) c.from_residual.result c.from_residual.ensures.0
-    (rw (sym c.list_start.ensures) (c.in_err-write_text.ensures))
+    words_refused answers style (map (λ word. word.now) c.args.words.now) (g.W.Output.contents c.args.out.now)
+    (g.W.Output.contents c.write_text.new.self) c.from_residual.result c.from_residual.ensures.0
+    (rw (sym c.list_start.ensures) (c.in_err-write_text.ensures.text))
 
-pub returns-in_err-text : goal.returns-in_err-text
-returns-in_err-text g c =
+pub returns-in_err-text-clause-answer : goal.returns-in_err-text-clause-answer
+returns-in_err-text-clause-answer g c =
     let answers = AnswersText c.args.questions.now (AreFramesAt c.args.context.now.known c.args.context.now.flags) in
     let style = c.args.questions.now.options.now.printer.style in
     let words = map (λ word. word.now) c.args.words.now in
-    let old = g.W.Write.contents c.args.out.now in
-    let new = g.W.Write.contents c.loop-position.out in
+    let old = g.W.Output.contents c.args.out.now in
+    let new = g.W.Output.contents c.loop-position.out in
     words_end_early answers style words old new c.from_residual-in_err-text.result
     c.from_residual-in_err-text.ensures.0
     (word_refused answers style words c.loop-position.position old new c.loop-position.invariant.0)
@@ -58,9 +58,9 @@ within_texts : (words : List (Bor (List ℕ))) (position : ℕ) → position < l
 within_texts words position within =
     subst (λ count. position < count) (sym (length-map words (λ (word : Bor (List ℕ)). word.now))) within
 
-pub returns-in_err-write_text-2 : goal.returns-in_err-write_text-2
+pub returns-in_err-write_text-2-clause-answer : goal.returns-in_err-write_text-2-clause-answer
 unfolding word_at
-returns-in_err-write_text-2 g c =
+returns-in_err-write_text-2-clause-answer g c =
     let answers = AnswersText c.args.questions.now (AreFramesAt c.args.context.now.known c.args.context.now.flags) in
     let style = c.args.questions.now.options.now.printer.style in
     let words = map (λ word. word.now) c.args.words.now in
@@ -69,9 +69,9 @@ returns-in_err-write_text-2 g c =
     let text = string_bytes c.in_ok-text.text in
     let within = within_texts c.args.words.now position c.loop-position-test.true in
     let so_far = c.loop-position.invariant.0 in
-    let old = g.W.Write.contents c.args.out.now in
-    let middle = g.W.Write.contents c.loop-position.out in
-    let new = g.W.Write.contents c.write_text-in-loop-position.new.out in
+    let old = g.W.Output.contents c.args.out.now in
+    let middle = g.W.Output.contents c.loop-position.out in
+    let new = g.W.Output.contents c.write_text-in-loop-position.new.self in
     let right : answers word text
     = by_same c.args.questions.now word text c.loop-position.context c.args.context.now c.loop-position.invariant.1.0
     c.loop-position.invariant.1.1 c.in_ok-text.ensures.text in
@@ -81,11 +81,11 @@ returns-in_err-write_text-2 g c =
     (is_word_at c.args.words.now position c.loop-position-test.true) so_far right
     (goes_amid (separator style (position == 0)) (text ++ list_end style)
     (word_left answers style words position text old middle within so_far)
-    (rw (sym c.separator.ensures) c.in_err-write_text-2.ensures)))
+    (rw (sym c.separator.ensures) c.in_err-write_text-2.ensures.text)))
 
-pub returns-in_err-write_text-3 : goal.returns-in_err-write_text-3
+pub returns-in_err-write_text-3-clause-answer : goal.returns-in_err-write_text-3-clause-answer
 unfolding word_at
-returns-in_err-write_text-3 g c =
+returns-in_err-write_text-3-clause-answer g c =
     let answers = AnswersText c.args.questions.now (AreFramesAt c.args.context.now.known c.args.context.now.flags) in
     let style = c.args.questions.now.options.now.printer.style in
     let words = map (λ word. word.now) c.args.words.now in
@@ -94,10 +94,10 @@ returns-in_err-write_text-3 g c =
     let text = string_bytes c.in_ok-text.text in
     let within = within_texts c.args.words.now position c.loop-position-test.true in
     let so_far = c.loop-position.invariant.0 in
-    let old = g.W.Write.contents c.args.out.now in
-    let middle = g.W.Write.contents c.loop-position.out in
-    let later = g.W.Write.contents c.write_text-in-loop-position.new.out in
-    let new = g.W.Write.contents c.write_text-in-loop-position-2.new.out in
+    let old = g.W.Output.contents c.args.out.now in
+    let middle = g.W.Output.contents c.loop-position.out in
+    let later = g.W.Output.contents c.write_text-in-loop-position.new.self in
+    let new = g.W.Output.contents c.write_text-in-loop-position-2.new.self in
     let right : answers word text
     = by_same c.args.questions.now word text c.loop-position.context c.args.context.now c.loop-position.invariant.1.0
     c.loop-position.invariant.1.1 c.in_ok-text.ensures.text in
@@ -108,8 +108,8 @@ returns-in_err-write_text-3 g c =
     (goes_amid text (list_end style)
     (goes_on later (separator style (position == 0)) (text ++ list_end style)
     (word_left answers style words position text old middle within so_far)
-    (rw (sym c.separator.ensures) c.in_ok-write_text-2.ensures))
-    (rw (sym c.as_str.ensures.value) c.in_err-write_text-3.ensures)))
+    (rw (sym c.separator.ensures) c.in_ok-write_text-2.ensures.text))
+    (rw (sym c.as_str.ensures.value) c.in_err-write_text-3.ensures.text)))
 
 pub loop-position-preserved : goal.loop-position-preserved
 unfolding word_at
@@ -124,20 +124,21 @@ loop-position-preserved g c =
     let right : answers word text
     = by_same c.args.questions.now word text c.loop-position.context c.args.context.now c.loop-position.invariant.1.0
     c.loop-position.invariant.1.1 c.in_ok-text.ensures.text in (
-      word_more answers style words position word text (g.W.Write.contents c.args.out.now)
-          (g.W.Write.contents c.loop-position.out) (g.W.Write.contents c.write_text-in-loop-position.new.out)
-          (g.W.Write.contents c.write_text-in-loop-position-2.new.out) within
+      word_more answers style words position word text (g.W.Output.contents c.args.out.now)
+          (g.W.Output.contents c.loop-position.out) (g.W.Output.contents c.write_text-in-loop-position.new.self)
+          (g.W.Output.contents c.write_text-in-loop-position-2.new.self) within
           (is_word_at c.args.words.now position c.loop-position-test.true) c.loop-position.invariant.0 right
-          (rw (sym c.separator.ensures) c.in_ok-write_text-2.ensures)
-          (rw (sym c.as_str.ensures.value) c.in_ok-write_text-3.ensures),
+          (rw (sym c.separator.ensures) c.in_ok-write_text-2.ensures.text)
+          (rw (sym c.as_str.ensures.value) c.in_ok-write_text-3.ensures.text),
       (
         c.in_ok-text.ensures.known ∙ c.loop-position.invariant.1.0,
         c.in_ok-text.ensures.flags ∙ c.loop-position.invariant.1.1,
       ),
+      c.in_ok-write_text-3.ensures.takes ∙ (c.in_ok-write_text-2.ensures.takes ∙ c.loop-position.invariant.2),
     )
 
-pub returns : goal.returns
-returns g c =
+pub returns-clause-answer : goal.returns-clause-answer
+returns-clause-answer g c =
     let answers = AnswersText c.args.questions.now (AreFramesAt c.args.context.now.known c.args.context.now.flags) in
     let style = c.args.questions.now.options.now.printer.style in
     let words = map (λ word. word.now) c.args.words.now in
@@ -147,8 +148,8 @@ returns g c =
       c.loop-position-test.false,
       length-map c.args.words.now (λ (word : Bor (List ℕ)). word.now),
     ) in
-    words_end answers style words (g.W.Write.contents c.args.out.now) (g.W.Write.contents c.loop-position.out)
-    (g.W.Write.contents c.write_text-2.new.out) c.write_text-2.result
-    (subst (λ asked. Answered answers (front_text style) asked (g.W.Write.contents c.args.out.now)
-    (g.W.Write.contents c.loop-position.out)) (take_all position words behind) c.loop-position.invariant.0)
-    (rw (sym c.list_end.ensures) c.write_text-2.ensures)
+    words_end answers style words (g.W.Output.contents c.args.out.now) (g.W.Output.contents c.loop-position.out)
+    (g.W.Output.contents c.write_text-2.new.self) c.write_text-2.result
+    (subst (λ asked. Answered answers (front_text style) asked (g.W.Output.contents c.args.out.now)
+    (g.W.Output.contents c.loop-position.out)) (take_all position words behind) c.loop-position.invariant.0)
+    (rw (sym c.list_end.ensures) c.write_text-2.ensures.text)

@@ -5,8 +5,8 @@ use Rattle.std.specs.Io.Buffered.{reader_remaining}
 use Rattle.pdb_symbolizer_lib.proofs.PassLemmas.{passes_to_read, passes_to_ready}
 use Rattle.pdb_symbolizer_lib.proofs.line_queue.LineQueue.pass.Goals as goal
 
-pub returns-then-self-len : goal.returns-then-self-len
-returns-then-self-len g c =
+pub returns-then-self-len-clause-state : goal.returns-then-self-len-clause-state
+returns-then-self-len-clause-state g c =
     let queue = c.self.inside in
     let next = c.saturating_add-self-inside.result in
     let further : next ≡ queue.next + 1 = omega arith in
@@ -14,12 +14,12 @@ returns-then-self-len g c =
     rw (← c.self.view_is)
     (passes_to_ready queue.lines.items queue.next next (reader_remaining g.T.Read.remaining queue.reader) further ready)
 
-pub returns : goal.returns
-returns g c =
+pub returns-clause-state : goal.returns-clause-state
+returns-clause-state g c =
     let queue = c.self.inside in
     let few : length queue.lines.items ≤ queue.next + 1 = omega arith in
     rw (← c.self.view_is)
     (on_ok_weaker c.fill.result
     (passes_to_read queue.lines.items c.fill.new.lines.items queue.next
     (reader_remaining g.T.Read.remaining queue.reader) (reader_remaining g.T.Read.remaining c.fill.new.reader) few)
-    c.fill.ensures)
+    c.fill.ensures.answer)

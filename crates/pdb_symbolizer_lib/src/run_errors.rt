@@ -1,6 +1,7 @@
 //! Why a run ended early, in words, and the exit status that goes with it.
 
 ghost use Rattle.std.specs.Prelude.{◌≡◌, if◌then◌else◌};
+ghost use Rattle.pdb_symbolizer_lib.specs.EarlyEnds.{out_of_memory};
 ghost use Rattle.pdb_symbolizer_lib.specs.ExitStatuses.{asks_for_help, status_of};
 
 use crate::arguments::EXAMPLES;
@@ -19,7 +20,7 @@ use std::io;
 
 /// Why a run of the program ended early. Its text is the line that the program prints behind its name.
 #[derive(Debug, Drop, thiserror::Error)]
-pub enum Stop {
+pub enum RunError {
     /// The words ask for help or for the version, or for nothing that is known.
     #[error("{0}")]
     Words(clap::Error),
@@ -86,9 +87,6 @@ pub enum Stop {
     /// Something that an answer depends on was not read of the file.
     #[error("not all of the file was read")]
     NotRead,
-    /// The same question was answered otherwise than before.
-    #[error("the answers changed while they were written")]
-    AnswersChanged,
     /// Standard input could not be read.
     #[error("cannot read standard input")]
     CannotReadInput,
@@ -100,18 +98,20 @@ pub enum Stop {
     ClosedPipe,
 }
 
-impl Stop {
+impl RunError {
     /// There was no memory.
-    pub fn want_of_memory() -> Stop {
-        Stop::Refused(Error::OutOfMemory)
+    pub fn want_of_memory() -> RunError
+        ensures { result ≡ out_of_memory }
+    {
+        RunError::Refused(Error::OutOfMemory)
     }
 
     /// Why a run ends whose words can't be had.
-    pub fn without_words(error: &io::Error) -> Stop {
+    pub fn without_words(error: &io::Error) -> RunError {
         if ran_out_of_memory(error) {
-            Stop::Refused(Error::OutOfMemory)
+            RunError::Refused(Error::OutOfMemory)
         } else {
-            Stop::NoText
+            RunError::NoText
         }
     }
 
@@ -120,14 +120,14 @@ impl Stop {
         ensures { result ≡ status_of self.now }
     {
         match self {
-            Stop::Words(error) if error.use_stderr() => print_wrong_words(rt, error),
-            Stop::Words(error) => {
+            RunError::Words(error) if error.use_stderr() => print_wrong_words(rt, error),
+            RunError::Words(error) => {
                 if error.kind() == ErrorKind::DisplayHelp {
                     let _ = rt.print(EXAMPLES);
                 }
                 let _ = error.print(rt);
             }
-            Stop::ClosedPipe | Stop::Unopened => {}
+            RunError::ClosedPipe | RunError::Unopened => {}
             _ => {
                 let _ = eprintln!(rt; "pdb_symbolizer: {self}");
             }
@@ -137,7 +137,7 @@ impl Stop {
 
     /// Whether memory ran out, so that nothing can be answered at all.
     pub fn is_want_of_memory(&self) -> bool {
-        matches!(self, Stop::Refused(Error::OutOfMemory))
+        matches!(self, RunError::Refused(Error::OutOfMemory))
     }
 
     /// The exit status that goes with it.
@@ -145,14 +145,14 @@ impl Stop {
         ensures { result ≡ status_of self.now }
     {
         match self {
-            Stop::Words(error) => status_of_words(error.kind()),
-            Stop::ClosedPipe => 0,
-            Stop::Refused(_)
-            | Stop::PdbFile(..)
-            | Stop::NoPdbFile(_)
-            | Stop::OtherBuild(..)
-            | Stop::NoIdentity(_)
-            | Stop::Unopened => 1,
+            RunError::Words(error) => status_of_words(error.kind()),
+            RunError::ClosedPipe => 0,
+            RunError::Refused(_)
+            | RunError::PdbFile(..)
+            | RunError::NoPdbFile(_)
+            | RunError::OtherBuild(..)
+            | RunError::NoIdentity(_)
+            | RunError::Unopened => 1,
             _ => 2,
         }
     }
@@ -190,53 +190,76 @@ fn print_wrong_words<R: Print + Eprint + AllocGlobal>(rt: &R, error: &clap::Erro
     }
 }
 
-impl From<clap::Error> for Stop {
-    fn from(error: clap::Error) -> Stop {
+impl From<clap::Error> for RunError {
+    fn from(error: clap::Error) -> RunError {
         match error.kind() {
-            ErrorKind::OutOfMemory => Stop::Refused(Error::OutOfMemory),
-            _ => Stop::Words(error),
+            ErrorKind::OutOfMemory => RunError::Refused(Error::OutOfMemory),
+            _ => RunError::Words(error),
         }
     }
 }
 
-impl From<Error> for Stop {
-    fn from(error: Error) -> Stop {
-        Stop::Refused(error)
+impl From<Error> for RunError {
+    ghost use Rattle.std.specs.Prelude.{◌≡◌};
+    ghost use Rattle.pdb_symbolizer_lib.specs.declared.run_errors.RunError.TheVariants.{Refused};
+
+    ghost from_gives = { λ error run. run ≡ Refused error };
+
+    fn from(error: Error) -> RunError {
+        RunError::Refused(error)
     }
 }
 
-impl From<SymbolFileFault> for Stop {
-    fn from(fault: SymbolFileFault) -> Stop {
+impl From<SymbolFileFault> for RunError {
+    fn from(fault: SymbolFileFault) -> RunError {
         match fault {
-            SymbolFileFault::Refused(error) => Stop::Refused(error),
-            SymbolFileFault::NotRead => Stop::NotRead,
-            SymbolFileFault::AnswersChanged => Stop::AnswersChanged,
-            SymbolFileFault::CannotWrite => Stop::CannotWrite,
-            SymbolFileFault::ClosedPipe => Stop::ClosedPipe,
+            SymbolFileFault::Refused(error) => RunError::Refused(error),
+            SymbolFileFault::NotRead => RunError::NotRead,
+            SymbolFileFault::CannotWrite => RunError::CannotWrite,
+            SymbolFileFault::ClosedPipe => RunError::ClosedPipe,
         }
     }
 }
 
-impl From<QuestionFault> for Stop {
-    fn from(fault: QuestionFault) -> Stop {
-        Stop::from(SymbolFileFault::from(fault))
+impl From<QuestionFault> for RunError {
+    fn from(fault: QuestionFault) -> RunError {
+        RunError::from(SymbolFileFault::from(fault))
     }
 }
 
-impl From<io::Error> for Stop {
-    fn from(error: io::Error) -> Stop {
-        Stop::from(SymbolFileFault::from(error))
+impl From<io::Error> for RunError {
+    ghost use Rattle.std.specs.Prelude.{false};
+    ghost use Rattle.pdb_symbolizer_lib.specs.EarlyEnds.{EndsWrite};
+
+    ghost from_gives = { λ _ run. EndsWrite false run };
+
+    fn from(error: io::Error) -> RunError {
+        match error.kind() {
+            io::ErrorKind::OutOfMemory => RunError::Refused(Error::OutOfMemory),
+            io::ErrorKind::BrokenPipe => RunError::ClosedPipe,
+            _ => RunError::CannotWrite,
+        }
     }
 }
 
-impl From<AllocError> for Stop {
-    fn from(_error: AllocError) -> Stop {
-        Stop::Refused(Error::OutOfMemory)
+impl From<AllocError> for RunError {
+    ghost use Rattle.std.specs.Prelude.{◌≡◌};
+    ghost use Rattle.pdb_symbolizer_lib.specs.EarlyEnds.{out_of_memory};
+
+    ghost from_gives = { λ _ run. run ≡ out_of_memory };
+
+    fn from(_error: AllocError) -> RunError {
+        RunError::Refused(Error::OutOfMemory)
     }
 }
 
-impl<T: Drop> From<AllocFailed<T>> for Stop {
-    fn from(_error: AllocFailed<T>) -> Stop {
-        Stop::Refused(Error::OutOfMemory)
+impl<T: Drop> From<AllocFailed<T>> for RunError {
+    ghost use Rattle.std.specs.Prelude.{◌≡◌};
+    ghost use Rattle.pdb_symbolizer_lib.specs.EarlyEnds.{out_of_memory};
+
+    ghost from_gives = { λ _ run. run ≡ out_of_memory };
+
+    fn from(_error: AllocFailed<T>) -> RunError {
+        RunError::Refused(Error::OutOfMemory)
     }
 }

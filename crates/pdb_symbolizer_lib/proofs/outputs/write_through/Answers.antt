@@ -1,10 +1,10 @@
 -- The text is written whole, and the writer refuses to hand it on.
 use Rattle.std.proofs.Common.{[], append-nil, sym}
 use Rattle.pdb_symbolication.proofs.WriteLemmas.{goes_as, goes_first, goes_flushed, goes_on}
-use Rattle.pdb_symbolizer_lib.proofs.answer_writes.write_text.Goals as goal
+use Rattle.pdb_symbolizer_lib.proofs.outputs.write_through.Goals as goal
 
-pub returns-in_err-flush : goal.returns-in_err-flush
-returns-in_err-flush g c =
+pub returns-in_err-flush-clause-text : goal.returns-in_err-flush-clause-text
+returns-in_err-flush-clause-text g c =
     let text = c.args.text.now in
     goes_flushed c.from_residual-in_err-flush.result (g.W.Write.contents c.flush.new.self)
     (goes_on (g.W.Write.contents c.write_whole.new.out) text []

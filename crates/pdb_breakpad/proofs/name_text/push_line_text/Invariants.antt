@@ -2,7 +2,7 @@
 use Rattle.std.proofs.Common.{◌≡◌, ◌++◌, string_bytes}
 use Rattle.std.specs.List.{flat_map}
 use Rattle.pdb_breakpad.specs.FunctionTexts.{name_character}
-use Rattle.pdb_breakpad.proofs.name_text.push_name.Given as goal
+use Rattle.pdb_breakpad.proofs.name_text.push_line_text.Given as goal
 
 abbrev pub invariant-loop-character : goal.invariant-loop-character
 invariant-loop-character l =

@@ -1,0 +1,43 @@
+-- What is known of the records that are written: they fit their types, and inlined calls ascend.
+use Rattle.std.specs.Prelude.{◌≤◌, ◌<◌, ◌^◌, length}
+use Rattle.std.specs.List.{All}
+use Rattle.pdb_breakpad.specs.declared.address_spans.Span.{Span}
+use Rattle.pdb_breakpad.specs.declared.function_records.FunctionRecords.{FunctionRecords}
+use Rattle.pdb_breakpad.specs.declared.numbers.Numbers.{Numbers}
+use Rattle.pdb_breakpad.specs.declared.inline_records.InlinedCall.{InlinedCall}
+use Rattle.pdb_breakpad.specs.declared.numbered_code.Place.{Place}
+use Rattle.pdb_breakpad.specs.AddressSpans.{Ascend}
+
+-- what a span is of fits its type, and so do its addresses
+abbrev pub FitsSpan : {T : Type 0} → (T → Type 0) → Span T → Type 0
+FitsSpan Fits span = (span.start < 2 ^ 32) × (span.last < 2 ^ 32) × Fits span.content
+
+-- a place fits its type
+abbrev pub FitsPlace : Place → Type 0
+FitsPlace place = (place.file < 2 ^ 64) × (place.line < 2 ^ 32)
+
+-- an inlined call fits its type
+abbrev pub FitsCall : InlinedCall → Type 0
+FitsCall call = FitsPlace call.place × (call.origin < 2 ^ 64)
+
+-- all numbers of a function's records are within the ranges of their types
+pub record FitTypes (records : FunctionRecords) : Type 0 where
+  pub start : records.start < 2 ^ 32
+  pub last : records.last < 2 ^ 32
+  pub levels : length records.inlines ≤ 2 ^ 64
+  pub inlines : All (All (FitsSpan FitsCall)) records.inlines
+  pub lines : All (FitsSpan FitsPlace) records.lines
+
+-- names have numbers that are within the range of their type
+abbrev pub FitNumbers : Numbers → Type 0
+FitNumbers numbers = (length numbers.files ≤ 2 ^ 64) × (length numbers.origins ≤ 2 ^ 64)
+
+-- the spans of each level of a function's inlined calls ascend, and no line ends before it begins
+pub record InlinesAscend (records : FunctionRecords) : Type 0 where
+  pub inlines : All Ascend records.inlines
+  pub lines : All (λ span. span.start ≤ span.last) records.lines
+
+-- the records of a function fit their types, and its inlined calls ascend
+pub record AreReadable (records : FunctionRecords) : Type 0 where
+  pub fit : FitTypes records
+  pub ascend : InlinesAscend records

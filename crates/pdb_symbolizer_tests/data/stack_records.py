@@ -1,0 +1,260 @@
+#!/usr/bin/env python3
+"""The STACK CFI records of an x64 program, by its unwind tables and its code, written from the rules alone.
+
+Usage: stack_records.py PROGRAM     prints them. write_cases.py has what is wanted from here
+"""
+import struct
+import sys
+
+REGS = ["rax", "rcx", "rdx", "rbx", "rsp", "rbp", "rsi", "rdi"] + [f"r{n}" for n in range(8, 16)]
+
+
+class Image:
+    """The file of a program, with its sections and its exception directory."""
+    def __init__(self, data):
+        self.data = data
+        headers = struct.unpack_from("<I", data, 0x3C)[0]
+        count, optional_size = struct.unpack_from("<H12xH", data, headers + 6)
+        optional = headers + 24
+        self.directory = struct.unpack_from("<II", data, optional + 112 + 8 * 3)
+        self.sections = []
+        for n in range(count):
+            at = optional + optional_size + 40 * n
+            _, rva, size, offset = struct.unpack_from("<IIII", data, at + 8)
+            self.sections.append((rva, size, offset))
+
+    def read(self, rva, size):
+        """So many bytes at an address."""
+        for start, length, offset in self.sections:
+            if start <= rva and rva + size <= start + length:
+                return self.data[offset + rva - start:offset + rva - start + size]
+        raise ValueError(f"no bytes at {rva:x}")
+
+
+def entries(image):
+    """The entries of the exception directory."""
+    rva, size = image.directory
+    data = image.read(rva, size) if size else b""
+    return [struct.unpack_from("<III", data, at) for at in range(0, size - 11, 12)]
+
+
+def info(image, rva):
+    """What the unwind info at an address says."""
+    while rva & 1:
+        rva = struct.unpack("<III", image.read(rva & ~1, 12))[2]
+    first, prologue, count, frame = image.read(rva, 4)
+    version, flags = first & 7, first >> 3
+    if version not in (1, 2):
+        raise ValueError(f"version {version}")
+    slots = image.read(rva + 4, 2 * count)
+    codes, at, epilogs = [], 0, []
+    while at < count:
+        offset, op = slots[2 * at], slots[2 * at + 1] & 15
+        extra = slots[2 * at + 1] >> 4
+        u16 = lambda k: struct.unpack_from("<H", slots, 2 * (at + k))[0]
+        u32 = lambda k: struct.unpack_from("<I", slots, 2 * (at + k))[0]
+        if op == 0:
+            codes.append((offset, "push", extra)); at += 1
+        elif op == 1 and extra == 0:
+            codes.append((offset, "alloc", u16(1) * 8)); at += 2
+        elif op == 1 and extra == 1:
+            codes.append((offset, "alloc", u32(1))); at += 3
+        elif op == 2:
+            codes.append((offset, "alloc", extra * 8 + 8)); at += 1
+        elif op == 3:
+            codes.append((offset, "frame", 0)); at += 1
+        elif op == 4:
+            codes.append((offset, "save", (extra, u16(1) * 8))); at += 2
+        elif op == 5:
+            codes.append((offset, "save", (extra, u32(1)))); at += 3
+        elif op == 6 and version == 2:
+            epilogs.append((offset, extra)); at += 1
+        elif op == 7 and version == 2:
+            at += 3
+        elif op == 8:
+            at += 2
+        elif op == 9:
+            at += 3
+        elif op == 10:
+            codes.append((offset, "trap", extra)); at += 1
+        else:
+            raise ValueError(f"code {op}")
+    parent = None
+    if flags & 4:
+        parent = struct.unpack("<III", image.read(rva + 4 + 2 * (count + (count & 1)), 12))
+    return dict(version=version, prologue=prologue, frame=(frame & 15, (frame >> 4) * 16), codes=codes, parent=parent,
+                epilogs=epilogs)
+
+
+def finish(base, k, saved, trapped):
+    """The rules where the stack pointer is that many bytes above a register."""
+    if trapped:
+        return {"cfa": ("load", base, k + 24), "ra": (base, k), "saved": saved}
+    return {"cfa": ("sum", base, k + 8), "ra": (base, k), "saved": saved}
+
+
+def body(image, own, offset):
+    """The rules at an offset outside of epilogues."""
+    base, k, saved, trapped = 4, 0, {}, False
+    inside = offset < own["prologue"]
+    chain, current, first = [], own, True
+    while current is not None and not trapped:
+        done = [c for c in current["codes"] if not (first and inside) or c[0] <= offset]
+        register, amount = current["frame"]
+        set_up = register and (not (first and inside) or current["parent"] or any(c[1] == "frame" for c in done))
+        start = (register, -amount) if set_up else (4, 0)
+        for _, op, value in done:
+            if op == "push":
+                saved[value] = (base, k); k += 8
+            elif op == "alloc":
+                k += value
+            elif op == "frame":
+                if register:
+                    base, k = register, -amount
+            elif op == "save":
+                saved[value[0]] = (start[0], start[1] + value[1])
+            elif op == "trap":
+                k += 8 if value == 1 else 0
+                trapped = True
+                break
+        first = False
+        current = info(image, current["parent"][2]) if current["parent"] else None
+    return finish(base, k, saved, trapped)
+
+
+def signed(data):
+    """A number with a sign."""
+    return int.from_bytes(data, "little", signed=True)
+
+
+def epilogue(code, own, begin, end, at):
+    """The rule of an epilogue of version 1 that begins at the front of this code."""
+    base, k, saved = 4, 0, {}
+    frame = own["frame"][0]
+    left = code
+    if left[:3] == b"\x48\x83\xc4" and len(left) >= 4:
+        k += signed(left[3:4]); left = left[4:]
+    elif left[:3] == b"\x48\x81\xc4" and len(left) >= 7:
+        k += signed(left[3:7]); left = left[7:]
+    elif frame and len(left) >= 4 and left[0] == 0x48 + (frame >> 3) and left[1] == 0x8D and (frame & 7) != 4:
+        if left[2] == 0x60 + (frame & 7):
+            base, k = frame, signed(left[3:4]); left = left[4:]
+        elif left[2] == 0xA0 + (frame & 7) and len(left) >= 7:
+            base, k = frame, signed(left[3:7]); left = left[7:]
+    while left:
+        if 0x58 <= left[0] < 0x60:
+            saved[left[0] - 0x58] = (base, k); k += 8; left = left[1:]
+        elif left[0] == 0x41 and len(left) > 1 and 0x58 <= left[1] < 0x60:
+            saved[left[1] - 0x50] = (base, k); k += 8; left = left[2:]
+        else:
+            break
+    place = end - len(left)
+    leaves = False
+    outside = lambda target: not begin <= target < end or (target == begin and not own["parent"])
+    if left[:1] == b"\xc3" or (left[:1] == b"\xc2" and len(left) >= 3) or left[:2] == b"\xf3\xc3":
+        leaves = True
+    elif left[:1] == b"\xeb" and len(left) >= 2:
+        leaves = outside(place + 2 + signed(left[1:2]))
+    elif left[:1] == b"\xe9" and len(left) >= 5:
+        leaves = outside(place + 5 + signed(left[1:5]))
+    elif left[:2] == b"\xff\x25" and len(left) >= 6:
+        leaves = True
+    elif len(left) >= 7 and left[0] & 0xF0 == 0x40 and left[1:3] == b"\xff\x25":
+        leaves = True
+    elif len(left) >= 3 and left[0] & 0xF8 == 0x48 and left[1] == 0xFF and left[2] & 0xF8 == 0xE0:
+        leaves = True
+    return finish(base, k, saved, False) if leaves else None
+
+
+def epilogue2(image, own, length, offset):
+    """The rule of an epilogue of version 2 at an offset."""
+    if not own["epilogs"]:
+        return None
+    size, flag = own["epilogs"][0]
+    starts = [length - size] if flag & 1 else []
+    starts += [length - (low + high * 256) for low, high in own["epilogs"][1:] if low + high * 256]
+    for start in starts:
+        if start <= offset < start + size:
+            into, k, saved, at = offset - start, 0, {}, 0
+            for _, op, register in own["codes"]:
+                if op == "push":
+                    at += 1 if register < 8 else 2
+                    if at <= into:
+                        continue
+                    saved[register] = (4, k); k += 8
+            return finish(4, k, saved, False)
+    return None
+
+
+def rule(image, own, begin, end, code, offset):
+    """The rules at an offset of a function."""
+    chained = own["parent"] is not None
+    if own["version"] == 2:
+        found = epilogue2(image, own, end - begin, offset)
+        if found:
+            return found
+    elif offset >= own["prologue"] or chained:
+        found = epilogue(code[offset:], own, begin, end, offset)
+        if found:
+            return found
+    return body(image, own, offset)
+
+
+def term(base, k, cfa):
+    """The expression of what is saved at a place."""
+    if cfa[0] == "sum" and cfa[1] == base:
+        distance = cfa[2] - k
+        return f".cfa {distance} - ^" if distance >= 0 else f".cfa {-distance} + ^"
+    return f"${REGS[base]} {k} + ^"
+
+
+def words(found, mentioned):
+    """The rules as records have them, by their registers."""
+    kind, base, k = found["cfa"]
+    rules = [(".cfa", f"${REGS[base]} {k} +" + (" ^" if kind == "load" else ""))]
+    rules.append((".ra", term(*found["ra"], found["cfa"])))
+    for register in sorted(found["saved"]):
+        if register != 4:
+            rules.append(("$" + REGS[register], term(*found["saved"][register], found["cfa"])))
+    for register in sorted(mentioned):
+        if register not in found["saved"] and register != 4:
+            rules.append(("$" + REGS[register], "$" + REGS[register]))
+    return rules
+
+
+def stack_records(data):
+    """The records of a program's file, and why functions have none."""
+    image, rows, left_out = Image(data), [], []
+    for begin, end, unwind in entries(image):
+        try:
+            own = info(image, unwind)
+            code = image.read(begin, end - begin)
+        except (ValueError, struct.error) as error:
+            left_out.append((begin, str(error)))
+            continue
+        mentioned, now = set(), {}
+        for offset in range(end - begin):
+            found = rule(image, own, begin, end, code, offset)
+            changed = []
+            for name, text in words(found, mentioned):
+                if now.get(name) != text:
+                    changed.append(f"{name}: {text}")
+                    now[name] = text
+            mentioned |= set(found["saved"])
+            if offset == 0:
+                rows.append(f"STACK CFI INIT {begin:x} {end - begin:x} {' '.join(changed)}")
+            elif changed:
+                rows.append(f"STACK CFI {begin + offset:x} {' '.join(changed)}")
+    return rows, left_out
+
+
+def main():
+    with open(sys.argv[1], "rb") as file:
+        rows, left_out = stack_records(file.read())
+    print("\n".join(rows))
+    for begin, why in left_out:
+        print(f"{begin:x}: {why}", file=sys.stderr)
+
+
+if __name__ == "__main__":
+    main()
