@@ -213,12 +213,10 @@ def words(found, mentioned):
     kind, base, k = found["cfa"]
     rules = [(".cfa", f"${REGS[base]} {k} +" + (" ^" if kind == "load" else ""))]
     rules.append((".ra", term(*found["ra"], found["cfa"])))
-    for register in sorted(found["saved"]):
-        if register != 4:
-            rules.append(("$" + REGS[register], term(*found["saved"][register], found["cfa"])))
-    for register in sorted(mentioned):
-        if register not in found["saved"] and register != 4:
-            rules.append(("$" + REGS[register], "$" + REGS[register]))
+    for register in sorted(set(found["saved"]) | set(mentioned)):
+        own = "$" + REGS[register]
+        saved = found["saved"].get(register)
+        rules.append((own, term(*saved, found["cfa"]) if saved else own))
     return rules
 
 
