@@ -14,33 +14,44 @@ class Image:
     def __init__(self, data):
         self.data = data
         headers = struct.unpack_from("<I", data, 0x3C)[0]
-        count, optional_size = struct.unpack_from("<H12xH", data, headers + 6)
+        machine, count, optional_size = struct.unpack_from("<HH12xH", data, headers + 4)
         optional = headers + 24
-        self.directory = struct.unpack_from("<II", data, optional + 112 + 8 * 3)
+        if count > 96:
+            raise ValueError("more sections than systems load")
+        directories = struct.unpack_from("<I", data, optional + 108)[0]
+        self.directory = struct.unpack_from("<II", data, optional + 112 + 8 * 3) if directories > 3 else (0, 0)
+        self.is_x64 = machine == 0x8664
         self.sections = []
         for n in range(count):
             at = optional + optional_size + 40 * n
             _, rva, size, offset = struct.unpack_from("<IIII", data, at + 8)
             self.sections.append((rva, size, offset))
 
+    def rest(self, rva):
+        """The bytes from an address on, up to the end of its section."""
+        for start, length, offset in self.sections:
+            if start <= rva < start + length:
+                return self.data[offset:offset + length][rva - start:]
+        return b""
+
     def read(self, rva, size):
         """So many bytes at an address."""
-        for start, length, offset in self.sections:
-            if start <= rva and rva + size <= start + length:
-                return self.data[offset + rva - start:offset + rva - start + size]
-        raise ValueError(f"no bytes at {rva:x}")
+        found = self.rest(rva)[:size]
+        if len(found) < size:
+            raise ValueError(f"no bytes at {rva:x}")
+        return found
 
 
 def entries(image):
     """The entries of the exception directory."""
     rva, size = image.directory
-    data = image.read(rva, size) if size else b""
-    return [struct.unpack_from("<III", data, at) for at in range(0, size - 11, 12)]
+    data = image.rest(rva)[:size]
+    return [struct.unpack_from("<III", data, at) for at in range(0, len(data) - 11, 12)]
 
 
 def info(image, rva):
     """What the unwind info at an address says."""
-    while rva & 1:
+    if rva & 1:
         rva = struct.unpack("<III", image.read(rva & ~1, 12))[2]
     first, prologue, count, frame = image.read(rva, 4)
     version, flags = first & 7, first >> 3
@@ -79,6 +90,8 @@ def info(image, rva):
             codes.append((offset, "trap", extra)); at += 1
         else:
             raise ValueError(f"code {op}")
+    if at > count:
+        raise ValueError("codes cut")
     parent = None
     if flags & 4:
         parent = struct.unpack("<III", image.read(rva + 4 + 2 * (count + (count & 1)), 12))
@@ -141,10 +154,10 @@ def epilogue(code, own, begin, end, at):
             base, k = frame, signed(left[3:4]); left = left[4:]
         elif left[2] == 0xA0 + (frame & 7) and len(left) >= 7:
             base, k = frame, signed(left[3:7]); left = left[7:]
-    while left:
-        if 0x58 <= left[0] < 0x60:
+    for _ in range(16):
+        if left and 0x58 <= left[0] < 0x60:
             saved[left[0] - 0x58] = (base, k); k += 8; left = left[1:]
-        elif left[0] == 0x41 and len(left) > 1 and 0x58 <= left[1] < 0x60:
+        elif len(left) > 1 and left[0] == 0x41 and 0x58 <= left[1] < 0x60:
             saved[left[1] - 0x50] = (base, k); k += 8; left = left[2:]
         else:
             break
@@ -203,8 +216,7 @@ def rule(image, own, begin, end, code, offset):
 def term(base, k, cfa):
     """The expression of what is saved at a place."""
     if cfa[0] == "sum" and cfa[1] == base:
-        distance = cfa[2] - k
-        return f".cfa {distance} - ^" if distance >= 0 else f".cfa {-distance} + ^"
+        return f".cfa {cfa[2] - k} - ^"
     return f"${REGS[base]} {k} + ^"
 
 
@@ -220,14 +232,36 @@ def words(found, mentioned):
     return rules
 
 
+def refuse_long_chains(image, own):
+    """Refuses an info that is chained to more than 32 others."""
+    for _ in range(32):
+        if not own["parent"]:
+            return
+        own = info(image, own["parent"][2])
+    if own["parent"]:
+        raise ValueError("chain too long")
+
+
+def code_of(image, reach, begin, end):
+    """The code of a function, behind those that reach up to an address."""
+    if end <= begin:
+        raise ValueError("empty")
+    code = image.read(begin, end - begin)
+    if begin < reach:
+        raise ValueError("overlapping")
+    return code
+
+
 def stack_records(data):
     """The records of a program's file, and why functions have none."""
-    image, rows, left_out = Image(data), [], []
-    for begin, end, unwind in entries(image):
+    image, rows, left_out, reach = Image(data), [], [], 0
+    for begin, end, unwind in entries(image) if image.is_x64 else []:
         try:
+            code = code_of(image, reach, begin, end)
+            reach = end
             own = info(image, unwind)
-            code = image.read(begin, end - begin)
-        except (ValueError, struct.error) as error:
+            refuse_long_chains(image, own)
+        except (ValueError, struct.error, IndexError) as error:
             left_out.append((begin, str(error)))
             continue
         mentioned, now = set(), {}
