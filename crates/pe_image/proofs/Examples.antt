@@ -1,8 +1,10 @@
 -- A program written by hand: one section, and an exception directory of two entries.
-use Rattle.std.proofs.Common.{◌≡◌, ℕ, List, [], ◌∷◌, ◌++◌, Option, Some, None, option_map, refl}
+use Rattle.std.proofs.Common.{◌≡◌, ℕ, true, List, [], ◌∷◌, ◌++◌, Option, Some, None, option_map, refl}
 use Rattle.std.specs.Prelude.{replicate}
+use Rattle.pe_image.specs.Arm64Directory.{arm64_entries}
 use Rattle.pe_image.specs.ExceptionDirectory.{function_entries}
-use Rattle.pe_image.specs.Image.{Program, bytes_from, program_of}
+use Rattle.pe_image.specs.Image.{Program, bytes_from, is_executable, program_of}
+use Rattle.pe_image.specs.declared.arm64_directory.Arm64Entry.{Arm64Entry}
 use Rattle.pe_image.specs.declared.exception_directory.FunctionEntry.{FunctionEntry}
 use Rattle.pe_image.specs.declared.image.DataDirectory.{DataDirectory}
 use Rattle.pe_image.specs.declared.image.Section.{Section}
@@ -30,9 +32,11 @@ abbrev optional : List ℕ
 optional = 0x0b ∷ 2 ∷ replicate 22 0 ++ eight 16 ++ replicate 24 0 ++ four 96 ++ replicate 48 0 ++ four 4
     ++ replicate 24 0 ++ four 80 ++ four 24
 
--- a section at 64 with 48 bytes in memory; its bytes in the file are 40, at 272
+-- a section at 64 with 48 bytes in memory; its bytes in the file are 40, at 272; it has code, and can be read and
+-- executed
 abbrev section : List ℕ
-section = replicate 8 0 ++ four 48 ++ four 64 ++ four 40 ++ (16 ∷ 1 ∷ 0 ∷ 0 ∷ []) ++ replicate 16 0
+section = replicate 8 0 ++ four 48 ++ four 64 ++ four 40 ++ (16 ∷ 1 ∷ 0 ∷ 0 ∷ []) ++ replicate 12 0
+    ++ (0x20 ∷ 0 ∷ 0 ∷ 0x60 ∷ [])
 
 -- the bytes of the section: 16 of code, and the entries
 abbrev content : List ℕ
@@ -41,13 +45,16 @@ content = replicate 16 144 ++ four 64 ++ four 70 ++ four 90 ++ four 70 ++ four 7
 abbrev file : List ℕ
 file = dos_header ++ coff ++ optional ++ section ++ content
 
+abbrev code : Section
+code = record { rva = 64; size = 48; file_offset = 272; file_size = 40; characteristics = 0x60000020 }
+
 abbrev program : Program
 program = record {
   file = file;
   machine = 0x8664;
   image_base = 16;
   image_size = 96;
-  sections = record { rva = 64; size = 48; file_offset = 272; file_size = 40 } ∷ [];
+  sections = code ∷ [];
   directories = record { rva = 0; size = 0 } ∷ record { rva = 0; size = 0 } ∷ record { rva = 0; size = 0 }
       ∷ record { rva = 80; size = 24 } ∷ [];
 }
@@ -59,6 +66,11 @@ entries_are_read : function_entries program
     ≡ record { begin = 64; end = 70; info = 90 } ∷ record { begin = 70; end = 75; info = 92 } ∷ []
 entries_are_read = refl
 
+-- the same bytes as entries of a program for ARM64
+arm64_entries_are_read : arm64_entries program
+    ≡ record { begin = 64; unwind = 70 } ∷ record { begin = 90; unwind = 70 } ∷ record { begin = 75; unwind = 92 } ∷ []
+arm64_entries_are_read = refl
+
 -- the last bytes of the section in the file; one byte further no section has bytes
 last_bytes : bytes_from program 100 ≡ four 92
 last_bytes = refl
@@ -68,3 +80,6 @@ behind_the_last_byte = refl
 
 no_program : program_of (0x4d ∷ 0x5a ∷ []) ≡ None
 no_program = refl
+
+code_is_executable : is_executable code ≡ true
+code_is_executable = refl

@@ -1,5 +1,5 @@
 -- What the headers of a program say (an EXE or a DLL, PE32 or PE32+), and the bytes at its addresses.
-use Rattle.std.specs.Prelude.{ℕ, ◌+◌, ◌-◌, ◌*◌, ◌==◌, ◌&&◌, ◌≤◌, nat_lt, nat_le, min, Bool, List, [], find, take, drop}
+use Rattle.std.specs.Prelude.{ℕ, ◌+◌, ◌-◌, ◌*◌, ◌/◌, ◌%◌, ◌==◌, ◌&&◌, ◌≤◌, nat_lt, nat_le, min, Bool, List, [], find, take, drop}
 use Rattle.std.specs.Prelude.{Option, Some, None, slice_get, if◌then◌else◌}
 use Rattle.byteorder.specs.Endian.{little_number}
 use Rattle.pe_image.specs.NumbersAt.{◌>>=◌, bytes_at, entries, number_at}
@@ -29,7 +29,16 @@ section_header bytes = record {
   size = little_number 4 (drop 8 bytes);
   file_offset = little_number 4 (drop 20 bytes);
   file_size = little_number 4 (drop 16 bytes);
+  characteristics = little_number 4 (drop 36 bytes);
 }
+
+-- IMAGE_SCN_MEM_EXECUTE, the characteristic of a section whose bytes can be executed
+abbrev pub image_scn_mem_execute : ℕ
+image_scn_mem_execute = 0x20000000
+
+-- whether the bytes of a section can be executed
+abbrev pub is_executable : Section → Bool
+is_executable section = section.characteristics / image_scn_mem_execute % 2 == 1
 
 -- an entry of the table of data directories: the address of a table, and its size
 abbrev pub data_directory : List ℕ → DataDirectory

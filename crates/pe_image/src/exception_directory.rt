@@ -9,7 +9,7 @@ use byteorder::{ByteOrder, LittleEndian};
 use std::alloc::{AllocError, Global};
 
 /// The position of the exception directory among the data directories.
-const IMAGE_DIRECTORY_ENTRY_EXCEPTION: usize = 3;
+pub(crate) const IMAGE_DIRECTORY_ENTRY_EXCEPTION: usize = 3;
 
 /// The size of an entry in bytes.
 const ENTRY: usize = 12;

@@ -35,6 +35,9 @@ const IMAGE_NUMBEROF_DIRECTORY_ENTRIES: u32 = 16;
 /// How many sections a program has at most that systems load.
 const MOST_SECTIONS: u16 = 96;
 
+/// The bit in the characteristics of a section whose bytes can be executed.
+pub const IMAGE_SCN_MEM_EXECUTE: u32 = 0x2000_0000;
+
 /// The machine of programs for x64.
 pub const IMAGE_FILE_MACHINE_AMD64: u16 = 0x8664;
 
@@ -49,6 +52,19 @@ pub struct Section {
     pub file_offset: u32,
     /// The number of its bytes in the file.
     pub file_size: u32,
+    /// What it is for, a bit for each purpose, such as [`IMAGE_SCN_MEM_EXECUTE`].
+    pub characteristics: u32,
+}
+
+impl Section {
+    ghost use Rattle.pe_image.specs.Image.{is_executable};
+
+    /// Whether the bytes of the section can be executed.
+    pub fn is_executable(self) -> bool
+        ensures { result ≡ is_executable self }
+    {
+        self.characteristics / IMAGE_SCN_MEM_EXECUTE % 2 == 1
+    }
 }
 
 /// An entry of the data directories: where one of the program's tables is.
@@ -303,6 +319,7 @@ fn section_header(bytes: &[u8]) -> Section
         size: LittleEndian::read_u32(&bytes[8..]),
         file_offset: LittleEndian::read_u32(&bytes[20..]),
         file_size: LittleEndian::read_u32(&bytes[16..]),
+        characteristics: LittleEndian::read_u32(&bytes[36..]),
     }
 }
 

@@ -4,10 +4,14 @@
 //! specs/ExceptionDirectory.antt, and each call is proved to answer it, whatever the bytes are.
 #![tactic(auto)]
 
+mod arm64_directory;
 mod exception_directory;
 mod image;
 mod numbers_at;
 
+pub use arm64_directory::{Arm64Entry, IMAGE_FILE_MACHINE_ARM64, arm64_entries, is_arm64};
 pub use exception_directory::{FunctionEntry, function_entries, function_entry_at};
-pub use image::{DataDirectory, IMAGE_FILE_MACHINE_AMD64, Image, Section, read_image};
+pub use image::{
+    DataDirectory, IMAGE_FILE_MACHINE_AMD64, IMAGE_SCN_MEM_EXECUTE, Image, Section, read_image,
+};
 pub use numbers_at::{bytes_at, u16_at, u32_at, u64_at};

@@ -1,4 +1,5 @@
 mod Examples
+pub mod LeafLemmas
 pub mod LineLemmas
 pub mod ListLemmas
 pub mod PlaceLemmas

@@ -6,7 +6,7 @@ use Rattle.std.proofs.lemmas.Grind.{common_steps}
 use Rattle.std.specs.Prelude.{is_some}
 use Rattle.pe_image.specs.Image.{Program}
 use Rattle.pe_unwind.specs.Faults.{Fails, behind}
-use Rattle.pe_unwind.specs.UnwindCodes.{codes_up_to, first_code, unwind_codes}
+use Rattle.pe_unwind.specs.UnwindCodes.{codes_up_to, first_code}
 use Rattle.pe_unwind.specs.UnwindInfo.{Info, info_at, parents_of, parents_up_to}
 use Rattle.pe_unwind.specs.declared.faults.Refusal.{Refusal}
 use Rattle.pe_unwind.specs.declared.faults.Refusal.TheVariants.{ChainTooLong}
@@ -28,14 +28,6 @@ behind_behind xs ys (Err refusal) = refl
 -- how many are left, where there is one
 pub one_left : (count counter : ℕ) → counter < count → count - counter ≡ suc (count - (counter + 1))
 one_left count counter some = omega arith
-
--- before any code is read, all are left
-pub unread_codes : (version : ℕ) (bytes : List ℕ)
-    → unwind_codes version bytes ≡ behind [] (codes_up_to (length bytes - 0) version bytes)
-unfolding unwind_codes
-unread_codes version bytes =
-    let all : length bytes - 0 ≡ length bytes = omega arith in
-    rw (all, behind_nothing) refl
 
 -- with the next code read, the codes are still those that were read and those that are left
 pub one_code_more : (version count counter : ℕ) (rest next : List ℕ) (code : UnwindCode)

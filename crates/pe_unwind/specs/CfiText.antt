@@ -4,6 +4,7 @@ use Rattle.std.specs.Prelude.{◌≡◌, Result}
 use Rattle.std.specs.Fmt.{decimal, digits}
 use Rattle.std.specs.List.{flat_map}
 use Rattle.pe_image.specs.declared.exception_directory.FunctionEntry.{FunctionEntry}
+use Rattle.pe_unwind.specs.CfiLines.{Ascend}
 use Rattle.pe_unwind.specs.CfiRecords.{LetKnow, first_items, later_items, records, written}
 use Rattle.pe_unwind.specs.Functions.{FunctionCode}
 use Rattle.pe_unwind.specs.declared.cfi_lines.CfiLine.{CfiLine}
@@ -94,8 +95,10 @@ function_text begin end [] = []
 function_text begin end (line ∷ lines) =
     first_text begin (end - begin) line.rules ++ later_texts begin line.rules lines
 
--- a text has the records of an entry's function at its end: those of lines that let a reader know the function's rules
+-- a text has the records of an entry's function at its end: those of lines that ascend within the function, and that let
+-- a reader know the function's rules
 abbrev pub ShowText : List ℕ → List ℕ → FunctionEntry → Result FunctionCode Refusal → Type 0
 ShowText old new entry found = (lines : List CfiLine)
     × (new ≡ old ++ function_text entry.begin entry.end lines)
+    × Ascend lines (entry.end - entry.begin)
     × LetKnow (records lines) found

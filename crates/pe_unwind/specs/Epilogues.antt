@@ -70,10 +70,12 @@ stack_restored frame code =
 abbrev pub is_pop : ℕ → Bool
 is_pop byte = nat_le 0x58 byte && nat_lt byte 0x60
 
--- the pop that code begins with, if it does: 58 + r, or 41 58 + r for r8 to r15
+-- the pop that code begins with, if it does: 58 + r, or 41 58 + r for r8 to r15; pop rsp (5C) doesn't count, since no
+-- epilogue has it, and it is the second byte of pop r12
 abbrev pub first_pop : List ℕ → Option Pop
 first_pop code =
-    if is_pop (slice_index code 0) then Some (record { register = register (slice_index code 0 - 0x58); size = 1 }) else
+    if is_pop (slice_index code 0) && not (slice_index code 0 == 0x5c)
+    then Some (record { register = register (slice_index code 0 - 0x58); size = 1 }) else
     if (slice_index code 0 == 0x41) && is_pop (slice_index code 1)
     then Some (record { register = register (slice_index code 1 - 0x50); size = 2 }) else
     None
@@ -83,7 +85,8 @@ abbrev pub pop_undone : Pop → Unwound → Unwound
 pop_undone pop u = popped 8 (with_saved pop.register u.stack u)
 
 -- behind the pop that code begins with, what follows it does; where there is none, nothing is done
-abbrev pub pops_by : (List ℕ → Unwound → Unwound × List ℕ) → List ℕ → Unwound → Option Pop → Unwound × List ℕ
+abbrev pub pops_by : (List ℕ → Unwound → Unwound × List ℕ)
+    → List ℕ → Unwound → Option Pop → Unwound × List ℕ
 pops_by others code u None = (u, code)
 pops_by others code u (Some pop) = others (drop pop.size code) (pop_undone pop u)
 

@@ -14,6 +14,11 @@ abbrev pub ◌>>=◌ : {A B : Type 0} → Result A Refusal → (A → Result B R
 abbrev pub behind : {A : Type 0} → List A → Result (List A) Refusal → Result (List A) Refusal
 behind items read = read >>= λ rest. Ok (items ++ rest)
 
+-- a fault is a refusal, and not that there was no memory
+abbrev pub IsRefusal : UnwindFault → Type 0
+IsRefusal (Refused refusal) = Unit {0}
+IsRefusal OutOfMemory = ⊥
+
 -- a fault that a call answers is the defined refusal, unless there was no memory
 abbrev pub Fails : {A : Type 0} → UnwindFault → Result A Refusal → Type 0
 Fails (Refused refusal) defined = defined ≡ Err refusal

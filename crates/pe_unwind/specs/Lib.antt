@@ -9,3 +9,5 @@ pub mod Functions
 pub mod CfiLines
 pub mod CfiRecords
 pub mod CfiText
+pub mod LeafCode
+pub mod ProgramRecords

@@ -4,7 +4,7 @@ ghost use Rattle.std.specs.Prelude.{◌≡◌, ◌++◌, IfErr, OnOk, string_byt
 ghost use Rattle.std.specs.List.{flat_map};
 ghost use Rattle.pe_unwind.specs.CfiText.{cfa_text, first_text, found_text, function_text, item_text, later_text};
 ghost use Rattle.pe_unwind.specs.CfiText.{ShowText, later_texts, name, place_text, signed_decimal};
-ghost use Rattle.pe_unwind.specs.Faults.{Fails};
+ghost use Rattle.pe_unwind.specs.Faults.{Fails, IsRefusal};
 ghost use Rattle.pe_unwind.specs.Functions.{function_at};
 
 use crate::cfi_lines::{CfiLine, function_lines};
@@ -19,7 +19,8 @@ use std::alloc::{AllocError, Global};
 ///
 /// # Errors
 ///
-/// Answers why the entry is left out, or that memory ran out; then a part of the records may have been appended.
+/// Answers why the entry is left out; then the text is unchanged. Or memory ran out; then a part of the records may have
+/// been appended.
 pub fn push_entry(
     alloc: Global,
     text: &mut String,
@@ -30,6 +31,7 @@ pub fn push_entry(
     ensures answer { OnOk result (ShowText (string_bytes text.old) (string_bytes text.new) entry
         (function_at image.now reach entry)) }
     ensures refused { IfErr result (λ fault. Fails fault (function_at image.now reach entry)) }
+    ensures unchanged { IfErr result (λ fault. IsRefusal fault → string_bytes text.new ≡ string_bytes text.old) }
 {
     let lines = function_lines(alloc, image, reach, entry)?;
     push_function(alloc, text, entry, &lines)?;
@@ -83,9 +85,9 @@ fn push_others(
     Ok(())
 }
 
-// Appends the first record of a function.
+/// Appends the first record of a function.
 #[tactic(auto, unfolding(crate::specs::CfiText::first_text))]
-fn push_first(
+pub(crate) fn push_first(
     alloc: Global,
     text: &mut String,
     begin: u32,

@@ -18,6 +18,9 @@ use pe_image::u32_at;
 /// How many registers an epilogue pops at most.
 const MOST_POPS: usize = 16;
 
+/// pop rsp.
+const POP_RSP: u8 = 0x5c;
+
 /// What an instruction that gives the frame back does.
 #[derive(Clone, Copy)]
 struct Restored {
@@ -223,7 +226,7 @@ fn first_pop(code: &[u8]) -> Option<Pop>
     ensures { result ≡ first_pop code.now }
 {
     let first = byte(code, 0);
-    if is_pop(first) {
+    if is_pop(first) && first != POP_RSP {
         return Some(Pop {
             register: numbered(usize::from(first - 0x58)),
             size: 1,

@@ -11,7 +11,9 @@ mod cfi_text;
 mod epilogues;
 mod faults;
 mod functions;
+mod leaf_code;
 mod listed_epilogues;
+mod program_records;
 mod registers;
 mod rules;
 mod unwind_codes;
@@ -22,6 +24,8 @@ pub use cfi_records::{Found, Item, first_items, later_items, records_keep_places
 pub use cfi_text::{push_entry, push_function};
 pub use faults::{Refusal, UnwindFault};
 pub use functions::{code_of, reach_behind, read_function, rule_at};
+pub use leaf_code::{CodeRun, leaf_runs, push_leaf_records, runs_have_what_no_entry_covers};
+pub use program_records::{LeftOut, UnwindRecords, unwind_records};
 pub use registers::Register;
 pub use rules::{Cfa, FunctionUnwind, Place, Rules};
 pub use unwind_codes::{Operation, UnwindCode};

@@ -1,0 +1,5 @@
+pub mod FrameData
+pub mod FpoData
+pub mod FrameStreams
+pub mod StackWinText
+pub mod StackWin

@@ -1,0 +1,108 @@
+-- The STACK WIN records of a program for x86, by its PDB file's frame data and FPO data.
+use Rattle.std.specs.Prelude.{ℕ, ◌+◌, ◌^◌, ◌==◌, ◌&&◌, Bool, nat_le, nat_lt, List, [], ◌∷◌, ◌++◌, drop}
+use Rattle.std.specs.Prelude.{Option, Some, None, Result, Ok, Err, if◌then◌else◌}
+use Rattle.std.specs.Borrow.{Bor}
+use Rattle.std.specs.List.{list_all}
+use Rattle.std.specs.Str.{is_utf8}
+use Rattle.pdb_records.specs.Readings.{Read}
+use Rattle.pdb_records.specs.declared.error.StreamError.{StreamError}
+use Rattle.pdb_msf.specs.Bytes.{text_in}
+use Rattle.pdb_msf.specs.Msf.{Msf}
+use Rattle.pdb_msf.specs.Readings.{nothing_read}
+use Rattle.pdb_frame_data.specs.FpoData.{fpo_data_list}
+use Rattle.pdb_frame_data.specs.FrameData.{frame_data_list}
+use Rattle.pdb_frame_data.specs.FrameStreams.{frame_stream, program_strings}
+use Rattle.pdb_frame_data.specs.StackWinText.{fpo_text, frame_data_text}
+use Rattle.pdb_frame_data.specs.declared.fpo_data.FpoData.{FpoData}
+use Rattle.pdb_frame_data.specs.declared.frame_data.FrameData.{FrameData}
+use Rattle.pdb_frame_data.specs.declared.refusals.LeftOut.{LeftOut}
+use Rattle.pdb_frame_data.specs.declared.refusals.Refusal.{Refusal}
+use Rattle.pdb_frame_data.specs.declared.refusals.Refusal.TheVariants.{BadProgram, Empty, NoProgram, TooLarge}
+
+-- records: their text, the entries that have none, and why frame data and FPO data end early
+pub record Records : Type 0 where
+  pub text : List ℕ
+  pub left_out : List LeftOut
+  pub frame_data_fault : Option StreamError
+  pub fpo_fault : Option StreamError
+
+-- the entries of a stream that was read, or none, with the stream's fault
+abbrev pub entries_of : {A : Type 0} → (List ℕ → Read A) → Result (List ℕ) StreamError → Read A
+entries_of entries (Ok bytes) = entries bytes
+entries_of entries (Err error) = nothing_read (Some error)
+
+-- why code at this address and of this size has no record: there is none of it, or it reaches past 32 bits
+abbrev pub code_fault : ℕ → ℕ → Option Refusal
+code_fault rva size =
+    if size == 0 then Some Empty else if nat_lt (2 ^ 32) (rva + size) then Some TooLarge else None
+
+-- whether a byte isn't of a control character
+abbrev pub is_printed : ℕ → Bool
+is_printed byte = nat_le 0x20 byte
+
+-- bytes as a text of one line, if they are one
+abbrev pub text_of : List ℕ → Result (List ℕ) Refusal
+text_of bytes = if list_all is_printed bytes && is_utf8 bytes then Ok bytes else Err BadProgram
+
+-- the program at an offset, if it is there
+abbrev pub program_by : Option (List ℕ) → Result (List ℕ) Refusal
+program_by None = Err NoProgram
+program_by (Some bytes) = text_of bytes
+
+-- a program, unless the code has no record
+abbrev pub unless_refused : Option Refusal → Result (List ℕ) Refusal → Result (List ℕ) Refusal
+unless_refused None program = program
+unless_refused (Some why) program = Err why
+
+-- the program of frame data: the text at its offset behind the first twelve bytes of the strings, up to a zero
+abbrev pub frame_program : List ℕ → FrameData → Result (List ℕ) Refusal
+frame_program strings entry =
+    unless_refused (code_fault entry.rva entry.size) (program_by (text_in (drop (12 + entry.program) strings)))
+
+-- a text that a call answers, as bytes
+abbrev pub text_seen : Result (Bor (List ℕ)) Refusal → Result (List ℕ) Refusal
+text_seen (Ok text) = Ok text.now
+text_seen (Err why) = Err why
+
+-- an entry is left out
+abbrev pub leave_out : ℕ → Refusal → Records → Records
+leave_out rva why r = record r { left_out = r.left_out ++ record { rva = rva; why = why } ∷ [] }
+
+-- the text of a record is added, or else its entry is left out
+abbrev pub add : ℕ → Result (List ℕ) Refusal → (List ℕ → List ℕ) → Records → Records
+add rva (Ok program) text r = record r { text = r.text ++ text program }
+add rva (Err why) text r = leave_out rva why r
+
+-- the record of frame data is added
+abbrev pub add_frame_data : List ℕ → FrameData → Records → Records
+add_frame_data strings entry r = add entry.rva (frame_program strings entry) (frame_data_text entry) r
+
+-- the record of FPO data is added; it has no program
+abbrev pub add_fpo : FpoData → Records → Records
+add_fpo entry r = add entry.rva (unless_refused (code_fault entry.rva entry.size) (Ok [])) (λ program. fpo_text entry) r
+
+-- the records of frame data are added
+abbrev pub with_frame_data : List ℕ → List FrameData → Records → Records
+with_frame_data strings [] r = r
+with_frame_data strings (entry ∷ entries) r = with_frame_data strings entries (add_frame_data strings entry r)
+
+-- the records of FPO data are added
+abbrev pub with_fpo : List FpoData → Records → Records
+with_fpo [] r = r
+with_fpo (entry ∷ entries) r = with_fpo entries (add_fpo entry r)
+
+-- before any record is added
+abbrev pub no_records : Option StreamError → Option StreamError → Records
+no_records frame_data_fault fpo_fault =
+    record { text = []; left_out = []; frame_data_fault = frame_data_fault; fpo_fault = fpo_fault }
+
+-- the records by the streams of frame data, of FPO data, and of program strings
+abbrev pub records_by : Result (List ℕ) StreamError → Result (List ℕ) StreamError → List ℕ → Records
+records_by frame_data fpo strings =
+    with_fpo (entries_of fpo_data_list fpo).items
+    (with_frame_data strings (entries_of frame_data_list frame_data).items
+    (no_records (entries_of frame_data_list frame_data).fault (entries_of fpo_data_list fpo).fault))
+
+-- the records of a file: those of its frame data, and behind them those of its FPO data
+unfoldable pub stack_win : Msf → Records
+stack_win msf = records_by (frame_stream msf 9) (frame_stream msf 0) (program_strings msf)

@@ -1,0 +1,18 @@
+//! How x86 code keeps its frames, as a PDB file says it, and the records of a Breakpad symbol file that say the same.
+//!
+//! A PDB file of an x86 program has frame data (FRAMEDATA) for each stretch of code, with a program that computes the
+//! caller's registers, or the older FPO data (FPO_DATA). What is read and written is a definition over the bytes of the
+//! file, in specs/StackWin.antt, whatever these are.
+#![tactic(auto)]
+
+mod fpo_data;
+mod frame_data;
+mod frame_streams;
+mod refusals;
+mod stack_win;
+mod stack_win_text;
+
+pub use fpo_data::{FpoData, FrameType, read_fpo_data};
+pub use frame_data::{FrameData, read_frame_data};
+pub use refusals::{LeftOut, Refusal};
+pub use stack_win::{StackWinRecords, read_stack_win};

@@ -1,0 +1,205 @@
+//! The STACK WIN records of a program for x86, by its PDB file's frame data and FPO data.
+
+ghost use Rattle.std.specs.Prelude.{◌≡◌, ◌≤◌, IfErr, IfOk, OnOk};
+ghost use Rattle.std.specs.List.{list_all};
+ghost use Rattle.pdb_container.specs.DebugRecords.{of_file};
+ghost use Rattle.pdb_frame_data.specs.StackWin.{add_fpo, add_frame_data, code_fault, frame_program, is_printed};
+ghost use Rattle.pdb_frame_data.specs.StackWin.{leave_out, records_by, stack_win, text_of, text_seen, with_fpo};
+ghost use Rattle.pdb_frame_data.specs.StackWin.{with_frame_data};
+ghost use Rattle.pdb_msf.specs.StreamMap.{IfFile, Reads, bytes_read};
+
+use crate::fpo_data::{FpoData, read_fpo_data};
+use crate::frame_data::{FrameData, read_frame_data};
+use crate::frame_streams::FrameStreams;
+use crate::refusals::{LeftOut, Refusal};
+use crate::stack_win_text::{push_fpo, push_frame_data};
+use pdb_msf::{Bytes, ContainerFault, OpenFault, Source, StreamMap, bytes_from, nothing_read};
+use pdb_records::StreamError;
+use std::alloc::{AllocError, Global};
+use std::marker::Model;
+
+/// The bytes before the program strings.
+const STRINGS_FRONT: usize = 12;
+
+/// The STACK WIN records of a program, as text.
+#[derive(Drop)]
+pub struct StackWinRecords {
+    /// A line for each record.
+    pub text: String,
+    /// The entries that have no record, in their order.
+    pub left_out: Vec<LeftOut>,
+    /// Why the frame data ends early, if it does.
+    pub frame_data_fault: Option<StreamError>,
+    /// Why the FPO data ends early, if it does.
+    pub fpo_fault: Option<StreamError>,
+}
+
+impl Model for StackWinRecords {
+    ghost use Rattle.std.specs.Prelude.{string_bytes};
+    ghost use Rattle.pdb_frame_data.specs.StackWin.{Records};
+
+    ghost Value = { Records };
+
+    ghost view = { λ r. record {
+      text = string_bytes r.text;
+      left_out = r.left_out.items;
+      frame_data_fault = r.frame_data_fault;
+      fpo_fault = r.fpo_fault;
+    } };
+}
+
+/// The STACK WIN records of a PDB file of this length: those of its frame data, and behind them those of its FPO data. Files
+/// of programs for other machines than x86 have neither. The errors are those of
+/// [`StreamMap::read`](pdb_msf::StreamMap::read).
+#[tactic(auto, unfolding(crate::specs::StackWin::stack_win))]
+pub fn read_stack_win<S: Source>(
+    alloc: Global,
+    source: &mut S,
+    file_length: usize,
+) -> Result<StackWinRecords, OpenFault>
+    ensures answer { IfFile (S.bytes source.old) file_length (λ file.
+        Reads (λ records. records) result (of_file stack_win file)) }
+    ensures refused { IfErr result (λ fault. fault ≡ OpenFault.Unreadable → S.refuses_from source.old ≤ file_length) }
+    ensures inputs { S.bytes source.new ≡ S.bytes source.old }
+    ensures refusals { S.refuses_from source.new ≡ S.refuses_from source.old }
+{
+    let map = StreamMap::read(alloc, source, file_length)?;
+    let streams = FrameStreams::read(alloc, &map, source)?;
+    match records_by(alloc, &streams) {
+        Ok(records) => Ok(records),
+        Err(_) => Err(OpenFault::Container(ContainerFault::OutOfMemory)),
+    }
+}
+
+// The records by the streams that they are read from.
+fn records_by(alloc: Global, streams: &FrameStreams) -> Result<StackWinRecords, AllocError>
+    ensures { IfOk result (λ records. records ≡ records_by (bytes_read streams.now.frame_data)
+        (bytes_read streams.now.fpo) streams.now.strings.items) }
+{
+    let frame_data = match &streams.frame_data {
+        Ok(stream) => read_frame_data(alloc, stream)?,
+        Err(error) => nothing_read(alloc, Some(*error)),
+    };
+    let fpo = match &streams.fpo {
+        Ok(stream) => read_fpo_data(alloc, stream)?,
+        Err(error) => nothing_read(alloc, Some(*error)),
+    };
+    let mut records = StackWinRecords {
+        text: String::new(alloc),
+        left_out: Vec::new(alloc),
+        frame_data_fault: frame_data.fault,
+        fpo_fault: fpo.fault,
+    };
+    with_frame_data(&mut records, &streams.strings, &frame_data.items)?;
+    with_fpo(&mut records, &fpo.items)?;
+    Ok(records)
+}
+
+// Adds the records of frame data.
+fn with_frame_data(
+    records: &mut StackWinRecords,
+    strings: &[u8],
+    entries: &[FrameData],
+) -> Result<(), AllocError>
+    ensures { OnOk result (records.new ≡ with_frame_data strings.now entries.now records.old) }
+{
+    for &entry in entries {
+        add_frame_data(records, strings, entry)?;
+    }
+    Ok(())
+}
+
+// Adds the records of FPO data.
+fn with_fpo(records: &mut StackWinRecords, entries: &[FpoData]) -> Result<(), AllocError>
+    ensures { OnOk result (records.new ≡ with_fpo entries.now records.old) }
+{
+    for &entry in entries {
+        add_fpo(records, entry)?;
+    }
+    Ok(())
+}
+
+// Adds the record of frame data, or leaves it out.
+fn add_frame_data(
+    records: &mut StackWinRecords,
+    strings: &[u8],
+    entry: FrameData,
+) -> Result<(), AllocError>
+    ensures { OnOk result (records.new ≡ add_frame_data strings.now entry records.old) }
+{
+    match frame_program(strings, entry) {
+        Ok(program) => push_frame_data(&mut records.text, entry, program),
+        Err(why) => leave_out(records, entry.rva, why),
+    }
+}
+
+// Adds the record of FPO data, or leaves it out.
+fn add_fpo(records: &mut StackWinRecords, entry: FpoData) -> Result<(), AllocError>
+    ensures { OnOk result (records.new ≡ add_fpo entry records.old) }
+{
+    match code_fault(entry.rva, entry.size) {
+        None => push_fpo(&mut records.text, entry),
+        Some(why) => leave_out(records, entry.rva, why),
+    }
+}
+
+// Leaves an entry out.
+fn leave_out(records: &mut StackWinRecords, rva: u32, why: Refusal) -> Result<(), AllocError>
+    ensures { OnOk result (records.new ≡ leave_out rva why records.old) }
+{
+    records.left_out.push(LeftOut { rva, why })?;
+    Ok(())
+}
+
+// Why code at this address and of this size has no record, if it has none.
+fn code_fault(rva: u32, size: u32) -> Option<Refusal>
+    ensures { result ≡ code_fault rva size }
+{
+    if size == 0 {
+        return Some(Refusal::Empty);
+    }
+    if u32::MAX - rva < size - 1 {
+        return Some(Refusal::TooLarge);
+    }
+    None
+}
+
+// The program of frame data, or why it has no record.
+fn frame_program(strings: &[u8], entry: FrameData) -> Result<&str, Refusal>
+    ensures { text_seen result ≡ frame_program strings.now entry }
+{
+    if let Some(why) = code_fault(entry.rva, entry.size) {
+        return Err(why);
+    }
+    let start = STRINGS_FRONT + entry.program as usize;
+    let Ok(program) = Bytes::new(bytes_from(strings, start)).text() else {
+        return Err(Refusal::NoProgram);
+    };
+    text_of(program)
+}
+
+// These bytes as a text of one line.
+#[tactic(auto, using(crate::proofs::TextLemmas::by_utf8))]
+fn text_of(bytes: &[u8]) -> Result<&str, Refusal>
+    ensures { text_seen result ≡ text_of bytes.now }
+{
+    if !is_line(bytes) {
+        return Err(Refusal::BadProgram);
+    }
+    match str::from_utf8(bytes) {
+        Ok(text) => Ok(text),
+        Err(_) => Err(Refusal::BadProgram),
+    }
+}
+
+// Whether bytes have no control characters.
+fn is_line(bytes: &[u8]) -> bool
+    ensures { result ≡ list_all is_printed bytes.now }
+{
+    for &byte in bytes {
+        if byte < 0x20 {
+            return false;
+        }
+    }
+    true
+}

@@ -1,0 +1,34 @@
+-- The lines that show a function's rules: one for each change.
+use Rattle.std.specs.Prelude.{◌≡◌, ℕ, ◌<◌, nat_le, List, [], ◌∷◌, Option, Some, None}
+use Rattle.std.specs.Prelude.{Result, Ok, Err, if◌then◌else◌}
+use Rattle.std.specs.Option.{option_or}
+use Rattle.pe_unwind_arm64.specs.Functions.{Function, rule_at, size_of}
+use Rattle.pe_unwind_arm64.specs.declared.faults.Refusal.{Refusal}
+use Rattle.pe_unwind_arm64.specs.declared.cfi_lines.CfiLine.{CfiLine}
+use Rattle.pe_unwind_arm64.specs.declared.rules.Rules.{Rules}
+
+-- the rules that a line shows at an offset: its own from its offset on
+abbrev pub shown_by : CfiLine → ℕ → Option Rules
+shown_by line offset = if nat_le line.offset offset then Some line.rules else None
+
+-- the rules that lines show at an offset: those of the last line at the offset or before it
+abbrev pub shown : List CfiLine → ℕ → Option Rules
+shown [] offset = None
+shown (line ∷ lines) offset = option_or (shown lines offset) (shown_by line offset)
+
+-- lines stand in the order of their offsets, no two at one, and all before an offset
+abbrev pub Ascend : List CfiLine → ℕ → Type 0
+Ascend [] before = Unit {0}
+Ascend (line ∷ []) before = line.offset < before
+Ascend (line ∷ next ∷ lines) before = (line.offset < next.offset) × Ascend (next ∷ lines) before
+
+-- lines ascend within a function; none do within one that is refused
+abbrev pub AscendWithin : List CfiLine → Result Function Refusal → Type 0
+AscendWithin lines (Ok function) = Ascend lines (size_of function)
+AscendWithin lines (Err refusal) = ⊥
+
+-- lines show at each offset of a function the rules that the function has there; they show none that is refused
+abbrev pub Show : List CfiLine → Result Function Refusal → Type 0
+Show lines (Ok function) =
+    (offset : ℕ) → offset < size_of function → shown lines offset ≡ Some (rule_at function.info offset)
+Show lines (Err refusal) = ⊥

@@ -1,0 +1,15 @@
+pub mod Faults
+pub mod Registers
+pub mod UnwindCodes
+pub mod Rules
+pub mod Epilogues
+pub mod UnwindInfo
+pub mod Packed
+pub mod Canonical
+pub mod PackedData
+pub mod Functions
+pub mod EpilogueLaws
+pub mod CfiLines
+pub mod CfiRecords
+pub mod CfiText
+pub mod ProgramRecords

@@ -1,0 +1,99 @@
+-- What unwind codes say at a place in their list: where the caller's stack pointer, the return address and the saved
+-- registers are.
+use Rattle.std.specs.Prelude.{ℕ, ◌+◌, ◌-◌, ◌%◌, ◌^◌, Bool, true, false, List, [], ◌∷◌, drop}
+use Rattle.std.specs.Prelude.{Option, Some, None, replicate, slice_get, slice_set, unwrap_or, if◌then◌else◌}
+use Rattle.pe_unwind_arm64.specs.Registers.{index, second}
+use Rattle.pe_unwind_arm64.specs.declared.registers.Base.TheVariants.{Fp, Sp}
+use Rattle.pe_unwind_arm64.specs.declared.registers.Register.{Register}
+use Rattle.pe_unwind_arm64.specs.declared.registers.Register.TheVariants.{X30}
+use Rattle.pe_unwind_arm64.specs.declared.rules.Place.{Place}
+use Rattle.pe_unwind_arm64.specs.declared.rules.Rules.{Rules}
+use Rattle.pe_unwind_arm64.specs.declared.rules.Unwound.{Unwound}
+use Rattle.pe_unwind_arm64.specs.declared.unwind_codes.Operation.{Operation}
+use Rattle.pe_unwind_arm64.specs.declared.unwind_codes.Operation.TheVariants.{AddFrame, Allocate, End, EndChained}
+use Rattle.pe_unwind_arm64.specs.declared.unwind_codes.Operation.TheVariants.{Push, PushFloats, PushPair, Save}
+use Rattle.pe_unwind_arm64.specs.declared.unwind_codes.Operation.TheVariants.{SaveFloats, SavePair, SaveWithLink}
+use Rattle.pe_unwind_arm64.specs.declared.unwind_codes.Operation.TheVariants.{SetFrame, Unseen, Unusable}
+use Rattle.pe_unwind_arm64.specs.declared.unwind_codes.UnwindCode.{UnwindCode}
+
+-- the sum of two addresses: addresses have 64 bits, and a negative number stands as its two's complement
+abbrev pub sum_of : ℕ → ℕ → ℕ
+sum_of a b = (a + b) % 2 ^ 64
+
+-- a number taken off an address
+abbrev pub less : ℕ → ℕ → ℕ
+less a b = (a + (2 ^ 64 - b)) % 2 ^ 64
+
+-- a place so many bytes above another
+abbrev pub above : Place → ℕ → Place
+above place bytes = record place { offset = sum_of place.offset bytes }
+
+-- where the stack pointer points before anything is undone
+abbrev pub stack_top : Place
+stack_top = record { base = Sp; offset = 0 }
+
+-- the place so many bytes below where x29 points
+abbrev pub below_frame : ℕ → Place
+below_frame bytes = record { base = Fp; offset = less 0 bytes }
+
+-- no register is saved
+abbrev pub nothing_saved : List (Option Place)
+nothing_saved = replicate 12 None
+
+-- before anything is undone the stack pointer is as it is, and no register is saved
+abbrev pub at_first : Unwound
+at_first = record { stack = stack_top; saved = nothing_saved }
+
+-- a register is saved at a place; where it is saved twice, the place that comes last counts
+abbrev pub with_saved : Register → Place → Unwound → Unwound
+with_saved register place unwound = record unwound { saved = slice_set unwound.saved (index register) (Some place) }
+
+-- two registers are saved, the second one 8 bytes above the first
+abbrev pub with_pair : Register → Register → Place → Unwound → Unwound
+with_pair one other place unwound = with_saved other (above place 8) (with_saved one place unwound)
+
+-- the stack pointer points higher
+abbrev pub popped : ℕ → Unwound → Unwound
+popped bytes unwound = record unwound { stack = above unwound.stack bytes }
+
+-- what one operation undoes: where the stack pointer was moved down, it points higher; what was stored is where it was
+-- stored, above the stack pointer; where x29 was set, the stack pointer is by it
+abbrev pub undone : Operation → Unwound → Unwound
+undone (Allocate bytes) u = popped bytes u
+undone (Save register offset) u = with_saved register (above u.stack offset) u
+undone (SavePair first offset) u = with_pair first (second first) (above u.stack offset) u
+undone (SaveWithLink register offset) u = with_pair register X30 (above u.stack offset) u
+undone (Push register bytes) u = popped bytes (with_saved register u.stack u)
+undone (PushPair first bytes) u = popped bytes (with_pair first (second first) u.stack u)
+undone SaveFloats u = u
+undone (PushFloats bytes) u = popped bytes u
+undone SetFrame u = record u { stack = below_frame 0 }
+undone (AddFrame bytes) u = record u { stack = below_frame bytes }
+undone Unseen u = u
+undone End u = u
+undone EndChained u = u
+undone (Unusable refusal) u = u
+
+-- whether all codes end here
+abbrev pub is_end : Operation → Bool
+is_end End = true
+is_end operation = false
+
+-- what some codes undo, one after the other, up to the end code: behind the end of the function's own codes those go on
+-- of the function that it is a part of
+abbrev pub codes_undone : List UnwindCode → Unwound → Unwound
+codes_undone [] u = u
+codes_undone (code ∷ codes) u = if is_end code.operation then u else codes_undone codes (undone code.operation u)
+
+-- the rules where so much is undone: the caller's stack pointer is where the stack pointer is, and the return address is
+-- where x30 is, or in x30 still
+abbrev pub rules_of : Unwound → Rules
+rules_of u = record {
+  cfa = u.stack;
+  return_address = unwrap_or (slice_get u.saved (index X30)) None;
+  saved = u.saved;
+}
+
+-- the rules where so many codes at the front of some aren't to be undone, and the others are
+abbrev pub rules_behind : ℕ → List UnwindCode → Rules
+rules_behind count codes = rules_of (codes_undone (drop count codes) at_first)

@@ -1,0 +1,104 @@
+-- The unwind info of a function, as a record of its own (.xdata) says it.
+use Rattle.std.specs.Prelude.{ℕ, zero, suc, ◌+◌, ◌*◌, ◌/◌, ◌%◌, ◌==◌, List, [], ◌∷◌, drop}
+use Rattle.std.specs.Prelude.{Result, Ok, Err, unwrap_or, if◌then◌else◌}
+use Rattle.std.specs.Option.{ok_or}
+use Rattle.pe_image.specs.NumbersAt.{bytes_at, number_at}
+use Rattle.pe_unwind_arm64.specs.Epilogues.{epilogue_of, last_epilogue, own_count}
+use Rattle.pe_unwind_arm64.specs.Faults.{◌>>=◌, behind}
+use Rattle.pe_unwind_arm64.specs.UnwindCodes.{codes_in}
+use Rattle.pe_unwind_arm64.specs.declared.epilogues.Epilogue.{Epilogue}
+use Rattle.pe_unwind_arm64.specs.declared.faults.Refusal.{Refusal}
+use Rattle.pe_unwind_arm64.specs.declared.faults.Refusal.TheVariants.{CodesCut, InfoOutsideOfImage, UnknownVersion}
+use Rattle.pe_unwind_arm64.specs.declared.unwind_codes.UnwindCode.{UnwindCode}
+use Rattle.pe_unwind_arm64.specs.declared.unwind_info.Header.{Header}
+
+-- what the unwind info of a function says beside its length: the unwind codes, for how many instructions of the prologue
+-- they stand, and where the epilogues are
+pub record Info : Type 0 where
+  pub codes : List UnwindCode
+  pub prologue : ℕ
+  pub epilogues : List Epilogue
+
+-- what the first word of a header says: the length in 18 bits, the version in 2, whether there is an exception handler
+-- (X) in 1, whether there is one epilogue, at the end (E), in 1, how many epilogues there are, or the index of that one's
+-- codes, in 5, and the number of words that have codes in 5
+abbrev pub header_of : ℕ → Header
+header_of word = record {
+  length = word % 0x40000;
+  is_single = word / 0x200000 % 2 == 1;
+  epilogues = word / 0x400000 % 32;
+  words = word / 0x8000000;
+  size = 4;
+}
+
+-- the same, where a second word says the last two numbers, in 16 bits and in 8
+abbrev pub header_with : ℕ → ℕ → Header
+header_with word more = record (header_of word) {
+  epilogues = more % 0x10000;
+  words = more / 0x10000 % 256;
+  size = 8;
+}
+
+-- the header of two words
+abbrev pub extended_header : ℕ → List ℕ → Result Header Refusal
+extended_header word bytes = do
+  more ← ok_or (number_at 4 bytes 4) InfoOutsideOfImage
+  Ok (header_with word more)
+
+-- the header with a first word: it has a second word if the last two numbers of the first are 0; the version is 0
+abbrev pub header_by : List ℕ → ℕ → Result Header Refusal
+header_by bytes word =
+    if word / 0x40000 % 4 == 0
+    then (if word / 0x400000 == 0 then extended_header word bytes else Ok (header_of word))
+    else Err UnknownVersion
+
+-- the header that bytes begin with
+abbrev pub header_in : List ℕ → Result Header Refusal
+header_in bytes = ok_or (number_at 4 bytes 0) InfoOutsideOfImage >>= header_by bytes
+
+-- the epilogue that an epilogue scope says: the offset of its start in 18 bits, 4 that are reserved, and the index of its
+-- codes in 10
+abbrev pub scope_of : ℕ → ℕ → List UnwindCode → ℕ → Result Epilogue Refusal
+scope_of reach length codes word = epilogue_of reach length codes (word % 0x40000) (word / 0x400000)
+
+-- the number that a list of epilogue scopes begins with
+abbrev pub first_scope : List ℕ → ℕ
+first_scope bytes = unwrap_or (number_at 4 bytes 0) 0
+
+-- so many epilogues, by their scopes, behind one that ends at an offset
+abbrev pub scopes_up_to : ℕ → ℕ → List UnwindCode → ℕ → List ℕ → Result (List Epilogue) Refusal
+scopes_up_to zero length codes reach bytes = Ok []
+scopes_up_to (suc left) length codes reach bytes = do
+  one ← scope_of reach length codes (first_scope bytes)
+  behind (one ∷ []) (scopes_up_to left length codes one.end (drop 4 bytes))
+
+-- so many epilogues, by their scopes
+unfoldable pub scopes_in : ℕ → ℕ → List UnwindCode → List ℕ → Result (List Epilogue) Refusal
+scopes_in count length codes bytes = scopes_up_to count length codes 0 bytes
+
+-- how many bytes the epilogue scopes take: four for each, and none where the one epilogue is at the end
+abbrev pub scope_bytes : Header → ℕ
+scope_bytes header = if header.is_single then 0 else 4 * header.epilogues
+
+-- the epilogues of a function, by the header and the scopes of its unwind info
+abbrev pub epilogues_by : Header → List UnwindCode → List ℕ → Result (List Epilogue) Refusal
+epilogues_by header codes scopes =
+    if header.is_single then (do
+      one ← last_epilogue header.length codes header.epilogues
+      Ok (one ∷ []))
+    else scopes_in header.epilogues header.length codes scopes
+
+-- what an unwind info says, by its header, its scopes and its codes
+abbrev pub info_by : Header → List ℕ → List UnwindCode → Result Info Refusal
+info_by header scopes codes = do
+  prologue ← own_count codes
+  epilogues ← epilogues_by header codes scopes
+  Ok (record { codes = codes; prologue = prologue; epilogues = epilogues })
+
+-- what the unwind info says that begins with these bytes: a header, the epilogue scopes, and the codes
+abbrev pub info_in : List ℕ → Result Info Refusal
+info_in bytes = do
+  header ← header_in bytes
+  scopes ← ok_or (bytes_at bytes header.size (scope_bytes header)) InfoOutsideOfImage
+  listed ← ok_or (bytes_at bytes (header.size + scope_bytes header) (4 * header.words)) CodesCut
+  info_by header scopes (codes_in listed)

@@ -1,0 +1,230 @@
+//! The text of a function's records, as Breakpad writes STACK CFI records.
+
+ghost use Rattle.std.specs.Prelude.{◌≡◌, ◌++◌, ◌<◌, ◌^◌, IfErr, Ok, OnOk, string_bytes};
+ghost use Rattle.std.specs.List.{flat_map};
+ghost use Rattle.pe_unwind_arm64.specs.CfiText.{base_name, first_text, found_text, function_text, item_text, later_text};
+ghost use Rattle.pe_unwind_arm64.specs.CfiText.{ShowText, later_texts, name, place_text, signed_decimal};
+ghost use Rattle.pe_unwind_arm64.specs.Faults.{Fails, IsRefusal};
+ghost use Rattle.pe_unwind_arm64.specs.Functions.{function_at, size_of};
+
+use crate::cfi_lines::{CfiLine, lines_of};
+use crate::cfi_records::{Found, Item, first_items, later_items};
+use crate::faults::UnwindFault;
+use crate::functions::{FunctionUnwind, read_function};
+use crate::registers::{Base, Register};
+use crate::rules::{Place, Rules};
+use pe_image::{Arm64Entry, Image};
+use std::alloc::{AllocError, Global};
+
+/// Appends the records of the function of an entry. `reach` is the end of the functions before it.
+///
+/// # Errors
+///
+/// Answers why the entry is left out; then the text is unchanged. Or memory ran out; then a part of the records may have
+/// been appended.
+pub fn push_entry(
+    alloc: Global,
+    text: &mut String,
+    image: &Image<'_>,
+    reach: u32,
+    entry: Arm64Entry,
+) -> Result<(), UnwindFault>
+    ensures answer { OnOk result (ShowText (string_bytes text.old) (string_bytes text.new)
+        (function_at image.now reach entry)) }
+    ensures unchanged { IfErr result (λ fault. IsRefusal fault → string_bytes text.new ≡ string_bytes text.old) }
+    ensures refused { IfErr result (λ fault. Fails fault (function_at image.now reach entry)) }
+{
+    let function = read_function(alloc, image, reach, entry)?;
+    push_rules(alloc, text, &function)?;
+    Ok(())
+}
+
+// Appends the records of a function.
+fn push_rules(alloc: Global, text: &mut String, function: &FunctionUnwind) -> Result<(), AllocError>
+    requires { function.now.length < 2 ^ 18 }
+    ensures answer { OnOk result (ShowText (string_bytes text.old) (string_bytes text.new) (Ok function.now)) }
+{
+    let lines = lines_of(alloc, function)?;
+    push_function(alloc, text, function, &lines)?;
+    Ok(())
+}
+
+// Appends the records of a function, by its lines.
+fn push_function(
+    alloc: Global,
+    text: &mut String,
+    function: &FunctionUnwind,
+    lines: &[CfiLine],
+) -> Result<(), AllocError>
+    requires { function.now.length < 2 ^ 18 }
+    ensures answer { OnOk result (string_bytes text.new
+        ≡ string_bytes text.old ++ function_text function.now.begin (size_of function.now) lines.now) }
+{
+    let Some((first, others)) = lines.split_first() else {
+        return Ok(());
+    };
+    let begin = function.begin;
+    push_first(alloc, text, begin, 4 * function.length, &first.rules)?;
+    push_others(alloc, text, begin, &first.rules, others)
+}
+
+// Appends the records of the lines behind one with these rules.
+fn push_others(
+    alloc: Global,
+    text: &mut String,
+    begin: u32,
+    rules: &Rules,
+    lines: &[CfiLine],
+) -> Result<(), AllocError>
+    ensures { OnOk result (string_bytes text.new ≡ string_bytes text.old ++ later_texts begin rules.now lines.now) }
+{
+    let mut old = rules;
+    for line in lines {
+        push_later(
+            alloc,
+            text,
+            u64::from(begin) + u64::from(line.offset),
+            old,
+            &line.rules,
+        )?;
+        old = &line.rules;
+    }
+    Ok(())
+}
+
+// Appends the first record of a function.
+#[tactic(auto, unfolding(crate::specs::CfiText::first_text))]
+fn push_first(
+    alloc: Global,
+    text: &mut String,
+    begin: u32,
+    size: u32,
+    rules: &Rules,
+) -> Result<(), AllocError>
+    ensures { OnOk result (string_bytes text.new ≡ string_bytes text.old ++ first_text begin size rules.now) }
+{
+    let items = first_items(alloc, rules)?;
+    write!(text, "STACK CFI INIT {begin:x} {size:x}")?;
+    push_items(text, &items)?;
+    text.push_str("\n")
+}
+
+// Appends a later record.
+#[tactic(auto, unfolding(crate::specs::CfiText::later_text))]
+fn push_later(
+    alloc: Global,
+    text: &mut String,
+    address: u64,
+    old: &Rules,
+    new: &Rules,
+) -> Result<(), AllocError>
+    ensures { OnOk result (string_bytes text.new ≡ string_bytes text.old ++ later_text address old.now new.now) }
+{
+    let items = later_items(alloc, old, new)?;
+    write!(text, "STACK CFI {address:x}")?;
+    push_items(text, &items)?;
+    text.push_str("\n")
+}
+
+// Appends items.
+fn push_items(text: &mut String, items: &[Item]) -> Result<(), AllocError>
+    ensures { OnOk result (string_bytes text.new ≡ string_bytes text.old ++ flat_map item_text items.now) }
+{
+    for &item in items {
+        push_item(text, item)?;
+    }
+    Ok(())
+}
+
+// Appends an item.
+#[tactic(auto, unfolding(crate::specs::CfiText::item_text))]
+fn push_item(text: &mut String, item: Item) -> Result<(), AllocError>
+    ensures { OnOk result (string_bytes text.new ≡ string_bytes text.old ++ item_text item) }
+{
+    match item {
+        Item::CfaItem(cfa) => {
+            text.push_str(" .cfa: ")?;
+            push_place(text, cfa)
+        }
+        Item::ReturnItem(found) => {
+            text.push_str(" .ra: ")?;
+            push_found(text, name(Register::X30), found)
+        }
+        Item::RegisterItem(register, found) => {
+            let own = name(register);
+            text.push_str(" ")?;
+            text.push_str(own)?;
+            text.push_str(": ")?;
+            push_found(text, own, found)
+        }
+    }
+}
+
+// Appends how the return address or a register is found, by its own name.
+fn push_found(text: &mut String, own: &str, found: Found) -> Result<(), AllocError>
+    ensures { OnOk result (string_bytes text.new ≡ string_bytes text.old ++ found_text own.now found) }
+{
+    match found {
+        Found::Unchanged => text.push_str(own),
+        Found::BelowCfa(bytes) => {
+            text.push_str(".cfa ")?;
+            push_signed(text, bytes)?;
+            text.push_str(" - ^")
+        }
+        Found::At(place) => {
+            push_place(text, place)?;
+            text.push_str(" ^")
+        }
+    }
+}
+
+// Appends the address of a place.
+fn push_place(text: &mut String, place: Place) -> Result<(), AllocError>
+    ensures { OnOk result (string_bytes text.new ≡ string_bytes text.old ++ place_text place) }
+{
+    text.push_str(base_name(place.base))?;
+    text.push_str(" ")?;
+    push_signed(text, place.offset)?;
+    text.push_str(" +")
+}
+
+// Appends a number in decimal digits, with a sign if it is negative.
+fn push_signed(text: &mut String, number: u64) -> Result<(), AllocError>
+    ensures { OnOk result (string_bytes text.new ≡ string_bytes text.old ++ signed_decimal number) }
+{
+    if number < 0x8000_0000_0000_0000 {
+        return write!(text, "{number}");
+    }
+    let size = u64::MAX - number + 1;
+    write!(text, "-{size}")
+}
+
+// A register as Breakpad writes it.
+fn name(register: Register) -> &'static str
+    ensures { result.now ≡ name register }
+{
+    match register {
+        Register::X19 => "x19",
+        Register::X20 => "x20",
+        Register::X21 => "x21",
+        Register::X22 => "x22",
+        Register::X23 => "x23",
+        Register::X24 => "x24",
+        Register::X25 => "x25",
+        Register::X26 => "x26",
+        Register::X27 => "x27",
+        Register::X28 => "x28",
+        Register::X29 => "x29",
+        Register::X30 => "x30",
+    }
+}
+
+// A register that places are counted from as Breakpad writes it.
+fn base_name(base: Base) -> &'static str
+    ensures { result.now ≡ base_name base }
+{
+    match base {
+        Base::Sp => "sp",
+        Base::Fp => "x29",
+    }
+}

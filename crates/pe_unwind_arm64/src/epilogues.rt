@@ -1,0 +1,181 @@
+//! Where the epilogues of a function are. Offsets in a function are counted in instructions, of four bytes each.
+
+ghost use Rattle.std.specs.Prelude.{◌≡◌, ◌≤◌, ◌<◌, ◌^◌, false, length, IfOk};
+ghost use Rattle.pe_unwind_arm64.specs.Epilogues.{counts_as, epilogue_of, epilogues_left, last_epilogue, own_count};
+ghost use Rattle.pe_unwind_arm64.specs.Epilogues.{is_frame_lost, own_count_from, saves_frame, sets_frame, with_next};
+
+use crate::faults::Refusal;
+use crate::registers::index;
+use crate::rules::is_end;
+use crate::unwind_codes::{Operation, UnwindCode, codes_from};
+
+/// An epilogue: the instructions that give a function's frame back, and the one that leaves the function.
+#[derive(Debug, Clone, Copy, PartialEq, Eq)]
+pub struct Epilogue {
+    /// The offset of its first instruction.
+    pub start: usize,
+    /// The offset behind its last instruction.
+    pub end: usize,
+    /// The index of its first code among the bytes of all codes.
+    pub index: usize,
+}
+
+/// How a code counts among those of an instruction each.
+#[derive(Clone, Copy)]
+enum Counted {
+    /// It stands for one instruction.
+    One,
+    /// The function's own codes end here.
+    Chained,
+    /// All codes end here.
+    All,
+    /// It can't be undone.
+    Bad(Refusal),
+}
+
+// How a code counts.
+fn counts_as(operation: Operation) -> Counted
+    ensures { result ≡ counts_as operation }
+{
+    match operation {
+        Operation::End => Counted::All,
+        Operation::EndChained => Counted::Chained,
+        Operation::Unusable(refusal) => Counted::Bad(refusal),
+        _ => Counted::One,
+    }
+}
+
+// With the next code counted, unless the function's own codes have ended.
+fn with_next(count: usize, chained: bool) -> usize
+    requires { count < 2 ^ 63 }
+    ensures { result ≡ with_next count chained }
+{
+    if chained { count } else { count + 1 }
+}
+
+// Whether an operation stored x29.
+fn saves_frame(operation: Operation) -> bool
+    ensures { result ≡ saves_frame operation }
+{
+    match operation {
+        Operation::Save(register, _)
+        | Operation::SaveWithLink(register, _)
+        | Operation::Push(register, _) => index(register) == 10,
+        Operation::SavePair(first, _) | Operation::PushPair(first, _) => {
+            index(first) == 9 || index(first) == 10
+        }
+        _ => false,
+    }
+}
+
+// Whether an operation set x29.
+fn sets_frame(operation: Operation) -> bool
+    ensures { result ≡ sets_frame operation }
+{
+    matches!(operation, Operation::SetFrame | Operation::AddFrame(_))
+}
+
+// Whether x29 was set before it was stored, so that what was stored isn't the caller's.
+fn is_frame_lost(codes: &[UnwindCode]) -> bool
+    ensures { result ≡ is_frame_lost false codes.now }
+{
+    let mut stored = false;
+    for &code in codes {
+        if is_end(code.operation) {
+            return false;
+        }
+        if stored && sets_frame(code.operation) {
+            return true;
+        }
+        stored = stored || saves_frame(code.operation);
+    }
+    false
+}
+
+/// How many instructions the codes at the front of some stand for, up to the end of the function's own ones.
+pub(crate) fn own_count(codes: &[UnwindCode]) -> Result<usize, Refusal>
+    ensures answer { result ≡ own_count codes.now }
+    ensures few { IfOk result (λ count. count ≤ length codes.now) }
+{
+    if is_frame_lost(codes) {
+        return Err(Refusal::FrameLost);
+    }
+    own_count_of(codes)
+}
+
+// The same, where x29 was stored before it was set.
+fn own_count_of(codes: &[UnwindCode]) -> Result<usize, Refusal>
+    ensures answer { result ≡ own_count_from 0 false codes.now }
+    ensures few { IfOk result (λ count. count ≤ length codes.now) }
+{
+    let mut count = 0;
+    let mut chained = false;
+    for &code in codes {
+        match counts_as(code.operation) {
+            Counted::All => return Ok(count),
+            Counted::Chained => chained = true,
+            Counted::Bad(refusal) => return Err(refusal),
+            Counted::One => count = with_next(count, chained),
+        }
+    }
+    Err(Refusal::CodesCut)
+}
+
+/// The epilogue that begins at an offset and whose codes are those from an index on. `reach` is the end of the one before
+/// it, and `length` that of the function.
+pub(crate) fn epilogue_of(
+    reach: usize,
+    length: u32,
+    codes: &[UnwindCode],
+    start: u32,
+    index: usize,
+) -> Result<Epilogue, Refusal>
+    ensures answer { result ≡ epilogue_of reach length codes.now start index }
+{
+    let count = own_count(codes_from(index, codes))?;
+    let start = start as usize;
+    if start < reach {
+        return Err(Refusal::EpiloguesOverlap);
+    }
+    if (length as usize) < start + count + 1 {
+        return Err(Refusal::EpilogueOutsideOfFunction);
+    }
+    Ok(Epilogue {
+        start,
+        end: start + count + 1,
+        index,
+    })
+}
+
+/// The epilogue that ends where its function does, and whose codes are those from an index on.
+pub(crate) fn last_epilogue(
+    length: u32,
+    codes: &[UnwindCode],
+    index: usize,
+) -> Result<Epilogue, Refusal>
+    ensures answer { result ≡ last_epilogue length codes.now index }
+{
+    let count = own_count(codes_from(index, codes))?;
+    let end = length as usize;
+    if end < count + 1 {
+        return Err(Refusal::EpilogueOutsideOfFunction);
+    }
+    Ok(Epilogue {
+        start: end - (count + 1),
+        end,
+        index,
+    })
+}
+
+/// The epilogues that don't end at an offset or before it.
+pub(crate) fn epilogues_left(offset: usize, epilogues: &[Epilogue]) -> &[Epilogue]
+    ensures { result.now ≡ epilogues_left offset epilogues.now }
+{
+    for position in 0..epilogues.len() {
+        if offset < epilogues[position].end {
+            let (_, rest) = epilogues.split_at(position);
+            return rest;
+        }
+    }
+    &[]
+}

@@ -1,0 +1,89 @@
+//! All unwind records of a program: those of its exception directory's entries.
+
+ghost use Rattle.std.specs.Prelude.{◌≡◌, IfOk, OnOk};
+ghost use Rattle.pe_unwind_arm64.specs.Functions.{function_at};
+ghost use Rattle.pe_unwind_arm64.specs.ProgramRecords.{Adds, AddsAll, AreUnwindRecords};
+
+use crate::cfi_text::push_entry;
+use crate::faults::{Refusal, UnwindFault};
+use crate::functions::reach_behind;
+use pe_image::{Arm64Entry, Image, arm64_entries};
+use std::alloc::{AllocError, Global};
+use std::marker::Model;
+
+/// The unwind records of a program, as text.
+#[derive(Drop)]
+pub struct UnwindRecords {
+    /// A line for each record.
+    pub text: String,
+    /// The entries of the exception directory that have no records, in their order.
+    pub left_out: Vec<LeftOut>,
+}
+
+impl Model for UnwindRecords {
+    ghost use Rattle.std.specs.Prelude.{string_bytes};
+    ghost use Rattle.pe_unwind_arm64.specs.ProgramRecords.{Written};
+
+    ghost Value = { Written };
+
+    ghost view = { λ records. record { text = string_bytes records.text; left_out = records.left_out.items } };
+}
+
+/// An entry of the exception directory that has no records.
+#[derive(Debug, Clone, Copy, PartialEq, Eq)]
+pub struct LeftOut {
+    /// The address of its function's first byte, relative to the image base.
+    pub begin: u32,
+    pub why: Refusal,
+}
+
+/// The unwind records of a program for ARM64: those of each entry of its exception directory, in this order.
+pub fn unwind_records(alloc: Global, image: &Image<'_>) -> Result<UnwindRecords, AllocError>
+    ensures answer { IfOk result (AreUnwindRecords image.now) }
+{
+    let entries = arm64_entries(alloc, image)?;
+    let mut records = UnwindRecords {
+        text: String::new(alloc),
+        left_out: Vec::new(alloc),
+    };
+    add_entries(alloc, &mut records, image, &entries)?;
+    Ok(records)
+}
+
+// Appends the records of entries.
+fn add_entries(
+    alloc: Global,
+    records: &mut UnwindRecords,
+    image: &Image<'_>,
+    entries: &[Arm64Entry],
+) -> Result<(), AllocError>
+    ensures { OnOk result (AddsAll image.now 0 entries.now records.old records.new) }
+{
+    let mut reach = 0;
+    for &entry in entries {
+        add_entry(alloc, records, image, reach, entry)?;
+        reach = reach_behind(image, reach, entry);
+    }
+    Ok(())
+}
+
+// Appends the records of an entry, or else leaves it out.
+fn add_entry(
+    alloc: Global,
+    records: &mut UnwindRecords,
+    image: &Image<'_>,
+    reach: u32,
+    entry: Arm64Entry,
+) -> Result<(), AllocError>
+    ensures { OnOk result (Adds entry (function_at image.now reach entry) records.old records.new) }
+{
+    let begin = entry.begin;
+    match push_entry(alloc, &mut records.text, image, reach, entry) {
+        Ok(()) => Ok(()),
+        Err(UnwindFault::OutOfMemory) => Err(AllocError),
+        Err(UnwindFault::Refused(why)) => {
+            records.left_out.push(LeftOut { begin, why })?;
+            Ok(())
+        }
+    }
+}

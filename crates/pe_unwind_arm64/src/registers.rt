@@ -1,0 +1,90 @@
+//! The registers of ARM64 that a function keeps for its caller, and those that places in its frame are counted from.
+
+ghost use Rattle.std.specs.Prelude.{◌≡◌, ◌<◌};
+ghost use Rattle.pe_unwind_arm64.specs.Registers.{base_number, index, register, second};
+
+/// A register that a function keeps for its caller.
+#[derive(Debug, Clone, Copy, PartialEq, Eq)]
+pub enum Register {
+    X19,
+    X20,
+    X21,
+    X22,
+    X23,
+    X24,
+    X25,
+    X26,
+    X27,
+    X28,
+    /// The frame pointer.
+    X29,
+    /// The link register, which has the return address when a function begins.
+    X30,
+}
+
+/// A register that places are counted from.
+#[derive(Debug, Clone, Copy, PartialEq, Eq)]
+pub enum Base {
+    /// The stack pointer.
+    Sp,
+    /// The frame pointer, x29.
+    Fp,
+}
+
+/// The register that is so many behind x19. Numbers above 10 are all taken for x30.
+pub(crate) fn numbered(number: usize) -> Register
+    ensures { result ≡ register number }
+{
+    match number {
+        0 => Register::X19,
+        1 => Register::X20,
+        2 => Register::X21,
+        3 => Register::X22,
+        4 => Register::X23,
+        5 => Register::X24,
+        6 => Register::X25,
+        7 => Register::X26,
+        8 => Register::X27,
+        9 => Register::X28,
+        10 => Register::X29,
+        _ => Register::X30,
+    }
+}
+
+/// How many registers behind x19 a register is, from 0 to 11.
+pub(crate) fn index(register: Register) -> usize
+    ensures answer { result ≡ index register }
+    ensures few { result < 12 }
+{
+    match register {
+        Register::X19 => 0,
+        Register::X20 => 1,
+        Register::X21 => 2,
+        Register::X22 => 3,
+        Register::X23 => 4,
+        Register::X24 => 5,
+        Register::X25 => 6,
+        Register::X26 => 7,
+        Register::X27 => 8,
+        Register::X28 => 9,
+        Register::X29 => 10,
+        Register::X30 => 11,
+    }
+}
+
+/// The register behind a register, which is stored above it where a pair is stored.
+pub(crate) fn second(first: Register) -> Register
+    ensures { result ≡ second first }
+{
+    numbered(index(first) + 1)
+}
+
+/// A number of its own for each register that places are counted from.
+pub(crate) fn base_number(base: Base) -> u8
+    ensures { result ≡ base_number base }
+{
+    match base {
+        Base::Sp => 0,
+        Base::Fp => 1,
+    }
+}

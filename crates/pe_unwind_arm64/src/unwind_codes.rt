@@ -1,0 +1,358 @@
+//! Unwind codes: what the instructions of a function's prologue did, from the last one to the first.
+
+ghost use Rattle.std.specs.Prelude.{◌≡◌, ◌≤◌, ◌<◌, drop, length, slice_index, IfOk};
+ghost use Rattle.pe_unwind_arm64.specs.UnwindCodes.{IsNear, code_size, codes_from, codes_in, float_operation, if_known, is_next};
+ghost use Rattle.pe_unwind_arm64.specs.UnwindCodes.{large_number, long_operation, next_operation, number_of_two};
+ghost use Rattle.pe_unwind_arm64.specs.UnwindCodes.{operation_behind, operation_of, other_operation, own_operation};
+ghost use Rattle.pe_unwind_arm64.specs.UnwindCodes.{pair_behind, save_operation, short_operation};
+
+use crate::faults::Refusal;
+use crate::registers::{Register, index, numbered};
+use std::alloc::{AllocError, Global};
+
+const ALLOC_Z: u8 = 0xdf;
+
+const ALLOC_L: u8 = 0xe0;
+
+const SET_FP: u8 = 0xe1;
+
+const ADD_FP: u8 = 0xe2;
+
+const NOP: u8 = 0xe3;
+
+const END: u8 = 0xe4;
+
+const END_C: u8 = 0xe5;
+
+const SAVE_NEXT: u8 = 0xe6;
+
+const SAVE_ANY_REG: u8 = 0xe7;
+
+const CLEAR_UNWOUND_TO_CALL: u8 = 0xec;
+
+const PAC_SIGN_LR: u8 = 0xfc;
+
+/// How many pairs one is behind another at most.
+const MOST_PAIRS_BEHIND: usize = 4;
+
+/// What an instruction of the prologue did. Sizes and offsets are in bytes.
+#[derive(Debug, Clone, Copy, PartialEq, Eq)]
+pub enum Operation {
+    /// It moved the stack pointer down by so much.
+    Allocate(u32),
+    /// It stored a register, so far above the stack pointer.
+    Save(Register, u32),
+    /// It stored a register and the one behind it, so far above the stack pointer.
+    SavePair(Register, u32),
+    /// It stored a register and x30, so far above the stack pointer.
+    SaveWithLink(Register, u32),
+    /// It moved the stack pointer down by so much, and stored a register there.
+    Push(Register, u32),
+    /// It moved the stack pointer down by so much, and stored a register and the one behind it there.
+    PushPair(Register, u32),
+    /// It stored a pair of registers of floating point numbers.
+    SaveFloats,
+    /// It moved the stack pointer down by so much, and stored a pair of registers of floating point numbers there.
+    PushFloats(u32),
+    /// It set x29 to the stack pointer.
+    SetFrame,
+    /// It set x29 to so much above the stack pointer.
+    AddFrame(u32),
+    /// Nothing that is shown.
+    Unseen,
+    /// No instruction: here all codes end.
+    End,
+    /// No instruction: here the function's own codes end, and those of the function follow that it is a part of.
+    EndChained,
+    /// The code can't be undone.
+    Unusable(Refusal),
+}
+
+/// An unwind code.
+#[derive(Debug, Clone, Copy, PartialEq, Eq)]
+pub struct UnwindCode {
+    /// How many bytes of all codes are before it.
+    pub index: usize,
+    pub operation: Operation,
+}
+
+/// All unwind codes in these bytes.
+#[tactic(auto, unfolding(crate::specs::UnwindCodes::codes_in))]
+pub(crate) fn codes_in(alloc: Global, bytes: &[u8]) -> Result<Vec<UnwindCode>, AllocError>
+    ensures answer { IfOk result (λ codes. codes.items ≡ codes_in bytes.now) }
+{
+    let mut codes = Vec::new(alloc);
+    let mut rest = bytes;
+    for _ in 0..bytes.len() {
+        if rest.is_empty() {
+            break;
+        }
+        codes.push(UnwindCode {
+            index: bytes.len() - rest.len(),
+            operation: operation_of(rest),
+        })?;
+        rest = bytes_behind(rest, code_size(rest[0]));
+    }
+    Ok(codes)
+}
+
+/// The codes from the one with an index on.
+pub(crate) fn codes_from(index: usize, codes: &[UnwindCode]) -> &[UnwindCode]
+    ensures { result.now ≡ codes_from index codes.now }
+{
+    for position in 0..codes.len() {
+        if codes[position].index == index {
+            let (_, rest) = codes.split_at(position);
+            return rest;
+        }
+    }
+    &[]
+}
+
+/// The bytes from an offset on, none where there are not so many.
+pub(crate) fn bytes_behind(bytes: &[u8], at: usize) -> &[u8]
+    ensures answer { result.now ≡ drop at bytes.now }
+    ensures shorter { length result.now ≤ length bytes.now }
+{
+    if bytes.len() < at {
+        return &[];
+    }
+    let (_, rest) = bytes.split_at(at);
+    rest
+}
+
+// The byte at a position, 0 where there is none.
+fn byte_at(bytes: &[u8], position: usize) -> u8
+    ensures { result ≡ slice_index bytes.now position }
+{
+    bytes.get(position).copied().unwrap_or(0)
+}
+
+// How many bytes a code takes, by its first byte.
+fn code_size(byte: u8) -> usize
+    ensures { result ≡ code_size byte }
+{
+    if byte < 0xc0 {
+        return 1;
+    }
+    if byte < ALLOC_L {
+        return 2;
+    }
+    match byte {
+        ALLOC_L => 4,
+        ADD_FP => 2,
+        SAVE_ANY_REG => 3,
+        _ => 1,
+    }
+}
+
+// What a code of one byte below C0 says that was done.
+fn short_operation(byte: u8) -> Operation
+    ensures near { IsNear result }
+    ensures answer { result ≡ short_operation byte }
+{
+    let number = u32::from(byte);
+    if number < 0x20 {
+        return Operation::Allocate(number * 16);
+    }
+    if number < 0x40 {
+        return Operation::PushPair(Register::X19, (number - 0x20) * 8);
+    }
+    if number < 0x80 {
+        return Operation::SavePair(Register::X29, (number - 0x40) * 8);
+    }
+    Operation::PushPair(Register::X29, (number - 0x80) * 8 + 8)
+}
+
+// The operation on a register, if there is such a register: the last of them is so many behind x19.
+fn if_known(last: u32, operation: Operation) -> Operation
+    requires { IsNear operation }
+    ensures near { IsNear result }
+    ensures answer { result ≡ if_known last operation }
+{
+    if last <= 11 {
+        operation
+    } else {
+        Operation::Unusable(Refusal::UnknownRegister)
+    }
+}
+
+// What a code says that was done with registers of general use, by its first byte and by the number that it is.
+fn save_operation(byte: u8, number: u32) -> Operation
+    ensures near { IsNear result }
+    ensures answer { result ≡ save_operation byte number }
+{
+    let behind = number / 64 % 16;
+    let first = numbered(behind as usize);
+    let offset = number % 64 * 8;
+    if byte < 0xcc {
+        return if_known(behind + 1, Operation::SavePair(first, offset));
+    }
+    if byte < 0xd0 {
+        return if_known(behind + 1, Operation::PushPair(first, offset + 8));
+    }
+    if byte < 0xd4 {
+        return if_known(behind, Operation::Save(first, offset));
+    }
+    if byte < 0xd6 {
+        let one = number / 32 % 16;
+        let pushed = Operation::Push(numbered(one as usize), number % 32 * 8 + 8);
+        return if_known(one, pushed);
+    }
+    let twice = 2 * (number / 64 % 8);
+    if_known(
+        twice + 1,
+        Operation::SaveWithLink(numbered(twice as usize), offset),
+    )
+}
+
+// What a code says that was done with registers of floating point numbers.
+fn float_operation(byte: u8, number: u32) -> Operation
+    ensures near { IsNear result }
+    ensures answer { result ≡ float_operation byte number }
+{
+    if byte < 0xda {
+        return Operation::SaveFloats;
+    }
+    if byte < 0xdc {
+        return Operation::PushFloats(number % 64 * 8 + 8);
+    }
+    if byte < 0xde {
+        return Operation::Unseen;
+    }
+    Operation::Allocate(number % 32 * 8 + 8)
+}
+
+// What a code of two bytes says that was done, by the first byte and the number that both are.
+fn long_operation(byte: u8, number: u32) -> Operation
+    ensures near { IsNear result }
+    ensures answer { result ≡ long_operation byte number }
+{
+    if byte < 0xc8 {
+        return Operation::Allocate(number % 2048 * 16);
+    }
+    if byte < 0xd8 {
+        return save_operation(byte, number);
+    }
+    if byte == ALLOC_Z {
+        return Operation::Unusable(Refusal::ScalableVectors);
+    }
+    float_operation(byte, number)
+}
+
+// The number in the two bytes that a code begins with, the first one the higher.
+fn number_of_two(bytes: &[u8]) -> u32
+    ensures { result ≡ number_of_two bytes.now }
+{
+    u32::from(byte_at(bytes, 0)) * 256 + u32::from(byte_at(bytes, 1))
+}
+
+// The number in the three bytes behind the first one of a code, the first of them the highest.
+fn large_number(bytes: &[u8]) -> u32
+    ensures answer { result ≡ large_number bytes.now }
+    ensures large { result < 16777216 }
+{
+    u32::from(byte_at(bytes, 1)) * 65536
+        + u32::from(byte_at(bytes, 2)) * 256
+        + u32::from(byte_at(bytes, 3))
+}
+
+// What a code says that was done whose first byte is E0 or above.
+fn other_operation(byte: u8, bytes: &[u8]) -> Operation
+    ensures near { IsNear result }
+    ensures answer { result ≡ other_operation byte bytes.now }
+{
+    match byte {
+        ALLOC_L => Operation::Allocate(large_number(bytes) * 16),
+        SET_FP => Operation::SetFrame,
+        ADD_FP => Operation::AddFrame(u32::from(byte_at(bytes, 1)) * 8),
+        NOP => Operation::Unseen,
+        END => Operation::End,
+        END_C => Operation::EndChained,
+        SAVE_NEXT => Operation::Unusable(Refusal::NextOfNoPair),
+        SAVE_ANY_REG => Operation::Unusable(Refusal::AnyRegister),
+        _ if byte <= CLEAR_UNWOUND_TO_CALL => Operation::Unusable(Refusal::CustomStack),
+        PAC_SIGN_LR => Operation::Unseen,
+        _ => Operation::Unusable(Refusal::UnknownCode),
+    }
+}
+
+// What the code says that was done that bytes begin with, if they have all of it.
+fn own_operation(bytes: &[u8]) -> Operation
+    ensures near { IsNear result }
+    ensures answer { result ≡ own_operation bytes.now }
+{
+    let byte = byte_at(bytes, 0);
+    if bytes.len() < code_size(byte) {
+        return Operation::Unusable(Refusal::CodesCut);
+    }
+    if byte < 0xc0 {
+        return short_operation(byte);
+    }
+    if byte < ALLOC_L {
+        return long_operation(byte, number_of_two(bytes));
+    }
+    other_operation(byte, bytes)
+}
+
+// The pair that is so many pairs behind one.
+fn pair_behind(count: usize, first: Register, offset: u32) -> Operation
+    requires count { count ≤ 5 }
+    requires offset { offset < 1024 }
+    ensures { result ≡ pair_behind count first offset }
+{
+    let behind = index(first) + 2 * count;
+    if behind <= 8 {
+        Operation::SavePair(numbered(behind), offset + 16 * count as u32)
+    } else {
+        Operation::Unusable(Refusal::NextOfNoPair)
+    }
+}
+
+// What the first of so many save_next codes says that was done, by the operation of the code behind them.
+fn operation_behind(count: usize, operation: Operation) -> Operation
+    requires count { count ≤ 5 }
+    requires near { IsNear operation }
+    ensures { result ≡ operation_behind count operation }
+{
+    match operation {
+        Operation::SavePair(first, offset) => pair_behind(count, first, offset),
+        Operation::PushPair(first, _) => pair_behind(count, first, 0),
+        Operation::SaveFloats | Operation::PushFloats(_) => Operation::SaveFloats,
+        _ => Operation::Unusable(Refusal::NextOfNoPair),
+    }
+}
+
+// Whether bytes begin with a save_next code.
+fn is_next(bytes: &[u8]) -> bool
+    ensures { result ≡ is_next bytes.now }
+{
+    byte_at(bytes, 0) == SAVE_NEXT
+}
+
+// What a save_next code says that was done, by the bytes behind it.
+fn next_operation(bytes: &[u8]) -> Operation
+    ensures { result ≡ next_operation bytes.now }
+{
+    let mut count = 1;
+    let mut rest = bytes;
+    for _ in 0..MOST_PAIRS_BEHIND {
+        if !is_next(rest) {
+            break;
+        }
+        count += 1;
+        rest = bytes_behind(rest, 1);
+    }
+    operation_behind(count, own_operation(rest))
+}
+
+// What the code says that was done that bytes begin with.
+fn operation_of(bytes: &[u8]) -> Operation
+    ensures { result ≡ operation_of bytes.now }
+{
+    if is_next(bytes) {
+        next_operation(bytes_behind(bytes, 1))
+    } else {
+        own_operation(bytes)
+    }
+}
