@@ -3,11 +3,12 @@
 
 Usage: unwind_tables.py PROGRAM COUNT [SEED] [EXE..]
 
-Each EXE is an x64 program with its PDB file beside it, under the same name; without one, shapes.exe of
+Each EXE is a program for x64 or ARM64 with its PDB file beside it, under the same name; without one, shapes.exe of
 crates/pdb_symbolizer/data is taken. A copy has some bytes of its sections `.pdata`, `.rdata`, `.xdata` and `.text`, or of
 its headers, flipped, exchanged or made huge. `pdb_symbolizer --dump-syms` then has to end with status 0, 1 or 2 within ten
 seconds. If the status is 0, its STACK CFI records must be those of stack_records.py, the second implementation in
-crates/pdb_symbolizer_tests/data, and there must be a line on standard error for each entry that this leaves out.
+crates/pdb_symbolizer_tests/data, and there must be a line on standard error for each entry that this leaves out. There is
+no second implementation for ARM64, so records of such a program aren't compared.
 """
 import pathlib
 import random
@@ -64,6 +65,11 @@ def expected(copy):
         return [], []
 
 
+def is_arm64(copy):
+    """Whether a copy is for ARM64."""
+    return copy.find(b"PE\0\0\x64\xaa") >= 0
+
+
 def outcome(program, path, copy):
     """The status of a run on a copy, and what is wrong with it, if anything is."""
     path.write_bytes(copy)
@@ -73,7 +79,7 @@ def outcome(program, path, copy):
         return None, "takes more than ten seconds"
     if run.returncode not in (0, 1, 2):
         return run.returncode, f"status {run.returncode}"
-    if run.returncode != 0:
+    if run.returncode != 0 or is_arm64(copy):
         return run.returncode, None
     found = [line for line in run.stdout.decode(errors="replace").splitlines() if line.startswith("STACK")]
     told = run.stderr.count(b": no unwind records at ")

@@ -24,7 +24,7 @@ RECORDS = {
     "INLINE_ORIGIN": re.compile(f"INLINE_ORIGIN {NUMBER} (.+)"),
     "FUNC": re.compile(f"FUNC (m )?{HEX} {HEX} {HEX} (.+)"),
     "PUBLIC": re.compile(f"PUBLIC (m )?{HEX} {HEX} (.+)"),
-    "STACK": re.compile(f"STACK CFI (INIT {HEX} {HEX}|{HEX})( \\S.*)"),
+    "STACK": re.compile(f"STACK (CFI (INIT {HEX} {HEX}|{HEX}) \\S.*|WIN 4( {HEX}){{8}} 1 .*|WIN [0-3]( {HEX}){{8}} 0 [01])"),
     "INLINE": re.compile(f"INLINE {NUMBER} {NUMBER} {NUMBER} {NUMBER}((?: {HEX} {HEX})+)"),
 }
 LINE = re.compile(f"{HEX} {HEX} {NUMBER} {NUMBER}")

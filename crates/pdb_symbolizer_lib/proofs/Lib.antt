@@ -1,6 +1,5 @@
 pub mod AnswerLemmas
 pub mod AnsweredTextLemmas
-pub mod EarlyEndLemmas
 pub mod FileAnswerLemmas
 pub mod LineAnswerLemmas
 pub mod LineLemmas

@@ -1,13 +1,7 @@
 -- Frames of which the last goes by a public name.
-use Rattle.std.proofs.Common.{◌≡◌, ◌∙◌, ℕ, List, [], ◌∷◌, ◌++◌, Option, Some, None, false, length, refl, ap, sym}
-use Rattle.std.specs.Prelude.{option_and_then, if◌then◌else◌}
-use Rattle.pdb_records.specs.Addresses.{internal_offset}
-use Rattle.pdb_records.specs.Records.{Records}
-use Rattle.pdb_records.specs.declared.addresses.PdbInternalSectionOffset.{PdbInternalSectionOffset}
-use Rattle.pdb_frames.specs.Frame.{FrameInfo, FramesInfo}
-use Rattle.pdb_symbolizer_lib.specs.PublicNames.{decorated, decorated_frame, decorated_last, function_name}
-use Rattle.pdb_symbolizer_lib.specs.PublicNames.{public_name_in, sections_of, shows_decorated_names, wanted_name}
-use Rattle.pdb_symbolizer_lib.specs.declared.options.Options.{Options}
+use Rattle.std.proofs.Common.{◌≡◌, ◌∙◌, ℕ, List, [], ◌∷◌, ◌++◌, Option, length, refl, ap, sym}
+use Rattle.pdb_frames.specs.Frame.{FrameInfo}
+use Rattle.pdb_symbolizer_lib.specs.PublicNames.{decorated_frame, decorated_last}
 
 -- the last of some frames goes by this name, and those before it stay
 last_is_decorated : (name : Option (List ℕ)) (front : List FrameInfo) (last : FrameInfo)
@@ -29,26 +23,3 @@ pub none_is_decorated : (name : Option (List ℕ)) (frames rest : List FrameInfo
 none_is_decorated name [] [] is none = refl
 none_is_decorated name [] (f ∷ rest) is none = absurd cc
 none_is_decorated name (f ∷ frames) rest is none = absurd cc
-
--- without a name the last of some frames stays
-last_stays : (frames : List FrameInfo) → decorated_last None frames ≡ frames
-last_stays [] = refl
-last_stays (f ∷ []) = refl
-last_stays (f ∷ next ∷ rest) = ap (λ frames. f ∷ frames) (last_stays (next ∷ rest))
-
--- without a name the frames of a function stay
-pub frames_stay : (f : FramesInfo) → decorated None f ≡ f
-frames_stay f = ap (λ (frames : List FrameInfo). record f { frames = frames }) (last_stays f.frames)
-
--- where decorated names are not wanted, nothing has one
-none_wanted_at : (options : Options) (records : Records) (start : Option PdbInternalSectionOffset)
-    → shows_decorated_names options ≡ false → option_and_then (wanted_name options records) start ≡ None
-none_wanted_at options records None unwanted = refl
-none_wanted_at options records (Some start) unwanted =
-    ap (λ wanted. if wanted then public_name_in records start else None) unwanted
-
--- where decorated names are not wanted, no function has one
-pub none_is_wanted : (options : Options) (records : Records) (start : ℕ) → shows_decorated_names options ≡ false
-    → function_name options records start ≡ None
-none_is_wanted options records start unwanted =
-    none_wanted_at options records (internal_offset (sections_of records.address_map) (record { 0 = start })) unwanted

@@ -155,16 +155,6 @@ word_ends answers style words number word text old middle new within is so_far r
   written = amid;
 }
 
--- before the first word
-pub no_words : (answers : List ℕ → List ℕ → Type 0) (style : Style) (words : List (List ℕ))
-    (old middle : Option (List ℕ)) → Appends old middle (list_start style)
-    → Answered answers (front_text style) (take 0 words) old middle
-no_words answers style words old middle written = record {
-  texts = [];
-  each = tt;
-  written = subst (Appends old middle) (sym (append-nil (list_start style))) written;
-}
-
 -- the run ends before the first word
 pub words_refused : {A E : Type 0} (answers : List ℕ → List ℕ → Type 0) (style : Style) (words : List (List ℕ))
     (old new : Option (List ℕ)) (result : Result A E) → IsErr result

@@ -16,6 +16,7 @@ mod file_answers;
 mod file_bytes;
 mod foreign_files;
 mod frame_answers;
+mod frame_data_records;
 mod identities;
 mod input_files;
 mod line_answers;

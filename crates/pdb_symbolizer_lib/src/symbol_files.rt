@@ -1,5 +1,6 @@
 //! The Breakpad symbol file that `--dump-syms` writes, on standard output or into a store.
 
+use crate::frame_data_records::frame_data_records;
 use crate::identities::identity_in;
 use crate::input_files::{SourceFile, find_file};
 use crate::opened_files::{OpenedFile, open_source};
@@ -29,12 +30,14 @@ pub fn dump_symbols<R: Files + Print + Eprint + AllocGlobal>(
     }
     let mut source = find_file(rt, status_line, options, path)?;
     let identity = identity_of_source(rt.alloc(), &mut source)?;
+    let machine = identity.and_then(|identity| identity.machine);
+    let mut unwind = frame_data_records(rt, &mut source, machine)?;
     let mut input = open_source(rt, source)?;
     input.read_all(rt)?;
     let Some(identity) = identity else {
         return Err(RunError::NoIdentity(String::from_str(rt.alloc(), input.path.as_str())?));
     };
-    let unwind = unwind_records(rt, path)?;
+    unwind.push_str(&unwind_records(rt, path)?)?;
     dump_over(rt, options, place, path, &input, identity, unwind.as_str())
 }
 

@@ -21,11 +21,14 @@ class Image:
         directories = struct.unpack_from("<I", data, optional + 108)[0]
         self.directory = struct.unpack_from("<II", data, optional + 112 + 8 * 3) if directories > 3 else (0, 0)
         self.is_x64 = machine == 0x8664
-        self.sections = []
+        self.sections, self.loaded, self.code = [], [], []
         for n in range(count):
             at = optional + optional_size + 40 * n
-            _, rva, size, offset = struct.unpack_from("<IIII", data, at + 8)
+            loaded, rva, size, offset = struct.unpack_from("<IIII", data, at + 8)
             self.sections.append((rva, size, offset))
+            self.loaded.append((n, rva, min(loaded, size)))
+            if struct.unpack_from("<I", data, at + 36)[0] & 0x20000000:
+                self.code.append(self.loaded[-1])
 
     def rest(self, rva):
         """The bytes from an address on, up to the end of its section."""
@@ -155,7 +158,7 @@ def epilogue(code, own, begin, end, at):
         elif left[2] == 0xA0 + (frame & 7) and len(left) >= 7:
             base, k = frame, signed(left[3:7]); left = left[7:]
     for _ in range(16):
-        if left and 0x58 <= left[0] < 0x60:
+        if left and 0x58 <= left[0] < 0x60 and left[0] != 0x5C:
             saved[left[0] - 0x58] = (base, k); k += 8; left = left[1:]
         elif len(left) > 1 and left[0] == 0x41 and 0x58 <= left[1] < 0x60:
             saved[left[1] - 0x50] = (base, k); k += 8; left = left[2:]
@@ -252,6 +255,28 @@ def code_of(image, reach, begin, end):
     return code
 
 
+def code_ranges(image):
+    """The ranges of sections that can be executed, without those that begin before the end of a section before them."""
+    ends = [min(rva + size, 2**32 - 1) for _, rva, size in image.loaded]
+    for number, rva, size in image.code:
+        if all(end <= rva for end in ends[:number]):
+            yield rva, min(rva + size, 2**32 - 1)
+
+
+def leaf_records(image):
+    """The records of code that no entry covers, but for padding: fewer than 16 bytes of int3."""
+    covering = [(begin, end) for begin, end, _ in entries(image) if begin < end]
+    if any(begin < end for (_, end), (begin, _) in zip(covering, covering[1:])):
+        return
+    for start, stop in code_ranges(image):
+        at = start
+        for begin, end in [*covering, (stop, stop)]:
+            size = min(begin, stop) - at
+            if size > 0 and (size >= 16 or set(image.rest(at)[:size]) - {0xCC}):
+                yield f"STACK CFI INIT {at:x} {size:x} .cfa: $rsp 8 + .ra: .cfa 8 - ^"
+            at = max(at, end)
+
+
 def stack_records(data):
     """The records of a program's file, and why functions have none."""
     image, rows, left_out, reach = Image(data), [], [], 0
@@ -277,6 +302,8 @@ def stack_records(data):
                 rows.append(f"STACK CFI INIT {begin:x} {end - begin:x} {' '.join(changed)}")
             elif changed:
                 rows.append(f"STACK CFI {begin + offset:x} {' '.join(changed)}")
+    if image.is_x64:
+        rows += leaf_records(image)
     return rows, left_out
 
 

@@ -11,8 +11,9 @@ file stands under `symbols`: clang writes the name of its folder into a PDB file
 are also high.pdb, which is broken_parts.pdb with its section at the end of all addresses, and its public symbol in the
 last function; device.exe and folder.exe, which are other.exe with a device and a folder in place of its PDB file's path;
 and device.json, which is names.json with a device as a module's file. parts_of_other_modules.pdb is that of
-pdb_container_tests. inline_faults.py writes inline_faults.pdb, and
-overlapping_sections.py overlapping_sections.pdb.
+pdb_container_tests. inline_faults.py writes inline_faults.pdb,
+overlapping_sections.py overlapping_sections.pdb, frame_data.py frame_data.pdb, and
+arm64_program.py arm64.exe and arm64.pdb.
 """
 import itertools
 import json
@@ -22,6 +23,8 @@ import struct
 import subprocess
 import sys
 
+from arm64_program import arm64_cases
+from frame_data import frame_data_cases
 from inline_faults import inline_fault_cases
 from overlapping_sections import overlapping_section_cases
 from request_cases import request_cases
@@ -511,6 +514,7 @@ def api_cases(folder):
 def main(words):
     made = [*llvm_cases(words[0]), *habit_cases(words[0]), *name_cases(), *address_cases(), *program_cases(), *broken_cases(),
             *module_cases(), *inline_fault_cases(error, ENDED), *overlapping_section_cases(ENDED),
+            *frame_data_cases(error, ENDED), *arm64_cases(error, ENDED),
             *identity_cases(), *records_cases(),
             *symbol_file_cases(words[0]), *api_cases(words[0])]
     (HERE / "cases.txt").write_text("".join(f"{line}\n" for line, _ in made), encoding="utf-8")
