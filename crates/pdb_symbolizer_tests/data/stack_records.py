@@ -61,9 +61,10 @@ def info(image, rva):
     if version not in (1, 2):
         raise ValueError(f"version {version}")
     slots = image.read(rva + 4, 2 * count)
-    codes, at, epilogs = [], 0, []
+    codes, at, epilogs, listing = [], 0, [], True
     while at < count:
         offset, op = slots[2 * at], slots[2 * at + 1] & 15
+        listing = listing and op == 6
         extra = slots[2 * at + 1] >> 4
         u16 = lambda k: struct.unpack_from("<H", slots, 2 * (at + k))[0]
         u32 = lambda k: struct.unpack_from("<I", slots, 2 * (at + k))[0]
@@ -82,7 +83,7 @@ def info(image, rva):
         elif op == 5:
             codes.append((offset, "save", (extra, u32(1)))); at += 3
         elif op == 6 and version == 2:
-            epilogs.append((offset, extra)); at += 1
+            epilogs += [(offset, extra)] * listing; at += 1
         elif op == 7 and version == 2:
             at += 3
         elif op == 8:
@@ -190,7 +191,7 @@ def epilogue2(image, own, length, offset):
     starts = [length - size] if flag & 1 else []
     starts += [length - (low + high * 256) for low, high in own["epilogs"][1:] if low + high * 256]
     for start in starts:
-        if start <= offset < start + size:
+        if 0 <= start <= offset < start + size:
             into, k, saved, at = offset - start, 0, {}, 0
             for _, op, register in own["codes"]:
                 if op == "push":
