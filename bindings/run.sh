@@ -4,8 +4,8 @@
 # Usage: bindings/run.sh [FOLDER]
 #
 # What is built is left in FOLDER, which is else a new one that is removed at the end. Wanted are rt, gcc, g++, make,
-# cmake, pkg-config, valgrind, cargo with clippy, and python3. Nothing is fetched. The library is proved and built here,
-# or taken from the folder LIMBERLIME_BUILT (packaging/built.sh).
+# cmake, pkg-config, valgrind, cargo with clippy, and python3. Tests of bags are skipped if python3 has no Dask. Nothing
+# is fetched. The library is proved and built here, or taken from the folder LIMBERLIME_BUILT (packaging/built.sh).
 set -eu
 
 top=$(cd "$(dirname "$0")/.." && pwd)

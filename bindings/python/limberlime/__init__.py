@@ -17,6 +17,7 @@ import pathlib
 import threading
 from typing import Callable, Iterator, NamedTuple, Optional, Sequence, Union
 
+from .bags import StackFrame, symbolicate_bag
 from .library import FunctionFrames as _FunctionFrames
 from .library import Handle as _Handle
 from .library import ModuleFileCall as _ModuleFileCall
@@ -26,7 +27,8 @@ from .library import closed as _closed
 from .library import text_of as _text_of
 from .refusals import Error, Refusal
 
-__all__ = ["Error", "Frame", "Frames", "Function", "Program", "Refusal", "debug_id", "machine", "version"]
+__all__ = ["Error", "Frame", "Frames", "Function", "Program", "Refusal", "StackFrame", "debug_id", "machine",
+           "symbolicate_bag", "version"]
 
 
 class Frame(NamedTuple):

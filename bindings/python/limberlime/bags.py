@@ -1,0 +1,188 @@
+"""Stacks over many PDB files, answered by Dask.
+
+A stack is a list of frames, and a frame is the name of a PDB file, its debug id, and an offset from where its program
+is loaded. PDB files are in a folder as symbol servers have them: STORE/app.pdb/DEBUGID/app.pdb.
+
+First each partition of the bag lists its different frames, by PDB file. Then each PDB file is opened in one task, which
+looks up the offsets of all partitions. At last each partition puts the answers into its stacks.
+"""
+from __future__ import annotations
+
+import collections
+import os
+import pathlib
+import re
+import threading
+import zlib
+from typing import TYPE_CHECKING, Dict, Iterable, List, NamedTuple, Optional, Tuple
+
+import limberlime
+
+if TYPE_CHECKING:
+    import dask.bag
+
+MOST_GROUPS = 64
+MOST_PROGRAMS = 64
+PAGE_BITS = 12
+NEEDED = ("limberlime.symbolicate_bag needs Dask: install Debian's package python3-distributed, or run "
+          "`pip install dask distributed`")
+DEBUG_ID = re.compile("[0-9a-fA-F]{33,40}")
+
+# A PDB file: its name and its debug id, as stacks have them. By these it has the offsets that are asked for, or their
+# answers.
+File = Tuple[str, str]
+Asked = Dict[File, List[int]]
+Answers = Dict[File, Dict[int, "StackFrame"]]
+
+
+class StackFrame(NamedTuple):
+    """What is known of a frame of a stack.
+
+    `pdb`, `debug_id` and `offset` are those of the frame. `found` says whether the store has a PDB file of this debug
+    id that can be read. `function`, `file` and `line` are those of the function whose code contains the offset, and
+    `inlined` has the functions that are inlined there, the innermost first. What is not known is None."""
+
+    pdb: str
+    debug_id: str
+    offset: int
+    found: bool
+    function: Optional[str]
+    file: Optional[str]
+    line: Optional[int]
+    inlined: Tuple[limberlime.Frame, ...]
+
+
+def symbolicate_bag(bag: dask.bag.Bag, store: os.PathLike, *, groups: Optional[int] = None,
+                    tasks_per_file: int = 1) -> dask.bag.Bag:
+    """The stacks of a bag with each frame answered.
+
+    An element of `bag` is a stack: a list of frames (name of the PDB file, debug id, offset). An element of the result
+    is a list of StackFrame. The result has as many partitions as `bag`, and the same stacks in the same order, each
+    with its frames in the same order.
+
+    Workers read PDB files from the folder `store`, each file in `tasks_per_file` tasks at most: with 1, the default,
+    one task looks up all offsets of a file. Files are spread over `groups` tasks: as many as `bag` has partitions, but
+    at most 64, where it is None. A worker keeps the last 64 files that it opened.
+
+    Nothing is computed before the result is. Then all stacks are in the workers' memory until all are answered.
+    """
+    try:
+        import dask
+        import dask.bag
+    except ImportError as error:
+        raise ImportError(NEEDED) from error
+    parts = [dask.delayed(list)(part) for part in bag.to_delayed()]
+    groups = groups or min(max(len(parts), 1), MOST_GROUPS)
+    asked = [dask.delayed(_asked, nout=groups)(part, groups, tasks_per_file) for part in parts]
+    answer = dask.delayed(_answered, nout=len(parts))
+    answers = [answer(os.fspath(store), [one[group] for one in asked]) for group in range(groups)]
+    join = dask.delayed(_joined)
+    stacks = [join(part, [one[place] for one in answers]) for place, part in enumerate(parts)]
+    return dask.bag.from_delayed(stacks)
+
+
+def _asked(stacks: Iterable, groups: int, tasks_per_file: int) -> List[Asked]:
+    """The offsets that stacks ask for, by group and PDB file, each once and in ascending order."""
+    offsets = collections.defaultdict(set)
+    for stack in stacks:
+        for pdb, debug_id, offset in stack:
+            offsets[pdb, debug_id].add(offset)
+    asked: List[Asked] = [collections.defaultdict(list) for _ in range(groups)]
+    for file, some in offsets.items():
+        first = _number(file)
+        for offset in sorted(some):
+            # Offsets of one page belong to one task: what was read for one often answers the next.
+            asked[(first + (offset >> PAGE_BITS) % tasks_per_file) % groups][file].append(offset)
+    return asked
+
+
+def _number(file: File) -> int:
+    """A number of a PDB file, which is the same in all processes."""
+    return zlib.crc32(f"{file[0]}/{file[1].upper()}".encode("utf-8", "replace"))
+
+
+def _answered(store: str, asked: List[Asked]) -> List[Answers]:
+    """The answers of a group, for each partition."""
+    offsets = collections.defaultdict(set)
+    for one in asked:
+        for file, some in one.items():
+            offsets[file].update(some)
+    known = {file: _file_answers(store, file, sorted(some)) for file, some in offsets.items()}
+    return [{file: {offset: known[file][offset] for offset in some} for file, some in one.items()} for one in asked]
+
+
+def _file_answers(store: str, file: File, offsets: List[int]) -> Dict[int, StackFrame]:
+    """The answers over a PDB file."""
+    program = _programs.get(store, file)
+    return {offset: _stack_frame(program, file, offset) for offset in offsets}
+
+
+def _stack_frame(program: Optional[limberlime.Program], file: File, offset: int) -> StackFrame:
+    """The answer at an offset. One that has more than 32 bits is in no function."""
+    frames = program.find_frames(offset) if program and 0 <= offset < 2**32 else ()
+    *inlined, outer = frames or [limberlime.Frame(None, None, None)]
+    return StackFrame(*file, offset, program is not None, *outer, tuple(inlined))
+
+
+def _joined(stacks: List, answers: List[Answers]) -> List[List[StackFrame]]:
+    """The stacks of a partition with the answers of all groups."""
+    known: Answers = collections.defaultdict(dict)
+    for one in answers:
+        for file, some in one.items():
+            known[file].update(some)
+    return [[known[pdb, debug_id][offset] for pdb, debug_id, offset in stack] for stack in stacks]
+
+
+def _path(store: str, file: File) -> Optional[pathlib.Path]:
+    """Where a store has a PDB file. A name that would lead out of the store has no place there."""
+    name, debug_id = file
+    if name in ("", ".", "..") or any(mark in name for mark in "/\\:\0") or not DEBUG_ID.fullmatch(debug_id):
+        return None
+    return pathlib.Path(store, name, debug_id.upper(), name)
+
+
+def _opened(store: str, file: File) -> Optional[limberlime.Program]:
+    """Opens a PDB file of a store. There is None if it is missing, can't be read, or is of another build."""
+    path = _path(store, file)
+    try:
+        data = path.read_bytes() if path else b""
+        if not data or limberlime.debug_id(data) != file[1].upper():
+            return None
+        return limberlime.Program.open_pdb(data)
+    except OSError:
+        return None
+    except limberlime.Error as error:
+        if error.refusal == limberlime.Refusal.OUT_OF_MEMORY:
+            raise
+        return None
+
+
+class _Slot:
+    """A PDB file that is opened once, by the first thread that needs it. One that can't be opened is tried again."""
+
+    def __init__(self) -> None:
+        self.lock, self.opened, self.program = threading.Lock(), False, None
+
+
+class _Programs:
+    """The PDB files that this process opened last."""
+
+    def __init__(self) -> None:
+        self._lock, self._slots = threading.Lock(), collections.OrderedDict()
+
+    def get(self, store: str, file: File) -> Optional[limberlime.Program]:
+        """A PDB file, which is opened unless it is kept."""
+        key = store, file[0], file[1].upper()
+        with self._lock:
+            slot = self._slots.setdefault(key, _Slot())
+            self._slots.move_to_end(key)
+            while len(self._slots) > MOST_PROGRAMS:
+                self._slots.popitem(last=False)
+        with slot.lock:
+            if not slot.opened:
+                slot.program = _opened(store, file)
+                slot.opened = slot.program is not None
+            return slot.program
+
+
+_programs = _Programs()
