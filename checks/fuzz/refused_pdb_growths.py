@@ -27,6 +27,7 @@ CASES = [
     ("pdb_symbolizer/data", ["-p", "shapes.pdb"], b"0x1136\n0x10b0\n0x1180\n"),
     ("pdb_symbolizer/data", ["-p"], b"shapes.pdb 0x1136\nshapes.pdb 0x10b0\nshapes.exe 0x140001136\n"),
     ("pdb_symbolizer_tests/data", ["--print-source-context-lines=3", "--no-demangle", "source.pdb", "0x1136", "0x1180"], b""),
+    ("pdb_symbolizer_tests/data", ["-p"], b"arm64.pdb 0x1104\nsource.exe 0x140001136\narm64.pdb 0x1104\nsource.exe 0x1400010b0\n"),
     ("pdb_symbolizer_tests/data", ["-p", "broken_parts.pdb"], b"0x1020\n0x1200\n0x1050\n"),
     ("pdb_container_tests/data", ["-p", "kinds.pdb"], b"0x1000\n0x1020\n0x1040\n0x1200\n"),
 ]

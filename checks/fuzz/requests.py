@@ -153,8 +153,12 @@ class Store:
         placed = self.folder / "stored.pdb" / self.other / "stored.pdb"
         placed.parent.mkdir(parents=True)
         shutil.move(other, placed)
-        self.files = {(self.name, debug_id(self.id)), ("stored.pdb", debug_id(self.other))}
+        self.files = {(self.name.lower(), debug_id(self.id)), ("stored.pdb", debug_id(self.other))}
         self.usual = set(self.run("--symbolicate-lines", b"")[1])
+
+    def has(self, name, text):
+        """Whether there is a file of this name, in letters of either case, and of this debug id."""
+        return (name.lower(), debug_id(text)) in self.files
 
     def outer(self, folder):
         """Where the PDB file lies in a folder."""
@@ -208,7 +212,7 @@ def answer_is_right(store, jobs, line):
         named = {module for stack in stacks for module, _ in stack}
         findings = {}
         for index, (name, text) in enumerate(modules):
-            found = (name, debug_id(text)) in store.files if index in named else None
+            found = store.has(name, text) if index in named else None
             before = findings.get(f"{name}/{text}")
             findings[f"{name}/{text}"] = found if before is None else before
         right = right and result["found_modules"] == findings
@@ -216,14 +220,14 @@ def answer_is_right(store, jobs, line):
         for stack, frames in zip(stacks, result["stacks"]):
             for place, ((module, offset), frame) in enumerate(zip(stack, frames)):
                 name, text = modules[module] if module >= 0 else ("<unknown>", "")
-                found = (name, debug_id(text)) in store.files
+                found = store.has(name, text)
                 right = right and frame["frame"] == place and is_right(store, found, name, offset, frame)
     return right
 
 
 def a_job(store, chance):
     """A job that is well-formed."""
-    names = [store.name] * 6 + ["stored.pdb"] * 3 + [
+    names = [store.name] * 6 + ["stored.pdb"] * 3 + [store.name.upper(), "Stored.PDB"] + [
         "", ".", "..", "../" + store.name, "./" + store.name, "x\\" + store.name, "C:" + store.name, store.name + "\0",
         "/etc/passwd", "no.pdb", 'q"\n\x7f\u00e9', "stored.pdb/" + store.other]
     ids = [store.id] * 6 + [store.other] * 4 + [

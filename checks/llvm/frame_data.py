@@ -1,12 +1,14 @@
 #!/usr/bin/env python3
-"""Compares the STACK WIN records that the built pdb_symbolizer writes of PDB files for x86 with what llvm-pdbutil shows.
+"""Compares the STACK WIN records and the sizes of parameters that the built pdb_symbolizer writes of PDB files for x86 with
+what llvm-pdbutil shows.
 
 Usage: frame_data.py PROGRAM FILE..      needs llvm-pdbutil of LLVM 14 or later
 
 `llvm-pdbutil dump -fpo` shows the entries of frame data (`New FPO Data`) and of FPO data (`Old FPO Data`) of each FILE. Each
 has to have one record, in this order, with the same numbers and the same program, and there may be no others. It shows FPO
-data in units of four bytes, as the file has them, and records have bytes. Each difference is printed, and how many records
-were compared.
+data in units of four bytes, as the file has them, and records have bytes. The size of parameters in a FUNC or PUBLIC is
+that of the last frame data over its address, or else of the last FPO data, or else 0. Each difference is printed, and how
+many records were compared.
 """
 import re
 import subprocess
@@ -39,20 +41,41 @@ def wanted(file):
     return [*map(of_frame_data, FRAME_DATA.finditer(new)), *map(of_fpo, FPO.finditer(old))]
 
 
+def parameter_size(rows, address):
+    """The size of parameters at an address, by the records: 0 where none covers it."""
+    over = [fields for fields in map(str.split, rows)
+            if int(fields[3], 16) <= address < int(fields[3], 16) + int(fields[4], 16)]
+    by_frame_data = [fields for fields in over if fields[2] == "4"]
+    return (by_frame_data or over or [["0"] * 8])[-1][7]
+
+
+def wrong_sizes(rows, dumped):
+    """The records of functions whose size of parameters is another than the entries say."""
+    for row in dumped:
+        kind, address, *fields = row.split(" ", 4)
+        if kind in ("FUNC", "PUBLIC") and fields[kind == "FUNC"] != parameter_size(rows, int(address, 16)):
+            yield row
+
+
 def main():
     program, *files = sys.argv[1:]
-    compared = different = 0
+    compared = different = functions = 0
     for file in files:
-        dumped = subprocess.run([program, "--dump-syms", file], capture_output=True, text=True, errors="replace").stdout
-        written = [row for row in dumped.splitlines() if row.startswith("STACK WIN")]
+        dumped = subprocess.run([program, "--dump-syms", file], capture_output=True, text=True, errors="replace")
+        dumped = dumped.stdout.splitlines()
+        written = [row for row in dumped if row.startswith("STACK WIN")]
         rows = wanted(file)
+        functions += sum(row.startswith(("FUNC", "PUBLIC")) for row in dumped)
+        wrong = list(wrong_sizes(rows, dumped))
+        for row in wrong:
+            print(f"{file}: another size of parameters: {row}")
         compared += len(rows)
         for row in sorted(set(rows) ^ set(written)):
             print(f"{file}: {'not written' if row in rows else 'not in the file'}: {row}")
+        different += rows != written or bool(wrong)
         if rows != written:
-            different += 1
             print(f"{file}: {len(written)} records, wanted are {len(rows)}")
-    print(f"{compared} records of {len(files)} files, {different} files with differences")
+    print(f"{compared} records and {functions} functions of {len(files)} files, {different} files with differences")
     sys.exit(1 if different else 0)
 
 

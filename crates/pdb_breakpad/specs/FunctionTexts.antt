@@ -3,10 +3,13 @@ use Rattle.std.specs.Prelude.{ℕ, ◌+◌, ◌-◌, ◌==◌, ◌||◌, List, [
 use Rattle.std.specs.Prelude.{Option, Some, None, Bool, if◌then◌else◌}
 use Rattle.std.specs.Fmt.{decimal, digits}
 use Rattle.std.specs.List.{flat_map}
+use Rattle.std.specs.Option.{unwrap_or}
 use Rattle.std.specs.Ordering.{is_lt, nat_cmp, ordering_then}
 use Rattle.std.specs.declared.cmp.Ordering.{Ordering}
 use Rattle.std.specs.Str.{chars}
 use Rattle.pdb_tables.specs.InOrder.{in_order}
+use Rattle.pdb_tables.specs.Segments.{value_at}
+use Rattle.pdb_tables.specs.declared.segment.Segment.{Segment}
 use Rattle.pdb_breakpad.specs.declared.address_spans.Span.{Span}
 use Rattle.pdb_breakpad.specs.declared.function_records.FunctionRecords.{FunctionRecords}
 use Rattle.pdb_breakpad.specs.declared.inline_records.InlinedCall.{InlinedCall}
@@ -34,11 +37,17 @@ name_line name = line_text name ++ codes "\n"
 abbrev pub size_between : ℕ → ℕ → ℕ
 size_between first last = last - first + 1
 
--- what the record of a function begins with: a function whose end isn't known has no size
-abbrev pub function_head : Option ℕ → ℕ → ℕ → List ℕ
-function_head (Some end) start last =
-    codes "FUNC " ++ (hexadecimal start ++ (codes " " ++ (hexadecimal (size_between start last) ++ codes " 0 ")))
-function_head None start last = codes "PUBLIC " ++ (hexadecimal start ++ codes " 0 ")
+-- how many bytes of parameters the function at an address takes from the stack: the value over its first address, or 0
+abbrev pub parameter_size : List (Segment ℕ) → ℕ → ℕ
+parameter_size parameters start = unwrap_or (value_at parameters start) 0
+
+-- what the record of a function begins with, with the size of its parameters: a function whose end isn't known has no size
+abbrev pub function_head : ℕ → Option ℕ → ℕ → ℕ → List ℕ
+function_head size (Some end) start last =
+    codes "FUNC " ++ (hexadecimal start ++ (codes " " ++ (hexadecimal (size_between start last)
+    ++ (codes " " ++ (hexadecimal size ++ codes " ")))))
+function_head size None start last =
+    codes "PUBLIC " ++ (hexadecimal start ++ (codes " " ++ (hexadecimal size ++ codes " ")))
 
 -- the record of an inlined call: its level, the line and the file of the call, the function, and where it lies
 unfoldable pub inline_line : InlineRecord → List ℕ
@@ -74,9 +83,10 @@ inline_before a b = is_lt (inline_cmp a b)
 abbrev pub inline_lines : List (List (Span InlinedCall)) → List ℕ
 inline_lines levels = flat_map inline_line (in_order inline_before (inline_records_from 0 levels))
 
--- the text of a function's records: the function, its inlined calls, and its lines
-abbrev pub function_text : FunctionRecords → List ℕ
-function_text records =
-    function_head records.found.end_rva records.start records.last
+-- the text of a function's records: the function, its inlined calls, and its lines. The sizes of parameters are given by
+-- addresses
+abbrev pub function_text : List (Segment ℕ) → FunctionRecords → List ℕ
+function_text parameters records =
+    function_head (parameter_size parameters records.start) records.found.end_rva records.start records.last
     ++ (name_line (own_name records.found.frames)
     ++ (inline_lines records.inlines ++ flat_map line_line records.lines))

@@ -5,6 +5,7 @@ use Rattle.std.specs.Option.{option_to_list}
 use Rattle.std.specs.List.{All, flat_map}
 use Rattle.std.specs.Io.KnownBytes.{Appends}
 use Rattle.pdb_frames.specs.Frame.{FramesInfo}
+use Rattle.pdb_tables.specs.declared.segment.Segment.{Segment}
 use Rattle.pdb_breakpad.specs.declared.function_records.FunctionRecords.{FunctionRecords}
 use Rattle.pdb_breakpad.specs.declared.numbers.Numbers.{Numbers}
 use Rattle.pdb_breakpad.specs.AddressSpans.{content_at}
@@ -113,17 +114,17 @@ ReadsAnswer answers source numbers first last (Some records) = (answer : FramesI
 
 -- a walk goes over a piece: what is over it is read as it is answered, and the texts of functions that end are written,
 -- as they may be read
-pub record StepsOver {S : Type 0} (answers : S → ℕ → Option FramesInfo → Type 0) (source : S) (numbers : Numbers)
+pub record StepsOver {S : Type 0} (parameters : List (Segment ℕ)) (answers : S → ℕ → Option FramesInfo → Type 0) (source : S) (numbers : Numbers)
     (first last : ℕ) (walked next : Option FunctionRecords) (old new : Option (List ℕ)) : Type 0 where
   pub ended : List FunctionRecords
   pub is_next : IsNext first last walked next ended
   pub reads : ReadsAnswer answers source numbers first last next
-  pub readable : All AreReadable ended
-  pub written : Appends old new (flat_map function_text ended)
+  pub readable : All (AreReadable parameters) ended
+  pub written : Appends old new (flat_map (function_text parameters) ended)
 
 -- a walk came up to an address: the functions so far are right below the start of the one that is walked, and their
 -- texts are written, as they may be read
-pub record IsWalked {S : Type 0} (answers : S → ℕ → Option FramesInfo → Type 0) (source : S) (numbers : Numbers)
+pub record IsWalked {S : Type 0} (parameters : List (Segment ℕ)) (answers : S → ℕ → Option FramesInfo → Type 0) (source : S) (numbers : Numbers)
     (next : ℕ) (walked : Option FunctionRecords) (old new : Option (List ℕ)) : Type 0 where
   pub functions : List FunctionRecords
   pub stand : StandBetween 0 (walk_start walked next) functions
@@ -131,13 +132,13 @@ pub record IsWalked {S : Type 0} (answers : S → ℕ → Option FramesInfo → 
   pub goes_on : IfSome walked (IsOpen numbers next)
   pub shows : IfSome walked (λ records. (address : ℕ) → records.start ≤ address → address ≤ records.last
       → Shows answers source numbers records address)
-  pub readable : All AreReadable functions
-  pub written : Appends old new (flat_map function_text functions)
+  pub readable : All (AreReadable parameters) functions
+  pub written : Appends old new (flat_map (function_text parameters) functions)
 
 -- all functions of a program are written, as they may be read, and right
-pub record WritesFunctions {S : Type 0} (answers : S → ℕ → Option FramesInfo → Type 0) (source : S)
+pub record WritesFunctions {S : Type 0} (parameters : List (Segment ℕ)) (answers : S → ℕ → Option FramesInfo → Type 0) (source : S)
     (numbers : Numbers) (old new : Option (List ℕ)) : Type 0 where
   pub functions : List FunctionRecords
   pub are : AreFunctions answers source numbers functions
-  pub readable : All AreReadable functions
-  pub written : Appends old new (flat_map function_text functions)
+  pub readable : All (AreReadable parameters) functions
+  pub written : Appends old new (flat_map (function_text parameters) functions)

@@ -3,6 +3,7 @@ use Rattle.std.specs.Prelude.{ℕ, List, ◌++◌, codes, Option}
 use Rattle.std.specs.Io.KnownBytes.{Appends}
 use Rattle.std.specs.List.{All, flat_map}
 use Rattle.pdb_frames.specs.Frame.{FramesInfo}
+use Rattle.pdb_tables.specs.declared.segment.Segment.{Segment}
 use Rattle.pdb_breakpad.specs.declared.function_records.FunctionRecords.{FunctionRecords}
 use Rattle.pdb_breakpad.specs.declared.module_records.ModuleIdentity.{ModuleIdentity}
 use Rattle.pdb_breakpad.specs.declared.numbers.Numbers.{Numbers}
@@ -18,20 +19,21 @@ names_text numbers =
     name_records (codes "FILE ") 0 numbers.files ++ name_records (codes "INLINE_ORIGIN ") 0 numbers.origins
 
 -- the text of a symbol file: the records of its module, those of files and names, and then those of functions
-abbrev pub symbol_file_text : List ℕ → Numbers → List FunctionRecords → List ℕ
-symbol_file_text front numbers functions = front ++ (names_text numbers ++ flat_map function_text functions)
+abbrev pub symbol_file_text : List ℕ → Numbers → List (Segment ℕ) → List FunctionRecords → List ℕ
+symbol_file_text front numbers parameters functions =
+    front ++ (names_text numbers ++ flat_map (function_text parameters) functions)
 
 -- the text of a symbol file was written: behind the records of this module those of files and names, by numbers that
--- fit, and those of functions that are right at each address by these numbers, fit their types and have inlined calls
--- that ascend
+-- fit, and those of functions that are right at each address by these numbers, have these sizes of parameters, fit their
+-- types and have inlined calls that ascend
 pub record WritesSymbolFile {S : Type 0} (answers : S → ℕ → Option FramesInfo → Type 0) (source : S)
-    (identity : ModuleIdentity) (old new : Option (List ℕ)) : Type 0 where
+    (identity : ModuleIdentity) (parameters : List (Segment ℕ)) (old new : Option (List ℕ)) : Type 0 where
   pub front : List ℕ
   pub numbers : Numbers
   pub functions : List FunctionRecords
   pub begins : AreModuleRecords identity front
   pub numbers_fit : FitNumbers numbers
   pub are : AreFunctions answers source numbers functions
-  pub fit : All FitTypes functions
+  pub fit : All (FitTypes parameters) functions
   pub ascend : All InlinesAscend functions
-  pub written : Appends old new (symbol_file_text front numbers functions)
+  pub written : Appends old new (symbol_file_text front numbers parameters functions)

@@ -1,12 +1,14 @@
 -- What is known of the records that are written: they fit their types, and inlined calls ascend.
-use Rattle.std.specs.Prelude.{◌≤◌, ◌<◌, ◌^◌, length}
+use Rattle.std.specs.Prelude.{ℕ, ◌≤◌, ◌<◌, ◌^◌, List, length}
 use Rattle.std.specs.List.{All}
+use Rattle.pdb_tables.specs.declared.segment.Segment.{Segment}
 use Rattle.pdb_breakpad.specs.declared.address_spans.Span.{Span}
 use Rattle.pdb_breakpad.specs.declared.function_records.FunctionRecords.{FunctionRecords}
 use Rattle.pdb_breakpad.specs.declared.numbers.Numbers.{Numbers}
 use Rattle.pdb_breakpad.specs.declared.inline_records.InlinedCall.{InlinedCall}
 use Rattle.pdb_breakpad.specs.declared.numbered_code.Place.{Place}
 use Rattle.pdb_breakpad.specs.AddressSpans.{Ascend}
+use Rattle.pdb_breakpad.specs.FunctionTexts.{parameter_size}
 
 -- what a span is of fits its type, and so do its addresses
 abbrev pub FitsSpan : {T : Type 0} → (T → Type 0) → Span T → Type 0
@@ -20,8 +22,9 @@ FitsPlace place = (place.file < 2 ^ 64) × (place.line < 2 ^ 32)
 abbrev pub FitsCall : InlinedCall → Type 0
 FitsCall call = FitsPlace call.place × (call.origin < 2 ^ 64)
 
--- all numbers of a function's records are within the ranges of their types
-pub record FitTypes (records : FunctionRecords) : Type 0 where
+-- all numbers of a function's records, and the size of its parameters, are within the ranges of their types
+pub record FitTypes (parameters : List (Segment ℕ)) (records : FunctionRecords) : Type 0 where
+  pub parameters_fit : parameter_size parameters records.start < 2 ^ 32
   pub start : records.start < 2 ^ 32
   pub last : records.last < 2 ^ 32
   pub levels : length records.inlines ≤ 2 ^ 64
@@ -38,6 +41,6 @@ pub record InlinesAscend (records : FunctionRecords) : Type 0 where
   pub lines : All (λ span. span.start ≤ span.last) records.lines
 
 -- the records of a function fit their types, and its inlined calls ascend
-pub record AreReadable (records : FunctionRecords) : Type 0 where
-  pub fit : FitTypes records
+pub record AreReadable (parameters : List (Segment ℕ)) (records : FunctionRecords) : Type 0 where
+  pub fit : FitTypes parameters records
   pub ascend : InlinesAscend records

@@ -5,7 +5,7 @@ ghost use Rattle.std.specs.Prelude.{◌++◌, All, string_bytes, if◌then◌els
 ghost use Rattle.std.specs.List.{flat_map};
 ghost use Rattle.pdb_breakpad.specs.AddressSpans.{Ascend, EndBefore, content_at};
 ghost use Rattle.pdb_breakpad.specs.InlineRecords.{LevelEndsBefore, calls_at};
-ghost use Rattle.pdb_breakpad.specs.FunctionTexts.{function_head, function_text, line_line};
+ghost use Rattle.pdb_breakpad.specs.FunctionTexts.{function_head, function_text, line_line, parameter_size};
 ghost use Rattle.pdb_breakpad.specs.FunctionRecords.{InOrder, IsNumbered, IsOf, Reads};
 ghost use Rattle.pdb_breakpad.specs.NumberedCode.{KeepsAllNames};
 ghost use Rattle.pdb_breakpad.specs.ShownFrames.{answer_shown, own_name};
@@ -19,6 +19,7 @@ use crate::numbered_code::{NumberedCode, Place, number_code};
 use crate::numbers::Numbers;
 use crate::pieces::Piece;
 use pdb_addr2line::FunctionFrames;
+use pdb_tables::{Probes, Segments};
 use std::alloc::{AllocError, Global};
 
 /// A function, as far as its addresses were gone through.
@@ -136,13 +137,19 @@ impl<'a> FunctionRecords<'a> {
         add_line(&mut self.lines, piece, place, goes_on)
     }
 
-    /// The text of the records, once all addresses are gone through. A function whose end isn't known has a name alone.
-    pub(crate) fn text(&self, alloc: Global) -> Result<String, AllocError>
-        ensures answer { IfOk result (λ text. string_bytes text ≡ function_text self.now) }
-        ensures readable { IfOk result (λ text. AreReadable self.now) }
+    /// The text of the records, once all addresses are gone through, with the sizes of parameters by addresses. A function
+    /// whose end isn't known has no lines and no inlined calls.
+    pub(crate) fn text(
+        &self,
+        alloc: Global,
+        parameters: &Segments<u32>,
+    ) -> Result<String, AllocError>
+        ensures answer { IfOk result (λ text. string_bytes text ≡ function_text parameters.now self.now) }
+        ensures readable { IfOk result (λ text. AreReadable parameters.now self.now) }
     {
         let mut text = String::new(alloc);
-        push_head(&mut text, self.found.end_rva, self.start, self.last)?;
+        let size = parameter_size(parameters, self.start);
+        push_head(&mut text, size, self.found.end_rva, self.start, self.last)?;
         push_name(&mut text, own_name(&self.found))?;
         self.inlines.push_records(&mut text)?;
         push_lines(&mut text, &self.lines)?;
@@ -150,14 +157,29 @@ impl<'a> FunctionRecords<'a> {
     }
 }
 
+// How many bytes of parameters the function at an address takes from the stack.
+fn parameter_size(parameters: &Segments<u32>, start: u32) -> u32
+    ensures { result ≡ parameter_size parameters.now start }
+{
+    let mut probes = Probes::new();
+    parameters.find(u64::from(start), &mut probes).unwrap_or(0)
+}
+
 // Appends what the record of a function begins with, up to its name.
-fn push_head(text: &mut String, end: Option<u32>, start: u32, last: u32) -> Result<(), AllocError>
-    ensures { OnOk result (string_bytes text.new ≡ string_bytes text.old ++ function_head end start last) }
+fn push_head(
+    text: &mut String,
+    parameter_size: u32,
+    end: Option<u32>,
+    start: u32,
+    last: u32,
+) -> Result<(), AllocError>
+    ensures { OnOk result (string_bytes text.new
+        ≡ string_bytes text.old ++ function_head parameter_size end start last) }
 {
     let size = size_between(start, last);
     match end {
-        Some(_) => write!(text, "FUNC {start:x} {size:x} 0 "),
-        None => write!(text, "PUBLIC {start:x} 0 "),
+        Some(_) => write!(text, "FUNC {start:x} {size:x} {parameter_size:x} "),
+        None => write!(text, "PUBLIC {start:x} {parameter_size:x} "),
     }
 }
 

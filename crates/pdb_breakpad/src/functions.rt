@@ -18,6 +18,7 @@ use crate::function_records::FunctionRecords;
 use crate::numbers::Numbers;
 use crate::pieces::{Piece, piece_at};
 use pdb_addr2line::FunctionFrames;
+use pdb_tables::Segments;
 use std::alloc::Global;
 use std::io;
 
@@ -27,10 +28,11 @@ pub(crate) fn write_functions<'a, S: FrameSource<'a>, W: io::Write>(
     out: &mut W,
     source: &mut S,
     numbers: &mut Numbers,
+    parameters: &Segments<u32>,
     points: &[u32],
 ) -> Result<(), SymbolFileFault>
     requires pieces { ArePieces S.answers source.old points.now }
-    ensures answer { OnOk result (WritesFunctions S.answers source.old numbers.new
+    ensures answer { OnOk result (WritesFunctions parameters.now S.answers source.old numbers.new
         (W.contents out.old) (W.contents out.new)) }
     ensures names { KeepsAllNames numbers.old numbers.new }
     ensures inputs { KeepsAnswers S.answers source.old source.new }
@@ -39,9 +41,11 @@ pub(crate) fn write_functions<'a, S: FrameSource<'a>, W: io::Write>(
     let mut walked = None;
     for position in 0..points.len() {
         let piece = piece_at(points, position);
-        walked = walk_piece(alloc, out, source, numbers, &mut share, walked, piece)?;
+        walked = walk_piece(
+            alloc, out, source, numbers, parameters, &mut share, walked, piece,
+        )?;
     }
-    write_ended(alloc, out, walked)?;
+    write_ended(alloc, out, parameters, walked)?;
     source.clear_caches();
     Ok(())
 }
@@ -53,19 +57,20 @@ fn walk_piece<'a, S: FrameSource<'a>, W: io::Write>(
     out: &mut W,
     source: &mut S,
     numbers: &mut Numbers,
+    parameters: &Segments<u32>,
     share: &mut CacheShare,
     walked: Option<FunctionRecords<'a>>,
     piece: Piece,
 ) -> Result<Option<FunctionRecords<'a>>, SymbolFileFault>
     requires walked { IfSome walked (IsOpen numbers.old piece.first) }
-    ensures step { IfOk result (λ next. StepsOver S.answers source.old numbers.new piece.first piece.last
-        walked.entry next (W.contents out.old) (W.contents out.new)) }
+    ensures step { IfOk result (λ next. StepsOver parameters.now S.answers source.old numbers.new
+        piece.first piece.last walked.entry next (W.contents out.old) (W.contents out.new)) }
     ensures open { IfOk result (λ next. IfSome next (IsOpen numbers.new (piece.last + 1))) }
     ensures names { KeepsAllNames numbers.old numbers.new }
     ensures inputs { KeepsAnswers S.answers source.old source.new }
 {
     let Some(answer) = ask(source, piece.first)? else {
-        write_ended(alloc, out, walked)?;
+        write_ended(alloc, out, parameters, walked)?;
         return Ok(None);
     };
     let Some(mut records) = walked else {
@@ -76,7 +81,7 @@ fn walk_piece<'a, S: FrameSource<'a>, W: io::Write>(
         records.add(numbers, piece, answer)?;
         return Ok(Some(records));
     }
-    write_function(alloc, out, &records)?;
+    write_function(alloc, out, parameters, &records)?;
     share.count_function(source);
     let begun = FunctionRecords::new(alloc, numbers, piece, answer)?;
     Ok(Some(begun))
@@ -101,14 +106,15 @@ fn ask<'a, S: FrameSource<'a>>(
 fn write_ended<W: io::Write>(
     alloc: Global,
     out: &mut W,
+    parameters: &Segments<u32>,
     walked: Option<FunctionRecords<'_>>,
 ) -> Result<(), SymbolFileFault>
     ensures written { OnOk result (Appends (W.contents out.old) (W.contents out.new)
-        (flat_map function_text (option_to_list walked.entry))) }
-    ensures readable { OnOk result (All AreReadable (option_to_list walked.entry)) }
+        (flat_map (function_text parameters.now) (option_to_list walked.entry))) }
+    ensures readable { OnOk result (All (AreReadable parameters.now) (option_to_list walked.entry)) }
 {
     match walked {
-        Some(records) => write_function(alloc, out, &records),
+        Some(records) => write_function(alloc, out, parameters, &records),
         None => Ok(()),
     }
 }
@@ -117,12 +123,13 @@ fn write_ended<W: io::Write>(
 fn write_function<W: io::Write>(
     alloc: Global,
     out: &mut W,
+    parameters: &Segments<u32>,
     records: &FunctionRecords<'_>,
 ) -> Result<(), SymbolFileFault>
-    ensures written { OnOk result (Appends (W.contents out.old) (W.contents out.new) (function_text records.now)) }
-    ensures readable { OnOk result (AreReadable records.now) }
+    ensures written { OnOk result (Appends (W.contents out.old) (W.contents out.new) (function_text parameters.now records.now)) }
+    ensures readable { OnOk result (AreReadable parameters.now records.now) }
 {
-    let text = records.text(alloc)?;
+    let text = records.text(alloc, parameters)?;
     out.write_all(text.as_bytes())?;
     Ok(())
 }

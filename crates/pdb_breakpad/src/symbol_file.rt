@@ -13,10 +13,12 @@ use crate::frame_source::FrameSource;
 use crate::functions::write_functions;
 use crate::module_records::{ModuleIdentity, module_records};
 use crate::numbers::{NameKind, Numbers};
+use pdb_tables::Segments;
 use std::alloc::{AllocError, Global};
 use std::io;
 
-/// Writes the symbol file of a program to a writer, and flushes the writer.
+/// Writes the symbol file of a program to a writer, and flushes the writer. `parameters` has by addresses how many bytes of
+/// parameters the functions there take from the stack; those without a value have the size 0.
 ///
 /// The program is gone over once, piece by piece. Files and names get their numbers as they are met, and the records of
 /// functions are kept as text, because the file has the names before the functions. So what is held is the text, where
@@ -30,14 +32,15 @@ pub fn write_symbol_file<'a, S: FrameSource<'a>, W: io::Write>(
     alloc: Global,
     out: &mut W,
     identity: &ModuleIdentity<'_>,
+    parameters: &Segments<u32>,
     source: &mut S,
 ) -> Result<(), SymbolFileFault>
-    ensures { OnOk result (WritesSymbolFile S.answers source.old identity.now
+    ensures { OnOk result (WritesSymbolFile S.answers source.old identity.now parameters.now
         (W.contents out.old) (W.contents out.new)) }
 {
     let points = source.piece_starts(alloc)?;
     let mut numbers = Numbers::new(alloc);
-    let functions = functions_text(alloc, source, &mut numbers, &points)?;
+    let functions = functions_text(alloc, source, &mut numbers, parameters, &points)?;
     numbers.fit();
     write_front(alloc, out, identity, &numbers)?;
     out.write_all(&functions)?;
@@ -50,13 +53,15 @@ fn functions_text<'a, S: FrameSource<'a>>(
     alloc: Global,
     source: &mut S,
     numbers: &mut Numbers,
+    parameters: &Segments<u32>,
     points: &[u32],
 ) -> Result<Vec<u8>, SymbolFileFault>
     requires pieces { ArePieces S.answers source.old points.now }
-    ensures { IfOk result (λ text. WritesFunctions S.answers source.old numbers.new (Some []) (Some text.items)) }
+    ensures { IfOk result (λ text. WritesFunctions parameters.now S.answers source.old numbers.new
+        (Some []) (Some text.items)) }
 {
     let mut text = Vec::new(alloc);
-    write_functions(alloc, &mut text, source, numbers, points)?;
+    write_functions(alloc, &mut text, source, numbers, parameters, points)?;
     Ok(text)
 }
 

@@ -7,12 +7,12 @@ use Rattle.pdb_msf.specs.ItemLists.{all_items}
 use Rattle.pdb_msf.specs.declared.faults.TheConstants.{CUT, NO_STREAM}
 use Rattle.pdb_frame_data.specs.FpoData.{fpo_data}
 use Rattle.pdb_frame_data.specs.FrameData.{frame_data, frame_data_list}
-use Rattle.pdb_frame_data.specs.StackWin.{Records, records_by}
+use Rattle.pdb_frame_data.specs.StackWin.{Records, program_in, records_by}
 use Rattle.pdb_frame_data.specs.StackWinText.{code_fields, size_fields}
 use Rattle.pdb_frame_data.specs.declared.fpo_data.FpoData.{FpoData}
 use Rattle.pdb_frame_data.specs.declared.fpo_data.FrameType.TheVariants.{Tss}
 use Rattle.pdb_frame_data.specs.declared.frame_data.FrameData.{FrameData}
-use Rattle.pdb_frame_data.specs.declared.refusals.Refusal.TheVariants.{BadProgram, Empty, NoProgram, TooLarge}
+use Rattle.pdb_frame_data.specs.declared.refusals.Refusal.TheVariants.{BadProgram, Empty, LongProgram, NoProgram, TooLarge}
 
 -- numbers below 65536, as two and four bytes
 abbrev two : ℕ → ℕ → List ℕ
@@ -82,7 +82,14 @@ abbrev text_of_fpo : List ℕ
 text_of_fpo = codes "STACK WIN 2 165f 14 5 0 8 c c 0 0 1\n"
 
 abbrev both : Records
-both = record { text = text_of_entry ++ text_of_fpo; left_out = []; frame_data_fault = None; fpo_fault = None }
+both = record {
+  text = text_of_entry ++ text_of_fpo;
+  left_out = [];
+  frame_data_fault = None;
+  fpo_fault = None;
+  parameter_sizes = record { start = 0x165f; end = 0x1673; value = 8 }
+      ∷ record { start = 0x1010; end = 0x1022; value = 8 } ∷ [];
+}
 
 records_of_both : records_by (Ok entry_bytes) (Ok fpo_bytes) strings ≡ both
 unfolding all_items code_fields size_fields is_utf8 chars digits lib.Utf8.encode
@@ -90,7 +97,13 @@ records_of_both = refl
 
 -- without a stream of FPO data the frame data has its record still
 abbrev only_frame_data : Records
-only_frame_data = record { text = text_of_entry; left_out = []; frame_data_fault = None; fpo_fault = Some NO_STREAM }
+only_frame_data = record {
+  text = text_of_entry;
+  left_out = [];
+  frame_data_fault = None;
+  fpo_fault = Some NO_STREAM;
+  parameter_sizes = record { start = 0x1010; end = 0x1022; value = 8 } ∷ [];
+}
 
 records_of_one : records_by (Ok entry_bytes) (Err NO_STREAM) strings ≡ only_frame_data
 unfolding all_items code_fields size_fields is_utf8 chars digits lib.Utf8.encode
@@ -111,8 +124,20 @@ none = record {
       ∷ record { rva = 0xfffffff0; why = NoProgram } ∷ record { rva = 0xfffffff0; why = BadProgram } ∷ [];
   frame_data_fault = None;
   fpo_fault = Some CUT;
+  parameter_sizes = record { start = 0xfffffff0; end = 0xfffffff0; value = 0 }
+      ∷ record { start = 0xfffffff0; end = 0x100000001; value = 0 }
+      ∷ record { start = 0xfffffff0; end = 0x100000000; value = 0 }
+      ∷ record { start = 0xfffffff0; end = 0x100000000; value = 0 } ∷ [];
 }
 
 records_of_none : records_by (Ok broken_entries) (Ok (1 ∷ [])) strings ≡ none
 unfolding all_items
 records_of_none = refl
+
+-- a program string has at most 4095 bytes: a longer one is refused though a zero ends it, and a shorter one without a zero
+-- isn't there
+long_program_is_refused : program_in (replicate 4096 65 ++ (0 ∷ [])) ≡ Err LongProgram
+long_program_is_refused = refl
+
+program_without_a_zero_is_missing : program_in (replicate 4095 65) ≡ Err NoProgram
+program_without_a_zero_is_missing = refl

@@ -2,4 +2,5 @@ pub mod FrameData
 pub mod FpoData
 pub mod FrameStreams
 pub mod StackWinText
+pub mod ParameterSizes
 pub mod StackWin

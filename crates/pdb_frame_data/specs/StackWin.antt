@@ -1,5 +1,5 @@
 -- The STACK WIN records of a program for x86, by its PDB file's frame data and FPO data.
-use Rattle.std.specs.Prelude.{ℕ, ◌+◌, ◌^◌, ◌==◌, ◌&&◌, Bool, nat_le, nat_lt, List, [], ◌∷◌, ◌++◌, drop}
+use Rattle.std.specs.Prelude.{ℕ, ◌+◌, ◌^◌, ◌==◌, ◌&&◌, Bool, nat_le, nat_lt, List, [], ◌∷◌, ◌++◌, drop, length, take}
 use Rattle.std.specs.Prelude.{Option, Some, None, Result, Ok, Err, if◌then◌else◌}
 use Rattle.std.specs.Borrow.{Bor}
 use Rattle.std.specs.List.{list_all}
@@ -9,22 +9,26 @@ use Rattle.pdb_records.specs.declared.error.StreamError.{StreamError}
 use Rattle.pdb_msf.specs.Bytes.{text_in}
 use Rattle.pdb_msf.specs.Msf.{Msf}
 use Rattle.pdb_msf.specs.Readings.{nothing_read}
+use Rattle.pdb_tables.specs.declared.segment.Segment.{Segment}
 use Rattle.pdb_frame_data.specs.FpoData.{fpo_data_list}
 use Rattle.pdb_frame_data.specs.FrameData.{frame_data_list}
 use Rattle.pdb_frame_data.specs.FrameStreams.{frame_stream, program_strings}
+use Rattle.pdb_frame_data.specs.ParameterSizes.{parameter_sizes}
 use Rattle.pdb_frame_data.specs.StackWinText.{fpo_text, frame_data_text}
 use Rattle.pdb_frame_data.specs.declared.fpo_data.FpoData.{FpoData}
 use Rattle.pdb_frame_data.specs.declared.frame_data.FrameData.{FrameData}
 use Rattle.pdb_frame_data.specs.declared.refusals.LeftOut.{LeftOut}
 use Rattle.pdb_frame_data.specs.declared.refusals.Refusal.{Refusal}
-use Rattle.pdb_frame_data.specs.declared.refusals.Refusal.TheVariants.{BadProgram, Empty, NoProgram, TooLarge}
+use Rattle.pdb_frame_data.specs.declared.refusals.Refusal.TheVariants.{BadProgram, Empty, LongProgram, NoProgram, TooLarge}
 
--- records: their text, the entries that have none, and why frame data and FPO data end early
+-- records: their text, the entries that have none, why frame data and FPO data end early, and how many bytes of
+-- parameters code takes
 pub record Records : Type 0 where
   pub text : List ℕ
   pub left_out : List LeftOut
   pub frame_data_fault : Option StreamError
   pub fpo_fault : Option StreamError
+  pub parameter_sizes : List (Segment ℕ)
 
 -- the entries of a stream that was read, or none, with the stream's fault
 abbrev pub entries_of : {A : Type 0} → (List ℕ → Read A) → Result (List ℕ) StreamError → Read A
@@ -44,10 +48,19 @@ is_printed byte = nat_le 0x20 byte
 abbrev pub text_of : List ℕ → Result (List ℕ) Refusal
 text_of bytes = if list_all is_printed bytes && is_utf8 bytes then Ok bytes else Err BadProgram
 
--- the program at an offset, if it is there
-abbrev pub program_by : Option (List ℕ) → Result (List ℕ) Refusal
-program_by None = Err NoProgram
-program_by (Some bytes) = text_of bytes
+-- in how many bytes a program string has to end, with its zero; many entries may name one string, so a long one would make
+-- the records far larger than the file
+abbrev pub most_program : ℕ
+most_program = 4096
+
+-- the program before a zero among the first bytes; without one it is longer than these, or isn't there
+abbrev pub program_by : List ℕ → Option (List ℕ) → Result (List ℕ) Refusal
+program_by rest None = if nat_lt (length rest) most_program then Err NoProgram else Err LongProgram
+program_by rest (Some bytes) = text_of bytes
+
+-- the program at the beginning of these bytes
+abbrev pub program_in : List ℕ → Result (List ℕ) Refusal
+program_in rest = program_by rest (text_in (take most_program rest))
 
 -- a program, unless the code has no record
 abbrev pub unless_refused : Option Refusal → Result (List ℕ) Refusal → Result (List ℕ) Refusal
@@ -57,7 +70,7 @@ unless_refused (Some why) program = Err why
 -- the program of frame data: the text at its offset behind the first twelve bytes of the strings, up to a zero
 abbrev pub frame_program : List ℕ → FrameData → Result (List ℕ) Refusal
 frame_program strings entry =
-    unless_refused (code_fault entry.rva entry.size) (program_by (text_in (drop (12 + entry.program) strings)))
+    unless_refused (code_fault entry.rva entry.size) (program_in (drop (12 + entry.program) strings))
 
 -- a text that a call answers, as bytes
 abbrev pub text_seen : Result (Bor (List ℕ)) Refusal → Result (List ℕ) Refusal
@@ -92,16 +105,24 @@ with_fpo [] r = r
 with_fpo (entry ∷ entries) r = with_fpo entries (add_fpo entry r)
 
 -- before any record is added
-abbrev pub no_records : Option StreamError → Option StreamError → Records
-no_records frame_data_fault fpo_fault =
-    record { text = []; left_out = []; frame_data_fault = frame_data_fault; fpo_fault = fpo_fault }
+abbrev pub no_records : Read FrameData → Read FpoData → Records
+no_records frame_data fpo = record {
+  text = [];
+  left_out = [];
+  frame_data_fault = frame_data.fault;
+  fpo_fault = fpo.fault;
+  parameter_sizes = parameter_sizes fpo.items frame_data.items;
+}
+
+-- the records of frame data and FPO data that were read
+abbrev pub records_of : Read FrameData → Read FpoData → List ℕ → Records
+records_of frame_data fpo strings =
+    with_fpo fpo.items (with_frame_data strings frame_data.items (no_records frame_data fpo))
 
 -- the records by the streams of frame data, of FPO data, and of program strings
 abbrev pub records_by : Result (List ℕ) StreamError → Result (List ℕ) StreamError → List ℕ → Records
 records_by frame_data fpo strings =
-    with_fpo (entries_of fpo_data_list fpo).items
-    (with_frame_data strings (entries_of frame_data_list frame_data).items
-    (no_records (entries_of frame_data_list frame_data).fault (entries_of fpo_data_list fpo).fault))
+    records_of (entries_of frame_data_list frame_data) (entries_of fpo_data_list fpo) strings
 
 -- the records of a file: those of its frame data, and behind them those of its FPO data
 unfoldable pub stack_win : Msf → Records

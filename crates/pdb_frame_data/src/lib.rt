@@ -8,6 +8,7 @@
 mod fpo_data;
 mod frame_data;
 mod frame_streams;
+mod parameter_sizes;
 mod refusals;
 mod stack_win;
 mod stack_win_text;

@@ -14,6 +14,9 @@ pub enum Refusal {
     /// There is no program string at the offset that the entry names.
     #[error("the frame data names a program string that isn't there")]
     NoProgram,
+    /// The program string has more than 4095 bytes.
+    #[error("the program string of the frame data is longer than 4095 bytes")]
+    LongProgram,
     /// The program string isn't UTF-8, or has control characters.
     #[error("the program string of the frame data isn't text")]
     BadProgram,

@@ -1,25 +1,30 @@
 //! The STACK WIN records of a program for x86, by its PDB file's frame data and FPO data.
 
-ghost use Rattle.std.specs.Prelude.{◌≡◌, ◌≤◌, IfErr, IfOk, OnOk};
+ghost use Rattle.std.specs.Prelude.{◌≡◌, ◌≤◌, take, IfErr, IfOk, OnOk};
 ghost use Rattle.std.specs.List.{list_all};
 ghost use Rattle.pdb_container.specs.DebugRecords.{of_file};
 ghost use Rattle.pdb_frame_data.specs.StackWin.{add_fpo, add_frame_data, code_fault, frame_program, is_printed};
-ghost use Rattle.pdb_frame_data.specs.StackWin.{leave_out, records_by, stack_win, text_of, text_seen, with_fpo};
+ghost use Rattle.pdb_frame_data.specs.StackWin.{leave_out, program_in, records_by, stack_win, text_of, text_seen, with_fpo};
 ghost use Rattle.pdb_frame_data.specs.StackWin.{with_frame_data};
 ghost use Rattle.pdb_msf.specs.StreamMap.{IfFile, Reads, bytes_read};
 
 use crate::fpo_data::{FpoData, read_fpo_data};
 use crate::frame_data::{FrameData, read_frame_data};
 use crate::frame_streams::FrameStreams;
+use crate::parameter_sizes::parameter_sizes;
 use crate::refusals::{LeftOut, Refusal};
 use crate::stack_win_text::{push_fpo, push_frame_data};
 use pdb_msf::{Bytes, ContainerFault, OpenFault, Source, StreamMap, bytes_from, nothing_read};
 use pdb_records::StreamError;
+use pdb_tables::Segment;
 use std::alloc::{AllocError, Global};
 use std::marker::Model;
 
 /// The bytes before the program strings.
 const STRINGS_FRONT: usize = 12;
+
+/// In how many bytes a program string has to end, with its zero.
+const MOST_PROGRAM: usize = 4096;
 
 /// The STACK WIN records of a program, as text.
 #[derive(Drop)]
@@ -32,6 +37,8 @@ pub struct StackWinRecords {
     pub frame_data_fault: Option<StreamError>,
     /// Why the FPO data ends early, if it does.
     pub fpo_fault: Option<StreamError>,
+    /// How many bytes of parameters code takes from the stack. Where several cover an address the last one counts.
+    pub parameter_sizes: Vec<Segment<u32>>,
 }
 
 impl Model for StackWinRecords {
@@ -45,6 +52,7 @@ impl Model for StackWinRecords {
       left_out = r.left_out.items;
       frame_data_fault = r.frame_data_fault;
       fpo_fault = r.fpo_fault;
+      parameter_sizes = r.parameter_sizes.items;
     } };
 }
 
@@ -89,6 +97,7 @@ fn records_by(alloc: Global, streams: &FrameStreams) -> Result<StackWinRecords, 
         left_out: Vec::new(alloc),
         frame_data_fault: frame_data.fault,
         fpo_fault: fpo.fault,
+        parameter_sizes: parameter_sizes(alloc, &fpo.items, &frame_data.items)?,
     };
     with_frame_data(&mut records, &streams.strings, &frame_data.items)?;
     with_fpo(&mut records, &fpo.items)?;
@@ -171,11 +180,29 @@ fn frame_program(strings: &[u8], entry: FrameData) -> Result<&str, Refusal>
     if let Some(why) = code_fault(entry.rva, entry.size) {
         return Err(why);
     }
-    let start = STRINGS_FRONT + entry.program as usize;
-    let Ok(program) = Bytes::new(bytes_from(strings, start)).text() else {
-        return Err(Refusal::NoProgram);
-    };
-    text_of(program)
+    program_in(bytes_from(strings, STRINGS_FRONT + entry.program as usize))
+}
+
+// The program that these bytes begin with.
+fn program_in(rest: &[u8]) -> Result<&str, Refusal>
+    ensures { text_seen result ≡ program_in rest.now }
+{
+    match Bytes::new(first_bytes(rest, MOST_PROGRAM)).text() {
+        Ok(program) => text_of(program),
+        Err(_) if rest.len() < MOST_PROGRAM => Err(Refusal::NoProgram),
+        Err(_) => Err(Refusal::LongProgram),
+    }
+}
+
+// So many bytes, or all where there are fewer.
+fn first_bytes(bytes: &[u8], count: usize) -> &[u8]
+    ensures { result.now ≡ take count bytes.now }
+{
+    if bytes.len() < count {
+        return bytes;
+    }
+    let (first, _) = bytes.split_at(count);
+    first
 }
 
 // These bytes as a text of one line.

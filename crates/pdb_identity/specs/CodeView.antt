@@ -1,8 +1,8 @@
 -- The CodeView record of a program, by which its PDB file is known.
-use Rattle.std.specs.Prelude.{ℕ, List, ◌==◌, Option, Some, None, if◌then◌else◌, option_and_then, option_map}
+use Rattle.std.specs.Prelude.{ℕ, List, ◌==◌, Option, None, if◌then◌else◌, option_and_then, option_map}
 use Rattle.uuid.specs.Parts.{swap_fields}
 use Rattle.pdb_identity.specs.declared.debug_id.DebugId.{DebugId}
-use Rattle.pdb_identity.specs.BytesAt.{bytes_at, number_at}
+use Rattle.pe_image.specs.NumbersAt.{bytes_at, number_at}
 
 -- the debug id of these bytes of a GUID, and this age
 abbrev pub debug_id : List ℕ → ℕ → DebugId

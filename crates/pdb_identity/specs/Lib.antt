@@ -1,3 +1,3 @@
 pub mod InfoFront
-pub mod BytesAt
 pub mod CodeView
+pub mod Programs

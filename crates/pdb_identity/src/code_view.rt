@@ -3,8 +3,8 @@
 ghost use Rattle.std.specs.Prelude.{◌≡◌, option_map};
 ghost use Rattle.pdb_identity.specs.CodeView.{code_view_id};
 
-use crate::bytes_at::{bytes_at, u32_at};
 use crate::debug_id::DebugId;
+use pe_image::{bytes_at, u32_at};
 use uuid::Uuid;
 
 /// What the record begins with, the letters `RSDS`.

@@ -1,7 +1,6 @@
 //! Which build a program and its PDB file are of: the GUID and the age that a linker writes into both.
 #![tactic(auto)]
 
-mod bytes_at;
 mod code_id;
 mod code_view;
 mod debug_id;
@@ -14,4 +13,4 @@ pub use code_view::CodeView;
 pub use debug_id::{CompactDebugId, DebugId};
 pub use info_front::InfoFront;
 pub use machine::Machine;
-pub use program::{ProgramFile, is_program, read_program};
+pub use program::{ProgramFile, read_program};

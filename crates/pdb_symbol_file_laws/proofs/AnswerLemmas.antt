@@ -3,6 +3,7 @@ use Rattle.std.proofs.Common.{◌≡◌, ◌∙◌, ℕ, ◌+◌, ◌<◌, ◌�
 use Rattle.std.proofs.Common.{map, flat_map, find, All, Option, Some, None, option_map, if◌then◌else◌, inl, inr, subst}
 use Rattle.std.specs.List.{AllByRecursion}
 use Rattle.pdb_frames.specs.Frame.{FramesInfo}
+use Rattle.pdb_tables.specs.declared.segment.Segment.{Segment}
 use Rattle.pdb_breakpad.specs.RecordTypes.{FunctionRecords, InlineRecord, InlinedCall, Numbers, Place, Span}
 use Rattle.pdb_breakpad.specs.AddressSpans.{content_at, is_over}
 use Rattle.pdb_breakpad.specs.FunctionRecords.{Reads}
@@ -185,18 +186,18 @@ records_show_none front numbers functions from to address order closed none =
 
 -- a reader of a symbol file's text is shown at each address what is answered there
 pub text_shows : {S : Type 0} (answers : S → ℕ → Option FramesInfo → Type 0) (source : S) (front : List (List ℕ))
-    (numbers : Numbers) (functions : List FunctionRecords) (address : ℕ)
+    (numbers : Numbers) (parameters : List (Segment ℕ)) (functions : List FunctionRecords) (address : ℕ)
     → AreFunctions answers source numbers functions → All IsModuleLine front → FitNumbers numbers
-    → All FitTypes functions → All InlinesAscend functions → address < 2 ^ 32
-    → TextShows answers source functions (symbol_file_text (with_breaks front) numbers functions) address
-text_shows answers source front numbers functions address are modules small fits ascend below =
+    → All (FitTypes parameters) functions → All InlinesAscend functions → address < 2 ^ 32
+    → TextShows answers source functions (symbol_file_text (with_breaks front) numbers parameters functions) address
+text_shows answers source front numbers parameters functions address are modules small fits ascend below =
     by (function_over address functions) refl (are.right address below)
   where
     text : List ℕ
-    text = symbol_file_text (with_breaks front) numbers functions
+    text = symbol_file_text (with_breaks front) numbers parameters functions
 
     read : read_text text ≡ map (λ line. OtherLine) front ++ (names_read numbers ++ flat_map function_read functions)
-    read = file_read front numbers functions modules small fits
+    read = file_read front numbers parameters functions modules small fits
 
     by : (found : Option FunctionRecords) → function_over address functions ≡ found
         → ShowsOver answers source numbers address found → TextShows answers source functions text address

@@ -4,6 +4,7 @@ use Rattle.std.proofs.Common.{true≢false, Option, Some, None}
 use Rattle.std.specs.List.{All}
 use Rattle.std.proofs.lemmas.List.Elements.{All-cons, All-nil}
 use Rattle.pdb_frames.specs.Frame.{FramesInfo}
+use Rattle.pdb_tables.specs.declared.segment.Segment.{Segment}
 use Rattle.pdb_breakpad.specs.declared.module_records.ModuleIdentity.{ModuleIdentity}
 use Rattle.pdb_breakpad.specs.declared.module_records.ProgramIdentity.{ProgramIdentity}
 use Rattle.pdb_breakpad.specs.FunctionTexts.{line_text}
@@ -69,15 +70,17 @@ module_lines_are texts identity =
 
 -- a reader of a symbol file that was written is shown what is answered
 pub written_shows : {S : Type 0} (answers : S → ℕ → Option FramesInfo → Type 0) (source : S) (identity : ModuleIdentity)
-    (old new : Option (List ℕ)) → WritesSymbolFile answers source identity old new
+    (parameters : List (Segment ℕ)) (old new : Option (List ℕ))
+    → WritesSymbolFile answers source identity parameters old new
     → AppendsAnswers answers source old new
-written_shows answers source identity old new is = record {
-  text = symbol_file_text is.front is.numbers is.functions;
+written_shows answers source identity parameters old new is = record {
+  text = symbol_file_text is.front is.numbers parameters is.functions;
   functions = is.functions;
   appended = is.written;
   shows = λ address below.
-      subst (λ front. TextShows answers source is.functions (symbol_file_text front is.numbers is.functions) address)
+      subst (λ front. TextShows answers source is.functions
+      (symbol_file_text front is.numbers parameters is.functions) address)
       (sym is.begins.lines)
-      (text_shows answers source (module_lines is.begins.texts identity) is.numbers is.functions address is.are
+      (text_shows answers source (module_lines is.begins.texts identity) is.numbers parameters is.functions address is.are
       (module_lines_are is.begins.texts identity) is.numbers_fit is.fit is.ascend below);
 }

@@ -46,74 +46,78 @@ origin_reads number name small =
     (with_word (decimal number) (decimal_has_none number small) (with_word (codes " ") space (name_is_line name))))
     (decimal_goes_on number (on_one_line name) (λ n rest. InlineOrigin n rest) small)
 
--- the line of a function's record
-func_line : (start last : ℕ) (name : List ℕ) → start < 2 ^ 32 → last < 2 ^ 32
-    → IsLine (codes "FUNC " ++ (hexadecimal start ++ (codes " " ++ (hexadecimal (size_between start last)
-    ++ (codes " 0 " ++ name_line name)))))
-    (codes "FUNC " ++ (hexadecimal start ++ (codes " " ++ (hexadecimal (size_between start last)
-    ++ (codes " 0 " ++ on_one_line name)))))
-func_line start last name from to =
-    with_word (codes "FUNC ") (tested 10 (codes "FUNC ") refl)
-    (with_word (hexadecimal start) (hexadecimal_has_none start (omega arith))
-    (with_word (codes " ") space
-    (with_word (hexadecimal (size_between start last))
-    (hexadecimal_has_none (size_between start last) (size_fits start last to))
-    (with_word (codes " 0 ") (tested 10 (codes " 0 ") refl) (name_is_line name)))))
+-- a hexadecimal number and a space in front of what ends a line
+with_hexadecimal : (n : ℕ) {text line : List ℕ} → n < 2 ^ 64 → IsLine text line
+    → IsLine (hexadecimal n ++ (codes " " ++ text)) (hexadecimal n ++ (codes " " ++ line))
+with_hexadecimal n small ends =
+    with_word (hexadecimal n) (hexadecimal_has_none n small) (with_word (codes " ") space ends)
 
--- a zero is read, and more behind it
-zero_goes_on : (rest : List ℕ) (says : ℕ → List ℕ → SymbolLine)
-    → number_and_more 16 (codes "0 " ++ rest) says ≡ says 0 rest
-unfolding number_and_more
-zero_goes_on rest says = refl
+-- the line of a function's record
+func_line : (size start last : ℕ) (name : List ℕ) → size < 2 ^ 32 → start < 2 ^ 32 → last < 2 ^ 32
+    → IsLine (codes "FUNC " ++ (hexadecimal start ++ (codes " " ++ (hexadecimal (size_between start last)
+    ++ (codes " " ++ (hexadecimal size ++ (codes " " ++ name_line name)))))))
+    (codes "FUNC " ++ (hexadecimal start ++ (codes " " ++ (hexadecimal (size_between start last)
+    ++ (codes " " ++ (hexadecimal size ++ (codes " " ++ on_one_line name)))))))
+func_line size start last name fits from to =
+    with_word (codes "FUNC ") (tested 10 (codes "FUNC ") refl)
+    (with_hexadecimal start (omega arith)
+    (with_hexadecimal (size_between start last) (size_fits start last to)
+    (with_hexadecimal size (omega arith) (name_is_line name))))
 
 -- what the line of a function's record says
-func_says : (start last : ℕ) (name : List ℕ) → start < 2 ^ 32 → last < 2 ^ 32
+func_says : (size start last : ℕ) (name : List ℕ) → size < 2 ^ 32 → start < 2 ^ 32 → last < 2 ^ 32
     → read_line (codes "FUNC " ++ (hexadecimal start ++ (codes " " ++ (hexadecimal (size_between start last)
-    ++ (codes " 0 " ++ name))))) ≡ Func start (size_between start last) name
+    ++ (codes " " ++ (hexadecimal size ++ (codes " " ++ name))))))) ≡ Func start (size_between start last) name
 unfolding read_line
-func_says start last name from to =
+func_says size start last name fits from to =
     hexadecimal_goes_on start _ _ (omega arith)
     ∙ hexadecimal_goes_on (size_between start last) _ _ (size_fits start last to)
-    ∙ zero_goes_on name (λ parameters rest. Func start (size_between start last) rest)
+    ∙ hexadecimal_goes_on size name (λ parameters rest. Func start (size_between start last) rest) (omega arith)
 
 -- the line of the record of a function whose end isn't known
-public_line : (start : ℕ) (name : List ℕ) → start < 2 ^ 32
-    → IsLine (codes "PUBLIC " ++ (hexadecimal start ++ (codes " 0 " ++ name_line name)))
-    (codes "PUBLIC " ++ (hexadecimal start ++ (codes " 0 " ++ on_one_line name)))
-public_line start name from =
+public_line : (size start : ℕ) (name : List ℕ) → size < 2 ^ 32 → start < 2 ^ 32
+    → IsLine (codes "PUBLIC " ++ (hexadecimal start ++ (codes " " ++ (hexadecimal size ++ (codes " "
+    ++ name_line name)))))
+    (codes "PUBLIC " ++ (hexadecimal start ++ (codes " " ++ (hexadecimal size ++ (codes " " ++ on_one_line name)))))
+public_line size start name fits from =
     with_word (codes "PUBLIC ") (tested 10 (codes "PUBLIC ") refl)
-    (with_word (hexadecimal start) (hexadecimal_has_none start (omega arith))
-    (with_word (codes " 0 ") (tested 10 (codes " 0 ") refl) (name_is_line name)))
+    (with_hexadecimal start (omega arith) (with_hexadecimal size (omega arith) (name_is_line name)))
 
 -- what the line of such a record says
-public_says : (start : ℕ) (name : List ℕ) → start < 2 ^ 32
-    → read_line (codes "PUBLIC " ++ (hexadecimal start ++ (codes " 0 " ++ name))) ≡ Public start name
+public_says : (size start : ℕ) (name : List ℕ) → size < 2 ^ 32 → start < 2 ^ 32
+    → read_line (codes "PUBLIC " ++ (hexadecimal start ++ (codes " " ++ (hexadecimal size ++ (codes " " ++ name)))))
+    ≡ Public start name
 unfolding read_line
-public_says start name from =
-    hexadecimal_goes_on start _ _ (omega arith) ∙ zero_goes_on name (λ parameters rest. Public start rest)
+public_says size start name fits from =
+    hexadecimal_goes_on start _ _ (omega arith)
+    ∙ hexadecimal_goes_on size name (λ parameters rest. Public start rest) (omega arith)
 
 -- the text of a function's record, word by word
-func_text : (start last : ℕ) (rest : List ℕ)
-    → function_head (Some 0) start last ++ rest
+func_text : (size start last : ℕ) (rest : List ℕ)
+    → function_head size (Some 0) start last ++ rest
     ≡ codes "FUNC " ++ (hexadecimal start ++ (codes " " ++ (hexadecimal (size_between start last)
-    ++ (codes " 0 " ++ rest))))
-func_text start last rest = simp append_assoc
+    ++ (codes " " ++ (hexadecimal size ++ (codes " " ++ rest))))))
+func_text size start last rest = simp append_assoc
 
 -- so that of one whose end isn't known
-public_text : (start : ℕ) (rest : List ℕ)
-    → function_head None start 0 ++ rest ≡ codes "PUBLIC " ++ (hexadecimal start ++ (codes " 0 " ++ rest))
-public_text start rest = simp append_assoc
+public_text : (size start : ℕ) (rest : List ℕ)
+    → function_head size None start 0 ++ rest
+    ≡ codes "PUBLIC " ++ (hexadecimal start ++ (codes " " ++ (hexadecimal size ++ (codes " " ++ rest))))
+public_text size start rest = simp append_assoc
 
 -- the record of a function is read as it
-pub head_reads : (end : Option ℕ) (start last : ℕ) (name : List ℕ) → start < 2 ^ 32 → last < 2 ^ 32
-    → IsReadAs (function_head end start last ++ name_line name) (head_read end start last (on_one_line name) ∷ [])
-head_reads (Some end) start last name from to =
+pub head_reads : (size : ℕ) (end : Option ℕ) (start last : ℕ) (name : List ℕ) → size < 2 ^ 32 → start < 2 ^ 32
+    → last < 2 ^ 32
+    → IsReadAs (function_head size end start last ++ name_line name) (head_read end start last (on_one_line name) ∷ [])
+head_reads size (Some end) start last name fits from to =
     subst (λ text. IsReadAs text (Func start (size_between start last) (on_one_line name) ∷ []))
-    (sym (func_text start last (name_line name)))
-    (line_reads (func_line start last name from to) (func_says start last (on_one_line name) from to))
-head_reads None start last name from to =
-    subst (λ text. IsReadAs text (Public start (on_one_line name) ∷ [])) (sym (public_text start (name_line name)))
-    (line_reads (public_line start name from) (public_says start (on_one_line name) from))
+    (sym (func_text size start last (name_line name)))
+    (line_reads (func_line size start last name fits from to)
+    (func_says size start last (on_one_line name) fits from to))
+head_reads size None start last name fits from to =
+    subst (λ text. IsReadAs text (Public start (on_one_line name) ∷ []))
+    (sym (public_text size start (name_line name)))
+    (line_reads (public_line size start name fits from) (public_says size start (on_one_line name) fits from))
 
 -- what the line of the record of an inlined call says
 inline_says : (level line file origin start last : ℕ) → level < 2 ^ 64 → line < 2 ^ 64 → file < 2 ^ 64
@@ -141,12 +145,6 @@ size_line start last to =
 with_decimal : (n : ℕ) {text line : List ℕ} → n < 2 ^ 64 → IsLine text line
     → IsLine (decimal n ++ (codes " " ++ text)) (decimal n ++ (codes " " ++ line))
 with_decimal n small ends = with_word (decimal n) (decimal_has_none n small) (with_word (codes " ") space ends)
-
--- so with a hexadecimal one
-with_hexadecimal : (n : ℕ) {text line : List ℕ} → n < 2 ^ 64 → IsLine text line
-    → IsLine (hexadecimal n ++ (codes " " ++ text)) (hexadecimal n ++ (codes " " ++ line))
-with_hexadecimal n small ends =
-    with_word (hexadecimal n) (hexadecimal_has_none n small) (with_word (codes " ") space ends)
 
 -- the record of an inlined call is read as it
 pub inline_reads : (inlined : InlineRecord) → inlined.level < 2 ^ 64 → FitsSpan FitsCall inlined.span

@@ -3,9 +3,10 @@ use Rattle.std.proofs.Common.{◌≡◌, ℕ, suc, ◌+◌, ◌<◌, ◌≤◌, 
 use Rattle.std.proofs.Common.{subst, arith, codes, length, map, flat_map, All, append_assoc}
 use Rattle.std.specs.List.{AllByRecursion}
 use Rattle.pdb_tables.specs.InOrder.{in_order}
+use Rattle.pdb_tables.specs.declared.segment.Segment.{Segment}
 use Rattle.pdb_breakpad.specs.RecordTypes.{FunctionRecords, InlineRecord, InlinedCall, Numbers, Span}
 use Rattle.pdb_breakpad.specs.FunctionTexts.{function_head, function_text, inline_before, inline_line}
-use Rattle.pdb_breakpad.specs.FunctionTexts.{inline_records_from}
+use Rattle.pdb_breakpad.specs.FunctionTexts.{inline_records_from, parameter_size}
 use Rattle.pdb_breakpad.specs.FunctionTexts.{inline_lines, line_line, name_line}
 use Rattle.pdb_breakpad.specs.NameRecords.{name_record, name_records}
 use Rattle.pdb_breakpad.specs.ShownFrames.{own_name}
@@ -74,14 +75,17 @@ levels_fit level (spans ∷ levels) small all =
     (one_by_one (FitsSpan FitsCall) spans parts.0) (levels_fit (level + 1) levels (omega arith) parts.1)
 
 -- a function's records are read as them
-function_reads : (records : FunctionRecords) → FitTypes records
-    → IsReadAs (function_text records) (function_read records)
-function_reads records fits =
+function_reads : (parameters : List (Segment ℕ)) (records : FunctionRecords) → FitTypes parameters records
+    → IsReadAs (function_text parameters records) (function_read records)
+function_reads parameters records fits =
     let found = records.found in
+    let size = parameter_size parameters records.start in
     subst (λ text. IsReadAs text (function_read records))
-    (append_assoc (function_head found.end_rva records.start records.last) (name_line (own_name found.frames))
+    (append_assoc (function_head size found.end_rva records.start records.last) (name_line (own_name found.frames))
     (inline_lines records.inlines ++ flat_map line_line records.lines))
-    (both_read (head_reads found.end_rva records.start records.last (own_name found.frames) fits.start fits.last)
+    (both_read
+    (head_reads size found.end_rva records.start records.last (own_name found.frames) fits.parameters_fit fits.start
+    fits.last)
     (both_read
     (each_read FitsRecord inline_line inline_read (λ inlined all. inline_reads inlined all.0 all.1)
     (in_order inline_before (inline_records_from 0 records.inlines))
@@ -91,14 +95,16 @@ function_reads records fits =
     (one_by_one (FitsSpan FitsPlace) records.lines fits.lines))))
 
 -- the records that were written are read of a whole text
-pub records_read : (numbers : Numbers) (functions : List FunctionRecords) → FitNumbers numbers → All FitTypes functions
-    → read_text (names_text numbers ++ flat_map function_text functions)
+pub records_read : (numbers : Numbers) (parameters : List (Segment ℕ)) (functions : List FunctionRecords)
+    → FitNumbers numbers → All (FitTypes parameters) functions
+    → read_text (names_text numbers ++ flat_map (function_text parameters) functions)
     ≡ names_read numbers ++ flat_map function_read functions
-records_read numbers functions small fits =
+records_read numbers parameters functions small fits =
     whole_read
     (both_read
     (both_read
     (names_are (codes "FILE ") (λ number name. File number name) file_reads 0 numbers.files (omega (arith, small.0)))
     (names_are (codes "INLINE_ORIGIN ") (λ number name. InlineOrigin number name) origin_reads 0 numbers.origins
     (omega (arith, small.1))))
-    (all_read FitTypes function_text function_read function_reads functions (one_by_one FitTypes functions fits)))
+    (all_read (FitTypes parameters) (function_text parameters) function_read (function_reads parameters) functions
+    (one_by_one (FitTypes parameters) functions fits)))

@@ -3,6 +3,7 @@
 ghost use Rattle.std.specs.Prelude.{◌≡◌, ◌<◌, ◌+◌, ◌++◌, ◌^◌, ℕ, List, All, Option, Some, None, map};
 ghost use Rattle.std.specs.List.{flat_map};
 ghost use Rattle.pdb_breakpad.specs.declared.module_records.ModuleIdentity.{ModuleIdentity};
+ghost use Rattle.pdb_tables.specs.declared.segment.Segment.{Segment};
 ghost use Rattle.pdb_breakpad.specs.RecordTypes.{FunctionRecords, Numbers};
 ghost use Rattle.pdb_breakpad.specs.FunctionRecords.{Reads};
 ghost use Rattle.pdb_breakpad.specs.Functions.{AreFunctions, StandBetween, function_over};
@@ -38,16 +39,17 @@ pub fn records_show_functions()
 /// one line; and nothing where nothing is answered, unless the last function before the address is one whose end isn't
 /// known.
 pub fn text_shows_answers<'a, S: FrameSource<'a>>()
-    ensures { (source : S) (front : List (List ℕ)) (numbers : Numbers) (functions : List FunctionRecords) (address : ℕ)
-        → AreFunctions S.answers source numbers functions → All IsModuleLine front → FitNumbers numbers
-        → All FitTypes functions → All InlinesAscend functions → address < 2 ^ 32
-        → TextShows S.answers source functions (symbol_file_text (with_breaks front) numbers functions) address }
+    ensures { (source : S) (front : List (List ℕ)) (numbers : Numbers) (parameters : List (Segment ℕ))
+        (functions : List FunctionRecords) (address : ℕ) → AreFunctions S.answers source numbers functions
+        → All IsModuleLine front → FitNumbers numbers → All (FitTypes parameters) functions
+        → All InlinesAscend functions → address < 2 ^ 32 → TextShows S.answers source functions
+        (symbol_file_text (with_breaks front) numbers parameters functions) address }
 {}
 
 /// Whatever `write_symbol_file` writes if it succeeds, a reader of the text is shown at each address of 32 bits what
 /// the source answers there, with names on one line; and nothing where nothing is answered, unless the last function
 /// before the address is one whose end isn't known.
 pub fn a_written_file_shows_answers<'a, S: FrameSource<'a>>()
-    ensures { (source : S) (identity : ModuleIdentity) (old new : Option (List ℕ))
-        → WritesSymbolFile S.answers source identity old new → AppendsAnswers S.answers source old new }
+    ensures { (source : S) (identity : ModuleIdentity) (parameters : List (Segment ℕ)) (old new : Option (List ℕ))
+        → WritesSymbolFile S.answers source identity parameters old new → AppendsAnswers S.answers source old new }
 {}

@@ -3,6 +3,7 @@
 ghost use Rattle.std.specs.Prelude.{◌≡◌, ◌≢◌, ◌++◌, ℕ, List, All, codes, map};
 ghost use Rattle.std.specs.List.{flat_map};
 ghost use Rattle.std.specs.Str.{IsUtf8};
+ghost use Rattle.pdb_tables.specs.declared.segment.Segment.{Segment};
 ghost use Rattle.pdb_breakpad.specs.RecordTypes.{FunctionRecords, Numbers};
 ghost use Rattle.pdb_breakpad.specs.FunctionTexts.{function_text};
 ghost use Rattle.pdb_breakpad.specs.ModuleRecords.{IsModuleLine, with_breaks};
@@ -16,12 +17,14 @@ ghost use Rattle.pdb_symbol_file_laws.specs.SymbolTextReader.{OtherLine, read_te
 /// Behind lines that say which module the file is of, it finds the same in a whole symbol file.
 #[tactic(auto, using(crate::proofs::FileLemmas::read))]
 pub fn text_says_records()
-    ensures records { (numbers : Numbers) (functions : List FunctionRecords) → FitNumbers numbers
-        → All FitTypes functions → read_text (names_text numbers ++ flat_map function_text functions)
+    ensures records { (numbers : Numbers) (parameters : List (Segment ℕ)) (functions : List FunctionRecords)
+        → FitNumbers numbers → All (FitTypes parameters) functions
+        → read_text (names_text numbers ++ flat_map (function_text parameters) functions)
         ≡ names_read numbers ++ flat_map function_read functions }
-    ensures file { (front : List (List ℕ)) (numbers : Numbers) (functions : List FunctionRecords)
-        → All IsModuleLine front → FitNumbers numbers → All FitTypes functions
-        → read_text (symbol_file_text (with_breaks front) numbers functions)
+    ensures file { (front : List (List ℕ)) (numbers : Numbers) (parameters : List (Segment ℕ))
+        (functions : List FunctionRecords) → All IsModuleLine front → FitNumbers numbers
+        → All (FitTypes parameters) functions
+        → read_text (symbol_file_text (with_breaks front) numbers parameters functions)
         ≡ map (λ line. OtherLine) front ++ (names_read numbers ++ flat_map function_read functions) }
 {}
 

@@ -6,4 +6,4 @@ use Rattle.pdb_symbolizer_lib.specs.declared.file_bytes.FileBytes.TheVariants.{I
 -- the bytes of a file in memory; of one on disk nothing is known before it is read
 abbrev pub known_bytes : {F : Type 0} → FileBytes F → Option (List ℕ)
 known_bytes (InMemory bytes) = Some bytes.items
-known_bytes (OnDisk file file_length) = None
+known_bytes (OnDisk file file_length stamp) = None

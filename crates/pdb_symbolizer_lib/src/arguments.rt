@@ -12,8 +12,8 @@ Examples:
   pdb_symbolizer --output-style=JSON --obj=app.exe 0x140001136  as llvm-symbolizer is asked
   pdb_symbolizer --dump-syms app.exe >app.sym  a Breakpad symbol file
 Addresses are hexadecimal, and come from standard input, a line each, where no word gives one.
-Each option may be said again, and the last counts. Options of llvm-symbolizer that change nothing: --cache-size,
---default-arch, --dwp, --no-untag-addresses, --skip-line-zero. docs/CONTAINER.md says more.
+Each option may be said again, and the last counts. Options of llvm-symbolizer that change nothing: --default-arch,
+--dwp, --no-untag-addresses, --skip-line-zero. docs/CONTAINER.md says more.
 
 ";
 
@@ -106,9 +106,9 @@ static FLAGS: [Flag; 11] = [
 /// Options of `llvm-symbolizer` that are taken and change nothing, without a value and with one.
 static IGNORED_FLAGS: [&str; 2] = ["no-untag-addresses", "skip-line-zero"];
 
-static IGNORED_OPTIONS: [&str; 3] = ["cache-size", "default-arch", "dwp"];
+static IGNORED_OPTIONS: [&str; 2] = ["default-arch", "dwp"];
 
-static VALUED: [Valued; 5] = [
+static VALUED: [Valued; 6] = [
     Valued {
         name: "output-style",
         value_name: "STYLE",
@@ -138,6 +138,12 @@ static VALUED: [Valued; 5] = [
         value_name: "N",
         default: "0",
         help: "Print so many lines of the source file around each place",
+    },
+    Valued {
+        name: "cache-size",
+        value_name: "BYTES",
+        default: "1073741824",
+        help: "Memory for PDB files kept open between lines; 1 GiB if not given",
     },
 ];
 

@@ -57,6 +57,7 @@ fn options_of<'w>(
     let adjust = adjustment(alloc, matches)?;
     let source_lines = source_lines(alloc, matches)?;
     let expected = expected_build(alloc, matches)?;
+    let cache_size = number(alloc, matches, "cache-size", Digits::ByPrefix)?;
     let pdb_dirs = Vec::from_slice(alloc, matches.get_strs("pdb-dir").unwrap_or(&[]))?;
     let naming = file_naming(personality, matches);
     let words = matches.get_strs("WORD").unwrap_or(&[]);
@@ -76,6 +77,7 @@ fn options_of<'w>(
         base,
         adjust,
         purpose: purpose_of(matches),
+        cache_size,
         expected,
     })
 }

@@ -1,5 +1,6 @@
 //! The bytes of a file: in memory, or in the file, where a range is read as it is asked for.
 
+use crate::file_stamps::FileStamp;
 use pdb_container::{ContainerFault, Source, Unreadable, other_file};
 use std::alloc::Global;
 use std::fs::{self, Metadata, OpenFile};
@@ -13,8 +14,8 @@ const PDB_FILE: [u8; 14] = *b"Microsoft C/C+";
 #[derive(Drop)]
 pub enum FileBytes<F> {
     InMemory(Vec<u8>),
-    /// A PDB file, and how many bytes it has.
-    OnDisk(F, usize),
+    /// A PDB file, how many bytes it has, and which file it is.
+    OnDisk(F, usize, FileStamp),
 }
 
 impl<F: Read + Seek + Drop> Source for FileBytes<F> {
@@ -27,7 +28,7 @@ impl<F: Read + Seek + Drop> Source for FileBytes<F> {
     fn read_exact_at(&mut self, buffer: &mut [u8], place: usize) -> Result<(), Unreadable> {
         match self {
             FileBytes::InMemory(bytes) => bytes.as_slice().read_exact_at(buffer, place),
-            FileBytes::OnDisk(file, _) => match read_range(file, buffer, place) {
+            FileBytes::OnDisk(file, _, _) => match read_range(file, buffer, place) {
                 Ok(()) => Ok(()),
                 Err(_) => Err(Unreadable),
             },
@@ -40,7 +41,15 @@ impl<F: Read + Seek + Drop> FileBytes<F> {
     pub fn length(&self) -> usize {
         match self {
             FileBytes::InMemory(bytes) => bytes.len(),
-            FileBytes::OnDisk(_, length) => *length,
+            FileBytes::OnDisk(_, length, _) => *length,
+        }
+    }
+
+    /// Which file a PDB file on disk is.
+    pub fn stamp(&self) -> Option<FileStamp> {
+        match self {
+            FileBytes::InMemory(_) => None,
+            FileBytes::OnDisk(_, _, stamp) => Some(*stamp),
         }
     }
 
@@ -56,7 +65,7 @@ impl<F: Read + Seek + Drop> FileBytes<F> {
     pub fn into_memory(self, alloc: Global) -> io::Result<Vec<u8>> {
         match self {
             FileBytes::InMemory(bytes) => Ok(bytes),
-            FileBytes::OnDisk(mut file, _) => {
+            FileBytes::OnDisk(mut file, _, _) => {
                 file.seek(SeekFrom::Start(0))?;
                 read_all(alloc, &mut file)
             }
@@ -70,7 +79,7 @@ pub fn open_bytes<R: Files + AllocGlobal>(rt: &R, path: &str) -> io::Result<File
     let metadata = file.metadata()?;
     if metadata.is_file() && begins_as_pdb_file(&mut file, metadata.len())? {
         let length = usize::try_from(metadata.len()).unwrap_or(usize::MAX);
-        return Ok(FileBytes::OnDisk(file, length));
+        return Ok(FileBytes::OnDisk(file, length, FileStamp::of(&metadata)));
     }
     Ok(FileBytes::InMemory(read_all(rt.alloc(), &mut file)?))
 }

@@ -7,6 +7,8 @@ use std::fmt;
 pub enum ForeignFile {
     Elf,
     MachO,
+    /// A PDB file as newer tools of Microsoft compress it.
+    Msfz,
     Unknown,
 }
 
@@ -18,6 +20,9 @@ impl ForeignFile {
         }
         if bytes.starts_with(b"\xcf\xfa\xed\xfe") || bytes.starts_with(b"\xce\xfa\xed\xfe") {
             return Some(ForeignFile::MachO);
+        }
+        if bytes.starts_with(b"Microsoft MSFZ Container") {
+            return Some(ForeignFile::Msfz);
         }
         match bytes.trim_ascii_start().first() {
             Some(b'{') => None,
@@ -31,6 +36,7 @@ impl fmt::Display for ForeignFile {
         f.write_str(match self {
             ForeignFile::Elf => "an ELF file, not a program of Windows",
             ForeignFile::MachO => "a Mach-O file, not a program of Windows",
+            ForeignFile::Msfz => "a compressed PDB file (MSFZ)",
             ForeignFile::Unknown => "no program (EXE or DLL), PDB file or records file",
         })
     }

@@ -1,4 +1,4 @@
-//! The STACK WIN records of a symbol file, by the frame data of a PDB file for x86.
+//! The STACK WIN records of a symbol file and the sizes of parameters, by the frame data of a PDB file for x86.
 
 use crate::input_files::{SourceFile, open_error};
 use crate::run_errors::RunError;
@@ -6,29 +6,51 @@ use pdb_container::Machine;
 use pdb_frame_data::{StackWinRecords, read_stack_win};
 use pdb_msf::faults::fault_text;
 use pdb_records::StreamError;
+use pdb_tables::Segments;
+use std::alloc::{AllocError, Global};
 use std::io::{Read, Seek};
 
 /// The machine of programs for x86.
 const X86: Machine = Machine(0x14c);
 
-/// The STACK WIN records of a PDB file for x86; none of other files. An entry that has no record has a line on standard
-/// error.
+/// What a symbol file has by which callers are found.
+#[derive(Drop)]
+pub struct FrameRecords {
+    /// The STACK WIN and STACK CFI records.
+    pub text: String,
+    /// How many bytes of parameters the code at an address takes from the stack.
+    pub parameters: Segments<u32>,
+}
+
+/// The STACK WIN records of a PDB file for x86 and its sizes of parameters; none of other files. An entry that has no
+/// record has a line on standard error.
 pub fn frame_data_records<R: Eprint + AllocGlobal, F: Read + Seek + Drop>(
     rt: &R,
     source: &mut SourceFile<F>,
     machine: Option<Machine>,
-) -> Result<String, RunError> {
+) -> Result<FrameRecords, RunError> {
     if machine != Some(X86) {
-        return Ok(String::new(rt.alloc()));
+        return Ok(FrameRecords {
+            text: String::new(rt.alloc()),
+            parameters: Segments::new(rt.alloc()),
+        });
     }
     let length = source.bytes.length();
     match read_stack_win(rt.alloc(), &mut source.bytes, length) {
         Ok(records) => {
             print_left_out(rt, source.file.path.as_str(), &records);
-            Ok(records.text)
+            Ok(frame_records(rt.alloc(), records)?)
         }
         Err(fault) => Err(open_error(rt.alloc(), source.file.path.as_str(), fault)),
     }
+}
+
+// The records, with the sizes of parameters by addresses.
+fn frame_records(alloc: Global, records: StackWinRecords) -> Result<FrameRecords, AllocError> {
+    Ok(FrameRecords {
+        parameters: Segments::of_painted(alloc, &records.parameter_sizes)?,
+        text: records.text,
+    })
 }
 
 // Prints a line for each entry that has no record, and for each stream that ends early.

@@ -71,10 +71,12 @@ pub fn print_identities<R: Files + Print + AllocGlobal>(
 
 fn print_identity<R: Files + Print + AllocGlobal>(rt: &R, file: &str) -> Result<(), RunError> {
     let mut bytes = open_named_file(rt, file)?;
-    if let FileBytes::InMemory(bytes) = &bytes
-        && let Some(program) = read_program(bytes)
-    {
-        return print_program(rt, file, &program);
+    if let FileBytes::InMemory(bytes) = &bytes {
+        match read_program(rt.alloc(), bytes) {
+            Ok(Some(program)) => return print_program(rt, file, &program),
+            Ok(None) => {}
+            Err(_) => return Err(RunError::want_of_memory()),
+        }
     }
     let identity = identity_of(rt.alloc(), file, &mut bytes)?;
     print_line(rt, file, identity.debug_id, identity.machine)

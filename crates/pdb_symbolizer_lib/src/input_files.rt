@@ -3,8 +3,10 @@
 ghost use Rattle.pdb_symbolizer_lib.specs.EarlyEnds.{EndsRead};
 
 use crate::file_bytes::{FileBytes, open_bytes};
+use crate::file_stamps::FileStamp;
 use crate::foreign_files::ForeignFile;
 use crate::identities::check_identity;
+use crate::known_programs::{KnownProgram, KnownPrograms};
 use crate::options::Options;
 use crate::programs::find_pdb;
 use crate::run_errors::RunError;
@@ -12,7 +14,7 @@ use crate::status_line::StatusLine;
 use pdb_addr2line::Error;
 use pdb_addr2line::pdb::PDB;
 use pdb_container::{ContainerFault, OpenFault, read_pdb};
-use pdb_identity::{CodeId, ProgramFile, read_program};
+use pdb_identity::CodeId;
 use pdb_json::RecordsFile;
 use pdb_records_files::{ModuleFileFault, ran_out_of_memory, read_module_files};
 use std::alloc::Global;
@@ -44,16 +46,68 @@ pub fn find_file<R: Files + Eprint + AllocGlobal>(
     options: &Options<'_>,
     path: &str,
 ) -> Result<SourceFile<R::File>, RunError> {
+    match open_named(rt, status_line, path)? {
+        Named::Program(program) => find_for_program(rt, options, path, &program),
+        Named::Other(bytes) => named_source(rt, options, path, bytes),
+    }
+}
+
+/// The same of a file that a line of input names. A program that was read for an earlier line isn't read again.
+pub fn find_file_of_line<R: Files + Eprint + AllocGlobal>(
+    rt: &R,
+    status_line: &StatusLine,
+    options: &Options<'_>,
+    programs: &mut KnownPrograms,
+    path: &str,
+) -> Result<SourceFile<R::File>, RunError> {
+    let Some(stamp) = FileStamp::at(rt, path) else {
+        return find_file(rt, status_line, options, path);
+    };
+    let program = match programs.take(path, stamp) {
+        Some(program) => program,
+        None => match open_named(rt, status_line, path)? {
+            Named::Program(program) => program,
+            Named::Other(bytes) => return named_source(rt, options, path, bytes),
+        },
+    };
+    let found = find_for_program(rt, options, path, &program);
+    if let Ok(path) = String::from_str(rt.alloc(), path) {
+        programs.keep(path, stamp, program.size(), program);
+    }
+    found
+}
+
+// A file that the words or a line name.
+#[derive(Drop)]
+enum Named<F> {
+    Program(KnownProgram),
+    Other(FileBytes<F>),
+}
+
+fn open_named<R: Files + Eprint + AllocGlobal>(
+    rt: &R,
+    status_line: &StatusLine,
+    path: &str,
+) -> Result<Named<R::File>, RunError> {
     let bytes = open_named_file(rt, path)?;
     status_line.print_size(rt, path, bytes.length());
-    let found = match &bytes {
-        FileBytes::InMemory(bytes) => find_for_program(rt, options, path, bytes)?,
+    let program = match &bytes {
+        FileBytes::InMemory(bytes) => KnownProgram::of_bytes(rt.alloc(), path, bytes)?,
         FileBytes::OnDisk(..) => None,
     };
-    let source = match found {
-        Some(source) => source,
-        None => SourceFile::new(String::from_str(rt.alloc(), path)?, bytes),
-    };
+    match program {
+        Some(program) => Ok(Named::Program(program)),
+        None => Ok(Named::Other(bytes)),
+    }
+}
+
+fn named_source<R: AllocGlobal, F: Read + Seek + Drop>(
+    rt: &R,
+    options: &Options<'_>,
+    path: &str,
+    bytes: FileBytes<F>,
+) -> Result<SourceFile<F>, RunError> {
+    let source = SourceFile::new(String::from_str(rt.alloc(), path)?, bytes);
     check_source(rt.alloc(), options, source)
 }
 
@@ -68,23 +122,17 @@ pub fn open_named_file<R: Files + AllocGlobal>(
     }
 }
 
-// The PDB file of a program, where these are the bytes of one.
+// The PDB file of a program.
 fn find_for_program<R: Files + AllocGlobal>(
     rt: &R,
     options: &Options<'_>,
     path: &str,
-    bytes: &[u8],
-) -> Result<Option<SourceFile<R::File>>, RunError> {
-    let Some(program) = read_program(bytes) else {
-        return Ok(None);
-    };
-    let Some(code_view) = &program.code_view else {
-        return Err(RunError::NoPdbFile(format!(in rt.alloc(); "{path}: it names no PDB file")?));
-    };
-    let mut found = find_pdb(rt, path, code_view, options)?;
+    program: &KnownProgram,
+) -> Result<SourceFile<R::File>, RunError> {
+    let mut found = find_pdb(rt, path, &program.code_view(), options)?;
     found.file.image_base = Some(program.image_base);
     found.file.code_id = Some(program.code_id);
-    Ok(Some(found))
+    check_source(rt.alloc(), options, found)
 }
 
 // A file, unless it is of another build than is expected.

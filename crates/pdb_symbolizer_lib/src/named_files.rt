@@ -1,11 +1,15 @@
 //! Lines of standard input that each name a file and an address in it.
 //!
-//! Those that follow one another and name the same file are answered by one context.
+//! Those that follow one another and name the same file are answered by one context. A PDB file stays open if lines of
+//! another file come between.
 
 use crate::frame_answers::print_lack;
+use crate::input_files::find_file_of_line;
+use crate::kept_files::{KeptFiles, UsedFile, open_used};
+use crate::known_programs::KnownPrograms;
 use crate::line_answers::{addresses_of_lines, answer_line};
 use crate::line_queue::LineQueue;
-use crate::opened_files::{OpenedFile, open_file};
+use crate::opened_files::OpenedFile;
 use crate::options::Options;
 use crate::outputs::{ByteStream, Output, write_line_answer};
 use crate::public_names::PublicNames;
@@ -19,6 +23,13 @@ use pdb_session::SessionContext;
 use std::io::{self, Read, Seek};
 use std::rt::Files;
 
+// What is kept from one line to the next.
+#[derive(Drop)]
+struct Kept<F: Read + Seek + Drop> {
+    programs: KnownPrograms,
+    files: KeptFiles<F>,
+}
+
 /// Answers the lines of standard input, of which each names its file.
 pub fn answer_named_files<R: Files + Input + Print + Eprint + AllocGlobal>(
     rt: &R,
@@ -26,13 +37,25 @@ pub fn answer_named_files<R: Files + Input + Print + Eprint + AllocGlobal>(
     options: &Options<'_>,
 ) -> Result<(), RunError> {
     let mut state = RunState::new(rt.alloc());
+    let mut kept = Kept {
+        programs: KnownPrograms::new(rt.alloc(), options.cache_size)?,
+        files: KeptFiles::new(rt.alloc(), options.cache_size)?,
+    };
     let mut queue = LineQueue::new(rt.alloc(), rt.reader())?;
     let mut out = ByteStream(io::writer(rt));
     for _ in 0..u64::MAX {
         if queue.first().is_none() {
             break;
         }
-        answer_next_lines(rt, &mut out, status_line, options, &mut state, &mut queue)?;
+        answer_next_lines(
+            rt,
+            &mut out,
+            status_line,
+            options,
+            &mut kept,
+            &mut state,
+            &mut queue,
+        )?;
     }
     if state.unopened {
         return Err(RunError::Unopened);
@@ -46,6 +69,7 @@ fn answer_next_lines<R: Files + Print + Eprint + AllocGlobal, W: Output, T: Read
     out: &mut W,
     status_line: &StatusLine,
     options: &Options<'_>,
+    kept: &mut Kept<R::File>,
     state: &mut RunState,
     queue: &mut LineQueue<T>,
 ) -> Result<(), RunError> {
@@ -56,8 +80,12 @@ fn answer_next_lines<R: Files + Print + Eprint + AllocGlobal, W: Output, T: Read
         answer_none(rt, out, options, &request)?;
         return queue.pass();
     }
-    match open_file(rt, status_line, options, request.file) {
-        Ok(mut input) => answer_lines_of(rt, out, options, request.file, &mut input, state, queue),
+    match open_named(rt, status_line, options, kept, request.file) {
+        Ok(mut used) => {
+            answer_lines_of(rt, out, options, request.file, &mut used.file, state, queue)?;
+            used.keep(rt.alloc(), &mut kept.files);
+            Ok(())
+        }
         Err(cause) if cause.is_want_of_memory() => Err(cause),
         Err(cause) => {
             state.unopened = true;
@@ -65,6 +93,18 @@ fn answer_next_lines<R: Files + Print + Eprint + AllocGlobal, W: Output, T: Read
             queue.pass()
         }
     }
+}
+
+// Opens the file that a line names, or takes it where it is open still.
+fn open_named<R: Files + Eprint + AllocGlobal>(
+    rt: &R,
+    status_line: &StatusLine,
+    options: &Options<'_>,
+    kept: &mut Kept<R::File>,
+    path: &str,
+) -> Result<UsedFile<R::File>, RunError> {
+    let source = find_file_of_line(rt, status_line, options, &mut kept.programs, path)?;
+    open_used(rt, &mut kept.files, source)
 }
 
 // Answers a line that asks for nothing.

@@ -94,6 +94,8 @@ pub struct Options<'w> {
     /// What else is taken from the addresses.
     pub adjust: u64,
     pub purpose: Purpose<'w>,
+    /// How many bytes of what was read of files are kept from one request to the next, at most.
+    pub cache_size: u64,
     /// The build that the file has to be of, if one is named.
     pub expected: Option<ExpectedBuild>,
 }

@@ -1,7 +1,10 @@
 //! The PDB file of a program, looked for where that names it, beside it and in folders; and of a module, in folders.
 
 use crate::file_bytes::{FileBytes, open_regular_bytes};
+use crate::folder_listings::FolderListings;
+use crate::folder_places::{WantedFile, find_compressed, other_places, push_places};
 use crate::input_files::SourceFile;
+use crate::kept_files::KnownIds;
 use crate::options::Options;
 use crate::paths::file_name;
 use crate::run_errors::RunError;
@@ -15,6 +18,9 @@ use std::io::{Read, Seek};
 use std::rt::Files;
 use std::str;
 
+/// How many bytes the debug id of a file counts for, with its path.
+const ID_SIZE: u64 = 512;
+
 /// The PDB file of a program: the first of these places with one of its GUID and age. One of another build is rejected.
 /// If all are rejected, the error names each place, and why it was rejected.
 pub fn find_pdb<R: Files + AllocGlobal>(
@@ -23,12 +29,24 @@ pub fn find_pdb<R: Files + AllocGlobal>(
     code_view: &CodeView<'_>,
     options: &Options<'_>,
 ) -> Result<SourceFile<R::File>, RunError> {
-    let places = places(rt.alloc(), program, code_view, options)?;
+    let mut ids = KnownIds::new(rt.alloc(), 0)?;
     let mut looked = String::new(rt.alloc());
-    for path in places {
-        match look_at(rt, path.as_str(), code_view.debug_id)? {
-            Look::Found(bytes) => return Ok(SourceFile::new(path, bytes)),
-            Look::Rejected(why) => write!(looked, "\n    {path}: {why}")?,
+    let places = places(rt, program, code_view, options)?;
+    if let Some(found) = look_at_each(rt, &mut ids, &mut looked, places, &code_view.debug_id)? {
+        return Ok(found);
+    }
+    if let Some(name) = name_in(code_view) {
+        let wanted = WantedFile {
+            name,
+            debug_id: code_view.debug_id,
+        };
+        let mut listings = FolderListings::new(rt.alloc());
+        match look_further(rt, &mut ids, &mut looked, &mut listings, options, &wanted)? {
+            Search::Found(found) => return Ok(found),
+            Search::Compressed(path) => {
+                write!(looked, "\n    {path}: {}", ContainerFault::Compressed)?;
+            }
+            Search::Nothing => {}
         }
     }
     let id = code_view.debug_id;
@@ -36,17 +54,75 @@ pub fn find_pdb<R: Files + AllocGlobal>(
 }
 
 /// The PDB file of a module that a request asks for: the first of its name and its debug id in the folders.
+///
+/// # Errors
+///
+/// Memory ran out, or all that there is of the file is compressed.
 pub fn find_in_folders<R: Files + AllocGlobal>(
     rt: &R,
+    ids: &mut KnownIds,
+    listings: &mut FolderListings,
     options: &Options<'_>,
     module: &WantedModule,
 ) -> Result<Option<SourceFile<R::File>>, RunError> {
-    let name = module.name.as_str();
+    let wanted = WantedFile {
+        name: module.name.as_str(),
+        debug_id: module.debug_id,
+    };
+    let mut looked = String::new(rt.alloc());
     let mut places = Vec::new(rt.alloc());
-    push_folder_places(rt.alloc(), &mut places, options, name, module.debug_id)?;
+    push_places(rt, &mut places, options, &wanted)?;
+    if let Some(found) = look_at_each(rt, ids, &mut looked, places, &module.debug_id)? {
+        return Ok(Some(found));
+    }
+    match look_further(rt, ids, &mut looked, listings, options, &wanted)? {
+        Search::Found(found) => Ok(Some(found)),
+        Search::Compressed(path) => Err(RunError::Container(path, ContainerFault::Compressed)),
+        Search::Nothing => Ok(None),
+    }
+}
+
+/// What a search in folders came to.
+#[derive(Drop)]
+enum Search<F> {
+    Found(SourceFile<F>),
+    /// Only a compressed file is there, at this path.
+    Compressed(String),
+    Nothing,
+}
+
+// Looks for a file in folders under names in other case, and then for the file as a symbol server compresses it.
+fn look_further<R: Files + AllocGlobal>(
+    rt: &R,
+    ids: &mut KnownIds,
+    looked: &mut String,
+    listings: &mut FolderListings,
+    options: &Options<'_>,
+    wanted: &WantedFile<'_>,
+) -> Result<Search<R::File>, RunError> {
+    let places = other_places(rt, listings, options, wanted)?;
+    if let Some(found) = look_at_each(rt, ids, looked, places, &wanted.debug_id)? {
+        return Ok(Search::Found(found));
+    }
+    match find_compressed(rt, listings, options, wanted)? {
+        Some(path) => Ok(Search::Compressed(path)),
+        None => Ok(Search::Nothing),
+    }
+}
+
+// The first of these places that has a file of this debug id. To the text are added the places before it, each with why
+// it was rejected.
+fn look_at_each<R: Files + AllocGlobal>(
+    rt: &R,
+    ids: &mut KnownIds,
+    looked: &mut String,
+    places: Vec<String>,
+    wanted: &DebugId,
+) -> Result<Option<SourceFile<R::File>>, RunError> {
     for path in places {
-        if let Look::Found(bytes) = look_at(rt, path.as_str(), module.debug_id)? {
-            return Ok(Some(SourceFile::new(path, bytes)));
+        match look_at(rt, ids, path.as_str(), wanted)? {
+            Look::Found(bytes) => return Ok(Some(SourceFile::new(path, bytes))),
+            Look::Rejected(why) => write!(looked, "\n    {path}: {why}")?,
         }
     }
     Ok(None)
@@ -60,30 +136,60 @@ enum Look<F> {
     Rejected(String),
 }
 
+// Looks at the file at a path. Its id is read only if it isn't known of this very file.
 fn look_at<R: Files + AllocGlobal>(
     rt: &R,
+    ids: &mut KnownIds,
     path: &str,
-    wanted: DebugId,
+    wanted: &DebugId,
 ) -> Result<Look<R::File>, RunError> {
     match open_regular_bytes(rt, path) {
-        Ok(bytes) => look_into(rt.alloc(), bytes, wanted),
+        Ok(bytes) => match known_id(ids, path, &bytes) {
+            Some(id) => look_by_id(rt.alloc(), bytes, id, wanted),
+            None => look_into(rt.alloc(), ids, path, bytes, wanted),
+        },
         Err(error) if ran_out_of_memory(&error) => Err(RunError::Refused(Error::OutOfMemory)),
         Err(error) => Ok(Look::Rejected(format!(in rt.alloc(); "{error}")?)),
     }
 }
 
+// The debug id of a file that was looked at before.
+fn known_id<F: Read + Seek + Drop>(
+    ids: &KnownIds,
+    path: &str,
+    bytes: &FileBytes<F>,
+) -> Option<DebugId> {
+    ids.peek(path, bytes.stamp()?).copied()
+}
+
+fn look_by_id<F: Drop>(
+    alloc: Global,
+    bytes: FileBytes<F>,
+    id: DebugId,
+    wanted: &DebugId,
+) -> Result<Look<F>, RunError> {
+    if id == *wanted {
+        return Ok(Look::Found(bytes));
+    }
+    Ok(Look::Rejected(format!(in alloc; "its id is {id}")?))
+}
+
 fn look_into<F: Read + Seek + Drop>(
     alloc: Global,
+    ids: &mut KnownIds,
+    path: &str,
     mut bytes: FileBytes<F>,
-    wanted: DebugId,
+    wanted: &DebugId,
 ) -> Result<Look<F>, RunError> {
     let length = bytes.length();
     match read_identity_of(alloc, &mut bytes, length) {
-        Ok(Some(identity)) if identity.debug_id == wanted => Ok(Look::Found(bytes)),
-        Ok(Some(identity)) => Ok(Look::Rejected(format!(in alloc;
-            "its id is {}",
-            identity.debug_id
-        )?)),
+        Ok(Some(identity)) => {
+            if let Some(stamp) = bytes.stamp() {
+                let path = String::from_str(alloc, path)?;
+                ids.keep(path, stamp, ID_SIZE, identity.debug_id);
+            }
+            look_by_id(alloc, bytes, identity.debug_id, wanted)
+        }
         Ok(None) => rejected(alloc, "no id"),
         Err(OpenFault::Container(ContainerFault::OutOfMemory)) => {
             Err(RunError::Refused(Error::OutOfMemory))
@@ -97,14 +203,20 @@ fn rejected<F: Drop>(alloc: Global, why: &str) -> Result<Look<F>, RunError> {
     Ok(Look::Rejected(String::from_str(alloc, why)?))
 }
 
+// The name of the PDB file in the path that a program names.
+fn name_in<'p>(code_view: &CodeView<'p>) -> Option<&'p str> {
+    file_name(str::from_utf8(code_view.path).ok()?)
+}
+
 // Where the PDB file is looked for: at the path that the program names; under that path's last part beside the program;
-// and under it in each folder, and in the folder that a symbol store has for it there.
-fn places(
-    alloc: Global,
+// and under it in each folder, and in the folders that a symbol store has for it there.
+fn places<R: Files + AllocGlobal>(
+    rt: &R,
     program: &str,
     code_view: &CodeView<'_>,
     options: &Options<'_>,
 ) -> Result<Vec<String>, AllocError> {
+    let alloc = rt.alloc();
     let mut places = Vec::new(alloc);
     let Ok(written) = str::from_utf8(code_view.path) else {
         return Ok(places);
@@ -114,24 +226,12 @@ fn places(
         return Ok(places);
     };
     places.push(beside(alloc, program, name)?)?;
-    push_folder_places(alloc, &mut places, options, name, code_view.debug_id)?;
+    let wanted = WantedFile {
+        name,
+        debug_id: code_view.debug_id,
+    };
+    push_places(rt, &mut places, options, &wanted)?;
     Ok(places)
-}
-
-// Adds where a file of this name and debug id is looked for in each folder, and in the folder that a symbol store has
-// for it there.
-fn push_folder_places(
-    alloc: Global,
-    places: &mut Vec<String>,
-    options: &Options<'_>,
-    name: &str,
-    debug_id: DebugId,
-) -> Result<(), AllocError> {
-    for dir in &options.pdb_dirs {
-        places.push(format!(in alloc; "{dir}/{name}")?)?;
-        places.push(format!(in alloc; "{dir}/{name}/{}/{name}", debug_id.compact())?)?;
-    }
-    Ok(())
 }
 
 fn beside(alloc: Global, program: &str, name: &str) -> Result<String, AllocError> {

@@ -1,7 +1,7 @@
-//! What a terminal is shown while a large file is read or written.
+//! What a terminal is shown while a large file is read or written, or many requests are answered.
 
 use std::io;
-use std::time::{Clock, Instant};
+use std::time::{Clock, Duration, Instant};
 
 /// How many seconds may pass until something is shown.
 const PAUSE: u64 = 1;
@@ -17,6 +17,9 @@ pub struct StatusLine {
     shown: Option<Instant>,
     /// How many bytes were written.
     written: usize,
+    /// How many requests were answered, and how many of them when something was shown last.
+    answered: u64,
+    shown_answered: u64,
 }
 
 impl StatusLine {
@@ -26,6 +29,8 @@ impl StatusLine {
             watched,
             shown: Instant::now(rt).ok(),
             written: 0,
+            answered: 0,
+            shown_answered: 0,
         }
     }
 
@@ -39,21 +44,55 @@ impl StatusLine {
     /// Counts bytes that were written, and shows their number once a second.
     fn count<R: Clock + Eprint>(&mut self, rt: &R, written: usize) {
         self.written = self.written.saturating_add(written);
-        if self.watched && self.is_due(rt) {
+        if self.watched && self.pause(rt).is_some() {
             let _ = eprintln!(rt; "pdb_symbolizer: {} bytes are written", self.written);
         }
     }
 
-    /// Whether a second has passed since something was shown. If so, it counts anew.
-    fn is_due<R: Clock>(&mut self, rt: &R) -> bool {
-        match (Instant::now(rt), self.shown) {
-            (Ok(now), Some(shown)) if now.duration_since(shown).as_secs() >= PAUSE => {
-                self.shown = Some(now);
-                true
-            }
-            _ => false,
+    /// Counts a request that was answered. Once a second it shows how many were, how many files are open, and how many
+    /// bytes these take in memory.
+    pub fn count_request<R: Clock + Eprint>(&mut self, rt: &R, files: usize, bytes: u64) {
+        self.answered = self.answered.saturating_add(1);
+        if !self.watched {
+            return;
+        }
+        if let Some(pause) = self.pause(rt) {
+            let answered = self.answered.saturating_sub(self.shown_answered);
+            self.shown_answered = self.answered;
+            let _ = eprintln!(rt;
+                "pdb_symbolizer: {} requests are answered, {} a second; {files} files are open, with {bytes} bytes",
+                self.answered,
+                rate(answered, pause)
+            );
         }
     }
+
+    /// How long ago something was shown, if that is a second or more. If so, it counts anew.
+    fn pause<R: Clock>(&mut self, rt: &R) -> Option<Duration> {
+        match (Instant::now(rt), self.shown) {
+            (Ok(now), Some(shown)) => {
+                let pause = now.duration_since(shown);
+                if pause.as_secs() < PAUSE {
+                    return None;
+                }
+                self.shown = Some(now);
+                Some(pause)
+            }
+            _ => None,
+        }
+    }
+}
+
+// How many a second so many in this time are.
+fn rate(count: u64, time: Duration) -> u64 {
+    let milliseconds = time
+        .as_secs()
+        .saturating_mul(1000)
+        .saturating_add(u64::from(time.subsec_millis()));
+    count
+        .saturating_mul(1000)
+        .checked_div(milliseconds)
+        .unwrap_or(0)
 }
 
 /// A writer of which is shown how much it took.

@@ -1,6 +1,6 @@
 //! The Breakpad symbol file that `--dump-syms` writes, on standard output or into a store.
 
-use crate::frame_data_records::frame_data_records;
+use crate::frame_data_records::{FrameRecords, frame_data_records};
 use crate::identities::identity_in;
 use crate::input_files::{SourceFile, find_file};
 use crate::opened_files::{OpenedFile, open_source};
@@ -31,14 +31,14 @@ pub fn dump_symbols<R: Files + Print + Eprint + AllocGlobal>(
     let mut source = find_file(rt, status_line, options, path)?;
     let identity = identity_of_source(rt.alloc(), &mut source)?;
     let machine = identity.and_then(|identity| identity.machine);
-    let mut unwind = frame_data_records(rt, &mut source, machine)?;
+    let mut frames = frame_data_records(rt, &mut source, machine)?;
     let mut input = open_source(rt, source)?;
     input.read_all(rt)?;
     let Some(identity) = identity else {
         return Err(RunError::NoIdentity(String::from_str(rt.alloc(), input.path.as_str())?));
     };
-    unwind.push_str(&unwind_records(rt, path)?)?;
-    dump_over(rt, options, place, path, &input, identity, unwind.as_str())
+    frames.text.push_str(&unwind_records(rt, path)?)?;
+    dump_over(rt, options, place, path, &input, identity, &frames)
 }
 
 // Which build a file is of, if it is a PDB file that says so.
@@ -59,7 +59,7 @@ fn dump_over<R: Files + Print + Eprint + AllocGlobal, F: Read + Seek + Drop>(
     path: &str,
     input: &OpenedFile<F>,
     identity: PdbIdentity,
-    unwind: &str,
+    frames: &FrameRecords,
 ) -> Result<(), RunError> {
     let module = ModuleIdentity {
         machine: identity.machine,
@@ -73,10 +73,10 @@ fn dump_over<R: Files + Print + Eprint + AllocGlobal, F: Read + Seek + Drop>(
     let data = input.session.data()?;
     match place {
         SymbolFilePlace::StandardOutput => {
-            Ok(dump_all(rt, options, None, &module, &data, unwind)?)
+            Ok(dump_all(rt, options, None, &module, &data, frames)?)
         }
         SymbolFilePlace::Store(store) => {
-            dump_into_store(rt, options, store, &module, &data, unwind)
+            dump_into_store(rt, options, store, &module, &data, frames)
         }
     }
 }
@@ -87,10 +87,10 @@ fn dump_into_store<R: Files + Print + Eprint + AllocGlobal>(
     store: &str,
     module: &ModuleIdentity<'_>,
     data: &SessionData<'_>,
-    unwind: &str,
+    frames: &FrameRecords,
 ) -> Result<(), RunError> {
     let path = make_place(rt, store, module)?;
-    match dump_all(rt, options, Some(path.as_str()), module, data, unwind) {
+    match dump_all(rt, options, Some(path.as_str()), module, data, frames) {
         Err(SymbolFileFault::CannotWrite) => {
             Err(RunError::SymbolFile(path, SymbolFileFault::CannotWrite))
         }
@@ -105,17 +105,17 @@ fn dump_all<R: Files + Print + Eprint + AllocGlobal>(
     path: Option<&str>,
     module: &ModuleIdentity<'_>,
     data: &SessionData<'_>,
-    unwind: &str,
+    frames: &FrameRecords,
 ) -> Result<(), SymbolFileFault> {
     let mut context = data.context(options.flags())?;
     match path {
-        Some(path) => write_whole(rt, path, module, &mut context, unwind),
+        Some(path) => write_whole(rt, path, module, &mut context, frames),
         None => write_records(
             rt.alloc(),
             &mut io::writer(rt),
             module,
             &mut context,
-            unwind,
+            frames,
         ),
     }
 }

@@ -1,5 +1,6 @@
 //! A symbol store: a folder in which a symbol file stands under the name of its PDB file and its debug id.
 
+use crate::frame_data_records::FrameRecords;
 use crate::paths::file_name;
 use crate::run_errors::RunError;
 use pdb_breakpad::{FrameSource, ModuleIdentity, SymbolFileFault, write_symbol_file};
@@ -29,10 +30,10 @@ pub fn write_whole<'a, R: Files + AllocGlobal, S: FrameSource<'a>>(
     path: &str,
     module: &ModuleIdentity<'_>,
     source: &mut S,
-    unwind: &str,
+    frames: &FrameRecords,
 ) -> Result<(), SymbolFileFault> {
     let part = format!(in rt.alloc(); "{path}.part")?;
-    let outcome = write_and_rename(rt, part.as_str(), path, module, source, unwind);
+    let outcome = write_and_rename(rt, part.as_str(), path, module, source, frames);
     if outcome.is_err() {
         let _ = fs::remove_file(rt, part.as_str());
     }
@@ -45,25 +46,25 @@ fn write_and_rename<'a, R: Files + AllocGlobal, S: FrameSource<'a>>(
     path: &str,
     module: &ModuleIdentity<'_>,
     source: &mut S,
-    unwind: &str,
+    frames: &FrameRecords,
 ) -> Result<(), SymbolFileFault> {
     let mut out = BufWriter::new(rt.alloc(), fs::create(rt, part)?)?;
-    write_records(rt.alloc(), &mut out, module, source, unwind)?;
+    write_records(rt.alloc(), &mut out, module, source, frames)?;
     drop(out);
     fs::rename(rt, part, path)?;
     Ok(())
 }
 
-/// Writes the records of all functions, and then unwind records.
+/// Writes the records of all functions, and then those by which callers are found.
 pub fn write_records<'a, S: FrameSource<'a>, W: Write>(
     alloc: Global,
     out: &mut W,
     module: &ModuleIdentity<'_>,
     source: &mut S,
-    unwind: &str,
+    frames: &FrameRecords,
 ) -> Result<(), SymbolFileFault> {
-    write_symbol_file(alloc, out, module, source)?;
-    out.write_all(unwind.as_bytes())?;
+    write_symbol_file(alloc, out, module, &frames.parameters, source)?;
+    out.write_all(frames.text.as_bytes())?;
     out.flush()?;
     Ok(())
 }

@@ -1,14 +1,17 @@
 //! Answers to requests of the symbolication API on standard input: one request, or one on each line.
 
+use crate::kept_files::KeptFiles;
 use crate::options::{Options, RequestForm};
 use crate::outputs::{ByteStream, Output};
 use crate::run_errors::RunError;
+use crate::status_line::StatusLine;
 use crate::symbolized_modules::texts_of_modules;
 use pdb_addr2line::Error;
 use pdb_records_files::ran_out_of_memory;
 use pdb_symbolication::{RecordFault, Request, WantedModules, error_line, write_answer};
 use std::io::{self, BufRead, BufReader, BufWriter, Read};
 use std::rt::Files;
+use std::time::Clock;
 
 /// The greatest length of a line with a request, with its end, in bytes.
 const LONGEST_LINE: u64 = 1 << 24;
@@ -22,8 +25,9 @@ enum Outcome {
 }
 
 /// Answers the requests of standard input, over the PDB files in the folders of the options.
-pub fn symbolicate<R: Files + Input + Print + Eprint + AllocGlobal>(
+pub fn symbolicate<R: Files + Input + Print + Eprint + Clock + AllocGlobal>(
     rt: &R,
+    status_line: &mut StatusLine,
     options: &Options<'_>,
     form: RequestForm,
 ) -> Result<(), RunError> {
@@ -32,38 +36,42 @@ pub fn symbolicate<R: Files + Input + Print + Eprint + AllocGlobal>(
     }
     match form {
         RequestForm::Whole => answer_input(rt, options),
-        RequestForm::Lines => answer_lines(rt, options),
+        RequestForm::Lines => answer_lines(rt, status_line, options),
     }
 }
 
-// Answers the request that standard input is.
+// Answers the request that standard input is. No file is kept, since nothing comes after it.
 fn answer_input<R: Files + Input + Print + Eprint + AllocGlobal>(
     rt: &R,
     options: &Options<'_>,
 ) -> Result<(), RunError> {
     let mut bytes = Vec::new(rt.alloc());
     known_input(rt.reader().read_to_end(&mut bytes))?;
-    match answer_text(rt, options, bytes)? {
+    let mut files = KeptFiles::new(rt.alloc(), 0)?;
+    match answer_text(rt, options, &mut files, bytes)? {
         Outcome::Answered => Ok(()),
         Outcome::Refused(why) => Err(RunError::NoRequest(why)),
     }
 }
 
 // Answers each line of standard input before the next is read.
-fn answer_lines<R: Files + Input + Print + Eprint + AllocGlobal>(
+fn answer_lines<R: Files + Input + Print + Eprint + Clock + AllocGlobal>(
     rt: &R,
+    status_line: &mut StatusLine,
     options: &Options<'_>,
 ) -> Result<(), RunError> {
     let Ok(mut reader) = BufReader::new(rt.alloc(), rt.reader()) else {
         return Err(RunError::Refused(Error::OutOfMemory));
     };
+    let mut files = KeptFiles::new(rt.alloc(), options.cache_size)?;
     let mut refused = 0u64;
     for _ in 0..u64::MAX {
-        match answer_next_line(rt, options, &mut reader)? {
+        match answer_next_line(rt, options, &mut files, &mut reader)? {
             None => break,
             Some(Outcome::Answered) => {}
             Some(Outcome::Refused(_)) => refused = refused.saturating_add(1),
         }
+        status_line.count_request(rt, files.count(), files.size());
     }
     match refused {
         0 => Ok(()),
@@ -75,6 +83,7 @@ fn answer_lines<R: Files + Input + Print + Eprint + AllocGlobal>(
 fn answer_next_line<R: Files + Print + Eprint + AllocGlobal, B: BufRead>(
     rt: &R,
     options: &Options<'_>,
+    files: &mut KeptFiles<R::File>,
     reader: &mut B,
 ) -> Result<Option<Outcome>, RunError> {
     let mut line = Vec::new(rt.alloc());
@@ -88,7 +97,7 @@ fn answer_next_line<R: Files + Print + Eprint + AllocGlobal, B: BufRead>(
         let why = format!(in rt.alloc(); "a line longer than {LONGEST_LINE} bytes")?;
         return Ok(Some(refuse(rt, why)?));
     }
-    Ok(Some(answer_text(rt, options, line)?))
+    Ok(Some(answer_text(rt, options, files, line)?))
 }
 
 // What was read, unless the input can't be read or there was no memory.
@@ -104,12 +113,13 @@ fn known_input(read: io::Result<usize>) -> Result<(), RunError> {
 fn answer_text<R: Files + Print + Eprint + AllocGlobal>(
     rt: &R,
     options: &Options<'_>,
+    files: &mut KeptFiles<R::File>,
     text: Vec<u8>,
 ) -> Result<Outcome, RunError> {
     let request = Request::from_slice(rt.alloc(), &text);
     drop(text);
     match request {
-        Ok(request) => answer_request(rt, options, &request),
+        Ok(request) => answer_request(rt, options, files, &request),
         Err(RecordFault::OutOfMemory) => Err(RunError::Refused(Error::OutOfMemory)),
         Err(fault) => refuse(rt, format!(in rt.alloc(); "{fault}")?),
     }
@@ -124,10 +134,11 @@ fn refuse<R: Print + AllocGlobal>(rt: &R, why: String) -> Result<Outcome, RunErr
 fn answer_request<R: Files + Print + Eprint + AllocGlobal>(
     rt: &R,
     options: &Options<'_>,
+    files: &mut KeptFiles<R::File>,
     request: &Request,
 ) -> Result<Outcome, RunError> {
     let wanted = WantedModules::of(rt.alloc(), request)?;
-    let found = texts_of_modules(rt, options, &wanted.modules)?;
+    let found = texts_of_modules(rt, options, files, &wanted.modules)?;
     let mut writer = BufWriter::new(rt.alloc(), io::writer(rt))?;
     write_answer(rt.alloc(), &mut writer, request, &wanted, &found)?;
     Ok(Outcome::Answered)

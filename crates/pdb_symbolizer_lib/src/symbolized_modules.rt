@@ -1,6 +1,8 @@
 //! The modules that a request asks for: their PDB files in folders, and what is found at the offsets of each.
 
-use crate::opened_files::{OpenedFile, open_source};
+use crate::folder_listings::FolderListings;
+use crate::kept_files::{KeptFiles, open_used};
+use crate::opened_files::OpenedFile;
 use crate::options::Options;
 use crate::programs::find_in_folders;
 use crate::run_errors::RunError;
@@ -12,15 +14,17 @@ use std::io::{Read, Seek};
 use std::rt::Files;
 
 /// The texts of each module, `None` where no file of it is found over which something can be answered. One module after
-/// the other is read, and let go before the next.
+/// the other is read, and only then kept for the next requests.
 pub fn texts_of_modules<R: Files + Eprint + Print + AllocGlobal>(
     rt: &R,
     options: &Options<'_>,
+    files: &mut KeptFiles<R::File>,
     modules: &[WantedModule],
 ) -> Result<Vec<Option<FrameTexts>>, RunError> {
+    let mut listings = FolderListings::new(rt.alloc());
     let mut texts = Vec::new(rt.alloc());
     for module in modules {
-        texts.push(texts_of_module(rt, options, module)?)?;
+        texts.push(texts_of_module(rt, options, files, &mut listings, module)?)?;
     }
     Ok(texts)
 }
@@ -29,9 +33,11 @@ pub fn texts_of_modules<R: Files + Eprint + Print + AllocGlobal>(
 fn texts_of_module<R: Files + Eprint + Print + AllocGlobal>(
     rt: &R,
     options: &Options<'_>,
+    files: &mut KeptFiles<R::File>,
+    listings: &mut FolderListings,
     module: &WantedModule,
 ) -> Result<Option<FrameTexts>, RunError> {
-    match texts_of_file(rt, options, module) {
+    match texts_of_file(rt, options, files, listings, module) {
         Err(RunError::Refused(Error::OutOfMemory)) => Err(RunError::Refused(Error::OutOfMemory)),
         Err(error) => {
             error.print(rt);
@@ -44,13 +50,17 @@ fn texts_of_module<R: Files + Eprint + Print + AllocGlobal>(
 fn texts_of_file<R: Files + Eprint + AllocGlobal>(
     rt: &R,
     options: &Options<'_>,
+    files: &mut KeptFiles<R::File>,
+    listings: &mut FolderListings,
     module: &WantedModule,
 ) -> Result<Option<FrameTexts>, RunError> {
-    let Some(found) = find_in_folders(rt, options, module)? else {
+    let Some(found) = find_in_folders(rt, &mut files.ids, listings, options, module)? else {
         return Ok(None);
     };
-    let mut input = open_source(rt, found)?;
-    Ok(Some(texts_over(rt, options, module, &mut input)?))
+    let mut used = open_used(rt, files, found)?;
+    let texts = texts_over(rt, options, module, &mut used.file)?;
+    used.keep(rt.alloc(), files);
+    Ok(Some(texts))
 }
 
 fn texts_over<R: Eprint + AllocGlobal, F: Read + Seek + Drop>(

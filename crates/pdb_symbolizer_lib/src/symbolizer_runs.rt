@@ -58,7 +58,7 @@ fn run_over<R: Files + Input + Print + Eprint + Clock + AllocGlobal>(
         (Purpose::Export(export), Some(file)) => {
             export_file(rt, status_line, options, export, file)
         }
-        (Purpose::Symbolication(form), _) => symbolicate(rt, options, form),
+        (Purpose::Symbolication(form), _) => symbolicate(rt, status_line, options, form),
         (Purpose::SymbolFile(place), Some(file)) => {
             dump_symbols(rt, status_line, options, place, file)
         }

@@ -33,7 +33,8 @@ def fpo(rva, size, words, parameters, prologue, registers, base_pointer, frame):
 ENTRIES = [frame_data(0x1100, 64, AT_RETURN, 20, 8, 12, 7, 4), frame_data(0x1107, 57, AT_SAVED, 20, 8, 12, 0, 16),
            frame_data(0x1140, 0, AT_RETURN), frame_data(0x1150, 4, 999), frame_data(0x1160, 4, AT_BROKEN),
            frame_data(0xFFFFFFF0, 17, AT_RETURN), frame_data(0xFFFFFFF0, 16, AT_RETURN)]
-FPO = [fpo(0x1180, 20, 3, 2, 5, 3, 1, 0), fpo(0x1190, 0, 0, 0, 0, 0, 0, 0), fpo(0x11A0, 8, 0, 0, 0, 0, 0, 3)]
+FPO = [fpo(0x1100, 64, 0, 3, 0, 0, 0, 0), fpo(0x1180, 20, 3, 2, 5, 3, 1, 0), fpo(0x1190, 0, 0, 0, 0, 0, 0, 0),
+       fpo(0x11A0, 8, 0, 0, 0, 0, 0, 3)]
 
 
 def write_pdb(name, machine, more, others=()):
@@ -59,7 +60,8 @@ def write_frame_data():
 
 
 def frame_data_cases(error, ended):
-    """Cases over it: each entry has a record, or a line on standard error that says why not."""
+    """Cases over it: each entry has a record, or a line on standard error that says why not. The size of the function's
+    parameters is that of the frame data, though FPO data is over it too."""
     write_frame_data()
     left_out = "frame_data.pdb: no unwind records at 0x{:x}: {}"
     yield "pdb_symbolizer --dump-syms frame_data.pdb", "".join((
@@ -71,8 +73,8 @@ def frame_data_cases(error, ended):
         error("frame_data.pdb: FPO data ends early: the bytes end before what is said to stand there"),
     )) + "".join(f"{row}\n" for row in (
         "MODULE windows x86 030201000504070608090A0B0C0D0E0F1 frame_data.pdb", "FILE 0 a.cpp",
-        "FUNC 1100 40 0 f()", "1100 40 10 0",
+        "FUNC 1100 40 8 f()", "1100 40 10 0",
         "STACK WIN 4 1100 40 7 0 8 4 14 c 1 $T0 .raSearch = $eip $T0 ^ = ",
         "STACK WIN 4 1107 39 0 0 8 10 14 c 1 $ebx $T0 8 - ^ = ",
         "STACK WIN 4 fffffff0 10 0 0 0 0 0 0 1 $T0 .raSearch = $eip $T0 ^ = ",
-        "STACK WIN 0 1180 14 5 0 8 c c 0 0 1", "STACK WIN 3 11a0 8 0 0 0 0 0 0 0 0")) + ended
+        "STACK WIN 0 1100 40 0 0 c 0 0 0 0 0", "STACK WIN 0 1180 14 5 0 8 c c 0 0 1", "STACK WIN 3 11a0 8 0 0 0 0 0 0 0 0")) + ended

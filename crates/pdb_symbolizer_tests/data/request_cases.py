@@ -4,7 +4,9 @@ Frames are those that llvm-symbolizer answers for shapes.exe, as write_cases.py 
 hand, from docs/FORMATS.md.
 """
 import json
+import pathlib
 
+HERE = pathlib.Path(__file__).resolve().parent
 ID, OTHER, BROKEN = ("6B32B94164959A524C4C44205044422E1", "A9D98A29E7C186D04C4C44205044422E1",
                      "030201000504070608090A0B0C0D0E0F1")
 SHAPES = ["shapes.pdb", ID]
@@ -176,7 +178,79 @@ def line_cases(shapes, error):
     yield "pdb_symbolizer --symbolicate-lines", "status 0\n"
 
 
-def request_cases(whole, short, procedure_at, error, broken_rows):
+# What arm64_program.py writes: a function of 64 bytes at 0x1100, all on one line
+ARM64 = {"function": "f()", "function_offset": "0x4", "file": "a.cpp", "line": 10}
+
+
+def arm64_case(name, words):
+    """A request for arm64.pdb under a name in a folder."""
+    return asked(job([[name, BROKEN]], [[0, 0x1104]]), words), \
+        answer(([[frame(0, name, 0x1104, ARM64)]], {f"{name}/{BROKEN}": True})) + "status 0\n"
+
+
+def store_cases(error, rows, written):
+    """Stores as symbol servers have them: in two tiers, under names in other case, and with compressed files. `written`
+    takes the path and the bytes of a file beside this."""
+    arm64, broken = ((HERE / name).read_bytes() for name in ("arm64.pdb", "broken_parts.pdb"))
+    written("tiers/index2.txt", b"")
+    written(f"tiers/ar/arm64.pdb/{BROKEN}/arm64.pdb", arm64)
+    written(f"untold/ar/arm64.pdb/{BROKEN}/arm64.pdb", arm64)
+    # the first two letters of this name lead out of a folder
+    outside = "..64.pdb"
+    written(f"tiers/{outside}/{BROKEN}/{outside}", arm64)
+    written("tiers/ar/index2.txt", b"")
+    written("cased/ARM64.Pdb", arm64)
+    stored = f"cased/Broken_Parts.PDB/{BROKEN.lower()}/BROKEN_parts.pdb"
+    written(stored, broken)
+    packed = f"packed/shapes.pdb/{OTHER}/shapes.pd_"
+    written(packed, b"MSCF" + bytes(32))
+    yield arm64_case("arm64.pdb", "--pdb-dir tiers")
+    yield arm64_case("ARM64.PDB", "--pdb-dir tiers")
+    yield arm64_case("arm64.pdb", "--pdb-dir cased")
+    for name, folder in (("arm64.pdb", "untold"), (outside, "tiers/ar")):
+        nothing = [[frame(0, name, 0x1104)]], {f"{name}/{BROKEN}": False}
+        yield asked(job([[name, BROKEN]], [[0, 0x1104]]), f"--pdb-dir {folder}"), answer(nothing) + "status 0\n"
+    known = {"function": "?f@@YAXXZ", "function_offset": "0x30"}
+    found = answer(([[frame(0, "broken_parts.pdb", 0x1050, known)]], {f"broken_parts.pdb/{BROKEN}": True})) + "status 0\n"
+    request = job([["broken_parts.pdb", BROKEN]], [[0, 0x1050]])
+    for words, path in (("--pdb-dir cased", stored), ("--pdb-dir cased --pdb-dir .", "./broken_parts.pdb")):
+        yield asked(request, words), "".join(error(f"{path}: {row}") for row in rows) + found
+    compressed = "a compressed file (CAB, .pd_)"
+    nothing = [[frame(0, "shapes.pdb", 0x1136)]], {f"shapes.pdb/{OTHER}": False}
+    yield asked(job([["shapes.pdb", OTHER]], [[0, 0x1136]]), "--pdb-dir packed"), \
+        error(f"{packed}: {compressed}") + answer(nothing) + "status 0\n"
+    nothing = [[frame(0, "SHAPES.PDB", 0x1136)]], {f"SHAPES.PDB/{OTHER}": False}
+    yield asked(job([["SHAPES.PDB", OTHER]], [[0, 0x1136]]), "--pdb-dir packed"), \
+        error(f"{packed}: {compressed}") + answer(nothing) + "status 0\n"
+    here, missing = "{6B32B941-6495-9A52-4C4C-44205044422E}/1", "No such file or directory (os error 2)"
+    yield "pdb_symbolizer --pdb-dir packed other.exe 0x140001136", error(
+        "other.exe: no PDB file of {A9D98A29-E7C1-86D0-4C4C-44205044422E}/1" + "".join(f"\n    {place}: {why}" for place, why in (
+            *2 * [("shapes.pdb", f"its id is {here}")], ("packed/shapes.pdb", "not a regular file"),
+            (f"packed/shapes.pdb/{OTHER}/shapes.pdb", missing), (packed, compressed)))) + "status 1\n"
+
+
+def kept_cases(error, rows):
+    """Files that stay open from one line to the next, and files that are closed at once and so tell anew what is broken."""
+    known = {"function": "?f@@YAXXZ", "function_offset": "0x30"}
+    request = text(job([["broken_parts.pdb", BROKEN]], [[0, 0x1050]]))
+    found = answer(([[frame(0, "broken_parts.pdb", 0x1050, known)]], {f"broken_parts.pdb/{BROKEN}": True}))
+    other, found_other = text(job([["arm64.pdb", BROKEN]], [[0, 0x1104]])), \
+        answer(([[frame(0, "arm64.pdb", 0x1104, ARM64)]], {f"arm64.pdb/{BROKEN}": True}))
+    told = "".join(error(f"./broken_parts.pdb: {row}") for row in rows)
+    for size, again in (("", ""), ("--cache-size 1000000 ", ""), ("--cache-size=0x100000 ", ""), ("--cache-size 0 ", told),
+                        ("--cache-size=1 ", told)):
+        yield f"pdb_symbolizer --symbolicate-lines {size}--pdb-dir . < {request}|{other}|{request}", \
+            told + found + found_other + again + found + "status 0\n"
+    told = "".join(error(f"broken_parts.pdb: {row}") for row in rows)
+    lines = "broken_parts.pdb 0x1050|arm64.pdb 0x1104|broken_parts.pdb 0x1050"
+    broken, arm64 = "?f@@YAXXZ at ??:0:0\n\n", "f() at a.cpp:10:0\n\n"
+    for size, again in (("", ""), ("--cache-size=0 ", told)):
+        yield f"pdb_symbolizer -p {size}< {lines}", told + broken + arm64 + again + broken + "status 0\n"
+    for size in ("1k", "-1", "zz"):
+        yield f"pdb_symbolizer --symbolicate-lines --cache-size={size}", error(f"--cache-size can't be {size}") + "status 2\n"
+
+
+def request_cases(whole, short, procedure_at, error, broken_rows, written):
     """All cases. Each that isn't refused ends with the status 0."""
     shapes = Shapes(whole, procedure_at)
     for line, wanted in (*module_cases(shapes, Shapes(short, procedure_at)), *unknown_cases(),
@@ -184,3 +258,5 @@ def request_cases(whole, short, procedure_at, error, broken_rows):
         yield line, wanted + "status 0\n"
     yield from malformed_cases(error)
     yield from line_cases(shapes, error)
+    yield from store_cases(error, broken_rows, written)
+    yield from kept_cases(error, broken_rows)

@@ -10,7 +10,8 @@ shapes.exe beside this is the program with the GUID of shapes.pdb here, and othe
 file stands under `symbols`: clang writes the name of its folder into a PDB file, by which the GUID is made. Written here
 are also high.pdb, which is broken_parts.pdb with its section at the end of all addresses, and its public symbol in the
 last function; device.exe and folder.exe, which are other.exe with a device and a folder in place of its PDB file's path;
-and device.json, which is names.json with a device as a module's file. parts_of_other_modules.pdb is that of
+and device.json, which is names.json with a device as a module's file. The folders tiers, untold, cased and packed are
+symbol stores, whose files request_cases.py writes. parts_of_other_modules.pdb is that of
 pdb_container_tests. inline_faults.py writes inline_faults.pdb,
 overlapping_sections.py overlapping_sections.pdb, frame_data.py frame_data.pdb, and
 arm64_program.py arm64.exe and arm64.pdb.
@@ -365,6 +366,8 @@ def broken_cases():
     yield "pdb_symbolizer nowhere.pdb 0x1136", error(f"cannot read nowhere.pdb: {MISSING}") + "status 2\n"
     yield "pdb_symbolizer symbols 0x1136", error(f"cannot read symbols: {FOLDER}") + "status 2\n"
     yield "pdb_symbolizer elf 0x1136", error("elf: an ELF file, not a program of Windows") + "status 2\n"
+    (HERE / "msfz").write_bytes(b"Microsoft MSFZ Container\r\n\x1aALD\0\0" + bytes(32))
+    yield "pdb_symbolizer msfz 0x1136", error("msfz: a compressed PDB file (MSFZ)") + "status 2\n"
     unread = error(f"cannot read nowhere.exe: {MISSING}")
     yield "llvm-symbolizer --output-style=GNU --obj nowhere.exe < 0x401000|1ffffffff", unread + "status 1\n"
     yield "addr2line -e nowhere.exe 0x401000", unread + "status 1\n"
@@ -375,9 +378,11 @@ def broken_cases():
     yield "pdb_symbolizer stripped.pdb 0x1136", error("stripped.pdb: no section headers (stripped)") + "status 1\n"
     yield "pdb_symbolizer cases.txt 0x1136", error(f"cases.txt: {NO_FILE}") + "status 2\n"
     yield "pdb_symbolizer words.json 0x1136", error("words.json: not a JSON text") + "status 2\n"
-    for option, shown, tip in (("--cach-size=3", "--cach-size", ["  tip: a similar argument exists: '--cache-size'", ""]), ("-Z", "-Z", [])):
+    for option, shown, usage, tip in (
+            ("--cach-size=3", "--cach-size", "--cache-size <BYTES>", ["  tip: a similar argument exists: '--cache-size'", ""]),
+            ("-Z", "-Z", "[OPTIONS]", [])):
         yield f"pdb_symbolizer {option} shapes.pdb", "".join(f"standard error: {line}\n" for line in (
-            f"error: unexpected argument '{shown}' found", "", *tip, "Usage: pdb_symbolizer [OPTIONS] [WORD]...", "",
+            f"error: unexpected argument '{shown}' found", "", *tip, f"Usage: pdb_symbolizer {usage} [WORD]...", "",
             "For more information, try '--help'.")) + "status 2\n"
     yield "pdb_symbolizer --output-style=XML shapes.pdb 0x1136", error("--output-style can't be XML") + "status 2\n"
     yield "pdb_symbolizer --functions=long shapes.pdb 0x1136", error("--functions can't be long") + "status 2\n"
@@ -505,10 +510,16 @@ def symbol_file_cases(folder):
     yield "pdb_symbolizer --dump-syms", error("no FILE") + "status 2\n"
 
 
+def write_below(path, data):
+    """Writes a file below this folder."""
+    (HERE / path).parent.mkdir(parents=True, exist_ok=True)
+    (HERE / path).write_bytes(data)
+
+
 def api_cases(folder):
     """Requests of the symbolication API."""
     short = stacks(folder)
-    return request_cases(dict(with_arguments(short)), short, procedure_at, error, ASKED_ROWS)
+    return request_cases(dict(with_arguments(short)), short, procedure_at, error, ASKED_ROWS, write_below)
 
 
 def main(words):

@@ -1,12 +1,9 @@
 -- A program written by hand: one section, and an exception directory of two entries.
-use Rattle.std.proofs.Common.{◌≡◌, ℕ, true, List, [], ◌∷◌, ◌++◌, Option, Some, None, option_map, refl}
+use Rattle.std.proofs.Common.{◌≡◌, ℕ, true, List, [], ◌∷◌, ◌++◌, Some, None, refl}
 use Rattle.std.specs.Prelude.{replicate}
 use Rattle.pe_image.specs.Arm64Directory.{arm64_entries}
 use Rattle.pe_image.specs.ExceptionDirectory.{function_entries}
 use Rattle.pe_image.specs.Image.{Program, bytes_from, is_executable, program_of}
-use Rattle.pe_image.specs.declared.arm64_directory.Arm64Entry.{Arm64Entry}
-use Rattle.pe_image.specs.declared.exception_directory.FunctionEntry.{FunctionEntry}
-use Rattle.pe_image.specs.declared.image.DataDirectory.{DataDirectory}
 use Rattle.pe_image.specs.declared.image.Section.{Section}
 
 -- numbers below 256, as two, four and eight bytes
@@ -23,9 +20,9 @@ eight number = four number ++ four 0
 abbrev dos_header : List ℕ
 dos_header = 0x4d ∷ 0x5a ∷ replicate 58 0 ++ four 64
 
--- the signature; the machine 0x8664, one section, and an optional header of 144 bytes
+-- the signature; the machine 0x8664, one section, the time stamp 1, and an optional header of 144 bytes
 abbrev coff : List ℕ
-coff = 0x50 ∷ 0x45 ∷ 0 ∷ 0 ∷ [] ++ (0x64 ∷ 0x86 ∷ two 1 ++ replicate 12 0 ++ two 144 ++ two 0)
+coff = 0x50 ∷ 0x45 ∷ 0 ∷ 0 ∷ [] ++ (0x64 ∷ 0x86 ∷ two 1 ++ four 1 ++ replicate 8 0 ++ two 144 ++ two 0)
 
 -- a PE32+ with the image base 16, a size of 96, and four data directories, of which the last is at 80, with 24 bytes
 abbrev optional : List ℕ
@@ -52,6 +49,7 @@ abbrev program : Program
 program = record {
   file = file;
   machine = 0x8664;
+  time_stamp = 1;
   image_base = 16;
   image_size = 96;
   sections = code ∷ [];

@@ -1,39 +1,20 @@
-//! The headers of a program (an EXE or a DLL, PE32 or PE32+) and the bytes at its addresses.
+//! A program (an EXE or a DLL, PE32 or PE32+): its sections, its data directories, and the bytes at its addresses.
 
-ghost use Rattle.std.specs.Prelude.{◌≡◌, ◌≤◌, ◌<◌, ◌==◌, ◌+◌, ◌*◌, ◌^◌, drop, find, length, take, IfOk, IfSome};
+ghost use Rattle.std.specs.Prelude.{◌≡◌, ◌≤◌, ◌==◌, ◌*◌, drop, find, length, take, IfOk};
 ghost use Rattle.pe_image.specs.NumbersAt.{entries};
-ghost use Rattle.pe_image.specs.Image.{coff_header, data_directory, directories_at, directory_count_at, headers_at};
-ghost use Rattle.pe_image.specs.Image.{headers_of, holds, image_base, optional_form, program_of};
-ghost use Rattle.pe_image.specs.Image.{section_bytes, section_header, sections_at};
+ghost use Rattle.pe_image.specs.Image.{data_directory, holds, program_of, section_bytes, section_header};
 
-use crate::numbers_at::{bytes_at, u16_at, u32_at, u64_at};
+use crate::headers::headers_of;
+use crate::numbers_at::bytes_at;
 use byteorder::{ByteOrder, LittleEndian};
 use std::alloc::{AllocError, Global};
 use std::marker::Model;
-
-/// IMAGE_DOS_SIGNATURE, the letters `MZ`.
-const IMAGE_DOS_SIGNATURE: u16 = 0x5a4d;
-
-/// IMAGE_NT_SIGNATURE, the letters `PE` and two zeros.
-const IMAGE_NT_SIGNATURE: u32 = 0x4550;
-
-/// Where e_lfanew is in the file: the offset of the headers.
-const E_LFANEW: usize = 0x3c;
-
-/// The size of the COFF file header in bytes.
-const FILE_HEADER: usize = 20;
 
 /// The size of a section's header in bytes.
 const SECTION_HEADER: usize = 40;
 
 /// The size of an entry of the data directories in bytes.
 const DIRECTORY: usize = 8;
-
-/// How many data directories a program has at most.
-const IMAGE_NUMBEROF_DIRECTORY_ENTRIES: u32 = 16;
-
-/// How many sections a program has at most that systems load.
-const MOST_SECTIONS: u16 = 96;
 
 /// The bit in the characteristics of a section whose bytes can be executed.
 pub const IMAGE_SCN_MEM_EXECUTE: u32 = 0x2000_0000;
@@ -82,6 +63,9 @@ pub struct Image<'a> {
     pub file: &'a [u8],
     /// [`IMAGE_FILE_MACHINE_AMD64`] for x64.
     pub machine: u16,
+    /// TimeDateStamp: when the program was linked, in seconds since 1970, or a hash where the linker was told to make the
+    /// same file again.
+    pub time_stamp: u32,
     /// The address that the program is linked for.
     pub image_base: u64,
     /// SizeOfImage: the size of the loaded program in bytes.
@@ -98,35 +82,12 @@ impl<'a> Model for Image<'a> {
     ghost view = { λ image. record {
       file = image.file.now;
       machine = image.machine;
+      time_stamp = image.time_stamp;
       image_base = image.image_base;
       image_size = image.image_size;
       sections = image.sections.items;
       directories = image.directories.items;
     } };
-}
-
-/// PE32 or PE32+.
-#[derive(Clone, Copy)]
-enum OptionalForm {
-    Pe32,
-    Pe32Plus,
-}
-
-/// Where a table of the headers is in the file, in bytes, and how many entries it has.
-#[derive(Clone, Copy)]
-struct Table {
-    at: usize,
-    count: usize,
-}
-
-/// What the headers of a program say, apart from their tables.
-#[derive(Clone, Copy)]
-struct Headers {
-    machine: u16,
-    image_base: u64,
-    image_size: u32,
-    sections: Table,
-    directories: Table,
 }
 
 /// The program that a file is, or `None` if it is no EXE or DLL, or one that no system loads (more than 96
@@ -154,6 +115,7 @@ pub fn read_image(alloc: Global, file: &[u8]) -> Result<Option<Image<'_>>, Alloc
     Ok(Some(Image {
         file,
         machine: headers.machine,
+        time_stamp: headers.time_stamp,
         image_base: headers.image_base,
         image_size: headers.image_size,
         sections: sections_in(alloc, sections, headers.sections.count)?,
@@ -188,125 +150,6 @@ impl<'a> Image<'a> {
     {
         self.directories.get(position).copied()
     }
-}
-
-// What the headers of a program say.
-fn headers_of(file: &[u8]) -> Option<Headers>
-    ensures answer { result ≡ headers_of file.now }
-    ensures sections { IfSome result (λ headers. headers.sections.at < 2 ^ 33) }
-    ensures section_count { IfSome result (λ headers. headers.sections.count ≤ 96) }
-    ensures directories { IfSome result (λ headers. headers.directories.at < 2 ^ 33) }
-    ensures directory_count { IfSome result (λ headers. headers.directories.count ≤ 16) }
-{
-    headers_at(file, coff_header(file)?)
-}
-
-// The offset of the COFF file header.
-fn coff_header(file: &[u8]) -> Option<usize>
-    ensures answer { result ≡ coff_header file.now }
-    ensures near { IfSome result (λ at. at < 2 ^ 32 + 4) }
-{
-    let magic = u16_at(file, 0)?;
-    let at = u32_at(file, E_LFANEW)? as usize;
-    let signature = u32_at(file, at)?;
-    if magic == IMAGE_DOS_SIGNATURE && signature == IMAGE_NT_SIGNATURE {
-        return Some(at + 4);
-    }
-    None
-}
-
-// What the headers say that begin at this offset of the COFF file header.
-fn headers_at(file: &[u8], coff: usize) -> Option<Headers>
-    requires { coff < 2 ^ 32 + 4 }
-    ensures answer { result ≡ headers_at file.now coff }
-    ensures sections { IfSome result (λ headers. headers.sections.at < 2 ^ 33) }
-    ensures section_count { IfSome result (λ headers. headers.sections.count ≤ 96) }
-    ensures directories { IfSome result (λ headers. headers.directories.at < 2 ^ 33) }
-    ensures directory_count { IfSome result (λ headers. headers.directories.count ≤ 16) }
-{
-    let machine = u16_at(file, coff)?;
-    let magic = u16_at(file, coff + FILE_HEADER)?;
-    let form = optional_form(magic)?;
-    let image_base = image_base(form, file, coff + FILE_HEADER)?;
-    let image_size = u32_at(file, coff + 76)?;
-    let sections = sections_at(file, coff)?;
-    let directories = directories_at(form, file, coff + FILE_HEADER)?;
-    Some(Headers {
-        machine,
-        image_base,
-        image_size,
-        sections,
-        directories,
-    })
-}
-
-// PE32 or PE32+, by the number that the optional header begins with.
-fn optional_form(magic: u16) -> Option<OptionalForm>
-    ensures answer { result ≡ optional_form magic }
-{
-    match magic {
-        0x10b => Some(OptionalForm::Pe32),
-        0x20b => Some(OptionalForm::Pe32Plus),
-        _ => None,
-    }
-}
-
-// The image base.
-fn image_base(form: OptionalForm, file: &[u8], optional: usize) -> Option<u64>
-    requires { optional < 2 ^ 33 }
-    ensures answer { result ≡ image_base form file.now optional }
-{
-    match form {
-        OptionalForm::Pe32 => {
-            let base = u32_at(file, optional + 28)?;
-            Some(u64::from(base))
-        }
-        OptionalForm::Pe32Plus => u64_at(file, optional + 24),
-    }
-}
-
-// Where NumberOfRvaAndSizes is in the optional header.
-fn directory_count_at(form: OptionalForm) -> usize
-    ensures answer { result ≡ directory_count_at form }
-    ensures near { result ≤ 108 }
-{
-    match form {
-        OptionalForm::Pe32 => 92,
-        OptionalForm::Pe32Plus => 108,
-    }
-}
-
-// Where the data directories are, and how many.
-fn directories_at(form: OptionalForm, file: &[u8], optional: usize) -> Option<Table>
-    requires { optional < 2 ^ 32 + 24 }
-    ensures answer { result ≡ directories_at form file.now optional }
-    ensures at { IfSome result (λ table. table.at < 2 ^ 33) }
-    ensures count { IfSome result (λ table. table.count ≤ 16) }
-{
-    let at = optional + directory_count_at(form);
-    let count = u32_at(file, at)?;
-    Some(Table {
-        at: at + 4,
-        count: count.min(IMAGE_NUMBEROF_DIRECTORY_ENTRIES) as usize,
-    })
-}
-
-// Where the headers of the sections are, and how many.
-fn sections_at(file: &[u8], coff: usize) -> Option<Table>
-    requires { coff < 2 ^ 32 + 4 }
-    ensures answer { result ≡ sections_at file.now coff }
-    ensures at { IfSome result (λ table. table.at < 2 ^ 33) }
-    ensures count { IfSome result (λ table. table.count ≤ 96) }
-{
-    let count = u16_at(file, coff + 2)?;
-    let size = u16_at(file, coff + 16)?;
-    if count > MOST_SECTIONS {
-        return None;
-    }
-    Some(Table {
-        at: coff + FILE_HEADER + usize::from(size),
-        count: usize::from(count),
-    })
 }
 
 // The section whose header these bytes begin with.

@@ -1,15 +1,18 @@
-//! The headers of a program (an EXE or a DLL, PE32 or PE32+), the bytes at its addresses, and its exception directory.
+//! The headers of a program (an EXE or a DLL, PE32 or PE32+), the bytes at its addresses, and its directories.
 //!
-//! What each call answers is a definition over the bytes of the file, in specs/Image.antt and
-//! specs/ExceptionDirectory.antt, and each call is proved to answer it, whatever the bytes are.
+//! What each call answers is a definition over the bytes of the file, in specs/Headers.antt, specs/Image.antt and one
+//! file for each directory, and each call is proved to answer it, whatever the bytes are.
 #![tactic(auto)]
 
 mod arm64_directory;
+mod debug_directory;
 mod exception_directory;
+mod headers;
 mod image;
 mod numbers_at;
 
 pub use arm64_directory::{Arm64Entry, IMAGE_FILE_MACHINE_ARM64, arm64_entries, is_arm64};
+pub use debug_directory::{DebugEntry, IMAGE_DEBUG_TYPE_CODEVIEW, debug_entries};
 pub use exception_directory::{FunctionEntry, function_entries, function_entry_at};
 pub use image::{
     DataDirectory, IMAGE_FILE_MACHINE_AMD64, IMAGE_SCN_MEM_EXECUTE, Image, Section, read_image,

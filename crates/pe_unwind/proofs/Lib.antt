@@ -1,3 +1,4 @@
+pub mod EpilogueLemmas
 mod Examples
 pub mod LeafLemmas
 pub mod LineLemmas

@@ -154,3 +154,12 @@ abbrev pub epilogue_rules : Function → List ℕ → Option Rules
 epilogue_rules function code =
     let front = stack_restored function.own.frame code in
     rules_before function (first_pops (drop front.size code) (record at_first { stack = front.stack }))
+
+-- whether two bytes may be the first of an epilogue: those of a prefix (40 to 4F) with add, lea, a jump or pop behind it; or
+-- those of pop, of an instruction that returns, or of a jump
+abbrev pub may_begin : ℕ → ℕ → Bool
+may_begin first second =
+    if first / 16 == 4
+    then (second == 0x81) || (second == 0x83) || (second == 0x8d) || (second == 0xff) || is_pop second
+    else (first == 0xc2) || (first == 0xc3) || (first == 0xe9) || (first == 0xeb) || (first == 0xf3) || (first == 0xff)
+    || is_pop first

@@ -4,7 +4,7 @@ ghost use Rattle.std.specs.Prelude.{◌≡◌, ◌≤◌, ◌<◌, ◌^◌, drop
 ghost use Rattle.pe_unwind.specs.Epilogues.{adds_byte, adds_number, begins_with, epilogue_rules, first_pop, is_pop};
 ghost use Rattle.pe_unwind.specs.Epilogues.{jumps_out, jumps_prefixed, jumps_through, lea_by, lea_if, leas, leaves};
 ghost use Rattle.pe_unwind.specs.Epilogues.{first_pops, leaves_for, operand, pop_undone, returns, stack_restored};
-ghost use Rattle.pe_unwind.specs.Epilogues.{signed_byte, signed_number};
+ghost use Rattle.pe_unwind.specs.Epilogues.{may_begin, signed_byte, signed_number};
 ghost use Rattle.pe_unwind.specs.Rules.{at_first, stack_top};
 ghost use Rattle.pe_unwind.specs.declared.rules.Unwound.{Unwound};
 
@@ -52,13 +52,27 @@ pub(crate) fn epilogue_rules(function: &FunctionUnwind, code: &[u8]) -> Option<R
     None
 }
 
-/// Whether an epilogue of version 1 goes on where this code begins.
+/// Whether an epilogue of version 1 goes on where this code begins. Most code is told from one by two bytes.
+#[tactic(auto, using(crate::proofs::EpilogueLemmas::other_code))]
 pub(crate) fn is_epilogue(function: &FunctionUnwind, code: &[u8]) -> bool
     requires { length code.now ≤ function.now.end }
     ensures answer { result ≡ is_some (epilogue_rules function.now code.now) }
 {
+    if !may_begin(byte(code, 0), byte(code, 1)) {
+        return false;
+    }
     let front = stack_restored(function.own.frame, code);
     leaves(function, pops_rest(behind(code, front.size)))
+}
+
+// Whether two bytes may be the first of an epilogue.
+fn may_begin(first: u8, second: u8) -> bool
+    ensures { result ≡ may_begin first second }
+{
+    if first / 16 == 4 {
+        return matches!(second, 0x81 | 0x83 | 0x8d | 0xff) || is_pop(second);
+    }
+    matches!(first, 0xc2 | 0xc3 | 0xe9 | 0xeb | 0xf3 | 0xff) || is_pop(first)
 }
 
 // Nothing undone, with the stack pointer here.

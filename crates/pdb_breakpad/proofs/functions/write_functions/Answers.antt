@@ -11,7 +11,7 @@ pub loop-position-init : goal.loop-position-init
 loop-position-init g c =
     let answers = g.S.FrameSource.answers in
     record {
-      walked = not_walked answers c.args.source.now c.args.numbers.now (get_or c.args.points.now 0 (2 ^ 32))
+      walked = not_walked c.args.parameters.now answers c.args.source.now c.args.numbers.now (get_or c.args.points.now 0 (2 ^ 32))
           (g.W.Write.contents c.args.out.now)
           (get_or_from_slice_get c.args.points.now 0 0 (2 ^ 32) c.requires.pieces.from_zero);
       names = ((λ number name is. is), (λ number name is. is));
@@ -31,9 +31,9 @@ loop-position-preserved g c =
     let point : slice_get points c.loop-position.position ≡ Some piece.first
     = slice_get-get_or points c.loop-position.position 0 there ∙ ap Some (sym c.piece_at-piece.ensures.first) in
     record {
-      walked = subst (λ next. IsWalked answers c.args.source.now c.walk_piece.new.numbers next c.in_ok-walked.walked
+      walked = subst (λ next. IsWalked c.args.parameters.now answers c.args.source.now c.walk_piece.new.numbers next c.in_ok-walked.walked
           (g.W.Write.contents c.args.out.now) (g.W.Write.contents c.walk_piece.new.out)) c.piece_at-piece.ensures.last
-          (walked_on answers c.args.source.now c.loop-position.source c.loop-position.numbers c.walk_piece.new.numbers
+          (walked_on c.args.parameters.now answers c.args.source.now c.loop-position.source c.loop-position.numbers c.walk_piece.new.numbers
           piece.first piece.last c.loop-position.walked c.in_ok-walked.walked (g.W.Write.contents c.args.out.now)
           (g.W.Write.contents c.loop-position.out) (g.W.Write.contents c.walk_piece.new.out) piece.ordered step.names
           before.inputs
@@ -45,7 +45,7 @@ loop-position-preserved g c =
             c.piece_at-piece.ensures.last,
             piece_fits points c.loop-position.position (λ i. omega (arith, c.type_inv.points i)),
           )))
-          (subst (λ next. IsWalked answers c.args.source.now c.loop-position.numbers next c.loop-position.walked
+          (subst (λ next. IsWalked c.args.parameters.now answers c.args.source.now c.loop-position.numbers next c.loop-position.walked
           (g.W.Write.contents c.args.out.now) (g.W.Write.contents c.loop-position.out)) first before.walked)
           step.step step.open);
       names = (
@@ -63,10 +63,10 @@ returns-clause-answer g c =
     let answers = g.S.FrameSource.answers in
     let end : get_or c.args.points.now c.loop-position.position (2 ^ 32) ≡ 2 ^ 32
     = get_or_past c.args.points.now c.loop-position.position (2 ^ 32) c.loop-position-test.false in
-    walked_all answers c.args.source.now c.loop-position.numbers c.loop-position.walked
+    walked_all c.args.parameters.now answers c.args.source.now c.loop-position.numbers c.loop-position.walked
     (g.W.Write.contents c.args.out.now) (g.W.Write.contents c.loop-position.out)
     (g.W.Write.contents c.write_ended.new.out)
-    (subst (λ next. IsWalked answers c.args.source.now c.loop-position.numbers next c.loop-position.walked
+    (subst (λ next. IsWalked c.args.parameters.now answers c.args.source.now c.loop-position.numbers next c.loop-position.walked
     (g.W.Write.contents c.args.out.now) (g.W.Write.contents c.loop-position.out)) end
     c.loop-position.invariant.walked)
     c.in_ok-write_ended.ensures.readable c.in_ok-write_ended.ensures.written

@@ -9,7 +9,7 @@ abbrev pub invariant-loop-position : goal.invariant-loop-position
 invariant-loop-position g l =
     let answers = g.S.FrameSource.answers in
     record {
-      walked : IsWalked answers l.fn.source l.numbers (get_or l.points l.position (2 ^ 32)) l.walked
+      walked : IsWalked l.parameters answers l.fn.source l.numbers (get_or l.points l.position (2 ^ 32)) l.walked
           (g.W.Write.contents l.fn.out) (g.W.Write.contents l.out);
       names : KeepsAllNames l.fn.numbers l.numbers;
       inputs : KeepsAnswers answers l.fn.source l.source;

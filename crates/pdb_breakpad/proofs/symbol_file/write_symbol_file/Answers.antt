@@ -18,10 +18,10 @@ returns g c =
     let written = g.W.Write.contents c.write_all.new.self in
     let numbers = c.functions_text.new.numbers in
     let front = c.in_ok-write_front.ensures.0 in
-    let all : WritesFunctions answers c.args.source.now numbers (Some []) (Some c.in_ok-functions.functions.items)
-    = written_for_first answers c.args.source.now c.piece_starts.new.self numbers (Some [])
+    let all : WritesFunctions c.args.parameters.now answers c.args.source.now numbers (Some []) (Some c.in_ok-functions.functions.items)
+    = written_for_first c.args.parameters.now answers c.args.source.now c.piece_starts.new.self numbers (Some [])
     (Some c.in_ok-functions.functions.items) c.in_ok-points.ensures.inputs c.in_ok-functions.ensures in
-    let texts = flat_map function_text all.functions in
+    let texts = flat_map (function_text c.args.parameters.now) all.functions in
     let appended : Appends middle written texts
     = subst (Appends middle written) (c.deref-2.ensures.value ∙ all.written) c.in_ok-write_all.ensures.bytes in
     record {
@@ -34,7 +34,7 @@ returns g c =
       fit = λ position records below. (all.readable position records below).fit;
       ascend = λ position records below. (all.readable position records below).ascend;
       written = Appends-kept before written (g.W.Write.contents c.flush.new.self)
-          (symbol_file_text front numbers all.functions)
+          (symbol_file_text front numbers c.args.parameters.now all.functions)
           (subst (Appends before written) (append_assoc front (names_text numbers) texts)
           (Appends-trans before middle written _ texts c.in_ok-write_front.ensures.2 appended))
           c.in_ok-flush.ensures.bytes;
