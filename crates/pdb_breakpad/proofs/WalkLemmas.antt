@@ -48,9 +48,11 @@ walked_still answers source old new (Some f) keeps is = λ a from to.
     shows_still answers source old new f a keeps (is a from to)
 
 -- a walk stands where it stood, once more names have numbers
-renumbered : {S : Type 0} (parameters : List (Segment ℕ)) (answers : S → ℕ → Option FramesInfo → Type 0) (source : S) (old new : Numbers) (next : ℕ)
+renumbered : {S : Type 0} (parameters : List (Segment ℕ)) (answers : S → ℕ → Option FramesInfo → Type 0) (source : S)
+    (old new : Numbers) (next : ℕ)
     (walked : Option FunctionRecords) (before after : Option (List ℕ)) → KeepsAllNames old new
-    → IsWalked parameters answers source old next walked before after → IsWalked parameters answers source new next walked before after
+    → IsWalked parameters answers source old next walked before after
+    → IsWalked parameters answers source new next walked before after
 renumbered parameters answers source old new next walked before after keeps is = record {
   functions = is.functions;
   stand = is.stand;
@@ -62,7 +64,8 @@ renumbered parameters answers source old new next walked before after keeps is =
 }
 
 -- texts of functions, and those of more behind them
-more_texts : (parameters : List (Segment ℕ)) (functions more : List FunctionRecords) (before middle after : Option (List ℕ))
+more_texts : (parameters : List (Segment ℕ)) (functions more : List FunctionRecords)
+    (before middle after : Option (List ℕ))
     → Appends before middle (flat_map (function_text parameters) functions)
     → Appends middle after (flat_map (function_text parameters) more)
     → Appends before after (flat_map (function_text parameters) (functions ++ more))
@@ -76,7 +79,8 @@ kept : (numbers : Numbers) → KeepsAllNames numbers numbers
 kept numbers = ((λ number name is. is), (λ number name is. is))
 
 -- where nothing more is written, what was written stays
-nothing_more : {S : Type 0} (parameters : List (Segment ℕ)) (answers : S → ℕ → Option FramesInfo → Type 0) (source : S) (numbers : Numbers) (next : ℕ)
+nothing_more : {S : Type 0} (parameters : List (Segment ℕ)) (answers : S → ℕ → Option FramesInfo → Type 0) (source : S)
+    (numbers : Numbers) (next : ℕ)
     (walked : Option FunctionRecords) (before middle after : Option (List ℕ))
     → IsWalked parameters answers source numbers next walked before middle → Appends middle after []
     → IsWalked parameters answers source numbers next walked before after
@@ -92,7 +96,8 @@ nothing_more parameters answers source numbers next walked before middle after i
 }
 
 -- the function that was walked ends, and its text is written
-ends : {S : Type 0} (parameters : List (Segment ℕ)) (answers : S → ℕ → Option FramesInfo → Type 0) (source : S) (numbers : Numbers) (next : ℕ)
+ends : {S : Type 0} (parameters : List (Segment ℕ)) (answers : S → ℕ → Option FramesInfo → Type 0) (source : S)
+    (numbers : Numbers) (next : ℕ)
     (f : FunctionRecords) (before middle after : Option (List ℕ))
     → IsWalked parameters answers source numbers next (Some f) before middle
     → All (AreReadable parameters) (f ∷ []) → Appends middle after (flat_map (function_text parameters) (f ∷ []))
@@ -115,7 +120,8 @@ ends parameters answers source numbers next f before middle after is readable wr
 }
 
 -- the same, where one may have been walked
-ends_any : {S : Type 0} (parameters : List (Segment ℕ)) (answers : S → ℕ → Option FramesInfo → Type 0) (source : S) (numbers : Numbers) (next : ℕ)
+ends_any : {S : Type 0} (parameters : List (Segment ℕ)) (answers : S → ℕ → Option FramesInfo → Type 0) (source : S)
+    (numbers : Numbers) (next : ℕ)
     (walked : Option FunctionRecords) (before middle after : Option (List ℕ))
     → IsWalked parameters answers source numbers next walked before middle
     → All (AreReadable parameters) (option_to_list walked)
@@ -127,7 +133,8 @@ ends_any parameters answers source numbers next (Some f) before middle after is 
     ends parameters answers source numbers next f before middle after is readable written
 
 -- the function over a piece goes on from what was walked before
-continues : {S : Type 0} (parameters : List (Segment ℕ)) (answers : S → ℕ → Option FramesInfo → Type 0) (origin source : S) (numbers : Numbers)
+continues : {S : Type 0} (parameters : List (Segment ℕ)) (answers : S → ℕ → Option FramesInfo → Type 0)
+    (origin source : S) (numbers : Numbers)
     (first last : ℕ) (f g : FunctionRecords) (before after : Option (List ℕ)) → KeepsAnswers answers origin source
     → ((a : ℕ) (answer : Option FramesInfo) → first ≤ a → a ≤ last → answers origin first answer
     → answers origin a answer)
@@ -161,7 +168,8 @@ continues parameters answers origin source numbers first last f g before after k
 }
 
 -- where no function was walked, the one over a piece begins there, if there is one
-begins : {S : Type 0} (parameters : List (Segment ℕ)) (answers : S → ℕ → Option FramesInfo → Type 0) (origin source : S) (numbers : Numbers)
+begins : {S : Type 0} (parameters : List (Segment ℕ)) (answers : S → ℕ → Option FramesInfo → Type 0) (origin source : S)
+    (numbers : Numbers)
     (first last : ℕ) (next : Option FunctionRecords) (before after : Option (List ℕ)) → first ≤ last
     → KeepsAnswers answers origin source
     → ((a : ℕ) (answer : Option FramesInfo) → first ≤ a → a ≤ last → answers origin first answer
@@ -169,38 +177,41 @@ begins : {S : Type 0} (parameters : List (Segment ℕ)) (answers : S → ℕ →
     → IsWalked parameters answers origin numbers first None before after → Begins first last next
     → ReadsAnswer answers source numbers first last next → IfSome next (IsOpen numbers (last + 1))
     → IsWalked parameters answers origin numbers (last + 1) next before after
-begins parameters answers origin source numbers first last None before after some keeps same is starts read goes_on = record {
-  functions = is.functions;
-  stand = stand_up_to 0 first (last + 1) is.functions (omega (arith, some)) is.stand;
-  right = λ a below. elim (cases_lt a first) [
-    | inl known ↦ is.right a known
-    | inr behind ↦
-        subst (ShowsOver answers origin numbers a) (sym (none_over a 0 first is.functions is.stand behind))
-        (same a None behind (omega (arith, below)) ((keeps first None).0 read))
-  ];
-  goes_on = _;
-  shows = _;
-  readable = is.readable;
-  written = is.written;
-}
-begins parameters answers origin source numbers first last (Some g) before after some keeps same is starts read goes_on = record {
-  functions = is.functions;
-  stand = subst (λ start. StandBetween 0 start is.functions) (sym starts.0) is.stand;
-  right = λ a below. is.right a (omega (arith, below, starts.0));
-  goes_on = goes_on;
-  shows = λ a from to.
-      let begins_at : first ≤ a = omega (arith, from, starts.0) in
-      let ends_at : a ≤ last = omega (arith, to, starts.1) in (
-        read.0,
-        same a (Some read.0) begins_at ends_at ((keeps first (Some read.0)).0 read.1),
-        read.2 a begins_at ends_at,
-      );
-  readable = is.readable;
-  written = is.written;
-}
+begins parameters answers origin source numbers first last None before after some keeps same is starts read goes_on =
+    record {
+      functions = is.functions;
+      stand = stand_up_to 0 first (last + 1) is.functions (omega (arith, some)) is.stand;
+      right = λ a below. elim (cases_lt a first) [
+        | inl known ↦ is.right a known
+        | inr behind ↦
+            subst (ShowsOver answers origin numbers a) (sym (none_over a 0 first is.functions is.stand behind))
+            (same a None behind (omega (arith, below)) ((keeps first None).0 read))
+      ];
+      goes_on = _;
+      shows = _;
+      readable = is.readable;
+      written = is.written;
+    }
+begins parameters answers origin source numbers first last (Some g) before after some keeps same is starts read goes_on
+    = record {
+      functions = is.functions;
+      stand = subst (λ start. StandBetween 0 start is.functions) (sym starts.0) is.stand;
+      right = λ a below. is.right a (omega (arith, below, starts.0));
+      goes_on = goes_on;
+      shows = λ a from to.
+          let begins_at : first ≤ a = omega (arith, from, starts.0) in
+          let ends_at : a ≤ last = omega (arith, to, starts.1) in (
+            read.0,
+            same a (Some read.0) begins_at ends_at ((keeps first (Some read.0)).0 read.1),
+            read.2 a begins_at ends_at,
+          );
+      readable = is.readable;
+      written = is.written;
+    }
 
 -- a piece more was walked, where the function that was walked before ends with it or went on
-goes_over : {S : Type 0} (parameters : List (Segment ℕ)) (answers : S → ℕ → Option FramesInfo → Type 0) (origin source : S) (numbers : Numbers)
+goes_over : {S : Type 0} (parameters : List (Segment ℕ)) (answers : S → ℕ → Option FramesInfo → Type 0)
+    (origin source : S) (numbers : Numbers)
     (first last : ℕ) (walked next : Option FunctionRecords) (ended : List FunctionRecords)
     (before middle after : Option (List ℕ)) → first ≤ last
     → KeepsAnswers answers origin source
@@ -211,24 +222,32 @@ goes_over : {S : Type 0} (parameters : List (Segment ℕ)) (answers : S → ℕ 
     → IsNext first last walked next ended
     → ReadsAnswer answers source numbers first last next → IfSome next (IsOpen numbers (last + 1))
     → IsWalked parameters answers origin numbers (last + 1) next before after
-goes_over parameters answers origin source numbers first last walked next ended before middle after some keeps same is readable
+goes_over parameters answers origin source numbers first last walked next ended before middle after some keeps same is
+    readable
     written (inr anew) read goes_on =
     begins parameters answers origin source numbers first last next before after some keeps same
-    (ends_any parameters answers origin numbers first walked before middle after is (subst (All (AreReadable parameters)) anew.0 readable)
-    (subst (λ list. Appends middle after (flat_map (function_text parameters) list)) anew.0 written)) anew.1 read goes_on
-goes_over parameters answers origin source numbers first last (Some f) (Some g) [] before middle after some keeps same is readable
+    (ends_any parameters answers origin numbers first walked before middle after is
+    (subst (All (AreReadable parameters)) anew.0 readable)
+    (subst (λ list. Appends middle after (flat_map (function_text parameters) list)) anew.0 written))
+    anew.1 read goes_on
+goes_over parameters answers origin source numbers first last (Some f) (Some g) [] before middle after some keeps same
+    is readable
     written (inl on) read goes_on =
     continues parameters answers origin source numbers first last f g before after keeps same
     (nothing_more parameters answers origin numbers first (Some f) before middle after is written) on read goes_on
-goes_over parameters answers origin source numbers first last None next ended before middle after some keeps same is readable
+goes_over parameters answers origin source numbers first last None next ended before middle after some keeps same is
+    readable
     written (inl on) read goes_on = elim on [ ]
-goes_over parameters answers origin source numbers first last (Some f) None ended before middle after some keeps same is readable
+goes_over parameters answers origin source numbers first last (Some f) None ended before middle after some keeps same is
+    readable
     written (inl on) read goes_on = elim on [ ]
-goes_over parameters answers origin source numbers first last (Some f) (Some g) (e ∷ ended) before middle after some keeps same is
+goes_over parameters answers origin source numbers first last (Some f) (Some g) (e ∷ ended) before middle after some
+    keeps same is
     readable written (inl on) read goes_on = elim on [ ]
 
 -- a piece more was walked
-pub walked_on : {S : Type 0} (parameters : List (Segment ℕ)) (answers : S → ℕ → Option FramesInfo → Type 0) (origin source : S) (old new : Numbers)
+pub walked_on : {S : Type 0} (parameters : List (Segment ℕ)) (answers : S → ℕ → Option FramesInfo → Type 0)
+    (origin source : S) (old new : Numbers)
     (first last : ℕ) (walked next : Option FunctionRecords) (before middle after : Option (List ℕ)) → first ≤ last
     → KeepsAllNames old new → KeepsAnswers answers origin source
     → ((a : ℕ) (answer : Option FramesInfo) → first ≤ a → a ≤ last → answers origin first answer
@@ -236,14 +255,17 @@ pub walked_on : {S : Type 0} (parameters : List (Segment ℕ)) (answers : S → 
     → IsWalked parameters answers origin old first walked before middle
     → StepsOver parameters answers source new first last walked next middle after → IfSome next (IsOpen new (last + 1))
     → IsWalked parameters answers origin new (last + 1) next before after
-walked_on parameters answers origin source old new first last walked next before middle after some names keeps same is step
+walked_on parameters answers origin source old new first last walked next before middle after some names keeps same is
+    step
     goes_on =
     goes_over parameters answers origin source new first last walked next step.ended before middle after some keeps same
-    (renumbered parameters answers origin old new first walked before middle names is) step.readable step.written step.is_next
+    (renumbered parameters answers origin old new first walked before middle names is) step.readable step.written
+    step.is_next
     step.reads goes_on
 
 -- a walk that came to the end of all addresses, and whose last function is written, has written all functions
-pub walked_all : {S : Type 0} (parameters : List (Segment ℕ)) (answers : S → ℕ → Option FramesInfo → Type 0) (origin : S) (numbers : Numbers)
+pub walked_all : {S : Type 0} (parameters : List (Segment ℕ)) (answers : S → ℕ → Option FramesInfo → Type 0)
+    (origin : S) (numbers : Numbers)
     (walked : Option FunctionRecords) (before middle after : Option (List ℕ))
     → IsWalked parameters answers origin numbers (2 ^ 32) walked before middle
     → All (AreReadable parameters) (option_to_list walked)
@@ -259,7 +281,8 @@ walked_all parameters answers origin numbers walked before middle after is reada
     }
 
 -- a walk goes on over a piece whose answer is of the function that was walked
-pub stepped_on : {S : Type 0} (parameters : List (Segment ℕ)) (answers : S → ℕ → Option FramesInfo → Type 0) (source : S) (numbers : Numbers)
+pub stepped_on : {S : Type 0} (parameters : List (Segment ℕ)) (answers : S → ℕ → Option FramesInfo → Type 0)
+    (source : S) (numbers : Numbers)
     (first last : ℕ) (f g : FunctionRecords) (found : FramesInfo) (held : Option (List ℕ))
     → IsAnswer answers source first (Some found) → GoesOn f g last
     → ((a : ℕ) → first ≤ a → a ≤ last → Reads numbers g a (answer_shown found))
@@ -273,7 +296,8 @@ stepped_on parameters answers source numbers first last f g found held is on rea
 }
 
 -- a function begins with a piece, and the one that was walked, if one was, is written
-pub stepped_anew : {S : Type 0} (parameters : List (Segment ℕ)) (answers : S → ℕ → Option FramesInfo → Type 0) (source : S) (numbers : Numbers)
+pub stepped_anew : {S : Type 0} (parameters : List (Segment ℕ)) (answers : S → ℕ → Option FramesInfo → Type 0)
+    (source : S) (numbers : Numbers)
     (first last : ℕ) (walked : Option FunctionRecords) (g : FunctionRecords) (found : FramesInfo)
     (before after : Option (List ℕ))
     → IsAnswer answers source first (Some found) → (g.start ≡ first) × (g.last ≡ last)
@@ -281,16 +305,18 @@ pub stepped_anew : {S : Type 0} (parameters : List (Segment ℕ)) (answers : S �
     → All (AreReadable parameters) (option_to_list walked)
     → Appends before after (flat_map (function_text parameters) (option_to_list walked))
     → StepsOver parameters answers source numbers first last walked (Some g) before after
-stepped_anew parameters answers source numbers first last walked g found before after is starts reads readable written = record {
-  ended = option_to_list walked;
-  is_next = inr (refl, starts);
-  reads = (is.0, is.1, λ a from to. subst (λ shown. Reads numbers g a (answer_shown shown)) is.2 (reads a from to));
-  readable = readable;
-  written = written;
-}
+stepped_anew parameters answers source numbers first last walked g found before after is starts reads readable written =
+    record {
+      ended = option_to_list walked;
+      is_next = inr (refl, starts);
+      reads = (is.0, is.1, λ a from to. subst (λ shown. Reads numbers g a (answer_shown shown)) is.2 (reads a from to));
+      readable = readable;
+      written = written;
+    }
 
 -- no piece was walked yet
-pub not_walked : {S : Type 0} (parameters : List (Segment ℕ)) (answers : S → ℕ → Option FramesInfo → Type 0) (source : S) (numbers : Numbers)
+pub not_walked : {S : Type 0} (parameters : List (Segment ℕ)) (answers : S → ℕ → Option FramesInfo → Type 0)
+    (source : S) (numbers : Numbers)
     (next : ℕ) (held : Option (List ℕ)) → next ≡ 0 → IsWalked parameters answers source numbers next None held held
 not_walked parameters answers source numbers next held is = record {
   functions = [];
@@ -303,9 +329,11 @@ not_walked parameters answers source numbers next held is = record {
 }
 
 -- what is answered later was answered before, so where the functions of a source are written so are those of the first
-pub written_for_first : {S : Type 0} (parameters : List (Segment ℕ)) (answers : S → ℕ → Option FramesInfo → Type 0) (first source : S)
+pub written_for_first : {S : Type 0} (parameters : List (Segment ℕ)) (answers : S → ℕ → Option FramesInfo → Type 0)
+    (first source : S)
     (numbers : Numbers) (before after : Option (List ℕ)) → KeepsAnswers answers first source
-    → WritesFunctions parameters answers source numbers before after → WritesFunctions parameters answers first numbers before after
+    → WritesFunctions parameters answers source numbers before after
+    → WritesFunctions parameters answers first numbers before after
 written_for_first parameters answers first source numbers before after keeps is = record {
   functions = is.functions;
   are = record {

@@ -41,7 +41,8 @@ size_between first last = last - first + 1
 abbrev pub parameter_size : List (Segment ℕ) → ℕ → ℕ
 parameter_size parameters start = unwrap_or (value_at parameters start) 0
 
--- what the record of a function begins with, with the size of its parameters: a function whose end isn't known has no size
+-- what the record of a function begins with, with the size of its parameters: a function whose end isn't known has no
+-- size
 abbrev pub function_head : ℕ → Option ℕ → ℕ → ℕ → List ℕ
 function_head size (Some end) start last =
     codes "FUNC " ++ (hexadecimal start ++ (codes " " ++ (hexadecimal (size_between start last)

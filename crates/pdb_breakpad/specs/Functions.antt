@@ -114,8 +114,9 @@ ReadsAnswer answers source numbers first last (Some records) = (answer : FramesI
 
 -- a walk goes over a piece: what is over it is read as it is answered, and the texts of functions that end are written,
 -- as they may be read
-pub record StepsOver {S : Type 0} (parameters : List (Segment ℕ)) (answers : S → ℕ → Option FramesInfo → Type 0) (source : S) (numbers : Numbers)
-    (first last : ℕ) (walked next : Option FunctionRecords) (old new : Option (List ℕ)) : Type 0 where
+pub record StepsOver {S : Type 0} (parameters : List (Segment ℕ)) (answers : S → ℕ → Option FramesInfo → Type 0)
+    (source : S) (numbers : Numbers) (first last : ℕ) (walked next : Option FunctionRecords)
+    (old new : Option (List ℕ)) : Type 0 where
   pub ended : List FunctionRecords
   pub is_next : IsNext first last walked next ended
   pub reads : ReadsAnswer answers source numbers first last next
@@ -124,8 +125,9 @@ pub record StepsOver {S : Type 0} (parameters : List (Segment ℕ)) (answers : S
 
 -- a walk came up to an address: the functions so far are right below the start of the one that is walked, and their
 -- texts are written, as they may be read
-pub record IsWalked {S : Type 0} (parameters : List (Segment ℕ)) (answers : S → ℕ → Option FramesInfo → Type 0) (source : S) (numbers : Numbers)
-    (next : ℕ) (walked : Option FunctionRecords) (old new : Option (List ℕ)) : Type 0 where
+pub record IsWalked {S : Type 0} (parameters : List (Segment ℕ)) (answers : S → ℕ → Option FramesInfo → Type 0)
+    (source : S) (numbers : Numbers) (next : ℕ) (walked : Option FunctionRecords)
+    (old new : Option (List ℕ)) : Type 0 where
   pub functions : List FunctionRecords
   pub stand : StandBetween 0 (walk_start walked next) functions
   pub right : (address : ℕ) → address < walk_start walked next → IsRightAt answers source numbers functions address
@@ -136,8 +138,8 @@ pub record IsWalked {S : Type 0} (parameters : List (Segment ℕ)) (answers : S 
   pub written : Appends old new (flat_map (function_text parameters) functions)
 
 -- all functions of a program are written, as they may be read, and right
-pub record WritesFunctions {S : Type 0} (parameters : List (Segment ℕ)) (answers : S → ℕ → Option FramesInfo → Type 0) (source : S)
-    (numbers : Numbers) (old new : Option (List ℕ)) : Type 0 where
+pub record WritesFunctions {S : Type 0} (parameters : List (Segment ℕ)) (answers : S → ℕ → Option FramesInfo → Type 0)
+    (source : S) (numbers : Numbers) (old new : Option (List ℕ)) : Type 0 where
   pub functions : List FunctionRecords
   pub are : AreFunctions answers source numbers functions
   pub readable : All (AreReadable parameters) functions

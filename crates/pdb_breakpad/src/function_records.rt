@@ -137,8 +137,8 @@ impl<'a> FunctionRecords<'a> {
         add_line(&mut self.lines, piece, place, goes_on)
     }
 
-    /// The text of the records, once all addresses are gone through, with the sizes of parameters by addresses. A function
-    /// whose end isn't known has no lines and no inlined calls.
+    /// The text of the records, once all addresses are gone through, with the sizes of parameters by addresses. A
+    /// function whose end isn't known has no lines and no inlined calls.
     pub(crate) fn text(
         &self,
         alloc: Global,

@@ -126,7 +126,8 @@ fn write_function<W: io::Write>(
     parameters: &Segments<u32>,
     records: &FunctionRecords<'_>,
 ) -> Result<(), SymbolFileFault>
-    ensures written { OnOk result (Appends (W.contents out.old) (W.contents out.new) (function_text parameters.now records.now)) }
+    ensures written { OnOk result (Appends (W.contents out.old) (W.contents out.new)
+        (function_text parameters.now records.now)) }
     ensures readable { OnOk result (AreReadable parameters.now records.now) }
 {
     let text = records.text(alloc, parameters)?;

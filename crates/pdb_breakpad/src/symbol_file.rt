@@ -17,8 +17,8 @@ use pdb_tables::Segments;
 use std::alloc::{AllocError, Global};
 use std::io;
 
-/// Writes the symbol file of a program to a writer, and flushes the writer. `parameters` has by addresses how many bytes of
-/// parameters the functions there take from the stack; those without a value have the size 0.
+/// Writes the symbol file of a program to a writer, and flushes the writer. `parameters` has by addresses how many
+/// bytes of parameters the functions there take from the stack; those without a value have the size 0.
 ///
 /// The program is gone over once, piece by piece. Files and names get their numbers as they are met, and the records of
 /// functions are kept as text, because the file has the names before the functions. So what is held is the text, where

@@ -4,9 +4,8 @@ use Rattle.std.specs.Prelude.{option_map}
 use Rattle.pe_image.specs.DebugDirectory.{debug_data, debug_entries, image_debug_type_codeview}
 use Rattle.pe_image.specs.Image.{Program}
 use Rattle.pe_image.specs.declared.debug_directory.DebugEntry.{DebugEntry}
-use Rattle.pdb_identity.specs.CodeView.{code_view_id}
+use Rattle.pdb_identity.specs.CodeView.{CodeViewRecord, code_view, code_view_seen}
 use Rattle.pdb_identity.specs.declared.code_id.CodeId.{CodeId}
-use Rattle.pdb_identity.specs.declared.debug_id.DebugId.{DebugId}
 use Rattle.pdb_identity.specs.declared.program.ProgramFile.{ProgramFile}
 
 -- what a program says of itself
@@ -14,40 +13,40 @@ pub record ProgramIdentity : Type 0 where
   pub machine : ℕ
   pub code_id : CodeId
   pub image_base : ℕ
-  pub debug_id : Option DebugId
+  pub code_view : Option CodeViewRecord
 
--- what is seen of a program by its debug id, whatever it says of where its PDB file is
+-- what is seen of a program's file that was read
 abbrev pub identity_seen : ProgramFile → ProgramIdentity
 identity_seen file = record {
   machine = file.machine.0;
   code_id = file.code_id;
   image_base = file.image_base;
-  debug_id = option_map (λ code_view. code_view.debug_id) file.code_view;
+  code_view = option_map code_view_seen file.code_view;
 }
 
--- the debug id in the CodeView record that an entry of the debug directory names
-abbrev pub debug_id_by : Program → DebugEntry → Option DebugId
-debug_id_by program entry =
-    if entry.kind == image_debug_type_codeview then option_and_then code_view_id (debug_data program entry) else None
+-- what the CodeView record says that an entry of the debug directory names
+abbrev pub code_view_by : Program → DebugEntry → Option CodeViewRecord
+code_view_by program entry =
+    if entry.kind == image_debug_type_codeview then option_and_then code_view (debug_data program entry) else None
 
--- a debug id, or where there is none another
-abbrev pub or_else : Option DebugId → Option DebugId → Option DebugId
-or_else (Some id) other = Some id
+-- what a record says, or where there is none another
+abbrev pub or_else : Option CodeViewRecord → Option CodeViewRecord → Option CodeViewRecord
+or_else (Some found) other = Some found
 or_else None other = other
 
--- the debug id in the first CodeView record that these entries name
-abbrev pub debug_id_in : Program → List DebugEntry → Option DebugId
-debug_id_in program [] = None
-debug_id_in program (entry ∷ entries) = or_else (debug_id_by program entry) (debug_id_in program entries)
+-- what the first CodeView record says that these entries name
+abbrev pub code_view_in : Program → List DebugEntry → Option CodeViewRecord
+code_view_in program [] = None
+code_view_in program (entry ∷ entries) = or_else (code_view_by program entry) (code_view_in program entries)
 
--- what a program says of itself, by the entries of its debug directory: its code id are the time stamp and the size of its
--- image
+-- what a program says of itself, by the entries of its debug directory: its code id are the time stamp and the size of
+-- its image
 abbrev pub identity_by : List DebugEntry → Program → ProgramIdentity
 identity_by entries program = record {
   machine = program.machine;
   code_id = record { time_stamp = program.time_stamp; image_size = program.image_size };
   image_base = program.image_base;
-  debug_id = debug_id_in program entries;
+  code_view = code_view_in program entries;
 }
 
 -- what a program says of itself

@@ -1,7 +1,7 @@
 //! The CodeView record of a program (RSDS): the debug id of its PDB file, and the path where the linker wrote that.
 
 ghost use Rattle.std.specs.Prelude.{◌≡◌, option_map};
-ghost use Rattle.pdb_identity.specs.CodeView.{code_view_id};
+ghost use Rattle.pdb_identity.specs.CodeView.{before_zero, code_view, code_view_id, code_view_seen};
 
 use crate::debug_id::DebugId;
 use pe_image::{bytes_at, u32_at};
@@ -27,7 +27,7 @@ pub struct CodeView<'a> {
 
 /// What a CodeView record in these bytes says.
 pub(crate) fn read_code_view(bytes: &[u8]) -> Option<CodeView<'_>>
-    ensures answer { option_map (λ found. found.debug_id) result ≡ code_view_id bytes.now }
+    ensures answer { option_map code_view_seen result ≡ code_view bytes.now }
 {
     let debug_id = code_view_id(bytes)?;
     let (_, rest) = bytes.split_at(PATH.min(bytes.len()));
@@ -51,8 +51,10 @@ fn code_view_id(bytes: &[u8]) -> Option<DebugId>
     Some(DebugId { guid, age })
 }
 
-// The bytes before the first zero.
-fn before_zero(bytes: &[u8]) -> &[u8] {
+// The bytes before the first zero, or all where there is none.
+fn before_zero(bytes: &[u8]) -> &[u8]
+    ensures { result.now ≡ before_zero bytes.now }
+{
     for (position, &byte) in bytes.iter().enumerate() {
         if byte == 0 {
             return &bytes[..position];

@@ -2,8 +2,8 @@
 
 ghost use Rattle.std.specs.Prelude.{◌≡◌, option_map, IfOk};
 ghost use Rattle.pe_image.specs.Image.{program_of};
-ghost use Rattle.pdb_identity.specs.CodeView.{code_view_id};
-ghost use Rattle.pdb_identity.specs.Programs.{debug_id_by, debug_id_in, identity_by, identity_seen};
+ghost use Rattle.pdb_identity.specs.CodeView.{code_view_seen};
+ghost use Rattle.pdb_identity.specs.Programs.{code_view_by, code_view_in, identity_by, identity_seen};
 ghost use Rattle.pdb_identity.specs.Programs.{program_identity};
 
 use crate::code_id::CodeId;
@@ -52,7 +52,7 @@ fn program_file<'a>(image: &Image<'a>, entries: &[DebugEntry]) -> ProgramFile<'a
 
 // The first CodeView record that these entries name.
 fn code_view_in<'a>(image: &Image<'a>, entries: &[DebugEntry]) -> Option<CodeView<'a>>
-    ensures { option_map (λ c. c.debug_id) result ≡ debug_id_in image.now entries.now }
+    ensures { option_map code_view_seen result ≡ code_view_in image.now entries.now }
 {
     for &entry in entries {
         if let Some(code_view) = code_view_by(image, entry) {
@@ -64,7 +64,7 @@ fn code_view_in<'a>(image: &Image<'a>, entries: &[DebugEntry]) -> Option<CodeVie
 
 // The CodeView record that an entry names.
 fn code_view_by<'a>(image: &Image<'a>, entry: DebugEntry) -> Option<CodeView<'a>>
-    ensures { option_map (λ c. c.debug_id) result ≡ debug_id_by image.now entry }
+    ensures { option_map code_view_seen result ≡ code_view_by image.now entry }
 {
     if entry.kind != IMAGE_DEBUG_TYPE_CODEVIEW {
         return None;

@@ -1,7 +1,7 @@
 //! What an answer says of the addresses of a module: function, file, line and inlined calls, as members of an object.
 
 ghost use Rattle.std.specs.Prelude.{◌≡◌, [], ◌∷◌, ◌++◌, ◌-◌, map};
-ghost use Rattle.std.specs.Prelude.{string_bytes, slice_get, unwrap_or, IfOk, OnErr, OnOk};
+ghost use Rattle.std.specs.Prelude.{string_bytes, length, slice_get, unwrap_or, IfOk, OnErr, OnOk};
 ghost use Rattle.std.specs.Option.{option_copied};
 ghost use Rattle.pdb_symbolication.specs.FrameTexts.{frame_text, function_members, inlined_call, inlines_member};
 ghost use Rattle.pdb_symbolication.specs.FrameTexts.{line_member, location_members, place_members, text_member};
@@ -28,6 +28,45 @@ pub struct FoundFunction<'f> {
     pub places: Vec<Place<'f>>,
 }
 
+/// What an answer says of one offset of a module.
+#[derive(Drop)]
+pub struct FrameText {
+    text: String,
+}
+
+impl FrameText {
+    /// The text of what was found at an offset.
+    pub fn new(
+        alloc: Global,
+        offset: u32,
+        found: Option<&FoundFunction<'_>>,
+    ) -> Result<FrameText, AllocError>
+        ensures { IfOk result (λ made. string_bytes made.text ≡ frame_text offset (option_copied found.entry)) }
+    {
+        let mut text = String::new(alloc);
+        if let Some(found) = found {
+            push_found(&mut text, offset, found)?;
+        }
+        Ok(FrameText { text })
+    }
+
+    /// The same text once more.
+    pub fn copy(&self, alloc: Global) -> Result<FrameText, AllocError>
+        ensures { IfOk result (λ copy. string_bytes copy.text ≡ string_bytes self.now.text) }
+    {
+        Ok(FrameText {
+            text: String::from_str(alloc, self.text.as_str())?,
+        })
+    }
+
+    /// How many bytes the text has.
+    pub fn size(&self) -> usize
+        ensures { result ≡ length (string_bytes self.now.text) }
+    {
+        self.text.len()
+    }
+}
+
 /// The texts at offsets of one module, in the order in which they were added.
 #[derive(Drop)]
 pub struct FrameTexts {
@@ -43,13 +82,12 @@ impl FrameTexts {
         }
     }
 
-    /// Adds the text at the next offset, of what was found there.
-    pub fn add(&mut self, offset: u32, found: Option<&FoundFunction<'_>>) -> Result<(), AllocError>
-        ensures state { OnOk result (texts_of self.new
-            ≡ texts_of self.old ++ frame_text offset (option_copied found.entry) ∷ []) }
+    /// Adds the text at the next offset.
+    pub fn push(&mut self, text: FrameText) -> Result<(), AllocError>
+        ensures state { OnOk result (texts_of self.new ≡ texts_of self.old ++ string_bytes text.text ∷ []) }
         ensures unchanged_if_refused { OnErr result (texts_of self.new ≡ texts_of self.old) }
     {
-        let text = text_of(*self.texts.allocator(), offset, found)?;
+        let FrameText { text } = text;
         self.texts.push(text)?;
         Ok(())
     }
@@ -63,21 +101,6 @@ impl FrameTexts {
             None => "",
         }
     }
-}
-
-// The text at an offset, of what was found there.
-fn text_of(
-    alloc: Global,
-    offset: u32,
-    found: Option<&FoundFunction<'_>>,
-) -> Result<String, AllocError>
-    ensures { IfOk result (λ text. string_bytes text ≡ frame_text offset (option_copied found.entry)) }
-{
-    let mut text = String::new(alloc);
-    if let Some(found) = found {
-        push_found(&mut text, offset, found)?;
-    }
-    Ok(text)
 }
 
 // Appends the members of what was found, a comma before each.

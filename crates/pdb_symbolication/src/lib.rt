@@ -1,7 +1,7 @@
 //! Requests of Mozilla's symbolication API and their answers: functions, files and lines of addresses in stacks.
 //!
 //! [`Request::from_slice`] reads a request whole. [`WantedModules`] has the modules that its frames name, each once,
-//! with the offsets at which they ask for it. Whoever finds these modules makes the [`FrameTexts`] of each, and
+//! with the offsets at which they ask for it. Whoever finds these modules makes the [`FrameText`] of each offset, and
 //! [`write_answer`] puts every text at its frames. No file is opened here: [`is_harmless_name`] says which names of
 //! modules can be files of a folder.
 #![tactic(auto)]
@@ -17,7 +17,7 @@ mod requests;
 mod wanted_modules;
 mod whole_writes;
 
-pub use frame_texts::{FoundFunction, FrameTexts, Place};
+pub use frame_texts::{FoundFunction, FrameText, FrameTexts, Place};
 pub use harmless_names::is_harmless_name;
 pub use json_text::write_quoted;
 pub use pdb_json_values::RecordFault;

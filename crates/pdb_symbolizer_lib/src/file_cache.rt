@@ -45,6 +45,16 @@ impl<T: Drop> FileCache<T> {
         }
     }
 
+    /// What is kept of the file at a path, which from now on was used last.
+    pub fn get(&mut self, path: &str, stamp: FileStamp) -> Option<&T> {
+        let kept = self.files.get(path)?;
+        if kept.stamp == stamp {
+            Some(&kept.value)
+        } else {
+            None
+        }
+    }
+
     /// Takes out what is kept of the file at a path. What was kept of another file at that path is dropped.
     pub fn take(&mut self, path: &str, stamp: FileStamp) -> Option<T> {
         let Kept {
@@ -58,7 +68,7 @@ impl<T: Drop> FileCache<T> {
     /// Keeps this of a file, and drops what was used least recently until all fits. What is too large by itself, or
     /// for which there is no memory, isn't kept.
     pub fn keep(&mut self, path: String, stamp: FileStamp, size: u64, value: T) {
-        if size > self.limit {
+        if !self.has_room_for(size) {
             return;
         }
         self.shrink(self.limit.saturating_sub(size));
@@ -73,6 +83,11 @@ impl<T: Drop> FileCache<T> {
             }
             let _ = self.files.pop_lru();
         }
+    }
+
+    /// Whether a file that counts for so many bytes can be kept.
+    pub fn has_room_for(&self, size: u64) -> bool {
+        size <= self.limit
     }
 
     /// Of how many files something is kept.

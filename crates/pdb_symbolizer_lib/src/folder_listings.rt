@@ -3,6 +3,7 @@
 use crate::run_errors::RunError;
 use pdb_records_files::ran_out_of_memory;
 use std::alloc::{AllocError, Global};
+use std::collections::BTreeMap;
 use std::io::{self, Read};
 use std::rt::Files;
 
@@ -12,18 +13,14 @@ const CAPACITY: usize = 8192;
 /// What stands between two names.
 const END: char = '\0';
 
-/// A folder that was listed.
-#[derive(Drop)]
-struct ListedFolder {
-    path: String,
-    names: String,
-}
+/// The names in a folder, by what they are in small letters.
+type Listing = BTreeMap<String, Vec<String>>;
 
 /// Folders that were listed for a request, each once.
 #[derive(Drop)]
 pub struct FolderListings {
     alloc: Global,
-    folders: Vec<ListedFolder>,
+    folders: BTreeMap<String, Listing>,
 }
 
 impl FolderListings {
@@ -31,7 +28,7 @@ impl FolderListings {
     pub fn new(alloc: Global) -> Self {
         FolderListings {
             alloc,
-            folders: Vec::new(alloc),
+            folders: BTreeMap::new(alloc),
         }
     }
 
@@ -43,55 +40,64 @@ impl FolderListings {
         folder: &str,
         name: &str,
     ) -> Result<Vec<String>, RunError> {
-        let position = match self.position_of(folder) {
-            Some(position) => position,
-            None => self.list(rt, folder)?,
-        };
-        match self.folders.get(position) {
-            Some(listed) => Ok(listed.paths_named(self.alloc, name)?),
-            None => Ok(Vec::new(self.alloc)),
+        if self.folders.get(folder).is_none() {
+            let listing = list(rt, self.alloc, folder)?;
+            self.put(folder, listing)?;
         }
+        Ok(self.paths_of(folder, name)?)
     }
 
-    fn position_of(&self, folder: &str) -> Option<usize> {
-        for (position, listed) in self.folders.iter().enumerate() {
-            if listed.path.as_str() == folder {
-                return Some(position);
-            }
-        }
-        None
+    fn put(&mut self, folder: &str, listing: Listing) -> Result<(), AllocError> {
+        self.folders
+            .insert(String::from_str(self.alloc, folder)?, listing)?;
+        Ok(())
     }
 
-    // Lists a folder, and answers its position. One that can't be listed has no names.
-    fn list<R: Files>(&mut self, rt: &R, folder: &str) -> Result<usize, RunError> {
-        let names = match read_names(rt, self.alloc, folder) {
-            Ok(names) => names,
-            Err(error) if ran_out_of_memory(&error) => return Err(RunError::want_of_memory()),
-            Err(_) => Vec::new(self.alloc),
+    // The paths in a folder that was listed.
+    fn paths_of(&self, folder: &str, name: &str) -> Result<Vec<String>, AllocError> {
+        let mut paths = Vec::new(self.alloc);
+        let Some(listing) = self.folders.get(folder) else {
+            return Ok(paths);
         };
-        let position = self.folders.len();
-        self.folders.push(ListedFolder {
-            path: String::from_str(self.alloc, folder)?,
-            names: String::from_str(
-                self.alloc,
-                String::from_utf8_lossy(self.alloc, &names)?.as_str(),
-            )?,
-        })?;
-        Ok(position)
-    }
-}
-
-impl ListedFolder {
-    fn paths_named(&self, alloc: Global, name: &str) -> Result<Vec<String>, AllocError> {
-        let mut paths = Vec::new(alloc);
-        for found in self.names.as_str().split(END) {
-            if found.eq_ignore_ascii_case(name) {
-                paths.push(format!(in alloc; "{}/{found}", self.path)?)?;
+        let key = name.to_ascii_lowercase(self.alloc)?;
+        if let Some(names) = listing.get(key.as_str()) {
+            for found in names {
+                paths.push(format!(in self.alloc; "{folder}/{found}")?)?;
             }
         }
         paths.sort_unstable();
         Ok(paths)
     }
+}
+
+// Lists a folder. One that can't be listed has no names.
+fn list<R: Files>(rt: &R, alloc: Global, folder: &str) -> Result<Listing, RunError> {
+    match read_names(rt, alloc, folder) {
+        Ok(names) => Ok(listing_of(alloc, &names)?),
+        Err(error) if ran_out_of_memory(&error) => Err(RunError::want_of_memory()),
+        Err(_) => Ok(BTreeMap::new(alloc)),
+    }
+}
+
+// These names, each with an end, by what they are in small letters.
+fn listing_of(alloc: Global, names: &[u8]) -> Result<Listing, AllocError> {
+    let mut listing = BTreeMap::new(alloc);
+    let text = String::from_utf8_lossy(alloc, names)?;
+    for name in text.as_str().split(END) {
+        add_name(alloc, &mut listing, name)?;
+    }
+    Ok(listing)
+}
+
+fn add_name(alloc: Global, listing: &mut Listing, name: &str) -> Result<(), AllocError> {
+    let key = name.to_ascii_lowercase(alloc)?;
+    let mut alike = match listing.remove(key.as_str()) {
+        Some(names) => names,
+        None => Vec::new(alloc),
+    };
+    alike.push(String::from_str(alloc, name)?)?;
+    listing.insert(key, alike)?;
+    Ok(())
 }
 
 // The names in a folder, each with an end.

@@ -15,6 +15,55 @@ pub struct WantedFile<'w> {
     pub debug_id: DebugId,
 }
 
+/// How a folder may have PDB files below it.
+#[derive(Clone, Copy)]
+pub enum Layout {
+    /// `app.pdb`.
+    Flat,
+    /// `app.pdb/ID/app.pdb`, as in a symbol store.
+    OneTier,
+    /// `ap/app.pdb/ID/app.pdb`, as in a symbol store that says so.
+    TwoTiers,
+}
+
+/// The layouts, in the order in which they are tried in a folder.
+pub const LAYOUTS: [Layout; 3] = [Layout::Flat, Layout::OneTier, Layout::TwoTiers];
+
+/// The path at which a folder of this layout has a file, whose debug id is this text.
+pub fn place_by<R: Files + AllocGlobal>(
+    rt: &R,
+    dir: &str,
+    layout: Layout,
+    name: &str,
+    id: &str,
+) -> Result<Option<String>, AllocError> {
+    match folder_by(rt, dir, layout, name, id)? {
+        Some(folder) => Ok(Some(format!(in rt.alloc(); "{folder}/{name}")?)),
+        None => Ok(None),
+    }
+}
+
+// The folder in which a folder of this layout has a file.
+fn folder_by<R: Files + AllocGlobal>(
+    rt: &R,
+    dir: &str,
+    layout: Layout,
+    name: &str,
+    id: &str,
+) -> Result<Option<String>, AllocError> {
+    let alloc = rt.alloc();
+    match layout {
+        Layout::Flat => Ok(Some(String::from_str(alloc, dir)?)),
+        Layout::OneTier => Ok(Some(format!(in alloc; "{dir}/{name}/{id}")?)),
+        Layout::TwoTiers => match first_letters(name) {
+            Some(first) if has_two_tiers(rt, dir)? => {
+                Ok(Some(format!(in alloc; "{dir}/{first}/{name}/{id}")?))
+            }
+            _ => Ok(None),
+        },
+    }
+}
+
 /// Adds the paths at which a file is looked for first: under names as they are asked for.
 pub fn push_places<R: Files + AllocGlobal>(
     rt: &R,
@@ -82,16 +131,13 @@ fn folders<R: Files + AllocGlobal>(
     options: &Options<'_>,
     wanted: &WantedFile<'_>,
 ) -> Result<Vec<String>, AllocError> {
-    let (alloc, name) = (rt.alloc(), wanted.name);
-    let id = id_text(alloc, wanted.debug_id)?;
-    let mut folders = Vec::new(alloc);
+    let id = id_text(rt.alloc(), wanted.debug_id)?;
+    let mut folders = Vec::new(rt.alloc());
     for dir in &options.pdb_dirs {
-        folders.push(String::from_str(alloc, dir)?)?;
-        folders.push(format!(in alloc; "{dir}/{name}/{id}")?)?;
-        if let Some(first) = first_letters(name)
-            && has_two_tiers(rt, dir)?
-        {
-            folders.push(format!(in alloc; "{dir}/{first}/{name}/{id}")?)?;
+        for layout in LAYOUTS {
+            if let Some(folder) = folder_by(rt, dir, layout, wanted.name, id.as_str())? {
+                folders.push(folder)?;
+            }
         }
     }
     Ok(folders)
@@ -136,7 +182,8 @@ fn push_store_folders<R: Files + AllocGlobal>(
     Ok(())
 }
 
-fn id_text(alloc: Global, debug_id: DebugId) -> Result<String, AllocError> {
+/// A debug id as it is the name of a folder of a symbol store.
+pub fn id_text(alloc: Global, debug_id: DebugId) -> Result<String, AllocError> {
     format!(in alloc; "{}", debug_id.compact())
 }
 

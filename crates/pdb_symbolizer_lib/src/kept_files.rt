@@ -3,6 +3,7 @@
 use crate::file_cache::FileCache;
 use crate::file_stamps::FileStamp;
 use crate::input_files::{NamedFile, SourceFile};
+use crate::known_texts::KnownTexts;
 use crate::opened_files::{OpenedFile, open_source};
 use crate::record_sizes::estimated_size;
 use crate::run_errors::RunError;
@@ -14,10 +15,17 @@ use std::rt::Files;
 /// The debug ids of files that were looked at, so that they aren't read again.
 pub type KnownIds = FileCache<DebugId>;
 
+/// A file that stays open, with the texts that requests asked for.
+#[derive(Drop)]
+struct KeptFile<F: Read + Seek + Drop> {
+    file: OpenedFile<F>,
+    texts: KnownTexts,
+}
+
 /// The files that stay open.
 #[derive(Drop)]
 pub struct KeptFiles<F: Read + Seek + Drop> {
-    files: FileCache<OpenedFile<F>>,
+    files: FileCache<KeptFile<F>>,
     pub ids: KnownIds,
 }
 
@@ -39,12 +47,22 @@ impl<F: Read + Seek + Drop> KeptFiles<F> {
     pub fn size(&self) -> u64 {
         self.files.size()
     }
+
+    /// The texts of the file at a path that requests asked for, if that file is open.
+    pub fn texts_at(&mut self, path: &str, stamp: FileStamp) -> Option<&KnownTexts> {
+        match self.files.get(path, stamp) {
+            Some(kept) => Some(&kept.texts),
+            None => None,
+        }
+    }
 }
 
 /// A file in use, and which one it is, if it may stay open.
 #[derive(Drop)]
 pub struct UsedFile<F: Read + Seek + Drop> {
     pub file: OpenedFile<F>,
+    /// The texts that requests asked for.
+    pub texts: KnownTexts,
     stamp: Option<FileStamp>,
 }
 
@@ -55,18 +73,25 @@ pub fn open_used<R: Files + Eprint + AllocGlobal>(
     source: SourceFile<R::File>,
 ) -> Result<UsedFile<R::File>, RunError> {
     let stamp = source.bytes.stamp();
-    let file = match take(files, &source.file, stamp) {
-        Some(file) => file_as_named(file, source.file),
-        None => open_source(rt, source)?,
-    };
-    Ok(UsedFile { file, stamp })
+    match take(files, &source.file, stamp) {
+        Some(KeptFile { file, texts }) => Ok(UsedFile {
+            file: file_as_named(file, source.file),
+            texts,
+            stamp,
+        }),
+        None => Ok(UsedFile {
+            file: open_source(rt, source)?,
+            texts: KnownTexts::new(rt.alloc()),
+            stamp,
+        }),
+    }
 }
 
 fn take<F: Read + Seek + Drop>(
     files: &mut KeptFiles<F>,
     named: &NamedFile,
     stamp: Option<FileStamp>,
-) -> Option<OpenedFile<F>> {
+) -> Option<KeptFile<F>> {
     files.files.take(named.path.as_str(), stamp?)
 }
 
@@ -94,14 +119,24 @@ fn file_as_named<F: Read + Seek + Drop>(file: OpenedFile<F>, named: NamedFile) -
 impl<F: Read + Seek + Drop> UsedFile<F> {
     /// Leaves the file open for the next request, where it may stay so.
     pub fn keep(self, alloc: Global, files: &mut KeptFiles<F>) {
-        let UsedFile { file, stamp } = self;
+        let UsedFile { file, texts, stamp } = self;
         let Some(stamp) = stamp else {
             return;
         };
         let Ok(path) = String::from_str(alloc, file.path.as_str()) else {
             return;
         };
-        let size = estimated_size(file.records());
-        files.files.keep(path, stamp, size, file);
+        let records = estimated_size(file.records());
+        let size = records.saturating_add(texts.size());
+        if files.files.has_room_for(size) {
+            files
+                .files
+                .keep(path, stamp, size, KeptFile { file, texts });
+        } else {
+            let texts = KnownTexts::new(alloc);
+            files
+                .files
+                .keep(path, stamp, records, KeptFile { file, texts });
+        }
     }
 }

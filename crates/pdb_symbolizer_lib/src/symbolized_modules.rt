@@ -1,14 +1,15 @@
 //! The modules that a request asks for: their PDB files in folders, and what is found at the offsets of each.
 
 use crate::folder_listings::FolderListings;
-use crate::kept_files::{KeptFiles, open_used};
-use crate::opened_files::OpenedFile;
+use crate::kept_files::{KeptFiles, UsedFile, open_used};
+use crate::known_modules::known_texts;
+use crate::known_texts::{KnownTexts, NewText};
 use crate::options::Options;
 use crate::programs::find_in_folders;
 use crate::run_errors::RunError;
 use pdb_addr2line::{Error, Frame, FunctionFrames};
 use pdb_session::{SessionContext, SessionData};
-use pdb_symbolication::{FoundFunction, FrameTexts, Place, WantedModule};
+use pdb_symbolication::{FoundFunction, FrameText, FrameTexts, Place, WantedModule};
 use std::alloc::{AllocError, Global};
 use std::io::{Read, Seek};
 use std::rt::Files;
@@ -54,55 +55,74 @@ fn texts_of_file<R: Files + Eprint + AllocGlobal>(
     listings: &mut FolderListings,
     module: &WantedModule,
 ) -> Result<Option<FrameTexts>, RunError> {
+    if let Some(texts) = known_texts(rt, options, files, module)? {
+        return Ok(Some(texts));
+    }
     let Some(found) = find_in_folders(rt, &mut files.ids, listings, options, module)? else {
         return Ok(None);
     };
     let mut used = open_used(rt, files, found)?;
-    let texts = texts_over(rt, options, module, &mut used.file)?;
+    let texts = texts_over(rt, options, module, &mut used)?;
     used.keep(rt.alloc(), files);
     Ok(Some(texts))
 }
 
+// The texts of a module over its file, which knows them for the next requests.
 fn texts_over<R: Eprint + AllocGlobal, F: Read + Seek + Drop>(
     rt: &R,
     options: &Options<'_>,
     module: &WantedModule,
-    input: &mut OpenedFile<F>,
+    used: &mut UsedFile<F>,
 ) -> Result<FrameTexts, RunError> {
-    input.read_for(rt, &module.offsets)?;
-    let data = input.session.data()?;
-    texts_by(rt.alloc(), options, module, &data)
+    used.file.read_for(rt, &module.offsets)?;
+    let data = used.file.session.data()?;
+    let (texts, added) = texts_by(rt.alloc(), options, module, &used.texts, &data)?;
+    drop(data);
+    used.texts.add(added)?;
+    Ok(texts)
 }
 
+// The texts of a module, and those among them that weren't known.
 fn texts_by(
     alloc: Global,
     options: &Options<'_>,
     module: &WantedModule,
+    known: &KnownTexts,
     data: &SessionData<'_>,
-) -> Result<FrameTexts, RunError> {
+) -> Result<(FrameTexts, Vec<NewText>), RunError> {
     let mut context = data.context(options.flags())?;
     let mut texts = FrameTexts::new(alloc);
+    let mut added = Vec::new(alloc);
     for &offset in &module.offsets {
-        add_text(alloc, &mut texts, &mut context, offset)?;
+        let text = match known.get(offset) {
+            Some(text) => text.copy(alloc)?,
+            None => {
+                let text = text_at(alloc, &mut context, offset)?;
+                added.push(NewText {
+                    offset,
+                    text: text.copy(alloc)?,
+                })?;
+                text
+            }
+        };
+        texts.push(text)?;
     }
-    Ok(texts)
+    Ok((texts, added))
 }
 
-// Adds the text at an offset.
-fn add_text(
+// The text at an offset.
+fn text_at(
     alloc: Global,
-    texts: &mut FrameTexts,
     context: &mut SessionContext<'_, '_>,
     offset: u32,
-) -> Result<(), RunError> {
+) -> Result<FrameText, RunError> {
     match context.find_frames(offset)? {
         Some(found) => {
             let function = function_of(alloc, &found)?;
-            texts.add(offset, Some(&function))?;
+            Ok(FrameText::new(alloc, offset, Some(&function))?)
         }
-        None => texts.add(offset, None)?,
+        None => Ok(FrameText::new(alloc, offset, None)?),
     }
-    Ok(())
 }
 
 fn function_of<'f>(

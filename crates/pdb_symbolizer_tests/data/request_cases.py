@@ -229,6 +229,16 @@ def store_cases(error, rows, written):
             (f"packed/shapes.pdb/{OTHER}/shapes.pdb", missing), (packed, compressed)))) + "status 1\n"
 
 
+def known_offset_cases(shapes):
+    """Lines that ask at offsets which lines before them asked at, and at others."""
+    lines = ((0x1136, 0x1000), (0x1000, 0x10b0), (0x10b0, 0x1136, 0x1000), (0x10, 0x1213, 0x10b0), (0x1213, 0x10))
+    requests = "|".join(text(job([SHAPES], [[0, offset] for offset in line])) for line in lines)
+    answers = "".join(answer(([[frame(number, "shapes.pdb", offset, None if offset == 0x10 else shapes.known(offset))
+                                for number, offset in enumerate(line)]], {f"shapes.pdb/{ID}": True})) for line in lines)
+    for size in ("", "--cache-size=40000 ", "--cache-size=0 "):
+        yield f"pdb_symbolizer --symbolicate-lines {size}--pdb-dir . < {requests}", answers + "status 0\n"
+
+
 def kept_cases(error, rows):
     """Files that stay open from one line to the next, and files that are closed at once and so tell anew what is broken."""
     known = {"function": "?f@@YAXXZ", "function_offset": "0x30"}
@@ -259,4 +269,5 @@ def request_cases(whole, short, procedure_at, error, broken_rows, written):
     yield from malformed_cases(error)
     yield from line_cases(shapes, error)
     yield from store_cases(error, broken_rows, written)
+    yield from known_offset_cases(shapes)
     yield from kept_cases(error, broken_rows)

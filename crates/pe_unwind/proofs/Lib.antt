@@ -6,3 +6,4 @@ pub mod ListLemmas
 pub mod PlaceLemmas
 pub mod PopLemmas
 pub mod RecordLemmas
+pub mod StepLemmas

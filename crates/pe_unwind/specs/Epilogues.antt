@@ -155,11 +155,16 @@ epilogue_rules function code =
     let front = stack_restored function.own.frame code in
     rules_before function (first_pops (drop front.size code) (record at_first { stack = front.stack }))
 
--- whether two bytes may be the first of an epilogue: those of a prefix (40 to 4F) with add, lea, a jump or pop behind it; or
--- those of pop, of an instruction that returns, or of a jump
-abbrev pub may_begin : ℕ → ℕ → Bool
-may_begin first second =
-    if first / 16 == 4
-    then (second == 0x81) || (second == 0x83) || (second == 0x8d) || (second == 0xff) || is_pop second
-    else (first == 0xc2) || (first == 0xc3) || (first == 0xe9) || (first == 0xeb) || (first == 0xf3) || (first == 0xff)
-    || is_pop first
+-- whether the two bytes after a prefix (40 to 4F) may be those of an epilogue: add to rsp, lea to rsp, a jump or a pop
+abbrev pub may_follow : ℕ → ℕ → Bool
+may_follow second third = (((second == 0x81) || (second == 0x83)) && (third == 0xc4))
+    || ((second == 0x8d) && (third / 8 % 8 == 4)) || (second == 0xff) || is_pop second
+
+-- whether three bytes may be the first of an epilogue: those of a prefix with what may follow it, of a return, of a jump
+-- or of a pop
+abbrev pub may_begin : ℕ → ℕ → ℕ → Bool
+may_begin first second third =
+    if first / 16 == 4 then may_follow second third else
+    if first == 0xf3 then second == 0xc3 else
+    if first == 0xff then second == 0x25 else
+    (first == 0xc2) || (first == 0xc3) || (first == 0xe9) || (first == 0xeb) || is_pop first

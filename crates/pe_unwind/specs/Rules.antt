@@ -1,6 +1,6 @@
 -- What unwind infos say at an offset of their function: where the caller's stack pointer, the return address and the
 -- saved registers are.
-use Rattle.std.specs.Prelude.{ℕ, ◌+◌, ◌-◌, ◌%◌, ◌^◌, ◌||◌, ◌&&◌, Bool, true, false, nat_le, nat_lt, List, [], ◌∷◌}
+use Rattle.std.specs.Prelude.{ℕ, ◌+◌, ◌-◌, ◌%◌, ◌^◌, ◌||◌, ◌&&◌, Bool, true, false, min, nat_le, nat_lt, List, [], ◌∷◌}
 use Rattle.std.specs.Prelude.{Option, Some, None, replicate, slice_set, is_none, is_some, if◌then◌else◌}
 use Rattle.std.specs.List.{list_any}
 use Rattle.pe_unwind.specs.Registers.{index}
@@ -77,6 +77,15 @@ abbrev pub counts : Option ℕ → UnwindCode → Bool
 counts None code = true
 counts (Some offset) code = nat_le code.offset offset
 
+-- an offset, if it is after another and before an end; else this end
+abbrev pub sooner : ℕ → ℕ → ℕ → ℕ
+sooner offset from end = if nat_lt offset from && nat_lt from end then from else end
+
+-- the first offset after another at which one more code counts, if it is before an end; else this end
+abbrev pub next_counted : ℕ → ℕ → List UnwindCode → ℕ
+next_counted offset end [] = end
+next_counted offset end (code ∷ codes) = next_counted offset (sooner offset code.offset end) codes
+
 -- what one code undoes: nothing where it doesn't count, and nothing behind a machine frame
 abbrev pub code_undone : Option Frame → Place → Option ℕ → UnwindCode → Unwound → Unwound
 code_undone frame start offset code u =
@@ -140,3 +149,7 @@ prologue_offset info offset = if nat_lt offset info.prologue_size then Some offs
 -- the rules at an offset in the prologue, or behind it (None), outside of epilogues
 abbrev pub body_rules : Function → Option ℕ → Rules
 body_rules function offset = rules_of (parents_undone function.parents (info_undone offset function.own at_first))
+
+-- the first offset after one in the prologue at which one more code counts, or else the prologue's end; at most the size
+abbrev pub next_step : Function → ℕ → ℕ → ℕ
+next_step function offset size = next_counted offset (min function.own.prologue_size size) function.own.codes

@@ -7,8 +7,8 @@ ghost use Rattle.pe_unwind.specs.Faults.{Fails};
 ghost use Rattle.pe_unwind.specs.Functions.{function_at, rule_at};
 
 use crate::faults::UnwindFault;
-use crate::functions::{code_of, is_plain, read_function, rule_at};
-use crate::rules::{FunctionUnwind, Place, Rules, is_same_rules};
+use crate::functions::{code_of, read_function, rule_by_body, rules_end};
+use crate::rules::{FunctionUnwind, Place, Rules, body_rules, is_same_rules};
 use pe_image::{FunctionEntry, Image};
 use std::alloc::{AllocError, Global};
 
@@ -56,17 +56,15 @@ pub fn lines_of(
     ensures whole { IfOk result (λ lines. AreWhole lines.items) }
 {
     let size = function.end.saturating_sub(function.begin);
+    let body = body_rules(function, None);
     let mut lines = Vec::new(alloc);
     let mut last: Option<Rules> = None;
-    let mut was_plain = false;
-    for offset in 0..size {
-        let plain = is_plain(function, code, offset);
-        if !plain || !was_plain {
-            let rules = rule_at(function, code, offset);
-            push_change(&mut lines, last, offset, rules)?;
-            last = Some(rules);
-        }
-        was_plain = plain;
+    let mut offset = 0;
+    while offset < size {
+        let rules = rule_by_body(function, code, offset, &body);
+        push_change(&mut lines, last, offset, rules)?;
+        last = Some(rules);
+        offset = rules_end(function, code, offset, size);
     }
     Ok(lines)
 }

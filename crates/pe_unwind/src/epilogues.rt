@@ -1,10 +1,10 @@
 //! Epilogues: the instructions that give a function's frame back and leave it, and the rules between them.
 
-ghost use Rattle.std.specs.Prelude.{◌≡◌, ◌≤◌, ◌<◌, ◌^◌, drop, is_some, length, slice_index};
+ghost use Rattle.std.specs.Prelude.{◌≡◌, ◌≤◌, ◌<◌, ◌+◌, ℕ, drop, false, is_some, length, slice_index};
 ghost use Rattle.pe_unwind.specs.Epilogues.{adds_byte, adds_number, begins_with, epilogue_rules, first_pop, is_pop};
 ghost use Rattle.pe_unwind.specs.Epilogues.{jumps_out, jumps_prefixed, jumps_through, lea_by, lea_if, leas, leaves};
 ghost use Rattle.pe_unwind.specs.Epilogues.{first_pops, leaves_for, operand, pop_undone, returns, stack_restored};
-ghost use Rattle.pe_unwind.specs.Epilogues.{may_begin, signed_byte, signed_number};
+ghost use Rattle.pe_unwind.specs.Epilogues.{may_begin, may_follow, signed_byte, signed_number};
 ghost use Rattle.pe_unwind.specs.Rules.{at_first, stack_top};
 ghost use Rattle.pe_unwind.specs.declared.rules.Unwound.{Unwound};
 
@@ -52,27 +52,78 @@ pub(crate) fn epilogue_rules(function: &FunctionUnwind, code: &[u8]) -> Option<R
     None
 }
 
-/// Whether an epilogue of version 1 goes on where this code begins. Most code is told from one by two bytes.
-#[tactic(auto, using(crate::proofs::EpilogueLemmas::other_code))]
+/// Whether an epilogue of version 1 goes on where this code begins.
 pub(crate) fn is_epilogue(function: &FunctionUnwind, code: &[u8]) -> bool
     requires { length code.now ≤ function.now.end }
     ensures answer { result ≡ is_some (epilogue_rules function.now code.now) }
 {
-    if !may_begin(byte(code, 0), byte(code, 1)) {
-        return false;
-    }
     let front = stack_restored(function.own.frame, code);
     leaves(function, pops_rest(behind(code, front.size)))
 }
 
-// Whether two bytes may be the first of an epilogue.
-fn may_begin(first: u8, second: u8) -> bool
-    ensures { result ≡ may_begin first second }
+/// The first offset at or after a given one that is in an epilogue of version 1, or the code's size if there is none.
+pub(crate) fn next_epilogue(function: &FunctionUnwind, code: &[u8], from: usize) -> usize
+    requires from { from ≤ length code.now }
+    requires code { length code.now ≤ function.now.end }
+    ensures from { from ≤ result }
+    ensures within { result ≤ length code.now }
+    ensures none { (at : ℕ) → at < result → from ≤ at
+        → is_some (epilogue_rules function.now (drop at code.now)) ≡ false }
 {
-    if first / 16 == 4 {
-        return matches!(second, 0x81 | 0x83 | 0x8d | 0xff) || is_pop(second);
+    for at in from..code.len() {
+        if is_epilogue_at(function, code, at) {
+            return at;
+        }
     }
-    matches!(first, 0xc2 | 0xc3 | 0xe9 | 0xeb | 0xf3 | 0xff) || is_pop(first)
+    code.len()
+}
+
+// Whether an offset is in an epilogue of version 1. For most offsets the first byte there rules this out.
+fn is_epilogue_at(function: &FunctionUnwind, code: &[u8], at: usize) -> bool
+    requires at { at < length code.now }
+    requires code { length code.now ≤ function.now.end }
+    ensures { result ≡ is_some (epilogue_rules function.now (drop at code.now)) }
+{
+    if !may_begin(code, at) {
+        return false;
+    }
+    let (_, rest) = code.split_at(at);
+    is_epilogue(function, rest)
+}
+
+// Whether the bytes at an offset can be the first three of an epilogue. The comparisons of ranges come first, since
+// they rule out most bytes.
+fn may_begin(code: &[u8], at: usize) -> bool
+    requires { at < length code.now }
+    ensures { result
+        ≡ may_begin (slice_index code.now at) (slice_index code.now (at + 1)) (slice_index code.now (at + 2)) }
+{
+    let first = code[at];
+    if first < 0x40 {
+        return false;
+    }
+    if first < 0x50 {
+        return may_follow(byte(code, at + 1), byte(code, at + 2));
+    }
+    if 0x60 <= first && first < 0xc2 {
+        return false;
+    }
+    match first {
+        0xf3 => byte(code, at + 1) == 0xc3,
+        0xff => byte(code, at + 1) == 0x25,
+        _ => matches!(first, 0xc2 | 0xc3 | 0xe9 | 0xeb) || is_pop(first),
+    }
+}
+
+// Whether the two bytes after a prefix may be those of an epilogue.
+fn may_follow(second: u8, third: u8) -> bool
+    ensures { result ≡ may_follow second third }
+{
+    match second {
+        0x81 | 0x83 => third == 0xc4,
+        0x8d => third / 8 % 8 == 4,
+        _ => second == 0xff || is_pop(second),
+    }
 }
 
 // Nothing undone, with the stack pointer here.

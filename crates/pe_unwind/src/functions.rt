@@ -1,14 +1,15 @@
 //! The functions of the exception directory, with their unwind infos and their code, and the rules at each offset.
 
-ghost use Rattle.std.specs.Prelude.{◌≡◌, ◌≤◌, ◌<◌, ◌+◌, is_some, length, IfOk};
+ghost use Rattle.std.specs.Prelude.{◌≡◌, ◌==◌, ◌≤◌, ◌<◌, ◌+◌, ℕ, is_some, length, true, IfOk, None};
 ghost use Rattle.pe_unwind.specs.Faults.{Gives};
 ghost use Rattle.pe_unwind.specs.Functions.{may_leave, reach_behind, rule_at};
 ghost use Rattle.pe_unwind.specs.Functions.{code_of, code_seen, epilogue_at, function_of, is_plain};
+ghost use Rattle.pe_unwind.specs.Rules.{body_rules};
 
-use crate::epilogues::{epilogue_rules, is_epilogue};
+use crate::epilogues::{epilogue_rules, is_epilogue, next_epilogue};
 use crate::faults::{Refusal, UnwindFault};
-use crate::listed_epilogues::listed_rules;
-use crate::rules::{FunctionUnwind, Rules, body_rules, prologue_offset};
+use crate::listed_epilogues::{is_listed, listed_rules, next_listed};
+use crate::rules::{FunctionUnwind, Rules, body_rules, next_step, prologue_offset};
 use crate::unwind_info::{info_at, parents_of};
 use pe_image::{FunctionEntry, Image};
 use std::alloc::Global;
@@ -60,7 +61,7 @@ pub(crate) fn epilogue_at(function: &FunctionUnwind, code: &[u8], offset: u32) -
     requires code { length code.now ≤ function.now.end }
     ensures { result ≡ epilogue_at function.now code.now offset }
 {
-    if function.own.version == 2 {
+    if lists_epilogues(function) {
         return listed_rules(function, offset);
     }
     if may_leave(function, offset) {
@@ -68,6 +69,13 @@ pub(crate) fn epilogue_at(function: &FunctionUnwind, code: &[u8], offset: u32) -
         return epilogue_rules(function, rest);
     }
     None
+}
+
+// Whether a function's epilogues are those that its info lists.
+fn lists_epilogues(function: &FunctionUnwind) -> bool
+    ensures { result ≡ (function.now.own.version == 2) }
+{
+    function.own.version == 2
 }
 
 // Whether an epilogue that isn't listed can be at an offset.
@@ -90,8 +98,63 @@ pub fn rule_at(function: &FunctionUnwind, code: &[u8], offset: u32) -> Rules
     }
 }
 
-/// Whether a function's rules at an offset are those of its body.
-pub(crate) fn is_plain(function: &FunctionUnwind, code: &[u8], offset: u32) -> bool
+/// The rules at an offset of a function, if those of its body are at hand.
+pub(crate) fn rule_by_body(
+    function: &FunctionUnwind,
+    code: &[u8],
+    offset: u32,
+    body: &Rules,
+) -> Rules
+    requires body { body.now ≡ body_rules function.now None }
+    requires offset { offset < length code.now }
+    requires code { length code.now ≤ function.now.end }
+    ensures { result ≡ rule_at function.now code.now offset }
+{
+    if is_plain(function, code, offset) {
+        return *body;
+    }
+    rule_at(function, code, offset)
+}
+
+/// The end of a run of offsets with the same rules, by the first of them and the function's size. The run after it may
+/// have these rules too.
+pub(crate) fn rules_end(function: &FunctionUnwind, code: &[u8], offset: u32, size: u32) -> u32
+    requires offset { offset < size }
+    requires size { size ≡ length code.now }
+    requires code { size ≤ function.now.end }
+    ensures after { offset < result }
+    ensures within { result ≤ length code.now }
+    ensures same { (at : ℕ) → offset ≤ at → at < result
+        → rule_at function.now code.now at ≡ rule_at function.now code.now offset }
+{
+    if is_plain(function, code, offset) {
+        return plain_end(function, code, offset, size);
+    }
+    if lists_epilogues(function) || may_leave(function, offset) {
+        return offset + 1;
+    }
+    next_step(function, offset, size)
+}
+
+// The end of a run of offsets with the rules of the body, by the first of them.
+fn plain_end(function: &FunctionUnwind, code: &[u8], offset: u32, size: u32) -> u32
+    requires plain { is_plain function.now code.now offset ≡ true }
+    requires offset { offset < size }
+    requires size { size ≡ length code.now }
+    requires code { size ≤ function.now.end }
+    ensures after { offset < result }
+    ensures within { result ≤ length code.now }
+    ensures plain { (at : ℕ) → at < result → offset ≤ at → is_plain function.now code.now at ≡ true }
+{
+    if lists_epilogues(function) {
+        next_listed(function, offset + 1, size)
+    } else {
+        next_epilogue(function, code, offset as usize + 1) as u32
+    }
+}
+
+// Whether a function's rules at an offset are those of its body.
+fn is_plain(function: &FunctionUnwind, code: &[u8], offset: u32) -> bool
     requires offset { offset < length code.now }
     requires code { length code.now ≤ function.now.end }
     ensures { result ≡ is_plain function.now code.now offset }
@@ -105,8 +168,8 @@ fn is_in_epilogue(function: &FunctionUnwind, code: &[u8], offset: u32) -> bool
     requires code { length code.now ≤ function.now.end }
     ensures { result ≡ is_some (epilogue_at function.now code.now offset) }
 {
-    if function.own.version == 2 {
-        return listed_rules(function, offset).is_some();
+    if lists_epilogues(function) {
+        return is_listed(function, offset);
     }
     if may_leave(function, offset) {
         let (_, rest) = code.split_at(offset as usize);

@@ -1,6 +1,6 @@
 //! Epilogues of version 2, which the first unwind codes of an info list.
 
-ghost use Rattle.std.specs.Prelude.{◌≡◌};
+ghost use Rattle.std.specs.Prelude.{◌≡◌, ◌≤◌, ◌<◌, ℕ, false, is_some};
 ghost use Rattle.pe_unwind.specs.ListedEpilogues.{all_left, code_left, codes_left, distance_of, epilogue_info};
 ghost use Rattle.pe_unwind.specs.ListedEpilogues.{in_listed, in_others, infos_left, listed_rules, offset_in, pop_left};
 ghost use Rattle.pe_unwind.specs.ListedEpilogues.{pop_size, pushed, rules_left};
@@ -26,6 +26,29 @@ pub(crate) fn listed_rules(function: &FunctionUnwind, offset: u32) -> Option<Rul
     let size = function.end.saturating_sub(function.begin);
     let behind_start = in_listed(size, offset, &function.own.codes)?;
     Some(rules_left(function, behind_start))
+}
+
+/// Whether an offset of a function is in an epilogue that is listed.
+pub(crate) fn is_listed(function: &FunctionUnwind, offset: u32) -> bool
+    ensures answer { result ≡ is_some (listed_rules function.now offset) }
+{
+    let size = function.end.saturating_sub(function.begin);
+    in_listed(size, offset, &function.own.codes).is_some()
+}
+
+/// The first offset at or after a given one that is in a listed epilogue, or the end if there is none before it.
+pub(crate) fn next_listed(function: &FunctionUnwind, from: u32, end: u32) -> u32
+    requires { from ≤ end }
+    ensures from { from ≤ result }
+    ensures within { result ≤ end }
+    ensures none { (at : ℕ) → at < result → from ≤ at → is_some (listed_rules function.now at) ≡ false }
+{
+    for at in from..end {
+        if is_listed(function, at) {
+            return at;
+        }
+    }
+    end
 }
 
 // The operation info of a code that lists an epilogue.

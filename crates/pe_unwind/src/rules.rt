@@ -4,7 +4,8 @@ ghost use Rattle.std.specs.Prelude.{◌≡◌, ◌↔◌, IsTrue, true};
 ghost use Rattle.std.specs.List.{list_any};
 ghost use Rattle.pe_unwind.specs.Registers.{index};
 ghost use Rattle.pe_unwind.specs.Rules.{above, at_first, at_frame, body_rules, code_undone, codes_undone, counts};
-ghost use Rattle.pe_unwind.specs.Rules.{frame_start, info_undone, less, parents_undone, popped, prologue_offset};
+ghost use Rattle.pe_unwind.specs.Rules.{frame_start, info_undone, less, next_counted, next_step, parents_undone};
+ghost use Rattle.pe_unwind.specs.Rules.{popped, prologue_offset, sooner};
 ghost use Rattle.pe_unwind.specs.Rules.{rules_of, saves_from, sets_frame, stack_top, start_once, undone, with_saved};
 
 use crate::registers::{Register, index};
@@ -232,6 +233,37 @@ fn counts(offset: Option<u32>, code: UnwindCode) -> bool
         None => true,
         Some(offset) => u32::from(code.offset) <= offset,
     }
+}
+
+// An offset, if it is after another and before an end; else this end.
+fn sooner(offset: u32, from: u32, end: u32) -> u32
+    ensures { result ≡ sooner offset from end }
+{
+    if offset < from && from < end {
+        from
+    } else {
+        end
+    }
+}
+
+// The first offset after another at which one more code counts, if it is before an end; else this end.
+fn next_counted(offset: u32, end: u32, codes: &[UnwindCode]) -> u32
+    ensures { result ≡ next_counted offset end codes.now }
+{
+    let mut next = end;
+    for &code in codes {
+        next = sooner(offset, u32::from(code.offset), next);
+    }
+    next
+}
+
+/// The first offset after one in the prologue at which one more code counts, or else the prologue's end. It is at most
+/// the function's size.
+pub(crate) fn next_step(function: &FunctionUnwind, offset: u32, size: u32) -> u32
+    ensures { result ≡ next_step function.now offset size }
+{
+    let end = u32::from(function.own.prologue_size).min(size);
+    next_counted(offset, end, &function.own.codes)
 }
 
 // What one code undoes.

@@ -17,19 +17,23 @@ pub returns-in_default-walked-clause-step : goal.returns-in_default-walked-claus
 returns-in_default-walked-clause-step g c =
     let answers = g.S.FrameSource.answers in
     let held = g.W.Write.contents c.args.out.now in
-    stepped_anew c.args.parameters.now answers c.args.source.now c.new.new.numbers c.args.piece.first c.args.piece.last c.args.walked
+    stepped_anew c.args.parameters.now answers c.args.source.now c.new.new.numbers c.args.piece.first c.args.piece.last
+    c.args.walked
     c.in_ok-begun.begun c.in-Some.answer held held
     (subst (IsAnswer answers c.args.source.now c.args.piece.first) c.in-Some.is c.in_ok-answer.ensures.answer)
     c.in_ok-begun.ensures.addresses c.in_ok-begun.ensures.answer
-    (subst (λ walked. All (AreReadable c.args.parameters.now) (option_to_list walked)) (sym c.in_default-walked.is) (All-nil (AreReadable c.args.parameters.now)))
-    (subst (λ walked. Appends held held (flat_map (function_text c.args.parameters.now) (option_to_list walked))) (sym c.in_default-walked.is)
+    (subst (λ walked. All (AreReadable c.args.parameters.now) (option_to_list walked)) (sym c.in_default-walked.is)
+    (All-nil (AreReadable c.args.parameters.now)))
+    (subst (λ walked. Appends held held (flat_map (function_text c.args.parameters.now) (option_to_list walked)))
+    (sym c.in_default-walked.is)
     (Appends-nil held))
 
 pub returns-then-is_of-clause-step : goal.returns-then-is_of-clause-step
 returns-then-is_of-clause-step g c =
     let answers = g.S.FrameSource.answers in
     let held = g.W.Write.contents c.args.out.now in
-    subst (λ walked. StepsOver c.args.parameters.now answers c.args.source.now c.add.new.numbers c.args.piece.first c.args.piece.last walked
+    subst (λ walked. StepsOver c.args.parameters.now answers c.args.source.now c.add.new.numbers c.args.piece.first
+    c.args.piece.last walked
     (Some c.add.new.self) held held) (sym c.in-Some-walked.is)
     (stepped_on c.args.parameters.now answers c.args.source.now c.add.new.numbers c.args.piece.first c.args.piece.last
     c.in-Some-walked.records c.add.new.self c.in-Some.answer held
@@ -46,12 +50,15 @@ returns-clause-step g c =
     let answers = g.S.FrameSource.answers in
     let before = g.W.Write.contents c.args.out.now in
     let after = g.W.Write.contents c.write_function.new.out in
-    subst (λ walked. StepsOver c.args.parameters.now answers c.args.source.now c.new-2.new.numbers c.args.piece.first c.args.piece.last walked
+    subst (λ walked. StepsOver c.args.parameters.now answers c.args.source.now c.new-2.new.numbers c.args.piece.first
+    c.args.piece.last walked
     (Some c.in_ok-begun-2.begun) before after) (sym c.in-Some-walked.is)
-    (stepped_anew c.args.parameters.now answers c.args.source.now c.new-2.new.numbers c.args.piece.first c.args.piece.last
+    (stepped_anew c.args.parameters.now answers c.args.source.now c.new-2.new.numbers c.args.piece.first
+    c.args.piece.last
     (Some c.in-Some-walked.records) c.in_ok-begun-2.begun c.in-Some.answer before after
     (subst (IsAnswer answers c.args.source.now c.args.piece.first) c.in-Some.is c.in_ok-answer.ensures.answer)
     c.in_ok-begun-2.ensures.addresses c.in_ok-begun-2.ensures.answer
-    (All-cons (AreReadable c.args.parameters.now) c.in-Some-walked.records [] c.in_ok-write_function.ensures.readable (All-nil (AreReadable c.args.parameters.now)))
+    (All-cons (AreReadable c.args.parameters.now) c.in-Some-walked.records [] c.in_ok-write_function.ensures.readable
+    (All-nil (AreReadable c.args.parameters.now)))
     (subst (Appends before after) (sym (append-nil (function_text c.args.parameters.now c.in-Some-walked.records)))
     c.in_ok-write_function.ensures.written))

@@ -11,7 +11,8 @@ pub loop-position-init : goal.loop-position-init
 loop-position-init g c =
     let answers = g.S.FrameSource.answers in
     record {
-      walked = not_walked c.args.parameters.now answers c.args.source.now c.args.numbers.now (get_or c.args.points.now 0 (2 ^ 32))
+      walked = not_walked c.args.parameters.now answers c.args.source.now c.args.numbers.now
+          (get_or c.args.points.now 0 (2 ^ 32))
           (g.W.Write.contents c.args.out.now)
           (get_or_from_slice_get c.args.points.now 0 0 (2 ^ 32) c.requires.pieces.from_zero);
       names = ((λ number name is. is), (λ number name is. is));
@@ -31,9 +32,11 @@ loop-position-preserved g c =
     let point : slice_get points c.loop-position.position ≡ Some piece.first
     = slice_get-get_or points c.loop-position.position 0 there ∙ ap Some (sym c.piece_at-piece.ensures.first) in
     record {
-      walked = subst (λ next. IsWalked c.args.parameters.now answers c.args.source.now c.walk_piece.new.numbers next c.in_ok-walked.walked
+      walked = subst (λ next. IsWalked c.args.parameters.now answers c.args.source.now c.walk_piece.new.numbers next
+          c.in_ok-walked.walked
           (g.W.Write.contents c.args.out.now) (g.W.Write.contents c.walk_piece.new.out)) c.piece_at-piece.ensures.last
-          (walked_on c.args.parameters.now answers c.args.source.now c.loop-position.source c.loop-position.numbers c.walk_piece.new.numbers
+          (walked_on c.args.parameters.now answers c.args.source.now c.loop-position.source c.loop-position.numbers
+          c.walk_piece.new.numbers
           piece.first piece.last c.loop-position.walked c.in_ok-walked.walked (g.W.Write.contents c.args.out.now)
           (g.W.Write.contents c.loop-position.out) (g.W.Write.contents c.walk_piece.new.out) piece.ordered step.names
           before.inputs

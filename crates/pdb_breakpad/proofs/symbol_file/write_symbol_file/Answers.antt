@@ -18,7 +18,8 @@ returns g c =
     let written = g.W.Write.contents c.write_all.new.self in
     let numbers = c.functions_text.new.numbers in
     let front = c.in_ok-write_front.ensures.0 in
-    let all : WritesFunctions c.args.parameters.now answers c.args.source.now numbers (Some []) (Some c.in_ok-functions.functions.items)
+    let all : WritesFunctions c.args.parameters.now answers c.args.source.now numbers (Some [])
+    (Some c.in_ok-functions.functions.items)
     = written_for_first c.args.parameters.now answers c.args.source.now c.piece_starts.new.self numbers (Some [])
     (Some c.in_ok-functions.functions.items) c.in_ok-points.ensures.inputs c.in_ok-functions.ensures in
     let texts = flat_map (function_text c.args.parameters.now) all.functions in
