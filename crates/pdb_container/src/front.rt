@@ -1,6 +1,6 @@
 //! What is had of a PDB file before any of its modules is read.
 
-ghost use Rattle.std.specs.Prelude.{◌≡◌, length, IfErr, IfOk};
+ghost use Rattle.std.specs.Prelude.{◌≡◌, length, replicate, IfErr, IfOk, None, Ok};
 ghost use Rattle.pdb_container.specs.DebugRecords.{address_map, debug_information, global_symbols, sections};
 ghost use Rattle.pdb_container.specs.DebugRecords.{streams_of_modules, tabled};
 ghost use Rattle.pdb_container.specs.ModulePlaces.{places_within};
@@ -43,6 +43,7 @@ pub fn read_front(
         ≡ places_within container.now file_length (streams_of_modules container.now)) }
     ensures front { IfOk result (λ read. HasFront container.now read.records) }
     ensures modules { IfOk result (λ read. length read.records.module_infos ≡ length read.places.items) }
+    ensures unread { IfOk result (λ read. read.records.module_infos ≡ replicate (length read.places.items) (Ok None)) }
     ensures memory { IfErr result (λ fault. fault ≡ Fault.OutOfMemory) }
 {
     let debug = debug_records(alloc, container)?;
@@ -67,6 +68,7 @@ fn records_without_modules(
     requires global_symbols { tabled debug.global_symbols ≡ global_symbols container.now }
     ensures front { IfOk result (λ records. HasFront container.now records) }
     ensures modules { IfOk result (λ records. length records.module_infos ≡ module_count) }
+    ensures unread { IfOk result (λ records. records.module_infos ≡ replicate module_count (Ok None)) }
     ensures memory { IfErr result (λ fault. fault ≡ Fault.OutOfMemory) }
 {
     let string_table = part_or_fault(read_texts(alloc, container, info))?;
@@ -87,7 +89,8 @@ fn records_without_modules(
 
 // So many modules of which nothing is known.
 fn nothing_known(alloc: Global, count: usize) -> Result<Vec<ModuleInfoResult>, AllocError>
-    ensures { IfOk result (λ infos. length infos.items ≡ count) }
+    ensures count { IfOk result (λ infos. length infos.items ≡ count) }
+    ensures unread { IfOk result (λ infos. infos.items ≡ replicate count (Ok None)) }
 {
     let mut infos = Vec::with_capacity(alloc, count)?;
     for _ in 0..count {

@@ -105,12 +105,6 @@ impl<'a> Bytes<'a> {
         Ok(LittleEndian::read_u32(taken))
     }
 
-    /// The next number of eight bytes.
-    pub fn u64(&mut self) -> Result<u64, StreamError> {
-        let taken = self.take(8)?;
-        Ok(LittleEndian::read_u64(taken))
-    }
-
     /// The next text, which ends before a zero byte. The zero is passed over.
     pub fn text(&mut self) -> Result<&'a [u8], StreamError>
         ensures answer { IfOk result (λ text. text_in self.old ≡ Some text.now) }

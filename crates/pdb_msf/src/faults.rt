@@ -100,14 +100,3 @@ pub fn part_or_fault<T>(outcome: Result<T, Fault>) -> Result<Result<T, StreamErr
         Err(Fault::OutOfMemory) => Err(Fault::OutOfMemory),
     }
 }
-
-/// Why the reading of a list ended early, if it did.
-pub fn early_end(outcome: Result<(), Fault>) -> Result<Option<StreamError>, Fault>
-    ensures { IfErr result (λ fault. fault ≡ Fault.OutOfMemory) }
-{
-    match outcome {
-        Ok(()) => Ok(None),
-        Err(Fault::Broken(error)) => Ok(Some(error)),
-        Err(Fault::OutOfMemory) => Err(Fault::OutOfMemory),
-    }
-}

@@ -1,6 +1,6 @@
 //! The records of a file that are read before any of its modules.
 
-ghost use Rattle.std.specs.Prelude.{◌≡◌, length, None, IfErr, IfOk, option_map};
+ghost use Rattle.std.specs.Prelude.{◌≡◌, length, replicate, None, Ok, IfErr, IfOk, option_map};
 ghost use Rattle.pdb_container.specs.DebugRecords.{streams_of_modules};
 ghost use Rattle.pdb_container.specs.ModulePlaces.{places_within};
 ghost use Rattle.pdb_container.specs.Front.{HasFront};
@@ -41,6 +41,8 @@ pub fn read_front_records(
         ≡ places_within streams.excerpt file_length (streams_of_modules streams.excerpt)) }
     ensures front { IfOk result (λ read. HasFront streams.excerpt read.file.records) }
     ensures modules { IfOk result (λ read. length read.file.records.module_infos ≡ length read.places.items) }
+    ensures unread { IfOk result (λ read.
+        read.file.records.module_infos ≡ replicate (length read.places.items) (Ok None)) }
     ensures types { IfOk result (λ read. read.file.records.type_information ≡ first_information types streams.types) }
     ensures ids { IfOk result (λ read. read.file.records.id_information ≡ first_information ids streams.ids) }
     ensures type_places { IfOk result (λ read. read.lists.types.places ≡ result_unwrap_or streams.types None) }

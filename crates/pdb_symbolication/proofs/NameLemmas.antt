@@ -46,13 +46,13 @@ lead_still old new entries searches kept led index entry is =
 some_same : {one other : MemoryMapEntry} → Some one ≡ Some other → one ≡ other
 some_same {one} {other} same = cc
 
-slice_get-set_same : (searches : List Search) (index : ℕ) (made : Search) → index < length searches
+pub slice_get-set_same : (searches : List Search) (index : ℕ) (made : Search) → index < length searches
     → slice_get (set searches index made) index ≡ Some made
 slice_get-set_same [] index made within = absurd (omega arith)
 slice_get-set_same (first ∷ searches) zero made within = refl
 slice_get-set_same (first ∷ searches) (suc index) made within = slice_get-set_same searches index made (omega arith)
 
-slice_get-set_other : (searches : List Search) (index other : ℕ) (made : Search) → other ≢ index
+pub slice_get-set_other : (searches : List Search) (index other : ℕ) (made : Search) → other ≢ index
     → slice_get (set searches index made) other ≡ slice_get searches other
 slice_get-set_other [] index other made differs = refl
 slice_get-set_other (first ∷ searches) zero zero made differs = absurd (differs refl)

@@ -1,6 +1,6 @@
--- Which entries of a memory map are searched for.
+-- Which entries of a memory map are searched for, and at which offsets.
 use Rattle.std.specs.Prelude.{◌≡◌, ℕ, ◌<◌, Bool, true, false, List, slice_get, vec_len, Some, ◌==◌, length}
-use Rattle.std.specs.Prelude.{map, string_bytes}
+use Rattle.std.specs.Prelude.{Contains, Option, None, [], map, string_bytes, unwrap_or, ◌^◌, ◌⊎◌}
 use Rattle.std.specs.List.{list_any}
 use Rattle.pdb_symbolication.specs.Findings.{search_of}
 use Rattle.pdb_symbolication.specs.RequestAnswers.{job_searches}
@@ -11,6 +11,7 @@ use Rattle.pdb_symbolication.specs.declared.requests.Job.{Job}
 use Rattle.pdb_symbolication.specs.declared.requests.MemoryMapEntry.{MemoryMapEntry}
 use Rattle.pdb_symbolication.specs.declared.requests.Request.{Request}
 use Rattle.pdb_symbolication.specs.declared.requests.Stack.{Stack}
+use Rattle.pdb_symbolication.specs.declared.requests.StackFrame.{StackFrame}
 use Rattle.pdb_symbolication.specs.declared.wanted_modules.Search.{Search}
 use Rattle.pdb_symbolication.specs.declared.wanted_modules.Search.TheVariants.{NotAsked, Impossible, Module}
 use Rattle.pdb_symbolication.specs.declared.wanted_modules.WantedModule.{WantedModule}
@@ -65,10 +66,105 @@ names_of modules = map (λ one. string_bytes one.name) modules
 abbrev pub names_in : Collector → List (List ℕ)
 names_in collector = map (λ one. string_bytes one.name) collector.modules.items
 
--- each job of a request has its searches, which lead to modules with the names of its entries
+-- the module at this position has this offset, if the offset fits 32 bits
+abbrev pub HasOffset : List (List ℕ) → ℕ → ℕ → Type 0
+HasOffset offsets position offset = offset < 2 ^ 32 → Contains (unwrap_or (slice_get offsets position) []) offset
+
+-- a search is made, and if it leads to a module, that module has this offset
+abbrev pub ServesSearch : List (List ℕ) → ℕ → Option Search → Type 0
+ServesSearch offsets offset None = Unit {0}
+ServesSearch offsets offset (Some NotAsked) = ⊥
+ServesSearch offsets offset (Some Impossible) = Unit {0}
+ServesSearch offsets offset (Some (Module position)) = HasOffset offsets position offset
+
+-- a frame at this offset of this module is served: its module isn't known, or the search for its entry serves the offset
+abbrev pub ServesPlace : List (List ℕ) → List Search → ℕ → FrameModule → Type 0
+ServesPlace offsets searches offset Unknown = Unit {0}
+ServesPlace offsets searches offset (At index) = ServesSearch offsets offset (slice_get searches index)
+
+-- if the search for a frame's entry leads to a module, that module has the frame's offset
+abbrev pub ServesFrame : List (List ℕ) → List Search → StackFrame → Type 0
+ServesFrame offsets searches frame = ServesPlace offsets searches frame.offset frame.module
+
+-- the searches serve each frame of a stack
+abbrev pub ServesStack : List (List ℕ) → List Search → Stack → Type 0
+ServesStack offsets searches stack = (number : ℕ) (frame : StackFrame)
+    → slice_get stack.frames.items number ≡ Some frame → ServesFrame offsets searches frame
+
+-- the searches serve each frame of a job
+abbrev pub ServesJob : List (List ℕ) → List Search → Job → Type 0
+ServesJob offsets searches job = (number : ℕ) (stack : Stack)
+    → slice_get job.stacks.items number ≡ Some stack → ServesStack offsets searches stack
+
+-- the module at this position has this offset
+abbrev pub IsOffset : List (List ℕ) → ℕ → ℕ → Type 0
+IsOffset offsets position offset = Contains (unwrap_or (slice_get offsets position) []) offset
+
+-- one of the first so many elements passes this test, which also takes the number of the element
+abbrev pub OneOfFirst : {X : Type 0} → ℕ → List X → (ℕ → X → Type 0) → Type 0
+OneOfFirst {X} count elements Is = (number : ℕ) × (element : X) × number < count
+    × slice_get elements number ≡ Some element × Is number element
+
+-- the search for the entry that a frame names leads to the module at this position
+abbrev pub LeadsPlace : List Search → ℕ → FrameModule → Type 0
+LeadsPlace searches position Unknown = ⊥
+LeadsPlace searches position (At index) = slice_get searches index ≡ Some (Module position)
+
+-- a frame asks for this offset of the module at this position
+abbrev pub FrameAsks : List Search → ℕ → ℕ → StackFrame → Type 0
+FrameAsks searches position offset frame = frame.offset ≡ offset × LeadsPlace searches position frame.module
+
+-- a frame of the stack asks for this offset of the module at this position
+abbrev pub StackAsks : List Search → ℕ → ℕ → Stack → Type 0
+StackAsks searches position offset stack =
+    OneOfFirst (vec_len stack.frames) stack.frames.items (λ number frame. FrameAsks searches position offset frame)
+
+-- a frame of the job asks for this offset of the module at this position
+abbrev pub JobAsks : List Search → ℕ → ℕ → Job → Type 0
+JobAsks searches position offset job =
+    OneOfFirst (vec_len job.stacks) job.stacks.items (λ number stack. StackAsks searches position offset stack)
+
+-- the new modules have no offsets that the old ones don't have
+abbrev pub NoMore : List (List ℕ) → List (List ℕ) → Type 0
+NoMore old new = (position offset : ℕ) → IsOffset new position offset → IsOffset old position offset
+
+-- each offset of the new modules is one of the old modules, or is asked for
+abbrev pub GainsOnly : List (List ℕ) → List (List ℕ) → (ℕ → ℕ → Type 0) → Type 0
+GainsOnly old new Asked = (position offset : ℕ) → IsOffset new position offset
+    → IsOffset old position offset ⊎ Asked position offset
+
+-- a search that leads to a module still leads to it
+abbrev pub KeepsModules : List Search → List Search → Type 0
+KeepsModules old new = (index position : ℕ) → slice_get old index ≡ Some (Module position)
+    → slice_get new index ≡ Some (Module position)
+
+-- modules keep their offsets
+abbrev pub KeepsOffsets : List (List ℕ) → List (List ℕ) → Type 0
+KeepsOffsets old new = (position offset : ℕ) → HasOffset old position offset → HasOffset new position offset
+
+-- each frame that the old searches serve is served by the new ones
+abbrev pub KeepsServed : List Search → List Search → Type 0
+KeepsServed old new = (offsets : List (List ℕ)) (frame : StackFrame)
+    → ServesFrame offsets old frame → ServesFrame offsets new frame
+
+-- the offsets of modules
+abbrev pub offsets_of : List WantedModule → List (List ℕ)
+offsets_of modules = map (λ one. one.offsets.items) modules
+
+-- the offsets of the modules that were collected
+abbrev pub offsets_in : Collector → List (List ℕ)
+offsets_in collector = map (λ one. one.offsets.items) collector.modules.items
+
+-- each job of a request has its searches, which lead to modules with the names of its entries and the offsets of its
+-- frames. For each offset of a module, a frame of a job asks for that offset of that module
 pub record AsksForEach (request : Request) (wanted : WantedModules) : Type 0 where
   pub count : vec_len wanted.searches ≡ vec_len request.jobs
   pub each : (number : ℕ) (job : Job) → slice_get request.jobs.items number ≡ Some job
       → AsksFor job (job_searches wanted number)
   pub led : (number : ℕ) (job : Job) → slice_get request.jobs.items number ≡ Some job
       → LeadToEntries (names_of wanted.modules.items) job.memory_map.items (job_searches wanted number)
+  pub served : (number : ℕ) (job : Job) → slice_get request.jobs.items number ≡ Some job
+      → ServesJob (offsets_of wanted.modules.items) (job_searches wanted number) job
+  pub only : (position offset : ℕ) → IsOffset (offsets_of wanted.modules.items) position offset
+      → OneOfFirst (vec_len request.jobs) request.jobs.items
+      (λ number job. JobAsks (job_searches wanted number) position offset job)

@@ -5,8 +5,11 @@ ghost use Rattle.std.specs.Prelude.{length, vec_len, slice_get, IfOk, IfSome, Is
 ghost use Rattle.std.specs.Option.{option_copied};
 ghost use Rattle.pdb_symbolication.specs.Findings.{search_of};
 ghost use Rattle.pdb_symbolication.specs.HarmlessNames.{is_harmless};
-ghost use Rattle.pdb_symbolication.specs.WantedModules.{AsksFor, AsksForEach, KeepsNames, LeadToEntries, LeadsTo};
-ghost use Rattle.pdb_symbolication.specs.WantedModules.{is_asked, is_entry, names_in, names_of, stack_names};
+ghost use Rattle.pdb_symbolication.specs.WantedModules.{AsksFor, AsksForEach, FrameAsks, GainsOnly, HasOffset, JobAsks};
+ghost use Rattle.pdb_symbolication.specs.WantedModules.{KeepsModules, KeepsNames, KeepsOffsets, KeepsServed, LeadToEntries};
+ghost use Rattle.pdb_symbolication.specs.WantedModules.{LeadsTo, NoMore, ServesFrame, ServesJob, ServesStack, StackAsks};
+ghost use Rattle.pdb_symbolication.specs.WantedModules.{is_asked, is_entry, names_in, names_of, offsets_in, offsets_of};
+ghost use Rattle.pdb_symbolication.specs.WantedModules.{stack_names};
 
 use crate::harmless_names::is_harmless_name;
 use crate::requests::{FrameModule, Job, MemoryMapEntry, Request, Stack, StackFrame};
@@ -23,7 +26,6 @@ impl WantedModules {
         let mut collector = Collector {
             alloc,
             modules: Vec::new(alloc),
-            offsets: Vec::new(alloc),
             positions: BTreeMap::new(alloc),
         };
         let mut searches = Vec::new(alloc);
@@ -42,8 +44,6 @@ impl WantedModules {
 struct Collector {
     alloc: Global,
     modules: Vec<NamedModule>,
-    /// The offsets at which frames ask for each module.
-    offsets: Vec<Vec<u32>>,
     /// The positions of the modules, by their names with their debug ids.
     positions: BTreeMap<String, usize>,
 }
@@ -55,6 +55,10 @@ impl Collector {
             LeadToEntries (names_in self.new) job.now.memory_map.items searches.items) }
         ensures kept { OnOk result (KeepsNames (names_in self.old) (names_in self.new)) }
         ensures asked { IfOk result (λ searches. AsksFor job.now searches.items) }
+        ensures offsets_kept { OnOk result (KeepsOffsets (offsets_in self.old) (offsets_in self.new)) }
+        ensures served { IfOk result (λ searches. ServesJob (offsets_in self.new) searches.items job.now) }
+        ensures only { IfOk result (λ searches. GainsOnly (offsets_in self.old) (offsets_in self.new)
+            (λ position offset. JobAsks searches.items position offset job.now)) }
     {
         let mut searches = vec![in self.alloc; Search::NotAsked; job.memory_map.len()]?;
         for stack in &job.stacks {
@@ -75,6 +79,12 @@ impl Collector {
         ensures kept { OnOk result (KeepsNames (names_in self.old) (names_in self.new)) }
         ensures asked { OnOk result ((index : ℕ) → index < length searches.old → is_asked (search_of searches.new index)
             ≡ (is_asked (search_of searches.old index) || stack_names index stack.now)) }
+        ensures offsets_kept { OnOk result (KeepsOffsets (offsets_in self.old) (offsets_in self.new)) }
+        ensures still_served { OnOk result (KeepsServed searches.old searches.new) }
+        ensures served { OnOk result (ServesStack (offsets_in self.new) searches.new stack.now) }
+        ensures still_led { OnOk result (KeepsModules searches.old searches.new) }
+        ensures only { OnOk result (GainsOnly (offsets_in self.old) (offsets_in self.new)
+            (λ position offset. StackAsks searches.new position offset stack.now)) }
     {
         for &frame in &stack.frames {
             self.add_frame(job, searches, frame)?;
@@ -94,6 +104,12 @@ impl Collector {
         ensures kept { OnOk result (KeepsNames (names_in self.old) (names_in self.new)) }
         ensures asked { OnOk result ((index : ℕ) → index < length searches.old → is_asked (search_of searches.new index)
             ≡ (is_asked (search_of searches.old index) || is_entry index frame.module)) }
+        ensures offsets_kept { OnOk result (KeepsOffsets (offsets_in self.old) (offsets_in self.new)) }
+        ensures still_served { OnOk result (KeepsServed searches.old searches.new) }
+        ensures served { OnOk result (ServesFrame (offsets_in self.new) searches.new frame) }
+        ensures still_led { OnOk result (KeepsModules searches.old searches.new) }
+        ensures only { OnOk result (GainsOnly (offsets_in self.old) (offsets_in self.new)
+            (λ position offset. FrameAsks searches.new position offset frame)) }
     {
         let FrameModule::At(index) = frame.module else {
             return Ok(());
@@ -112,9 +128,12 @@ impl Collector {
     // The search for an entry that a frame names, which may be made already.
     fn made_search(&mut self, entry: &MemoryMapEntry, before: Search) -> Result<Search, AllocError>
         requires { LeadsTo (names_in self.old) (string_bytes entry.now.name) before }
+        ensures same { IfOk result (λ search. is_asked before ≡ true → search ≡ before) }
         ensures asked { IfOk result (λ search. is_asked search ≡ true) }
         ensures led { IfOk result (LeadsTo (names_in self.new) (string_bytes entry.now.name)) }
         ensures kept { OnOk result (KeepsNames (names_in self.old) (names_in self.new)) }
+        ensures offsets_kept { OnOk result (KeepsOffsets (offsets_in self.old) (offsets_in self.new)) }
+        ensures no_more { OnOk result (NoMore (offsets_in self.old) (offsets_in self.new)) }
     {
         match before {
             Search::NotAsked => self.search_for(entry),
@@ -127,6 +146,8 @@ impl Collector {
         ensures asked { IfOk result (λ search. is_asked search ≡ true) }
         ensures led { IfOk result (LeadsTo (names_in self.new) (string_bytes entry.now.name)) }
         ensures kept { OnOk result (KeepsNames (names_in self.old) (names_in self.new)) }
+        ensures offsets_kept { OnOk result (KeepsOffsets (offsets_in self.old) (offsets_in self.new)) }
+        ensures no_more { OnOk result (NoMore (offsets_in self.old) (offsets_in self.new)) }
     {
         let name = entry.name.as_str();
         match DebugId::parse(entry.debug_id.as_str()) {
@@ -141,6 +162,8 @@ impl Collector {
         ensures asked { IfOk result (λ search. is_asked search ≡ true) }
         ensures led { IfOk result (LeadsTo (names_in self.new) name.now) }
         ensures kept { OnOk result (KeepsNames (names_in self.old) (names_in self.new)) }
+        ensures offsets_kept { OnOk result (KeepsOffsets (offsets_in self.old) (offsets_in self.new)) }
+        ensures no_more { OnOk result (NoMore (offsets_in self.old) (offsets_in self.new)) }
     {
         let key = key_of(self.alloc, name, debug_id)?;
         let known = self.known_position(&key, name, &debug_id);
@@ -194,36 +217,41 @@ impl Collector {
         requires harmless { IsTrue (is_harmless name.now) }
         ensures added { OnOk result (names_in self.new ≡ names_in self.old ++ name.now ∷ []) }
         ensures position { IfOk result (λ position. position ≡ length (names_in self.old)) }
+        ensures offsets_added { OnOk result (offsets_in self.new ≡ offsets_in self.old ++ [] ∷ []) }
     {
         let position = self.modules.len();
-        self.offsets.push(Vec::new(self.alloc))?;
         self.modules.push(NamedModule {
             name: String::from_str(self.alloc, name)?,
             debug_id,
+            offsets: Vec::new(self.alloc),
         })?;
         Ok(position)
     }
 
+    // Adds an offset at which a frame asks for the module at this position.
     fn add_offset(&mut self, position: usize, offset: u64) -> Result<(), AllocError>
-        ensures { names_in self.new ≡ names_in self.old }
+        requires known { position < length (names_in self.old) }
+        ensures names { names_in self.new ≡ names_in self.old }
+        ensures kept { OnOk result (KeepsOffsets (offsets_in self.old) (offsets_in self.new)) }
+        ensures added { OnOk result (HasOffset (offsets_in self.new) position offset) }
+        ensures only { OnOk result (GainsOnly (offsets_in self.old) (offsets_in self.new)
+            (λ at one. at ≡ position × one ≡ offset)) }
     {
-        if let Some(offsets) = self.offsets.get_mut(position)
-            && let Ok(offset) = u32::try_from(offset)
-        {
-            offsets.push(offset)?;
+        match self.modules.get_mut(position) {
+            Some(module) => module.add_offset(offset),
+            None => Ok(()),
         }
-        Ok(())
     }
 
     // The modules that are wanted.
     fn finish(self) -> Result<Vec<WantedModule>, AllocError>
-        ensures { IfOk result (λ modules. names_of modules.items ≡ names_in self) }
+        ensures names { IfOk result (λ modules. names_of modules.items ≡ names_in self) }
+        ensures offsets { IfOk result (λ modules. KeepsOffsets (offsets_in self) (offsets_of modules.items)) }
+        ensures no_more { IfOk result (λ modules. NoMore (offsets_in self) (offsets_of modules.items)) }
     {
         let mut modules = Vec::new(self.alloc);
-        let mut offsets = self.offsets.into_iter();
         for module in self.modules {
-            let asked = offsets.next().unwrap_or(Vec::new(self.alloc));
-            modules.push(module.wanted(asked))?;
+            modules.push(module.wanted())?;
         }
         Ok(modules)
     }

@@ -1,10 +1,11 @@
 //! Modules that the frames of a request name, each once, with the offsets at which they ask for it.
 
 ghost use Rattle.std.specs.List.Sorted.{IsStrictlyIncreasing};
-ghost use Rattle.std.specs.Prelude.{◌≡◌, ◌==◌, position, IsTrue, string_bytes};
+ghost use Rattle.std.specs.Prelude.{◌≡◌, ◌==◌, ◌<◌, ◌^◌, ◌⊎◌, position, Contains, IsTrue, OnOk, string_bytes, ℕ};
 ghost use Rattle.pdb_symbolication.specs.HarmlessNames.{is_harmless};
 
 use pdb_identity::DebugId;
+use std::alloc::AllocError;
 
 /// A module that frames of a request name. Its name leads from a folder to a file in it, and to nothing else.
 #[derive(Drop)]
@@ -43,14 +44,34 @@ fn number_in(offsets: &[u32], offset: u64) -> Option<usize>
 pub(crate) struct NamedModule {
     pub name: String,
     pub debug_id: DebugId,
+    /// Where frames ask for it, in the order of the request. Offsets past 32 bits are left out.
+    pub offsets: Vec<u32>,
     pub ghost harmless: { IsTrue (is_harmless (string_bytes name)) },
 }
 
 impl NamedModule {
-    // The module with the offsets at which frames ask for it, which then ascend and stand there once.
-    pub(crate) fn wanted(self, mut offsets: Vec<u32>) -> WantedModule
-        ensures { result.name ≡ self.name }
+    // Adds an offset at which a frame asks for it.
+    pub(crate) fn add_offset(&mut self, offset: u64) -> Result<(), AllocError>
+        ensures name { self.new.name ≡ self.old.name }
+        ensures kept { OnOk result ((other : ℕ) → Contains self.old.offsets.items other
+            → Contains self.new.offsets.items other) }
+        ensures added { OnOk result (offset < 2 ^ 32 → Contains self.new.offsets.items offset) }
+        ensures only { OnOk result ((other : ℕ) → Contains self.new.offsets.items other
+            → Contains self.old.offsets.items other ⊎ other ≡ offset) }
     {
+        if let Ok(offset) = u32::try_from(offset) {
+            self.offsets.push(offset)?;
+        }
+        Ok(())
+    }
+
+    // The module, whose offsets then ascend and stand there once.
+    pub(crate) fn wanted(self) -> WantedModule
+        ensures name { result.name ≡ self.name }
+        ensures kept { (offset : ℕ) → Contains self.offsets.items offset → Contains result.offsets.items offset }
+        ensures only { (offset : ℕ) → Contains result.offsets.items offset → Contains self.offsets.items offset }
+    {
+        let mut offsets = self.offsets;
         offsets.sort_unstable();
         offsets.dedup();
         WantedModule {

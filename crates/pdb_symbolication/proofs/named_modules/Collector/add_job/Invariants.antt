@@ -1,8 +1,10 @@
--- The searches that are made are those for entries that a frame so far names.
-use Rattle.std.proofs.Common.{◌≡◌, ℕ, ◌<◌, take, vec_len}
-use Rattle.std.specs.List.{list_any}
+-- The searches that are made are those for entries that a frame so far names. They serve the frames so far.
+use Rattle.std.proofs.Common.{◌≡◌, ℕ, ◌<◌, take, vec_len, Some}
+use Rattle.std.specs.List.{list_any, slice_get}
 use Rattle.pdb_symbolication.specs.Findings.{search_of}
 use Rattle.pdb_symbolication.specs.WantedModules.{KeepsNames, LeadToEntries, is_asked, names_in, stack_names}
+use Rattle.pdb_symbolication.specs.WantedModules.{GainsOnly, KeepsOffsets, OneOfFirst, ServesStack, StackAsks, offsets_in}
+use Rattle.pdb_symbolication.specs.declared.requests.Stack.{Stack}
 use Rattle.pdb_symbolication.proofs.named_modules.Collector.add_job.Given as goal
 
 abbrev pub invariant-loop-stack : goal.invariant-loop-stack
@@ -13,4 +15,9 @@ invariant-loop-stack l = record {
       ≡ list_any (stack_names index) (take l.stack-index l.job.stacks.items);
   led : LeadToEntries (names_in l.self) l.job.memory_map.items l.searches.items;
   kept : KeepsNames (names_in l.initial.self) (names_in l.self);
+  offsets_kept : KeepsOffsets (offsets_in l.initial.self) (offsets_in l.self);
+  served : (number : ℕ) (stack : Stack) → number < l.stack-index
+      → slice_get l.job.stacks.items number ≡ Some stack → ServesStack (offsets_in l.self) l.searches.items stack;
+  only : GainsOnly (offsets_in l.initial.self) (offsets_in l.self) (λ position offset.
+      OneOfFirst l.stack-index l.job.stacks.items (λ number stack. StackAsks l.searches.items position offset stack));
 }
