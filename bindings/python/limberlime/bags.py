@@ -22,17 +22,20 @@ if TYPE_CHECKING:
     import dask.bag
 
 MOST_GROUPS = 64
+# Each partition sends something to each group, so there are fewer groups than partitions.
+PARTS_PER_GROUP = 3
 MOST_PROGRAMS = 64
 PAGE_BITS = 12
 NEEDED = ("limberlime.symbolicate_bag needs Dask: install Debian's package python3-distributed, or run "
           "`pip install dask distributed`")
 DEBUG_ID = re.compile("[0-9a-fA-F]{33,40}")
 
-# A PDB file: its name and its debug id, as stacks have them. By these it has the offsets that are asked for, or their
-# answers.
+# A PDB file: its name and its debug id, as stacks have them. By these it has the offsets that are asked for.
 File = Tuple[str, str]
 Asked = Dict[File, List[int]]
-Answers = Dict[File, Dict[int, "StackFrame"]]
+# What is known at an offset: function, file, line, and what is inlined there.
+Place = Tuple[Optional[str], Optional[str], Optional[int], Tuple["limberlime.Frame", ...]]
+NOWHERE: Place = (None, None, None, ())
 
 
 class StackFrame(NamedTuple):
@@ -52,6 +55,17 @@ class StackFrame(NamedTuple):
     inlined: Tuple[limberlime.Frame, ...]
 
 
+class FileAnswers(NamedTuple):
+    """What is found in a PDB file: whether it can be read, the different places, and which of them each offset has."""
+
+    found: bool
+    places: List[Place]
+    numbers: Dict[int, int]
+
+
+Answers = Dict[File, FileAnswers]
+
+
 def symbolicate_bag(bag: dask.bag.Bag, store: os.PathLike, *, groups: Optional[int] = None,
                     tasks_per_file: int = 1) -> dask.bag.Bag:
     """The stacks of a bag with each frame answered.
@@ -61,8 +75,8 @@ def symbolicate_bag(bag: dask.bag.Bag, store: os.PathLike, *, groups: Optional[i
     with its frames in the same order.
 
     Workers read PDB files from the folder `store`, each file in `tasks_per_file` tasks at most: with 1, the default,
-    one task looks up all offsets of a file. Files are spread over `groups` tasks: as many as `bag` has partitions, but
-    at most 64, where it is None. A worker keeps the last 64 files that it opened.
+    one task looks up all offsets of a file. Files are spread over `groups` tasks: a third as many as `bag` has
+    partitions, but at most 64, where it is None. A worker keeps the last 64 files that it opened.
 
     Nothing is computed before the result is. Then all stacks are in the workers' memory until all are answered.
     """
@@ -72,7 +86,7 @@ def symbolicate_bag(bag: dask.bag.Bag, store: os.PathLike, *, groups: Optional[i
     except ImportError as error:
         raise ImportError(NEEDED) from error
     parts = [dask.delayed(list)(part) for part in bag.to_delayed()]
-    groups = groups or min(max(len(parts), 1), MOST_GROUPS)
+    groups = groups or min(max(len(parts) // PARTS_PER_GROUP, 1), MOST_GROUPS)
     asked = [dask.delayed(_asked, nout=groups)(part, groups, tasks_per_file) for part in parts]
     answer = dask.delayed(_answered, nout=len(parts))
     answers = [answer(os.fspath(store), [one[group] for one in asked]) for group in range(groups)]
@@ -108,28 +122,41 @@ def _answered(store: str, asked: List[Asked]) -> List[Answers]:
         for file, some in one.items():
             offsets[file].update(some)
     known = {file: _file_answers(store, file, sorted(some)) for file, some in offsets.items()}
-    return [{file: {offset: known[file][offset] for offset in some} for file, some in one.items()} for one in asked]
+    return [{file: _part(known[file], some) for file, some in one.items()} for one in asked]
 
 
-def _file_answers(store: str, file: File, offsets: List[int]) -> Dict[int, StackFrame]:
+def _file_answers(store: str, file: File, offsets: List[int]) -> FileAnswers:
     """The answers over a PDB file."""
     program = _programs.get(store, file)
-    return {offset: _stack_frame(program, file, offset) for offset in offsets}
+    places: Dict[Place, int] = {}
+    numbers = {offset: places.setdefault(_place(program, offset), len(places)) for offset in offsets}
+    return FileAnswers(program is not None, list(places), numbers)
 
 
-def _stack_frame(program: Optional[limberlime.Program], file: File, offset: int) -> StackFrame:
-    """The answer at an offset. One that has more than 32 bits is in no function."""
+def _place(program: Optional[limberlime.Program], offset: int) -> Place:
+    """What is known at an offset. One that has more than 32 bits is in no function."""
     frames = program.find_frames(offset) if program and 0 <= offset < 2**32 else ()
-    *inlined, outer = frames or [limberlime.Frame(None, None, None)]
-    return StackFrame(*file, offset, program is not None, *outer, tuple(inlined))
+    if not frames:
+        return NOWHERE
+    *inlined, outer = frames
+    return (*outer, tuple(inlined))
+
+
+def _part(known: FileAnswers, offsets: List[int]) -> FileAnswers:
+    """The answers at some of the offsets, with no other places. So little is sent from one worker to another."""
+    numbers: Dict[int, int] = {}
+    part = {offset: numbers.setdefault(known.numbers[offset], len(numbers)) for offset in offsets}
+    return FileAnswers(known.found, [known.places[number] for number in numbers], part)
 
 
 def _joined(stacks: List, answers: List[Answers]) -> List[List[StackFrame]]:
     """The stacks of a partition with the answers of all groups."""
-    known: Answers = collections.defaultdict(dict)
+    known: Dict[File, Dict[int, StackFrame]] = collections.defaultdict(dict)
     for one in answers:
-        for file, some in one.items():
-            known[file].update(some)
+        for file, (found, places, numbers) in one.items():
+            frames = known[file]
+            for offset, number in numbers.items():
+                frames[offset] = StackFrame(*file, offset, found, *places[number])
     return [[known[pdb, debug_id][offset] for pdb, debug_id, offset in stack] for stack in stacks]
 
 
